@@ -1,0 +1,5 @@
+use Rattle.std.proofs.Common.{rules, ◌≡◌, ◌<◌, ℕ, List, All, length, arith}
+use Rattle.snes_defs.proofs.bytes.are_bytes.Goals as goal
+
+pub returns : goal.returns
+returns c = λ i. omega (arith, c.type_inv.all i)

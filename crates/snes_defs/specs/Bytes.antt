@@ -1,0 +1,5 @@
+use Rattle.std.specs.Prelude.{ℕ, ◌<◌, List, slice_index}
+
+-- each number of a list is a byte
+abbrev pub AreBytes : List ℕ → Type 0
+AreBytes numbers = (i : ℕ) → slice_index numbers i < 256

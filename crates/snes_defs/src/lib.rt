@@ -1,0 +1,35 @@
+// The plain types of the console, and the constants that both of its halves count by.
+//
+// Stands on nothing but std. A `Bytes`, a `Table` and a `Spans` are seen in contracts as the lists
+// that they keep, so that the crates above compare them with lists that definitions make.
+#![tactic(auto)]
+
+mod bytes;
+mod cart;
+mod part;
+mod ports;
+mod script;
+mod table;
+
+pub use bytes::Bytes;
+pub use cart::{Cart, Job, MapKind};
+pub use part::Part;
+pub use ports::{Act, Side};
+pub use script::{Span, Spans};
+pub use table::Table;
+
+/// Want of memory: the one refusal that no input causes.
+#[derive(Clone, Copy, Debug, PartialEq, Eq)]
+pub struct NoMemory;
+
+/// How far one side may run ahead of the other's published clock, in stamps: 16 scanlines.
+pub const WINDOW: u64 = 122_912_768;
+
+/// The least number of stamps by which one step of a machine raises its stamp: 6 master clocks.
+pub const LEAST_RISE: u64 = 33_792;
+
+/// The greatest number of stamps by which one step raises it: the 40 master clocks of a refresh.
+pub const MOST_RISE: u64 = 225_280;
+
+/// The most frames that a job may have.
+pub const MOST_FRAMES: u32 = 36_000;

@@ -1,0 +1,37 @@
+ghost use Rattle.std.specs.Prelude.{◌≡◌, ◌<◌, ◌≤◌, ℕ, List, length, slice_index, All};
+
+use std::marker::Model;
+
+/// The 512 entries of the sound unit's interpolation table, each 0 to 2047, kept inline.
+#[derive(Drop)]
+pub struct Table {
+    numbers: [u16; 512],
+}
+
+impl Model for Table {
+    ghost Value = { List ℕ };
+
+    ghost view = { λ t. t.numbers };
+
+    ghost invariant = { λ t. All (λ n. n ≤ 2047) t.numbers };
+}
+
+impl Table {
+    /// Keeps the 512 numbers. No memory is taken.
+    pub fn of(numbers: [u16; 512]) -> Table
+        requires { All (λ n. n ≤ 2047) numbers }
+        ensures kept { result ≡ numbers }
+    {
+        Table { numbers }
+    }
+
+    /// Entry `i`, from 0.
+    #[inline(always)]
+    pub fn at(&self, i: usize) -> u16
+        requires { i < 512 }
+        ensures entry { result ≡ slice_index self.now i }
+        ensures small { result ≤ 2047 }
+    {
+        self.numbers[i]
+    }
+}
