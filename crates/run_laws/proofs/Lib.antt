@@ -1,0 +1,4 @@
+pub mod FirstBytes
+pub mod Legs
+pub mod RunBound
+pub mod SerialOrder

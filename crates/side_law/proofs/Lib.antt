@@ -1,0 +1,12 @@
+pub mod HeardRuns
+pub mod HistoryRun
+pub mod Later
+pub mod LegalRuns
+pub mod OnRuns
+pub mod Ports
+pub mod Sequences
+pub mod SerialKeeps
+pub mod SerialRuns
+pub mod StepsInTime
+pub mod ToTheEnd
+pub mod TurnsEnd

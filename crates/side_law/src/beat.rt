@@ -1,0 +1,10 @@
+use snes_defs::Act;
+
+/// One step of a `Tape`.
+#[derive(Clone, Copy, Debug, PartialEq, Eq)]
+pub struct Beat {
+    /// By how much it raises the stamp, from `LEAST_RISE` to `MOST_RISE`.
+    pub rise: u64,
+    /// What it does at the ports.
+    pub act: Act,
+}
