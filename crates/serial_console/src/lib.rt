@@ -1,0 +1,15 @@
+// The serial console: two machines joined by eight bytes, of which the earlier one makes each step.
+//
+// Stands on the trait of a machine. `Serial` is the plain program beside which everything that runs
+// the two machines in another order is measured: its turn is exactly `turn` of the definitions of
+// `side_law`, for any two machines.
+//
+// A caller needs room for the bytes of one step in the side whose turn it is (`Machine::ready`
+// before each turn is enough), and the earlier stamp up to 2^62. `docs/SERIAL.md` has the rule.
+#![tactic(auto)]
+
+mod serial;
+#[cfg(test)]
+mod tests;
+
+pub use serial::Serial;
