@@ -1,0 +1,4 @@
+pub mod Clears
+pub mod Reading
+pub mod Standing
+pub mod Stands

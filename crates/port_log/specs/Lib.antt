@@ -1,0 +1,4 @@
+pub mod Kept
+pub mod Entries
+pub mod Refused
+pub mod StandsOnce

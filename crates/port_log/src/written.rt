@@ -1,0 +1,10 @@
+/// A write that a side made at one of its outgoing ports.
+#[derive(Clone, Copy, Debug, PartialEq, Eq)]
+pub struct Written {
+    /// The stamp of the step that wrote.
+    pub at: u64,
+    /// The port, 0 to 3.
+    pub port: u8,
+    /// What it wrote.
+    pub byte: u8,
+}
