@@ -1,0 +1,6 @@
+pub mod Counts
+pub mod Faults
+pub mod Memory
+pub mod Plan
+pub mod Stored
+pub mod Told

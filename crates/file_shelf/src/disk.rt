@@ -1,0 +1,149 @@
+ghost use Rattle.std.specs.Prelude.{◌≡◌, ℕ, ◌<◌, ◌≤◌, [], None, length, take, vec_len, OnOk, OnErr, IfSome, IsErrOf};
+ghost use Rattle.std.specs.Io.KnownBytes.{Appends as AppendsKnown};
+ghost use Rattle.file_shelf.specs.Counts.{count_of};
+ghost use Rattle.file_shelf.specs.Faults.{no_faults};
+
+use crate::counts::Counts;
+use crate::shelves::{Failed, LoadEnd, Out, Shelf};
+use std::io::{Read, Write};
+use std::marker::Model;
+use std::rt::Files;
+use std::{fs, io};
+
+/// How many bytes one read asks for.
+const READ: usize = 8192;
+
+/// The shelf over real files, with standard output as `Out::Say`: the edge of what is proved.
+///
+/// It tells nothing of what it holds or has written. It counts the faults of all names together, and
+/// those of each output; every error of the system is a fault, and so is a write that takes nothing.
+#[derive(Drop)]
+pub struct FileShelf<'a, R: Files + Print> {
+    rt: &'a R,
+    video: Option<R::File>,
+    sound: Option<R::File>,
+    image: Option<R::File>,
+    load_faults: u64,
+    write_faults: Counts,
+}
+
+impl<'a, R: Files + Print> Model for FileShelf<'a, R> {
+    ghost use Rattle.file_shelf.specs.Faults.{Faults};
+
+    ghost Value = { Faults };
+
+    ghost view = { λ s. record { loads = s.load_faults; writes = s.write_faults } };
+}
+
+impl<'a, R: Files + Print> FileShelf<'a, R> {
+    /// A shelf over the files of this runtime, with all counts 0.
+    pub fn new(rt: &'a R) -> FileShelf<'a, R>
+        ensures no_faults { result ≡ no_faults }
+    {
+        FileShelf {
+            rt,
+            video: None,
+            sound: None,
+            image: None,
+            load_faults: 0,
+            write_faults: Counts::new(),
+        }
+    }
+}
+
+impl<R: Files + Print> Shelf for FileShelf<'_, R> {
+    ghost held = { λ _ _. None };
+
+    ghost written = { λ _ _. None };
+
+    ghost named = { λ _ _. None };
+
+    ghost load_faults = { λ s _. s.loads };
+
+    ghost write_faults = { λ s out. count_of s.writes out };
+
+    fn load(&mut self, name: &str, limit: usize, into: &mut Vec<u8>) -> Result<(), LoadEnd> {
+        let end = match fs::open(self.rt, name) {
+            Ok(mut file) => read_whole(&mut file, limit, into),
+            Err(_) => Err(LoadEnd::Failed),
+        };
+        if let Err(LoadEnd::Failed) = end {
+            self.load_faults = self.load_faults.saturating_add(1);
+        }
+        end
+    }
+
+    fn create(&mut self, out: Out, name: &str) -> Result<(), Failed> {
+        let Ok(file) = fs::create(self.rt, name) else {
+            self.write_faults.raise(out);
+            return Err(Failed);
+        };
+        match out {
+            Out::Video => self.video = Some(file),
+            Out::Sound => self.sound = Some(file),
+            Out::Image => self.image = Some(file),
+            Out::Say => {}
+        }
+        Ok(())
+    }
+
+    fn put(&mut self, out: Out, bytes: &[u8]) -> Result<(), Failed> {
+        let end = match out {
+            Out::Video => write_created(&mut self.video, bytes),
+            Out::Sound => write_created(&mut self.sound, bytes),
+            Out::Image => write_created(&mut self.image, bytes),
+            Out::Say => write_whole(&mut io::writer(self.rt), bytes),
+        };
+        if end.is_err() {
+            self.write_faults.raise(out);
+        }
+        end
+    }
+}
+
+/// Reads all that is left, of which the end is where a read gives nothing.
+fn read_whole<F: Read>(file: &mut F, limit: usize, into: &mut Vec<u8>) -> Result<(), LoadEnd>
+    requires { into.old.items ≡ [] }
+    ensures whole { OnOk result (IfSome (F.remaining file.old) (λ bytes. into.new.items ≡ bytes)) }
+    ensures within { OnOk result (vec_len into.new ≤ limit) }
+    ensures too_long { IsErrOf result LoadEnd.TooLong → IfSome (F.remaining file.old) (λ bytes. limit < length bytes) }
+{
+    let mut part = [0u8; READ];
+    loop {
+        let Ok(count) = file.read(&mut part) else {
+            return Err(LoadEnd::Failed);
+        };
+        if count == 0 {
+            return Ok(());
+        }
+        if count > limit - into.len() {
+            return Err(LoadEnd::TooLong);
+        }
+        if into.extend_from_slice(&part[..count]).is_err() {
+            return Err(LoadEnd::NoMemory);
+        }
+    }
+}
+
+/// Writes to an output that was created.
+fn write_created<F: Write>(file: &mut Option<F>, bytes: &[u8]) -> Result<(), Failed> {
+    match file {
+        Some(file) => write_whole(file, bytes),
+        None => Err(Failed),
+    }
+}
+
+/// Writes all these bytes, by as many writes as it takes. A write that takes nothing is a fault.
+fn write_whole<W: Write>(file: &mut W, bytes: &[u8]) -> Result<(), Failed>
+    ensures whole { OnOk result (AppendsKnown (W.contents file.old) (W.contents file.new) bytes.now) }
+    ensures prefix { OnErr result ((count : ℕ) × AppendsKnown (W.contents file.old) (W.contents file.new) (take count bytes.now)) }
+{
+    let mut rest = bytes;
+    while !rest.is_empty() {
+        match file.write(rest) {
+            Ok(count) if count > 0 => rest = &rest[count..],
+            _ => return Err(Failed),
+        }
+    }
+    Ok(())
+}

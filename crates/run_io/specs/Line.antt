@@ -1,0 +1,61 @@
+-- The lines for the user.
+use Rattle.std.specs.Prelude.{ℕ, ◌+◌, ◌/◌, ◌%◌, List, [], ◌∷◌, ◌++◌, codes, decimal, Option, Some, None, nat_lt, if◌then◌else◌}
+use Rattle.snes_defs.specs.declared.part.Part.{Part}
+use Rattle.snes_defs.specs.declared.part.Part.TheVariants as part
+use Rattle.file_shelf.specs.declared.shelves.Input.{Input}
+use Rattle.file_shelf.specs.declared.shelves.Input.TheVariants as input
+use Rattle.file_shelf.specs.declared.shelves.Out.{Out}
+use Rattle.file_shelf.specs.declared.shelves.Out.TheVariants as out
+
+-- a text, ended by LF
+abbrev pub line_of : List ℕ → List ℕ
+line_of text = text ++ 10 ∷ []
+
+-- one capital hexadecimal digit of a number below 16
+abbrev pub hex_digit : ℕ → ℕ
+hex_digit n = if nat_lt n 10 then 48 + n else 55 + n
+
+-- the two hexadecimal digits of a byte
+abbrev pub hex_byte : ℕ → List ℕ
+hex_byte byte = hex_digit (byte / 16) ∷ (hex_digit (byte % 16) ∷ [])
+
+-- the six hexadecimal digits of a 24-bit address
+abbrev pub hex_address : ℕ → List ℕ
+hex_address address = hex_byte (address / 65536 % 256) ++ hex_byte (address / 256 % 256) ++ hex_byte (address % 256)
+
+-- a run was made
+abbrev pub frames_text : ℕ → ℕ → List ℕ
+frames_text frames samples = codes "frames " ++ decimal frames ++ codes " samples " ++ decimal samples
+
+-- the words are in no form
+abbrev pub usage_text : List ℕ
+usage_text = codes "usage: snes run, serial, make or demo"
+
+-- a file was not loaded
+abbrev pub cannot_read_text : Input → List ℕ
+cannot_read_text input.Cart = codes "cannot read cart"
+cannot_read_text input.Boot = codes "cannot read boot"
+cannot_read_text input.Table = codes "cannot read table"
+cannot_read_text input.Script = codes "cannot read script"
+
+-- an output was not written; there is no line for the output that the lines themselves go to
+abbrev pub cannot_write_text : Out → Option (List ℕ)
+cannot_write_text out.Video = Some (codes "cannot write video")
+cannot_write_text out.Sound = Some (codes "cannot write sound")
+cannot_write_text out.Image = Some (codes "cannot write image")
+cannot_write_text out.Say = None
+
+-- there was no memory
+abbrev pub no_memory_text : List ℕ
+no_memory_text = codes "no memory"
+
+-- a part that is not built is needed
+abbrev pub not_built_text : Part → List ℕ
+not_built_text part.Cart = codes "not built: cart"
+not_built_text part.Boot = codes "not built: boot"
+not_built_text part.Table = codes "not built: table"
+not_built_text part.Script = codes "not built: script"
+not_built_text (part.Opcode opcode) = codes "not built: opcode " ++ hex_byte opcode
+not_built_text (part.Place address) = codes "not built: address " ++ hex_address address
+not_built_text part.Picture = codes "not built: picture"
+not_built_text part.Dsp = codes "not built: dsp"

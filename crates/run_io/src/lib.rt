@@ -1,0 +1,26 @@
+// What a run reads and writes: the words of the command line, the shelf of files, and the lines for
+// the user.
+//
+// Stands on the shelf, whose items it hands on. `read_words` reads a command line exactly by its
+// form, and refuses every other. Each line is made without memory, so that the want of memory can be
+// told too.
+#![tactic(auto)]
+
+mod lines;
+mod order;
+mod read;
+mod words;
+
+pub use file_shelf::{
+    Failed, FileShelf, Input, LoadEnd, MemShelf, Out, Shelf, ShelfCall, SureShelf,
+};
+pub use lines::{
+    Line, cannot_read_line, cannot_write_line, frames_line, no_memory_line, not_built_line,
+    usage_line,
+};
+pub use order::{Files, Name, Order, WordsEnd};
+pub use read::read_words;
+pub use words::Argv;
+
+#[cfg(test)]
+mod tests;

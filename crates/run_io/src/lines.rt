@@ -1,0 +1,181 @@
+ghost use Rattle.std.specs.Prelude.{◌≡◌, ◌+◌, ◌<◌, ◌≤◌, ◌++◌, length, decimal, []};
+ghost use Rattle.std.specs.Option.{option_map};
+ghost use Rattle.snes_defs.specs.declared.part.Part.{Part};
+ghost use Rattle.run_io.specs.Line.{line_of, hex_digit, hex_byte, frames_text, usage_text, cannot_read_text, cannot_write_text, no_memory_text, not_built_text};
+
+use arrayvec::ArrayString;
+use file_shelf::{Input, Out};
+use itoa::Buffer;
+use snes_defs::Part;
+use std::marker::Model;
+
+/// The most bytes that a line has.
+const ROOM: usize = 128;
+
+/// One line for the user, ended by LF. It is made without memory.
+#[derive(Drop)]
+pub struct Line {
+    text: ArrayString<ROOM>,
+}
+
+impl Model for Line {
+    ghost use Rattle.std.specs.Prelude.{List, ℕ};
+
+    ghost Value = { List ℕ };
+
+    ghost view = { λ l. l.text.bytes };
+}
+
+impl Line {
+    /// The bytes of the line, LF included.
+    pub fn bytes(&self) -> &[u8]
+        ensures all { result.now ≡ self.now }
+    {
+        self.text.as_bytes()
+    }
+
+    fn new() -> Line
+        ensures empty { result ≡ [] }
+    {
+        Line {
+            text: ArrayString::new(),
+        }
+    }
+
+    fn push(&mut self, text: &str)
+        requires room { length self.old + length text.now ≤ 128 }
+        ensures appended { self.new ≡ self.old ++ text.now }
+    {
+        self.text.push_str(text);
+    }
+
+    fn push_number(&mut self, number: u64)
+        requires room { length self.old + 40 ≤ 128 }
+        ensures appended { self.new ≡ self.old ++ decimal number }
+        ensures short { length self.new ≤ length self.old + 40 }
+    {
+        let mut digits = Buffer::new();
+        self.push(digits.format(number));
+    }
+
+    fn push_hex(&mut self, byte: u8)
+        requires room { length self.old + 2 ≤ 128 }
+        ensures appended { self.new ≡ self.old ++ hex_byte byte }
+    {
+        self.text.push(char::from(digit(byte / 16)));
+        self.text.push(char::from(digit(byte % 16)));
+    }
+}
+
+/// The capital hexadecimal digit of a number below 16.
+fn digit(number: u8) -> u8
+    requires { number < 16 }
+    ensures text { result ≡ hex_digit number }
+{
+    if number < 10 {
+        b'0' + number
+    } else {
+        b'A' + (number - 10)
+    }
+}
+
+/// A run was made: `frames N samples M`.
+pub fn frames_line(frames: u32, samples: u64) -> Line
+    ensures text { result ≡ line_of (frames_text frames samples) }
+{
+    let mut line = Line::new();
+    line.push("frames ");
+    line.push_number(u64::from(frames));
+    line.push(" samples ");
+    line.push_number(samples);
+    line.push("\n");
+    line
+}
+
+/// The words are in no form.
+pub fn usage_line() -> Line
+    ensures text { result ≡ line_of usage_text }
+{
+    whole("usage: snes run, serial, make or demo\n")
+}
+
+/// A file was not loaded: `cannot read cart`, or `boot`, `table`, `script`.
+pub fn cannot_read_line(input: Input) -> Line
+    ensures text { result ≡ line_of (cannot_read_text input) }
+{
+    whole(match input {
+        Input::Cart => "cannot read cart\n",
+        Input::Boot => "cannot read boot\n",
+        Input::Table => "cannot read table\n",
+        Input::Script => "cannot read script\n",
+    })
+}
+
+/// An output was not written: `cannot write video`, or `sound`, `image`. There is no line for
+/// `Out::Say`, which the lines themselves go to.
+pub fn cannot_write_line(out: Out) -> Option<Line>
+    ensures text { result ≡ option_map line_of (cannot_write_text out) }
+{
+    match out {
+        Out::Video => Some(whole("cannot write video\n")),
+        Out::Sound => Some(whole("cannot write sound\n")),
+        Out::Image => Some(whole("cannot write image\n")),
+        Out::Say => None,
+    }
+}
+
+/// There was no memory: `no memory`.
+pub fn no_memory_line() -> Line
+    ensures text { result ≡ line_of no_memory_text }
+{
+    whole("no memory\n")
+}
+
+/// A part that is not built is needed: `not built: cart`, `not built: opcode 42`,
+/// `not built: address 002140` and the like. Of an address the low 24 bits are told.
+pub fn not_built_line(part: Part) -> Line
+    ensures text { result ≡ line_of (not_built_text part) }
+{
+    match part {
+        Part::Cart => whole("not built: cart\n"),
+        Part::Boot => whole("not built: boot\n"),
+        Part::Table => whole("not built: table\n"),
+        Part::Script => whole("not built: script\n"),
+        Part::Opcode(opcode) => opcode_line(opcode),
+        Part::Place(address) => address_line(address),
+        Part::Picture => whole("not built: picture\n"),
+        Part::Dsp => whole("not built: dsp\n"),
+    }
+}
+
+fn opcode_line(opcode: u8) -> Line
+    ensures text { result ≡ line_of (not_built_text (Part.Opcode opcode)) }
+{
+    let mut line = Line::new();
+    line.push("not built: opcode ");
+    line.push_hex(opcode);
+    line.push("\n");
+    line
+}
+
+fn address_line(address: u32) -> Line
+    ensures text { result ≡ line_of (not_built_text (Part.Place address)) }
+{
+    let mut line = Line::new();
+    line.push("not built: address ");
+    line.push_hex((address / 65536 % 256) as u8);
+    line.push_hex((address / 256 % 256) as u8);
+    line.push_hex((address % 256) as u8);
+    line.push("\n");
+    line
+}
+
+/// A line of this text.
+fn whole(text: &str) -> Line
+    requires room { length text.now ≤ 128 }
+    ensures same { result ≡ text.now }
+{
+    let mut line = Line::new();
+    line.push(text);
+    line
+}

@@ -1,0 +1,90 @@
+ghost use Rattle.std.specs.Prelude.{◌≡◌, ℕ, ◌<◌, List, [], ◌∷◌, ◌++◌, length, slice_get, Some, OnOk, OnErr};
+
+use snes_defs::NoMemory;
+use std::alloc::{AllocError, Global};
+use std::marker::Model;
+
+/// One word, as bytes.
+#[derive(Drop)]
+pub(crate) struct Word {
+    text: String,
+}
+
+impl Model for Word {
+    ghost use Rattle.std.specs.Prelude.{List, ℕ, string_bytes};
+
+    ghost Value = { List ℕ };
+
+    ghost view = { λ w. string_bytes w.text };
+}
+
+impl Word {
+    pub(crate) fn text(&self) -> &str
+        ensures { result.now ≡ self.now }
+    {
+        self.text.as_str()
+    }
+}
+
+/// The words of a command line, after the program's own name.
+#[derive(Drop)]
+pub struct Argv {
+    words: Vec<Word>,
+    alloc: Global,
+}
+
+impl Model for Argv {
+    ghost use Rattle.std.specs.Prelude.{List, ℕ};
+
+    ghost Value = { List (List ℕ) };
+
+    ghost view = { λ a. a.words.items };
+}
+
+impl Argv {
+    /// No words. It takes no memory.
+    pub fn new(alloc: Global) -> Argv
+        ensures empty { result ≡ [] }
+    {
+        Argv {
+            words: Vec::new(alloc),
+            alloc,
+        }
+    }
+
+    /// Appends a word, or changes nothing.
+    pub fn push(&mut self, word: &str) -> Result<(), NoMemory>
+        ensures ok { OnOk result (self.new ≡ self.old ++ word.now ∷ []) }
+        ensures err { OnErr result (self.new ≡ self.old) }
+    {
+        let Ok(text) = String::from_str(self.alloc, word) else {
+            return Err(NoMemory);
+        };
+        match self.words.push(Word { text }) {
+            Ok(()) => Ok(()),
+            Err(_) => Err(NoMemory),
+        }
+    }
+
+    /// The words themselves.
+    pub(crate) fn all(&self) -> &[Word]
+        ensures all { result.now ≡ self.now }
+    {
+        self.words.as_slice()
+    }
+
+    /// How many words there are.
+    pub fn len(&self) -> usize
+        ensures count { result ≡ length self.now }
+    {
+        self.words.len()
+    }
+
+    /// The word at a place, from 0.
+    pub fn word(&self, i: usize) -> &str
+        requires { i < length self.now }
+        ensures at { slice_get self.now i ≡ Some result.now }
+    {
+        self.words[i].text()
+    }
+}
