@@ -1,0 +1,10 @@
+pub mod InputLemmas
+pub mod Runs
+pub mod ShownLemmas
+pub mod Plays
+pub mod Orders
+pub mod Calls
+pub mod Forms
+pub mod Meeting
+pub mod Endings
+pub mod Always
