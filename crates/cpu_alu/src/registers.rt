@@ -1,0 +1,168 @@
+ghost use Rattle.std.specs.Prelude.{◌≡◌, ◌<◌, IsTrue};
+ghost use Rattle.status_bits.specs.StatusBits.{is_weight};
+ghost use Rattle.cpu_alu.specs.Registers.{
+  clear_flags,
+  exchange_modes,
+  load_a_wide,
+  load_bank,
+  load_d,
+  pushed_status,
+  set_flags,
+  set_stack,
+  swap_bytes,
+  with_flag,
+  with_status,
+};
+
+use crate::width::with_result;
+use cpu_tables::{CARRY, INDEX_8, MEMORY_8, Op, Regs};
+use status_bits::{is_set, with_bit};
+
+/// A new status byte: in emulation mode both widths stay 8 bits, and 8-bit indexes have no high byte.
+#[tactic(auto, unfolding(crate::specs::Registers::with_status))]
+#[inline(always)]
+pub fn status_set(regs: Regs, p: u8) -> Regs
+    ensures { result ≡ with_status regs p }
+{
+    let p = if regs.e {
+        with_bit(with_bit(p, MEMORY_8, true), INDEX_8, true)
+    } else {
+        p
+    };
+    if is_set(p, INDEX_8) {
+        Regs {
+            p,
+            x: regs.x % 256,
+            y: regs.y % 256,
+            ..regs
+        }
+    } else {
+        Regs { p, ..regs }
+    }
+}
+
+/// The status byte as an operation or an interrupt pushes it. In emulation mode bit 5 is set, and bit
+/// 4 tells software (BRK, COP, PHP), where it is set, from an interrupt of the hardware.
+#[tactic(auto, unfolding(crate::specs::Registers::pushed_status))]
+#[inline(always)]
+pub fn pushed_status(op: Op, regs: Regs) -> u8
+    ensures { result ≡ pushed_status op regs }
+{
+    let is_software = !matches!(op, Op::Nmi | Op::Irq);
+    if regs.e {
+        with_bit(with_bit(regs.p, MEMORY_8, true), INDEX_8, is_software)
+    } else {
+        regs.p
+    }
+}
+
+/// REP: the flags of a mask off.
+#[tactic(auto, unfolding(crate::specs::Registers::clear_flags))]
+#[inline(always)]
+pub fn flags_cleared(regs: Regs, mask: u16) -> Regs
+    ensures { result ≡ clear_flags regs mask }
+{
+    let mask = (mask % 256) as u8;
+    status_set(regs, regs.p - (regs.p & mask))
+}
+
+/// SEP: the flags of a mask on.
+#[tactic(auto, unfolding(crate::specs::Registers::set_flags))]
+#[inline(always)]
+pub fn flags_set(regs: Regs, mask: u16) -> Regs
+    ensures { result ≡ set_flags regs mask }
+{
+    let mask = (mask % 256) as u8;
+    status_set(regs, regs.p | mask)
+}
+
+/// A flag on or off.
+#[inline(always)]
+pub fn flag_set(regs: Regs, weight: u8, on: bool) -> Regs
+    requires { IsTrue (is_weight weight) }
+    ensures { result ≡ with_flag regs weight on }
+{
+    Regs {
+        p: with_bit(regs.p, weight, on),
+        ..regs
+    }
+}
+
+/// XCE: carry and emulation mode change places.
+#[tactic(auto, unfolding(crate::specs::Registers::exchange_modes))]
+#[inline(always)]
+pub fn modes_exchanged(regs: Regs) -> Regs
+    ensures { result ≡ exchange_modes regs }
+{
+    let into = is_set(regs.p, CARRY);
+    let s = if into { 256 + regs.s % 256 } else { regs.s };
+    status_set(Regs { e: into, s, ..regs }, with_bit(regs.p, CARRY, regs.e))
+}
+
+/// A register into S: in emulation mode its low byte alone.
+#[tactic(auto, unfolding(crate::specs::Registers::set_stack))]
+#[inline(always)]
+pub fn stack_set(regs: Regs, value: u16) -> Regs
+    ensures { result ≡ set_stack regs value }
+{
+    let s = if regs.e {
+        regs.s / 256 * 256 + value % 256
+    } else {
+        value
+    };
+    Regs { s, ..regs }
+}
+
+/// All 16 bits of A, with N and Z.
+#[tactic(auto, unfolding(crate::specs::Registers::load_a_wide))]
+#[inline(always)]
+pub fn with_a_wide(regs: Regs, value: u16) -> Regs
+    ensures { result ≡ load_a_wide regs value }
+{
+    Regs {
+        a: value,
+        p: with_result(65536, value as u32, regs.p),
+        ..regs
+    }
+}
+
+/// D, with N and Z.
+#[tactic(auto, unfolding(crate::specs::Registers::load_d))]
+#[inline(always)]
+pub fn with_d(regs: Regs, value: u16) -> Regs
+    ensures { result ≡ load_d regs value }
+{
+    Regs {
+        d: value,
+        p: with_result(65536, value as u32, regs.p),
+        ..regs
+    }
+}
+
+/// The data bank, with N and Z.
+#[tactic(auto, unfolding(crate::specs::Registers::load_bank))]
+#[inline(always)]
+pub fn with_bank(regs: Regs, value: u16) -> Regs
+    ensures { result ≡ load_bank regs value }
+{
+    let bank = value % 256;
+    Regs {
+        dbr: bank as u8,
+        p: with_result(256, bank as u32, regs.p),
+        ..regs
+    }
+}
+
+/// XBA: the bytes of A change places, with N and Z of the new low byte.
+#[tactic(auto, unfolding(crate::specs::Registers::swap_bytes))]
+#[inline(always)]
+pub fn bytes_swapped(regs: Regs) -> Regs
+    ensures { result ≡ swap_bytes regs }
+{
+    let low = regs.a / 256;
+    Regs {
+        a: regs.a % 256 * 256 + low,
+        p: with_result(256, low as u32, regs.p),
+        ..regs
+    }
+}

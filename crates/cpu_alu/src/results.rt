@@ -1,0 +1,311 @@
+ghost use Rattle.std.specs.Prelude.{◌≡◌, ◌+◌, ◌%◌};
+ghost use Rattle.cpu_tables.specs.Status.{index_size};
+ghost use Rattle.cpu_alu.specs.Changes.{
+  clear_bits,
+  decrement,
+  increment,
+  set_bits,
+  shift_left,
+  shift_right,
+  rotate_left,
+  rotate_right,
+};
+ghost use Rattle.cpu_alu.specs.Results.{
+  apply_of,
+  changed,
+  changed_by_a,
+  is_accumulator,
+  is_immediate,
+  operand_written,
+  registers_after,
+};
+
+use crate::changes::{
+    Changed, bits_cleared, bits_set, change_operand, decremented, incremented, rotated_left,
+    rotated_right, shifted_left, shifted_right, with_changed,
+};
+use crate::flow::{
+    after_reset, block_moved, branched, far_place, interrupted, jumped, returned_from_interrupt,
+};
+use crate::registers::{
+    bytes_swapped, flag_set, flags_cleared, flags_set, modes_exchanged, pushed_status, stack_set,
+    status_set, with_a_wide, with_bank, with_d,
+};
+use crate::sums::{bits_tested, compared, with_added, with_subtracted};
+use crate::width::{accumulator_value, index_numbers, memory_numbers, with_a, with_x, with_y};
+use cpu_tables::{CARRY, DECIMAL, IRQ_DISABLE, Mode, OVERFLOW, Op, Regs, Row};
+
+/// The registers after an instruction, and the operand that it writes or pushes (0 where there is
+/// none). See the head of the crate for what `regs` and `word` are.
+#[inline(always)]
+pub fn apply(row: Row, regs: Regs, word: u16) -> (Regs, u16)
+    ensures registers { result.0 ≡ (apply_of row regs word).0 }
+    ensures operand { result.1 ≡ (apply_of row regs word).1 }
+{
+    (
+        registers_after(row, regs, word),
+        operand_written(row, regs, word),
+    )
+}
+
+/// The registers after an instruction.
+#[tactic(auto, unfolding(crate::specs::Results::registers_after))]
+#[inline(always)]
+pub fn registers_after(row: Row, regs: Regs, word: u16) -> Regs
+    ensures { result ≡ registers_after row.op row.mode regs word }
+{
+    let on_a = is_accumulator(row.mode);
+    match row.op {
+        // Sums, comparisons, logic.
+        Op::Adc => with_added(regs, word),
+        Op::Sbc => with_subtracted(regs, word),
+        Op::Cmp => compared(memory_numbers(regs), regs.a, regs, word),
+        Op::Cpx => compared(index_numbers(regs), regs.x, regs, word),
+        Op::Cpy => compared(index_numbers(regs), regs.y, regs, word),
+        Op::Bit => bits_tested(is_immediate(row.mode), regs, word),
+        Op::Ora => with_a(regs, (regs.a | word) as u32),
+        Op::And => with_a(regs, (regs.a & word) as u32),
+        Op::Eor => with_a(regs, (regs.a ^ word) as u32),
+        // Changes of A or memory.
+        Op::Asl => with_changed(on_a, regs, asl(row.mode, regs, word)),
+        Op::Lsr => with_changed(on_a, regs, lsr(row.mode, regs, word)),
+        Op::Rol => with_changed(on_a, regs, rol(row.mode, regs, word)),
+        Op::Ror => with_changed(on_a, regs, ror(row.mode, regs, word)),
+        Op::Inc => with_changed(on_a, regs, inc(row.mode, regs, word)),
+        Op::Dec => with_changed(on_a, regs, dec(row.mode, regs, word)),
+        Op::Tsb => with_changed(false, regs, tsb(regs, word)),
+        Op::Trb => with_changed(false, regs, trb(regs, word)),
+        // Steps of the indexes.
+        Op::Inx => with_x(regs, regs.x as u32 + 1),
+        Op::Iny => with_y(regs, regs.y as u32 + 1),
+        Op::Dex => with_x(regs, regs.x as u32 + 65535),
+        Op::Dey => with_y(regs, regs.y as u32 + 65535),
+        // Loads and pulls.
+        Op::Lda => with_a(regs, word as u32),
+        Op::Ldx => with_x(regs, word as u32),
+        Op::Ldy => with_y(regs, word as u32),
+        Op::Pla => with_a(regs, word as u32),
+        Op::Plx => with_x(regs, word as u32),
+        Op::Ply => with_y(regs, word as u32),
+        Op::Plb => with_bank(regs, word),
+        Op::Pld => with_d(regs, word),
+        Op::Plp => status_set(regs, (word % 256) as u8),
+        // Stores and pushes.
+        Op::Sta => regs,
+        Op::Stx => regs,
+        Op::Sty => regs,
+        Op::Stz => regs,
+        Op::Pha => regs,
+        Op::Phx => regs,
+        Op::Phy => regs,
+        Op::Phb => regs,
+        Op::Phd => regs,
+        Op::Phk => regs,
+        Op::Php => regs,
+        Op::Pea => regs,
+        Op::Pei => regs,
+        Op::Per => regs,
+        // Transfers.
+        Op::Tax => with_x(regs, regs.a as u32),
+        Op::Tay => with_y(regs, regs.a as u32),
+        Op::Tsx => with_x(regs, regs.s as u32),
+        Op::Txy => with_y(regs, regs.x as u32),
+        Op::Tyx => with_x(regs, regs.y as u32),
+        Op::Txa => with_a(regs, regs.x as u32),
+        Op::Tya => with_a(regs, regs.y as u32),
+        Op::Txs => stack_set(regs, regs.x),
+        Op::Tcs => stack_set(regs, regs.a),
+        Op::Tcd => with_d(regs, regs.a),
+        Op::Tdc => with_a_wide(regs, regs.d),
+        Op::Tsc => with_a_wide(regs, regs.s),
+        Op::Xba => bytes_swapped(regs),
+        // Flags.
+        Op::Clc => flag_set(regs, CARRY, false),
+        Op::Sec => flag_set(regs, CARRY, true),
+        Op::Cli => flag_set(regs, IRQ_DISABLE, false),
+        Op::Sei => flag_set(regs, IRQ_DISABLE, true),
+        Op::Cld => flag_set(regs, DECIMAL, false),
+        Op::Sed => flag_set(regs, DECIMAL, true),
+        Op::Clv => flag_set(regs, OVERFLOW, false),
+        Op::Rep => flags_cleared(regs, word),
+        Op::Sep => flags_set(regs, word),
+        Op::Xce => modes_exchanged(regs),
+        // Branches, jumps, calls, returns.
+        Op::Bpl => branched(Op::Bpl, regs, word),
+        Op::Bmi => branched(Op::Bmi, regs, word),
+        Op::Bvc => branched(Op::Bvc, regs, word),
+        Op::Bvs => branched(Op::Bvs, regs, word),
+        Op::Bcc => branched(Op::Bcc, regs, word),
+        Op::Bcs => branched(Op::Bcs, regs, word),
+        Op::Bne => branched(Op::Bne, regs, word),
+        Op::Beq => branched(Op::Beq, regs, word),
+        Op::Bra => branched(Op::Bra, regs, word),
+        Op::Brl => jumped(regs, far_place(regs.pc, word)),
+        Op::Jmp => jumped(regs, word),
+        Op::Jsr => jumped(regs, word),
+        Op::Jsl => jumped(regs, word),
+        Op::Rts => jumped(regs, place_after(word)),
+        Op::Rtl => jumped(regs, place_after(word)),
+        Op::Rti => returned_from_interrupt(regs, word),
+        // Interrupts and the reset.
+        Op::Brk => interrupted(regs, word),
+        Op::Cop => interrupted(regs, word),
+        Op::Nmi => interrupted(regs, word),
+        Op::Irq => interrupted(regs, word),
+        Op::Reset => after_reset(word),
+        // Block moves, and what changes no register.
+        Op::Mvn => block_moved(1, regs),
+        Op::Mvp => block_moved(65535, regs),
+        Op::Nop => regs,
+        Op::Wdm => regs,
+        Op::Wai => regs,
+        Op::Stp => regs,
+    }
+}
+
+/// The operand that an instruction writes or pushes; 0 where there is none.
+#[tactic(auto, unfolding(crate::specs::Results::operand_written))]
+#[inline(always)]
+pub fn operand_written(row: Row, regs: Regs, word: u16) -> u16
+    ensures { result ≡ operand_written row.op row.mode regs word }
+{
+    match row.op {
+        Op::Sta => accumulator_value(regs) as u16,
+        Op::Stx => x_value(regs),
+        Op::Sty => y_value(regs),
+        Op::Stz => 0,
+        Op::Pha => accumulator_value(regs) as u16,
+        Op::Phx => x_value(regs),
+        Op::Phy => y_value(regs),
+        Op::Phb => regs.dbr as u16,
+        Op::Phd => regs.d,
+        Op::Phk => regs.pbr as u16,
+        Op::Php => pushed_status(Op::Php, regs) as u16,
+        Op::Pea => word,
+        Op::Pei => word,
+        Op::Per => far_place(regs.pc, word),
+        Op::Asl => asl(row.mode, regs, word).value,
+        Op::Lsr => lsr(row.mode, regs, word).value,
+        Op::Rol => rol(row.mode, regs, word).value,
+        Op::Ror => ror(row.mode, regs, word).value,
+        Op::Inc => inc(row.mode, regs, word).value,
+        Op::Dec => dec(row.mode, regs, word).value,
+        Op::Tsb => tsb(regs, word).value,
+        Op::Trb => trb(regs, word).value,
+        Op::Mvn => word % 256,
+        Op::Mvp => word % 256,
+        _ => 0,
+    }
+}
+
+/// Whether the operand of a mode is A.
+#[inline(always)]
+fn is_accumulator(mode: Mode) -> bool
+    ensures { result ≡ is_accumulator mode }
+{
+    matches!(mode, Mode::Accumulator)
+}
+
+/// Whether the operand of a mode follows the opcode.
+#[inline(always)]
+fn is_immediate(mode: Mode) -> bool
+    ensures { result ≡ is_immediate mode }
+{
+    matches!(mode, Mode::Immediate)
+}
+
+/// X at its width.
+#[inline(always)]
+fn x_value(regs: Regs) -> u16
+    ensures { result ≡ regs.x % index_size regs }
+{
+    (regs.x as u32 % index_numbers(regs)) as u16
+}
+
+/// Y at its width.
+#[inline(always)]
+fn y_value(regs: Regs) -> u16
+    ensures { result ≡ regs.y % index_size regs }
+{
+    (regs.y as u32 % index_numbers(regs)) as u16
+}
+
+/// The place after a pulled one, in its bank.
+#[inline(always)]
+fn place_after(word: u16) -> u16
+    ensures { result ≡ (word + 1) % 65536 }
+{
+    ((word as u32 + 1) % 65536) as u16
+}
+
+/// ASL at A or at what was read.
+#[inline(always)]
+fn asl(mode: Mode, regs: Regs, word: u16) -> Changed
+    ensures { result ≡ changed shift_left mode regs word }
+{
+    let operand = change_operand(is_accumulator(mode), regs, word);
+    shifted_left(memory_numbers(regs), regs.p, operand)
+}
+
+/// LSR at A or at what was read.
+#[inline(always)]
+fn lsr(mode: Mode, regs: Regs, word: u16) -> Changed
+    ensures { result ≡ changed shift_right mode regs word }
+{
+    let operand = change_operand(is_accumulator(mode), regs, word);
+    shifted_right(memory_numbers(regs), regs.p, operand)
+}
+
+/// ROL at A or at what was read.
+#[inline(always)]
+fn rol(mode: Mode, regs: Regs, word: u16) -> Changed
+    ensures { result ≡ changed rotate_left mode regs word }
+{
+    let operand = change_operand(is_accumulator(mode), regs, word);
+    rotated_left(memory_numbers(regs), regs.p, operand)
+}
+
+/// ROR at A or at what was read.
+#[inline(always)]
+fn ror(mode: Mode, regs: Regs, word: u16) -> Changed
+    ensures { result ≡ changed rotate_right mode regs word }
+{
+    let operand = change_operand(is_accumulator(mode), regs, word);
+    rotated_right(memory_numbers(regs), regs.p, operand)
+}
+
+/// INC at A or at what was read.
+#[inline(always)]
+fn inc(mode: Mode, regs: Regs, word: u16) -> Changed
+    ensures { result ≡ changed increment mode regs word }
+{
+    let operand = change_operand(is_accumulator(mode), regs, word);
+    incremented(memory_numbers(regs), regs.p, operand)
+}
+
+/// DEC at A or at what was read.
+#[inline(always)]
+fn dec(mode: Mode, regs: Regs, word: u16) -> Changed
+    ensures { result ≡ changed decrement mode regs word }
+{
+    let operand = change_operand(is_accumulator(mode), regs, word);
+    decremented(memory_numbers(regs), regs.p, operand)
+}
+
+/// TSB, by the bits of A.
+#[inline(always)]
+fn tsb(regs: Regs, word: u16) -> Changed
+    ensures { result ≡ changed_by_a set_bits regs word }
+{
+    let operand = (word as u32 % memory_numbers(regs)) as u16;
+    bits_set(accumulator_value(regs) as u16, regs.p, operand)
+}
+
+/// TRB, by the bits of A.
+#[inline(always)]
+fn trb(regs: Regs, word: u16) -> Changed
+    ensures { result ≡ changed_by_a clear_bits regs word }
+{
+    let operand = (word as u32 % memory_numbers(regs)) as u16;
+    bits_cleared(accumulator_value(regs) as u16, regs.p, operand)
+}

@@ -1,0 +1,4 @@
+pub mod Outcomes
+pub mod Calls
+pub mod Changes
+pub mod Interrupts

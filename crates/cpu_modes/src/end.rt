@@ -1,0 +1,113 @@
+ghost use Rattle.std.specs.Prelude.{◌≡◌, MatchBool};
+
+use crate::micro::Micro;
+use crate::place::{Direction, Place, Traffic};
+use cpu_tables::{Regs, Row};
+
+impl Micro {
+    ghost use Rattle.cpu_modes.specs.Plan.{ends, finished};
+    ghost use Rattle.cpu_modes.specs.Rest.{rest};
+
+    /// An instruction that has ended.
+    pub fn ended(registers: Regs, row: Row) -> Micro
+        ensures left { rest result ≡ ends registers }
+        ensures start { result.start ≡ registers }
+        ensures here { result.here ≡ registers }
+        ensures row { result.row ≡ row }
+    {
+        Micro {
+            start: registers,
+            here: registers,
+            row,
+            traffic: Traffic {
+                direction: Direction::Load,
+                wide: false,
+            },
+            place: Place::Ended,
+            base: 0,
+            word: 0,
+        }
+    }
+
+    /// Whether the instruction has ended; a waiting one has where it is woken. Its registers are then those here.
+    #[inline(always)]
+    pub fn has_ended(&self, awake: bool) -> bool
+        ensures { MatchBool result
+            (finished awake (rest self.now) ≡ Some self.now.here)
+            (finished awake (rest self.now) ≡ None) }
+    {
+        match self.place {
+            Place::Ended => true,
+            Place::Waiting => awake,
+            Place::Opcode
+            | Place::OperandByte
+            | Place::StatusOperand
+            | Place::ImmediateLow
+            | Place::ImmediateHigh
+            | Place::DirectOffset(_)
+            | Place::LowCycle(_)
+            | Place::StackOffset
+            | Place::StackPointerOffset
+            | Place::OperandLow(_)
+            | Place::OperandHigh(_)
+            | Place::OperandBank(_)
+            | Place::PointerCycle(_)
+            | Place::PointerLow(_)
+            | Place::PointerHigh(_)
+            | Place::PointerBank
+            | Place::PointerBankY
+            | Place::DataCycle(_)
+            | Place::LoadLow(_)
+            | Place::LoadHigh
+            | Place::StoreLow(_)
+            | Place::StoreHigh
+            | Place::ChangeReadLow(_)
+            | Place::ChangeReadHigh(_)
+            | Place::ChangeCycle(_)
+            | Place::ChangeWriteHigh(_)
+            | Place::ChangeWriteLow
+            | Place::TwoCycles
+            | Place::LastCycle
+            | Place::PushCycle
+            | Place::PushWordCycle
+            | Place::PushHigh
+            | Place::PushLow
+            | Place::PullFirstCycle
+            | Place::PullCycle
+            | Place::PullLow
+            | Place::PullHigh
+            | Place::CallBankPush
+            | Place::CallBankCycle
+            | Place::CallBank
+            | Place::CallPointerLow
+            | Place::CallPointerPushHigh
+            | Place::CallPointerPushLow
+            | Place::CallPointerHigh
+            | Place::TargetCycle
+            | Place::TargetLow(_)
+            | Place::TargetHigh(_)
+            | Place::TargetBank
+            | Place::ReturnFirstCycle(_)
+            | Place::ReturnCycle(_)
+            | Place::ReturnStatus
+            | Place::ReturnLow(_)
+            | Place::ReturnHigh(_)
+            | Place::ReturnBank
+            | Place::BranchOffset
+            | Place::BreakOperand
+            | Place::InterruptFirstCycle
+            | Place::InterruptCycle
+            | Place::InterruptBank
+            | Place::InterruptHigh
+            | Place::InterruptLow
+            | Place::InterruptStatus
+            | Place::BlockDestination
+            | Place::BlockSource
+            | Place::BlockRead
+            | Place::BlockWrite
+            | Place::WaitFirstCycle
+            | Place::WaitCycle
+            | Place::Stopped => false,
+        }
+    }
+}

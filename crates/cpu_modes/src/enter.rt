@@ -1,0 +1,173 @@
+ghost use Rattle.std.specs.Prelude.{◌≡◌, ◌<◌};
+ghost use Rattle.cpu_modes.specs.Orders.{vector};
+
+use crate::address::is_wide;
+use crate::micro::Micro;
+use crate::place::{DirectKind, Direction, OperandKind, Place, ReturnKind, TargetKind, Traffic};
+use crate::uses::{Cause, Use, Width, use_of};
+use cpu_tables::Mode;
+
+/// The place of a cause's vector in bank 0.
+#[inline(always)]
+fn vector(cause: Cause, e: bool) -> u32
+    ensures exact { result ≡ vector cause e }
+    ensures within { result < 65536 }
+{
+    match cause {
+        Cause::Coprocessor => { if e { 0xFFF4 } else { 0xFFE4 } }
+        Cause::Break => { if e { 0xFFFE } else { 0xFFE6 } }
+        Cause::Nmi => { if e { 0xFFFA } else { 0xFFEA } }
+        Cause::Irq => { if e { 0xFFFE } else { 0xFFEE } }
+    }
+}
+
+impl Micro {
+    ghost use Rattle.cpu_modes.specs.Orders.{by_mode, call_order, data_of, jump_kind, operand, order};
+    ghost use Rattle.cpu_modes.specs.Rest.{rest};
+
+    /// An operation with data begins.
+    #[inline(always)]
+    pub(crate) fn enter_mode(&mut self)
+        ensures left { rest self.new ≡ by_mode self.old.row.mode self.old.traffic self.old.row self.old.here }
+        ensures start { self.new.start ≡ self.old.start }
+    {
+        self.word = 0;
+        self.place = match self.row.mode {
+            Mode::Immediate => Place::ImmediateLow,
+            Mode::Direct => Place::DirectOffset(DirectKind::Plain),
+            Mode::DirectX => Place::DirectOffset(DirectKind::X),
+            Mode::DirectY => Place::DirectOffset(DirectKind::Y),
+            Mode::DirectPointer => Place::DirectOffset(DirectKind::Pointer),
+            Mode::DirectXPointer => Place::DirectOffset(DirectKind::XPointer),
+            Mode::DirectPointerY => Place::DirectOffset(DirectKind::PointerY),
+            Mode::DirectLongPointer => Place::DirectOffset(DirectKind::LongPointer),
+            Mode::DirectLongPointerY => Place::DirectOffset(DirectKind::LongPointerY),
+            Mode::Absolute => Place::OperandLow(OperandKind::Plain),
+            Mode::AbsoluteX => Place::OperandLow(OperandKind::X),
+            Mode::AbsoluteY => Place::OperandLow(OperandKind::Y),
+            Mode::Long => Place::OperandLow(OperandKind::Long),
+            Mode::LongX => Place::OperandLow(OperandKind::LongX),
+            Mode::StackRelative => Place::StackOffset,
+            Mode::StackPointerY => Place::StackPointerOffset,
+            Mode::AbsolutePointer
+            | Mode::AbsoluteXPointer
+            | Mode::AbsoluteLongPointer
+            | Mode::Relative
+            | Mode::RelativeLong
+            | Mode::Accumulator
+            | Mode::Implied
+            | Mode::Stack
+            | Mode::BlockMove => Place::LastCycle,
+        };
+    }
+
+    /// A jump begins.
+    #[inline(always)]
+    pub(crate) fn enter_jump(&mut self)
+        ensures left { rest self.new ≡ operand (jump_kind self.old.row.mode) self.old.traffic self.old.row self.old.here }
+        ensures start { self.new.start ≡ self.old.start }
+    {
+        self.place = Place::OperandLow(match self.row.mode {
+            Mode::Long => OperandKind::JumpLong,
+            Mode::AbsolutePointer => OperandKind::JumpPointer,
+            Mode::AbsoluteXPointer => OperandKind::JumpXPointer,
+            Mode::AbsoluteLongPointer => OperandKind::JumpLongPointer,
+            _ => OperandKind::Jump,
+        });
+    }
+
+    /// A call begins.
+    #[inline(always)]
+    pub(crate) fn enter_call(&mut self)
+        ensures left { rest self.new ≡ call_order self.old.row.mode self.old.traffic self.old.row self.old.here }
+        ensures start { self.new.start ≡ self.old.start }
+    {
+        self.place = match self.row.mode {
+            Mode::AbsoluteXPointer => Place::CallPointerLow,
+            _ => Place::OperandLow(OperandKind::Call),
+        };
+    }
+
+    /// The data of an operation.
+    #[inline(always)]
+    pub(crate) fn with_data(&mut self, direction: Direction, width: Width)
+        ensures data_set { self.new ≡ record self.old { traffic = data_of direction width self.old.here } }
+    {
+        let wide = is_wide(width, &self.here);
+        self.traffic = Traffic { direction, wide };
+    }
+
+    /// The row's accesses after the opcode begin.
+    #[inline(always)]
+    pub fn enter(&mut self)
+        ensures left { rest self.new ≡ order self.old.row self.old.here }
+        ensures start { self.new.start ≡ self.old.start }
+    {
+        self.traffic = Traffic {
+            direction: Direction::Load,
+            wide: false,
+        };
+        match use_of(self.row.op) {
+            Use::Load(width) => {
+                self.with_data(Direction::Load, width);
+                self.enter_mode();
+            }
+            Use::Store(width) => {
+                self.with_data(Direction::Store, width);
+                self.enter_mode();
+            }
+            Use::Change(width) => {
+                self.with_data(Direction::Change, width);
+                self.enter_mode();
+            }
+            Use::Internal => {
+                self.word = 0;
+                self.place = Place::LastCycle;
+            }
+            Use::Exchange => {
+                self.word = 0;
+                self.place = Place::TwoCycles;
+            }
+            Use::Status => self.place = Place::StatusOperand,
+            Use::Reserved => self.place = Place::OperandByte,
+            Use::Push(width) => {
+                self.with_data(Direction::Store, width);
+                self.word = 0;
+                self.place = Place::PushCycle;
+            }
+            Use::Pull(width) => {
+                self.with_data(Direction::Load, width);
+                self.place = Place::PullFirstCycle;
+            }
+            Use::PushOperand => self.place = Place::OperandLow(OperandKind::Pushed),
+            Use::PushDirect => self.place = Place::DirectOffset(DirectKind::Pushed),
+            Use::PushRelative => {
+                self.with_data(Direction::Store, Width::Word);
+                self.place = Place::OperandLow(OperandKind::PushedRelative);
+            }
+            Use::Jump => self.enter_jump(),
+            Use::Call => self.enter_call(),
+            Use::CallLong => self.place = Place::OperandLow(OperandKind::CallLong),
+            Use::Return => self.place = Place::ReturnFirstCycle(ReturnKind::Near),
+            Use::ReturnLong => self.place = Place::ReturnFirstCycle(ReturnKind::Far),
+            Use::ReturnInterrupt => self.place = Place::ReturnFirstCycle(ReturnKind::Interrupt),
+            Use::Branch => self.place = Place::BranchOffset,
+            Use::BranchLong => self.place = Place::OperandLow(OperandKind::BranchLong),
+            Use::Software(cause) => {
+                self.base = vector(cause, self.here.e);
+                self.place = Place::BreakOperand;
+            }
+            Use::Hardware(cause) => {
+                self.base = vector(cause, self.here.e);
+                self.place = Place::InterruptFirstCycle;
+            }
+            Use::BlockMove => self.place = Place::BlockDestination,
+            Use::Wait => self.place = Place::WaitFirstCycle,
+            Use::Stop => self.place = Place::Stopped,
+            Use::Reset => {
+                self.base = 0xFFFC;
+                self.place = Place::TargetLow(TargetKind::Near);
+            }
+        }
+    }
+}

@@ -1,0 +1,324 @@
+ghost use Rattle.std.specs.Prelude.{◌≡◌, ◌+◌, ◌*◌, ◌/◌, ◌%◌, ◌<◌, ◌^◌};
+ghost use Rattle.cpu_modes.specs.Addresses.{pulled, pushed, fetched};
+
+use crate::address::{direct_address, direct_always, has_index_cycle, next_in_bank};
+use crate::micro::Micro;
+use crate::place::{
+    BankKind, DirectKind, Direction, OperandKind, Place, PointerKind, Reach, ReturnKind, TargetKind,
+};
+use cpu_alu::{is_taken, operand_written, relative};
+
+impl Micro {
+    ghost use Rattle.cpu_modes.specs.Orders.{after_bank, after_offset, after_operand, after_pointer, after_return, after_target, branch_cycles, data_at, data_indexed, interrupted, push_data, return_pulls, written_of};
+    ghost use Rattle.cpu_modes.specs.Rest.{leaves, rest};
+
+    /// The data is next, at an address.
+    #[inline(always)]
+    pub(crate) fn reach_data(&mut self, reach: Reach, at: u32)
+        requires { at < 2 ^ 24 }
+        ensures left { rest self.new ≡ data_at self.old.traffic reach self.old.row self.old.here at }
+        ensures start { self.new.start ≡ self.old.start }
+    {
+        self.base = at;
+        match self.traffic.direction {
+            Direction::Load => self.place = Place::LoadLow(reach),
+            Direction::Store => {
+                self.word = 0;
+                self.place = Place::StoreLow(reach);
+            }
+            Direction::Change => self.place = Place::ChangeReadLow(reach),
+        }
+    }
+
+    /// The data is next, at an address and an index.
+    #[inline(always)]
+    pub(crate) fn reach_indexed(&mut self, at: u32, index: u16)
+        requires { at < 2 ^ 24 }
+        ensures left { rest self.new ≡ data_indexed self.old.traffic self.old.row self.old.here at index }
+        ensures start { self.new.start ≡ self.old.start }
+    {
+        let has_cycle = has_index_cycle(self.traffic, &self.here, at, index);
+        let to = (at + index as u32) % 16777216;
+        if has_cycle {
+            self.base = to;
+            self.place = Place::DataCycle(Reach::NextAddress);
+        } else {
+            self.reach_data(Reach::NextAddress, to);
+        }
+    }
+
+    /// An offset from the direct register was fetched, and the cycle after it made.
+    #[inline(always)]
+    pub(crate) fn pass_offset(&mut self, kind: DirectKind, offset: u16)
+        ensures left { rest self.new ≡ after_offset kind self.old.traffic self.old.row self.old.here offset }
+        ensures start { self.new.start ≡ self.old.start }
+    {
+        match kind {
+            DirectKind::Plain => {
+                let at = direct_address(&self.here, offset, 0);
+                self.reach_data(Reach::NextInBankZero, at);
+            }
+            DirectKind::X => {
+                self.base = direct_address(&self.here, offset, self.here.x);
+                self.place = Place::DataCycle(Reach::NextInBankZero);
+            }
+            DirectKind::Y => {
+                self.base = direct_address(&self.here, offset, self.here.y);
+                self.place = Place::DataCycle(Reach::NextInBankZero);
+            }
+            DirectKind::Pointer => {
+                self.base = direct_address(&self.here, offset, 0);
+                self.place = Place::PointerLow(PointerKind::Plain);
+            }
+            DirectKind::XPointer => {
+                self.base = direct_address(&self.here, offset, self.here.x);
+                self.place = Place::PointerCycle(PointerKind::Plain);
+            }
+            DirectKind::PointerY => {
+                self.base = direct_address(&self.here, offset, 0);
+                self.place = Place::PointerLow(PointerKind::Y);
+            }
+            DirectKind::LongPointer => {
+                self.base = direct_always(&self.here, offset);
+                self.place = Place::PointerLow(PointerKind::Long);
+            }
+            DirectKind::LongPointerY => {
+                self.base = direct_always(&self.here, offset);
+                self.place = Place::PointerLow(PointerKind::LongY);
+            }
+            DirectKind::Pushed => {
+                self.base = direct_always(&self.here, offset);
+                self.place = Place::PointerLow(PointerKind::Pushed);
+            }
+        }
+    }
+
+    /// A pointer's two bytes were read.
+    #[inline(always)]
+    pub(crate) fn pass_pointer(&mut self, kind: PointerKind, at: u32, word: u16)
+        ensures left { rest self.new ≡ after_pointer kind self.old.traffic self.old.row self.old.here at word }
+        ensures start { self.new.start ≡ self.old.start }
+    {
+        let in_data_bank = 65536 * self.here.dbr as u32 + word as u32;
+        match kind {
+            PointerKind::Plain => self.reach_data(Reach::NextAddress, in_data_bank),
+            PointerKind::Y => self.reach_indexed(in_data_bank, self.here.y),
+            PointerKind::StackY => {
+                self.base = (in_data_bank + self.here.y as u32) % 16777216;
+                self.place = Place::DataCycle(Reach::NextAddress);
+            }
+            PointerKind::Long => {
+                self.base = (at % 65536 + 1) % 65536;
+                self.word = word;
+                self.place = Place::PointerBank;
+            }
+            PointerKind::LongY => {
+                self.base = (at % 65536 + 1) % 65536;
+                self.word = word;
+                self.place = Place::PointerBankY;
+            }
+            PointerKind::Pushed => {
+                self.base = word as u32;
+                self.word = word;
+                self.place = Place::PushHigh;
+            }
+        }
+    }
+
+    /// An operand's two bytes were fetched.
+    #[inline(always)]
+    pub(crate) fn pass_operand(&mut self, kind: OperandKind, word: u16) -> bool
+        ensures left { leaves result self.new ≡ after_operand kind self.old.traffic self.old.row self.old.here word }
+        ensures start { self.new.start ≡ self.old.start }
+    {
+        let in_data_bank = 65536 * self.here.dbr as u32 + word as u32;
+        self.word = word;
+        match kind {
+            OperandKind::Plain => {
+                self.reach_data(Reach::NextAddress, in_data_bank);
+                false
+            }
+            OperandKind::X => {
+                self.reach_indexed(in_data_bank, self.here.x);
+                false
+            }
+            OperandKind::Y => {
+                self.reach_indexed(in_data_bank, self.here.y);
+                false
+            }
+            OperandKind::Long => {
+                self.place = Place::OperandBank(BankKind::Plain);
+                false
+            }
+            OperandKind::LongX => {
+                self.place = Place::OperandBank(BankKind::X);
+                false
+            }
+            OperandKind::Jump => true,
+            OperandKind::JumpLong => {
+                self.place = Place::OperandBank(BankKind::Jump);
+                false
+            }
+            OperandKind::JumpPointer => {
+                self.base = word as u32;
+                self.place = Place::TargetLow(TargetKind::Near);
+                false
+            }
+            OperandKind::JumpXPointer => {
+                self.base = 65536 * self.here.pbr as u32
+                    + (word as u32 + self.here.x as u32) % 65536;
+                self.place = Place::TargetCycle;
+                false
+            }
+            OperandKind::JumpLongPointer => {
+                self.base = word as u32;
+                self.place = Place::TargetLow(TargetKind::Far);
+                false
+            }
+            OperandKind::Call => {
+                self.base = self.here.pc.wrapping_sub(1) as u32;
+                self.place = Place::PushWordCycle;
+                false
+            }
+            OperandKind::CallLong => {
+                self.place = Place::CallBankPush;
+                false
+            }
+            OperandKind::Pushed => {
+                self.base = word as u32;
+                self.place = Place::PushHigh;
+                false
+            }
+            OperandKind::PushedRelative => {
+                self.place = Place::PushCycle;
+                false
+            }
+            OperandKind::BranchLong => {
+                self.place = Place::LastCycle;
+                false
+            }
+        }
+    }
+
+    /// The bank of an operand was fetched.
+    #[inline(always)]
+    pub(crate) fn pass_bank(&mut self, kind: BankKind, bank: u8) -> bool
+        ensures left { leaves result self.new ≡ after_bank kind self.old.traffic self.old.row self.old.here self.old.word bank }
+        ensures start { self.new.start ≡ self.old.start }
+    {
+        let at = 65536 * bank as u32 + self.word as u32;
+        match kind {
+            BankKind::Plain => {
+                self.reach_data(Reach::NextAddress, at);
+                false
+            }
+            BankKind::X => {
+                let to = (at + self.here.x as u32) % 16777216;
+                self.reach_data(Reach::NextAddress, to);
+                false
+            }
+            BankKind::Jump => {
+                self.here.pbr = bank;
+                true
+            }
+        }
+    }
+
+    /// What the operation writes is pushed next.
+    #[inline(always)]
+    pub(crate) fn push_written(&mut self)
+        ensures left { rest self.new ≡ push_data self.old.traffic self.old.row self.old.here (written_of self.old.row self.old.here self.old.word) self.old.word }
+        ensures start { self.new.start ≡ self.old.start }
+    {
+        self.base = operand_written(self.row, self.here, self.word) as u32;
+        self.place = if self.traffic.wide {
+            Place::PushHigh
+        } else {
+            Place::PushLow
+        };
+    }
+
+    /// A target's two bytes were read.
+    #[inline(always)]
+    pub(crate) fn pass_target(&mut self, kind: TargetKind, at: u32, word: u16) -> bool
+        requires { at < 2 ^ 24 }
+        ensures left { leaves result self.new ≡ after_target kind self.old.row self.old.here at word }
+        ensures start { self.new.start ≡ self.old.start }
+    {
+        self.word = word;
+        match kind {
+            TargetKind::Near => true,
+            TargetKind::Far => {
+                self.base = next_in_bank(at);
+                self.place = Place::TargetBank;
+                false
+            }
+        }
+    }
+
+    /// What a return pulls first.
+    #[inline(always)]
+    pub(crate) fn pull_return(&mut self, kind: ReturnKind)
+        ensures left { rest self.new ≡ return_pulls kind self.old.row self.old.here }
+        ensures start { self.new.start ≡ self.old.start }
+    {
+        self.place = match kind {
+            ReturnKind::Near => Place::ReturnLow(ReturnKind::Near),
+            ReturnKind::Far => Place::ReturnLow(ReturnKind::Far),
+            ReturnKind::Interrupt => Place::ReturnStatus,
+        };
+    }
+
+    /// The program counter was pulled.
+    #[inline(always)]
+    pub(crate) fn pass_return(&mut self, kind: ReturnKind, word: u16) -> bool
+        ensures left { leaves result self.new ≡ after_return kind self.old.row self.old.here word }
+        ensures start { self.new.start ≡ self.old.start }
+    {
+        self.word = word;
+        match kind {
+            ReturnKind::Near => {
+                self.place = Place::LastCycle;
+                false
+            }
+            ReturnKind::Far => {
+                self.place = Place::ReturnBank;
+                false
+            }
+            ReturnKind::Interrupt => {
+                self.place = Place::ReturnBank;
+                self.here.e
+            }
+        }
+    }
+
+    /// A branch's distance was fetched.
+    #[inline(always)]
+    pub(crate) fn branch(&mut self, offset: u8) -> bool
+        ensures left { leaves result self.new ≡ branch_cycles self.old.row self.old.here offset }
+        ensures start { self.new.start ≡ self.old.start }
+    {
+        self.word = offset as u16;
+        let is_taken = is_taken(self.row.op, self.here.p);
+        let target = relative(self.here.pc, offset);
+        self.place = if self.here.e && target / 256 != self.here.pc / 256 {
+            Place::TwoCycles
+        } else {
+            Place::LastCycle
+        };
+        !is_taken
+    }
+
+    /// An interrupt's pushes are next.
+    #[inline(always)]
+    pub(crate) fn interrupt(&mut self)
+        ensures left { rest self.new ≡ interrupted self.old.row self.old.here self.old.base }
+        ensures start { self.new.start ≡ self.old.start }
+    {
+        self.place = if self.here.e {
+            Place::InterruptHigh
+        } else {
+            Place::InterruptBank
+        };
+    }
+}

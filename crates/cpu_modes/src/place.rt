@@ -1,0 +1,281 @@
+/// Whether the data of an instruction is read, written, or both.
+#[derive(Clone, Copy, PartialEq, Eq, Debug)]
+pub enum Direction {
+    /// Read.
+    Load,
+    /// Written.
+    Store,
+    /// Read, changed and written back.
+    Change,
+}
+
+/// How the data of an instruction moves.
+#[derive(Clone, Copy, PartialEq, Eq, Debug)]
+pub struct Traffic {
+    /// Whether it is read or written.
+    pub direction: Direction,
+    /// Whether it has 16 bits.
+    pub wide: bool,
+}
+
+/// Where the high byte of data stands.
+#[derive(Clone, Copy, PartialEq, Eq, Debug)]
+pub enum Reach {
+    /// At the next 24-bit address.
+    NextAddress,
+    /// At the next address in bank 0.
+    NextInBankZero,
+}
+
+/// What an offset from the direct register is for.
+#[derive(Clone, Copy, PartialEq, Eq, Debug)]
+pub enum DirectKind {
+    /// `d`
+    Plain,
+    /// `d,X`
+    X,
+    /// `d,Y`
+    Y,
+    /// `(d)`
+    Pointer,
+    /// `(d,X)`
+    XPointer,
+    /// `(d),Y`
+    PointerY,
+    /// `[d]`
+    LongPointer,
+    /// `[d],Y`
+    LongPointerY,
+    /// PEI
+    Pushed,
+}
+
+/// What a pointer to data is for.
+#[derive(Clone, Copy, PartialEq, Eq, Debug)]
+pub enum PointerKind {
+    /// `(d)` and `(d,X)`
+    Plain,
+    /// `(d),Y`
+    Y,
+    /// `(d,S),Y`
+    StackY,
+    /// `[d]`
+    Long,
+    /// `[d],Y`
+    LongY,
+    /// PEI
+    Pushed,
+}
+
+/// What an operand of two bytes or more is for.
+#[derive(Clone, Copy, PartialEq, Eq, Debug)]
+pub enum OperandKind {
+    /// `a`
+    Plain,
+    /// `a,X`
+    X,
+    /// `a,Y`
+    Y,
+    /// `al`
+    Long,
+    /// `al,X`
+    LongX,
+    /// JMP `a`
+    Jump,
+    /// JMP `al`
+    JumpLong,
+    /// JMP `(a)`
+    JumpPointer,
+    /// JMP `(a,X)`
+    JumpXPointer,
+    /// JMP `[a]`
+    JumpLongPointer,
+    /// JSR `a`
+    Call,
+    /// JSL
+    CallLong,
+    /// PEA
+    Pushed,
+    /// PER
+    PushedRelative,
+    /// BRL
+    BranchLong,
+}
+
+/// What the third byte of an operand is for.
+#[derive(Clone, Copy, PartialEq, Eq, Debug)]
+pub enum BankKind {
+    /// `al`
+    Plain,
+    /// `al,X`
+    X,
+    /// JMP `al`
+    Jump,
+}
+
+/// How many bytes the target of a jump has in memory.
+#[derive(Clone, Copy, PartialEq, Eq, Debug)]
+pub enum TargetKind {
+    /// Two.
+    Near,
+    /// Three: the last is the bank.
+    Far,
+}
+
+/// What is returned from.
+#[derive(Clone, Copy, PartialEq, Eq, Debug)]
+pub enum ReturnKind {
+    /// A subroutine: RTS.
+    Near,
+    /// A subroutine in any bank: RTL.
+    Far,
+    /// An interrupt: RTI.
+    Interrupt,
+}
+
+/// The next access of an instruction.
+#[derive(Clone, Copy, PartialEq, Eq, Debug)]
+pub enum Place {
+    /// The fetch of the opcode.
+    Opcode,
+    /// The fetch of the only operand byte, the last access.
+    OperandByte,
+    /// The fetch of the mask of REP or SEP.
+    StatusOperand,
+    /// The fetch of the low byte of an immediate operand.
+    ImmediateLow,
+    /// The fetch of its high byte.
+    ImmediateHigh,
+    /// The fetch of an offset from the direct register.
+    DirectOffset(DirectKind),
+    /// The cycle for a direct register whose low byte isn't 0.
+    LowCycle(DirectKind),
+    /// The fetch of an offset from the stack pointer, for data there.
+    StackOffset,
+    /// The fetch of an offset from the stack pointer, for a pointer there.
+    StackPointerOffset,
+    /// The fetch of the low byte of an operand.
+    OperandLow(OperandKind),
+    /// The fetch of its high byte.
+    OperandHigh(OperandKind),
+    /// The fetch of its bank.
+    OperandBank(BankKind),
+    /// A cycle before a pointer is read.
+    PointerCycle(PointerKind),
+    /// The read of a pointer's low byte.
+    PointerLow(PointerKind),
+    /// The read of its high byte.
+    PointerHigh(PointerKind),
+    /// The read of the bank of a pointer `[d]`.
+    PointerBank,
+    /// The read of the bank of a pointer `[d],Y`.
+    PointerBankY,
+    /// A cycle before the data.
+    DataCycle(Reach),
+    /// The read of data, of its low byte first.
+    LoadLow(Reach),
+    /// The read of its high byte.
+    LoadHigh,
+    /// The write of data, of its low byte first.
+    StoreLow(Reach),
+    /// The write of its high byte.
+    StoreHigh,
+    /// The read of data that is to be changed.
+    ChangeReadLow(Reach),
+    /// The read of its high byte.
+    ChangeReadHigh(Reach),
+    /// The cycle in which it is changed.
+    ChangeCycle(Reach),
+    /// The write of its high byte.
+    ChangeWriteHigh(Reach),
+    /// The write of its low byte.
+    ChangeWriteLow,
+    /// The last two cycles.
+    TwoCycles,
+    /// The last cycle.
+    LastCycle,
+    /// The cycle before a register is pushed.
+    PushCycle,
+    /// The cycle before a word is pushed.
+    PushWordCycle,
+    /// The push of a high byte.
+    PushHigh,
+    /// The push of a low byte, or of the only one.
+    PushLow,
+    /// The first cycle of a pull.
+    PullFirstCycle,
+    /// The second cycle of a pull.
+    PullCycle,
+    /// The pull of the low byte, or of the only one.
+    PullLow,
+    /// The pull of the high byte.
+    PullHigh,
+    /// JSL: the push of the program bank.
+    CallBankPush,
+    /// JSL: the cycle after that push.
+    CallBankCycle,
+    /// JSL: the fetch of the bank.
+    CallBank,
+    /// JSR `(a,X)`: the fetch of the low byte.
+    CallPointerLow,
+    /// JSR `(a,X)`: the push of the high byte of the address to return to.
+    CallPointerPushHigh,
+    /// JSR `(a,X)`: the push of its low byte.
+    CallPointerPushLow,
+    /// JSR `(a,X)`: the fetch of the high byte.
+    CallPointerHigh,
+    /// The cycle before a target is read.
+    TargetCycle,
+    /// The read of a target's low byte.
+    TargetLow(TargetKind),
+    /// The read of its high byte.
+    TargetHigh(TargetKind),
+    /// The read of its bank.
+    TargetBank,
+    /// The first cycle of a return.
+    ReturnFirstCycle(ReturnKind),
+    /// The second cycle of a return.
+    ReturnCycle(ReturnKind),
+    /// RTI: the pull of the status byte.
+    ReturnStatus,
+    /// The pull of the program counter's low byte.
+    ReturnLow(ReturnKind),
+    /// The pull of its high byte.
+    ReturnHigh(ReturnKind),
+    /// The pull of the program bank.
+    ReturnBank,
+    /// The fetch of a branch's distance.
+    BranchOffset,
+    /// BRK and COP: the fetch of the byte after the opcode.
+    BreakOperand,
+    /// The first cycle of an interrupt.
+    InterruptFirstCycle,
+    /// The second cycle of an interrupt.
+    InterruptCycle,
+    /// The push of the program bank, in native mode.
+    InterruptBank,
+    /// The push of the program counter's high byte.
+    InterruptHigh,
+    /// The push of its low byte.
+    InterruptLow,
+    /// The push of the status byte.
+    InterruptStatus,
+    /// MVN and MVP: the fetch of the destination's bank.
+    BlockDestination,
+    /// MVN and MVP: the fetch of the source's bank.
+    BlockSource,
+    /// MVN and MVP: the read of a byte.
+    BlockRead,
+    /// MVN and MVP: the write of that byte.
+    BlockWrite,
+    /// WAI: the first cycle.
+    WaitFirstCycle,
+    /// WAI: the second cycle.
+    WaitCycle,
+    /// WAI: a cycle of waiting.
+    Waiting,
+    /// STP: a cycle of standing still.
+    Stopped,
+    /// None: the last access was made.
+    Ended,
+}

@@ -1,0 +1,55 @@
+/// The addressing modes. In the comments `d` is an offset of one byte from the direct register, `a`
+/// an address of two bytes, `al` one of three, and a pair of brackets stands for a pointer.
+#[derive(Clone, Copy, PartialEq, Eq, Debug)]
+pub enum Mode {
+    /// `#`: the operand follows the opcode, as wide as the operation. REP, SEP and WDM have one byte.
+    Immediate,
+    /// `d`: bank 0, at the direct register plus the offset.
+    Direct,
+    /// `d,X`
+    DirectX,
+    /// `d,Y`
+    DirectY,
+    /// `(d)`: a pointer of two bytes, in the data bank.
+    DirectPointer,
+    /// `(d,X)`: the index is added before the pointer is read.
+    DirectXPointer,
+    /// `(d),Y`: the index is added to the pointer.
+    DirectPointerY,
+    /// `[d]`: a pointer of three bytes.
+    DirectLongPointer,
+    /// `[d],Y`
+    DirectLongPointerY,
+    /// `a`: in the data bank; of JMP and JSR in the program bank.
+    Absolute,
+    /// `a,X`
+    AbsoluteX,
+    /// `a,Y`
+    AbsoluteY,
+    /// `al`
+    Long,
+    /// `al,X`
+    LongX,
+    /// `d,S`: bank 0, at the stack pointer plus the offset.
+    StackRelative,
+    /// `(d,S),Y`
+    StackPointerY,
+    /// `(a)`: JMP by a pointer of two bytes in bank 0.
+    AbsolutePointer,
+    /// `(a,X)`: JMP and JSR by a pointer in the program bank.
+    AbsoluteXPointer,
+    /// `[a]`: JMP by a pointer of three bytes in bank 0.
+    AbsoluteLongPointer,
+    /// A branch by a signed byte.
+    Relative,
+    /// BRL and PER: a distance of two bytes.
+    RelativeLong,
+    /// The operand is A.
+    Accumulator,
+    /// No operand but the registers that the operation names.
+    Implied,
+    /// Pushes, pulls, returns and whatever else lives on the stack: BRK, COP, PEA, PEI, interrupts.
+    Stack,
+    /// MVN and MVP: two banks follow the opcode.
+    BlockMove,
+}
