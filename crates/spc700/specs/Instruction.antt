@@ -1,0 +1,68 @@
+use Rattle.std.specs.Prelude.{ℕ, Bool, true, false, List, [], ◌∷◌, ◌++◌}
+use Rattle.spc_tables.specs.declared.access.SpcAccess.{SpcAccess}
+use Rattle.spc_tables.specs.declared.access.SpcAccess.TheVariants.{Fetch, Read, Write, Inner}
+use Rattle.spc_tables.specs.declared.regs.SpcRegs.{SpcRegs}
+use Rattle.spc_modes.specs.Orders.{instruction}
+use Rattle.spc_modes.specs.Plan.{Plan, fetches, reads, writes, idles, stops, ends, first_access, after, follow}
+
+-- What a processor stands for: an instruction, and the bytes got by its accesses so far (where an access got none, its entry counts for nothing).
+pub record Standing : Type 0 where
+  -- the registers at the start of the instruction
+  pub start : SpcRegs
+  pub got : List ℕ
+
+-- what the accesses made so far leave to do
+abbrev pub left_of : Standing → Plan
+left_of s = follow (instruction s.start) s.got
+
+-- THE NEXT ACCESS
+abbrev pub next_of : Standing → SpcAccess
+next_of s = first_access (left_of s)
+
+-- before the opcode fetch of an instruction
+abbrev pub between : SpcRegs → Standing
+between r = record { start = r; got = [] }
+
+-- in the middle of an instruction, one access further
+abbrev pub one_further : Standing → ℕ → Standing
+one_further s byte = record s { got = s.got ++ byte ∷ [] }
+
+-- where the instruction has ended, the next one begins with the registers that it left
+abbrev pub moved_to : Plan → Standing → ℕ → Standing
+moved_to (fetches _ _) s byte = one_further s byte
+moved_to (reads _ _) s byte = one_further s byte
+moved_to (writes _ _ _) s byte = one_further s byte
+moved_to (idles _) s byte = one_further s byte
+moved_to stops s byte = one_further s byte
+moved_to (ends r) s byte = between r
+
+-- AFTER THE NEXT ACCESS, which got this byte if it is a fetch or a read
+abbrev pub moved_on : Standing → ℕ → Standing
+moved_on s byte = moved_to (after (left_of s) byte) s byte
+
+-- THE REGISTERS at the start of the instruction in hand
+abbrev pub registers_of : Standing → SpcRegs
+registers_of s = s.start
+
+-- after a reset: all registers 0, and the program counter as the reset vector gives it
+abbrev pub at_reset : ℕ → Standing
+at_reset pc' = between (record { a = 0; x = 0; y = 0; sp = 0; pc = pc'; psw = 0 })
+
+-- whether an access is a fetch or a read
+abbrev pub gets_byte : SpcAccess → Bool
+gets_byte (Fetch _) = true
+gets_byte (Read _) = true
+gets_byte (Write _ _) = false
+gets_byte Inner = false
+
+abbrev pub is_write : SpcAccess → Bool
+is_write (Fetch _) = false
+is_write (Read _) = false
+is_write (Write _ _) = true
+is_write Inner = false
+
+abbrev pub is_inner : SpcAccess → Bool
+is_inner (Fetch _) = false
+is_inner (Read _) = false
+is_inner (Write _ _) = false
+is_inner Inner = true

@@ -1,0 +1,116 @@
+ghost use Rattle.std.specs.Prelude.{◌≡◌, IsTrue};
+
+use spc_modes::micro::Micro;
+use spc_modes::next::next;
+use spc_modes::place::Place;
+use spc_tables::{SpcAccess, SpcMode, SpcOp, SpcRegs, SpcRow};
+
+/// An SPC700 between two accesses.
+#[derive(Clone, Copy, PartialEq, Eq, Debug)]
+pub struct Spc {
+    micro: Micro,
+}
+
+impl Spc {
+    ghost use Rattle.spc700.specs.Instruction.{
+      Standing,
+      at_reset,
+      between,
+      gets_byte,
+      is_inner,
+      is_write,
+      moved_on,
+      next_of,
+      registers_of,
+    };
+    ghost use Rattle.spc700.specs.Stands.{Advances, Stands, access_of};
+
+    /// A processor after a reset, whose vector at FFFE holds `pc`: all other registers are 0.
+    pub fn new(pc: u16) -> Spc
+        ensures { Stands result (at_reset pc) }
+    {
+        Spc::at(SpcRegs {
+            a: 0,
+            x: 0,
+            y: 0,
+            sp: 0,
+            pc,
+            psw: 0,
+        })
+    }
+
+    /// A processor before an opcode fetch, with some registers.
+    pub fn at(regs: SpcRegs) -> Spc
+        ensures { Stands result (between regs) }
+    {
+        Spc {
+            micro: Micro {
+                start: regs,
+                here: regs,
+                row: SpcRow {
+                    op: SpcOp::Nop,
+                    mode: SpcMode::Implied,
+                },
+                place: Place::Between,
+                base: 0,
+                byte: 0,
+            },
+        }
+    }
+
+    /// The next access.
+    #[inline(always)]
+    pub fn next(&self) -> SpcAccess
+        ensures now { result ≡ access_of self.now }
+        ensures standing { (s : Standing) → Stands self.now s → result ≡ next_of s }
+    {
+        next(&self.micro)
+    }
+
+    /// The next access was made.
+    #[inline(always)]
+    fn advance(&mut self, got: u8)
+        ensures { Advances self.old self.new got }
+    {
+        self.micro.step(got);
+    }
+
+    /// The next access, a fetch or a read, got a byte.
+    #[inline(always)]
+    pub fn took(&mut self, byte: u8)
+        requires { IsTrue (gets_byte (access_of self.old)) }
+        ensures { (s : Standing) → Stands self.old s → Stands self.new (moved_on s byte) }
+    {
+        self.advance(byte);
+    }
+
+    /// The next access, a write, was made.
+    #[inline(always)]
+    pub fn wrote(&mut self)
+        requires { IsTrue (is_write (access_of self.old)) }
+        ensures { (s : Standing) → Stands self.old s → Stands self.new (moved_on s 0) }
+    {
+        self.advance(0);
+    }
+
+    /// The next access, an internal cycle, was made.
+    #[inline(always)]
+    pub fn idle(&mut self)
+        requires { IsTrue (is_inner (access_of self.old)) }
+        ensures { (s : Standing) → Stands self.old s → Stands self.new (moved_on s 0) }
+    {
+        self.advance(0);
+    }
+
+    /// The registers at the start of the instruction in hand; where the last one has ended, those
+    /// after it.
+    #[inline(always)]
+    pub fn regs(&self) -> SpcRegs
+        ensures { (s : Standing) → Stands self.now s → result ≡ registers_of s }
+    {
+        match self.micro.place {
+            Place::Between => self.micro.here,
+            _ => self.micro.start,
+        }
+    }
+}

@@ -1,0 +1,239 @@
+ghost use Rattle.std.specs.Prelude.{◌≡◌, ◌+◌, ◌%◌};
+ghost use Rattle.spc_alu.specs.Results.{
+  changed,
+  changed_by_a,
+  combined,
+  internal,
+  loaded,
+  popped,
+  stored,
+  unchanged,
+  with_a,
+  word_loaded,
+};
+
+use crate::arithmetic::{
+    adjusted, adjusted_after_subtraction, digits_exchanged, divided, multiplied,
+};
+use crate::bits::{number_in, with_bit_at};
+use crate::changes::{
+    Changed, bits_cleared, bits_set, decremented, incremented, rotated_left, rotated_right,
+    shifted_left, shifted_right, with_nz_of,
+};
+use crate::status::{a_loaded, flag_set, x_loaded, y_loaded};
+use crate::sums::{added, compared, subtracted};
+use crate::words::{word_added, word_compared, word_subtracted, ya_loaded};
+use spc_tables::{
+    CARRY, DIRECT_PAGE, HALF_CARRY, INTERRUPT_ENABLE, OVERFLOW, SpcMode, SpcOp, SpcRegs,
+};
+use status_bits::is_set;
+
+/// A value that stays, with PSW.
+#[inline(always)]
+fn as_it_was(psw: u8, byte: u8) -> Changed
+    ensures { result ≡ unchanged psw byte }
+{
+    Changed { value: byte, psw }
+}
+
+/// OR, AND, EOR, ADC, SBC and CMP between two operands, the first of which takes the result.
+#[tactic(auto, unfolding(crate::specs::Results::combined))]
+#[inline(always)]
+pub fn combine(op: SpcOp, psw: u8, first: u8, second: u8) -> Changed
+    ensures { result ≡ combined op psw first second }
+{
+    match op {
+        SpcOp::Or => with_nz_of(first | second, psw),
+        SpcOp::And => with_nz_of(first & second, psw),
+        SpcOp::Eor => with_nz_of(first ^ second, psw),
+        SpcOp::Adc => added(psw, first, second),
+        SpcOp::Sbc => subtracted(psw, first, second),
+        SpcOp::Cmp => Changed {
+            value: first,
+            psw: compared(psw, first, second),
+        },
+        _ => as_it_was(psw, first),
+    }
+}
+
+/// A takes a changed value.
+#[inline(always)]
+fn a_changed(regs: SpcRegs, changed: Changed) -> SpcRegs
+    ensures { result ≡ with_a regs changed }
+{
+    SpcRegs {
+        a: changed.value,
+        psw: changed.psw,
+        ..regs
+    }
+}
+
+/// An operation between a register and a byte that was read.
+#[tactic(auto, unfolding(crate::specs::Results::loaded))]
+#[inline(always)]
+pub fn load(op: SpcOp, regs: SpcRegs, byte: u8) -> SpcRegs
+    ensures { result ≡ loaded op regs byte }
+{
+    match op {
+        SpcOp::MovA => a_loaded(regs, byte),
+        SpcOp::MovX => x_loaded(regs, byte),
+        SpcOp::MovY => y_loaded(regs, byte),
+        SpcOp::CmpX => SpcRegs {
+            psw: compared(regs.psw, regs.x, byte),
+            ..regs
+        },
+        SpcOp::CmpY => SpcRegs {
+            psw: compared(regs.psw, regs.y, byte),
+            ..regs
+        },
+        _ => a_changed(regs, combine(op, regs.psw, regs.a, byte)),
+    }
+}
+
+/// A byte that is changed, in memory or in A.
+#[tactic(auto, unfolding(crate::specs::Results::changed))]
+#[inline(always)]
+pub fn change(op: SpcOp, mode: SpcMode, psw: u8, byte: u8) -> Changed
+    ensures { result ≡ changed op mode psw byte }
+{
+    match op {
+        SpcOp::Asl => shifted_left(psw, byte),
+        SpcOp::Lsr => shifted_right(psw, byte),
+        SpcOp::Rol => rotated_left(psw, byte),
+        SpcOp::Ror => rotated_right(psw, byte),
+        SpcOp::Inc => incremented(psw, byte),
+        SpcOp::Dec => decremented(psw, byte),
+        SpcOp::Set1 => as_it_was(psw, with_bit_at(byte, number_in(mode), true)),
+        SpcOp::Clr1 => as_it_was(psw, with_bit_at(byte, number_in(mode), false)),
+        _ => as_it_was(psw, byte),
+    }
+}
+
+/// A byte that TSET1 or TCLR1 changes by the bits of A.
+#[tactic(auto, unfolding(crate::specs::Results::changed_by_a))]
+#[inline(always)]
+pub fn change_by_a(op: SpcOp, regs: SpcRegs, byte: u8) -> Changed
+    ensures { result ≡ changed_by_a op regs byte }
+{
+    match op {
+        SpcOp::Tset1 => bits_set(regs.a, regs.psw, byte),
+        SpcOp::Tclr1 => bits_cleared(regs.a, regs.psw, byte),
+        _ => as_it_was(regs.psw, byte),
+    }
+}
+
+/// The byte that is stored or pushed.
+#[tactic(auto, unfolding(crate::specs::Results::stored))]
+#[inline(always)]
+pub fn stored_byte(op: SpcOp, regs: SpcRegs) -> u8
+    ensures { result ≡ stored op regs }
+{
+    match op {
+        SpcOp::StoreA => regs.a,
+        SpcOp::StoreX => regs.x,
+        SpcOp::StoreY => regs.y,
+        SpcOp::PushA => regs.a,
+        SpcOp::PushX => regs.x,
+        SpcOp::PushY => regs.y,
+        SpcOp::PushPsw => regs.psw,
+        _ => 0,
+    }
+}
+
+/// The registers after a byte was pulled into one of them.
+#[tactic(auto, unfolding(crate::specs::Results::popped))]
+#[inline(always)]
+pub fn pop(op: SpcOp, regs: SpcRegs, byte: u8) -> SpcRegs
+    ensures { result ≡ popped op regs byte }
+{
+    match op {
+        SpcOp::PopA => SpcRegs { a: byte, ..regs },
+        SpcOp::PopX => SpcRegs { x: byte, ..regs },
+        SpcOp::PopY => SpcRegs { y: byte, ..regs },
+        SpcOp::PopPsw => SpcRegs { psw: byte, ..regs },
+        _ => regs,
+    }
+}
+
+/// An operation between YA and a word that was read.
+#[tactic(auto, unfolding(crate::specs::Results::word_loaded))]
+#[inline(always)]
+pub fn load_word(op: SpcOp, regs: SpcRegs, word: u16) -> SpcRegs
+    ensures { result ≡ word_loaded op regs word }
+{
+    match op {
+        SpcOp::MovwYa => ya_loaded(regs, word),
+        SpcOp::Addw => word_added(regs, word),
+        SpcOp::Subw => word_subtracted(regs, word),
+        SpcOp::Cmpw => word_compared(regs, word),
+        _ => regs,
+    }
+}
+
+/// One more, modulo 256.
+#[inline(always)]
+fn one_more(value: u8) -> u8
+    ensures { result ≡ (value + 1) % 256 }
+{
+    ((value as u16 + 1) % 256) as u8
+}
+
+/// One less, modulo 256.
+#[inline(always)]
+fn one_less(value: u8) -> u8
+    ensures { result ≡ (value + 255) % 256 }
+{
+    ((value as u16 + 255) % 256) as u8
+}
+
+/// A shift or a count of A.
+#[inline(always)]
+fn change_a(op: SpcOp, mode: SpcMode, regs: SpcRegs) -> SpcRegs
+    ensures { result ≡ with_a regs (changed op mode regs.psw regs.a) }
+{
+    a_changed(regs, change(op, mode, regs.psw, regs.a))
+}
+
+/// What happens inside the processor, in registers and flags alone.
+#[tactic(auto, unfolding(crate::specs::Results::internal))]
+#[inline(always)]
+pub fn inside(op: SpcOp, mode: SpcMode, regs: SpcRegs) -> SpcRegs
+    ensures { result ≡ internal op mode regs }
+{
+    match op {
+        // Transfers.
+        SpcOp::MovAX => a_loaded(regs, regs.x),
+        SpcOp::MovAY => a_loaded(regs, regs.y),
+        SpcOp::MovXA => x_loaded(regs, regs.a),
+        SpcOp::MovYA => y_loaded(regs, regs.a),
+        SpcOp::MovXSp => x_loaded(regs, regs.sp),
+        SpcOp::MovSpX => SpcRegs { sp: regs.x, ..regs },
+        // Shifts and counts.
+        SpcOp::Asl => change_a(SpcOp::Asl, mode, regs),
+        SpcOp::Lsr => change_a(SpcOp::Lsr, mode, regs),
+        SpcOp::Rol => change_a(SpcOp::Rol, mode, regs),
+        SpcOp::Ror => change_a(SpcOp::Ror, mode, regs),
+        SpcOp::Inc => change_a(SpcOp::Inc, mode, regs),
+        SpcOp::Dec => change_a(SpcOp::Dec, mode, regs),
+        SpcOp::IncX => x_loaded(regs, one_more(regs.x)),
+        SpcOp::IncY => y_loaded(regs, one_more(regs.y)),
+        SpcOp::DecX => x_loaded(regs, one_less(regs.x)),
+        SpcOp::DecY => y_loaded(regs, one_less(regs.y)),
+        // Multiplication, division, decimal digits.
+        SpcOp::Mul => multiplied(regs),
+        SpcOp::Div => divided(regs),
+        SpcOp::Daa => adjusted(regs),
+        SpcOp::Das => adjusted_after_subtraction(regs),
+        SpcOp::Xcn => digits_exchanged(regs),
+        // Flags.
+        SpcOp::Clrp => flag_set(regs, DIRECT_PAGE, false),
+        SpcOp::Setp => flag_set(regs, DIRECT_PAGE, true),
+        SpcOp::Clrc => flag_set(regs, CARRY, false),
+        SpcOp::Setc => flag_set(regs, CARRY, true),
+        SpcOp::Notc => flag_set(regs, CARRY, !is_set(regs.psw, CARRY)),
+        SpcOp::Clrv => flag_set(flag_set(regs, OVERFLOW, false), HALF_CARRY, false),
+        SpcOp::Ei => flag_set(regs, INTERRUPT_ENABLE, true),
+        SpcOp::Di => flag_set(regs, INTERRUPT_ENABLE, false),
+        _ => regs,
+    }
+}

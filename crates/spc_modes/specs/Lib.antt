@@ -1,0 +1,5 @@
+pub mod Plan
+pub mod Addresses
+pub mod Uses
+pub mod Orders
+pub mod Rest

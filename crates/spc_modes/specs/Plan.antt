@@ -1,0 +1,42 @@
+use Rattle.std.specs.Prelude.{ℕ, List, [], ◌∷◌}
+use Rattle.spc_tables.specs.declared.access.SpcAccess.{SpcAccess}
+use Rattle.spc_tables.specs.declared.access.SpcAccess.TheVariants.{Fetch, Read, Write, Inner}
+use Rattle.spc_tables.specs.declared.regs.SpcRegs.{SpcRegs}
+
+-- What an instruction has still to do: its next access, and by the byte got there all that follows.
+pub data Plan : Type 0 where
+  -- a byte of the program is fetched at an address
+  fetches : ℕ → (ℕ → Plan) → Plan
+  -- a byte is read at an address
+  reads : ℕ → (ℕ → Plan) → Plan
+  -- at an address a byte is written
+  writes : ℕ → ℕ → Plan → Plan
+  -- an internal cycle
+  idles : Plan → Plan
+  -- internal cycles for ever
+  stops : Plan
+  -- nothing: the instruction has ended with these registers
+  ends : SpcRegs → Plan
+
+-- the access that a plan begins with; one that has ended has none, and is never asked for it
+abbrev pub first_access : Plan → SpcAccess
+first_access (fetches at _) = Fetch at
+first_access (reads at _) = Read at
+first_access (writes at byte _) = Write at byte
+first_access (idles _) = Inner
+first_access stops = Inner
+first_access (ends _) = Inner
+
+-- what is left after the next access, where a fetch or a read got this byte
+abbrev pub after : Plan → ℕ → Plan
+after (fetches _ more) byte = more byte
+after (reads _ more) byte = more byte
+after (writes _ _ more) _ = more
+after (idles more) _ = more
+after stops _ = stops
+after (ends r) _ = ends r
+
+-- what is left after as many accesses as there are bytes; where an access got none, its entry counts for nothing
+abbrev pub follow : Plan → List ℕ → Plan
+follow plan [] = plan
+follow plan (byte ∷ bytes) = follow (after plan byte) bytes
