@@ -1,8 +1,11 @@
 //! Runs the cases of the files that it is given, as `data/cpu.txt`, through the processor.
 //!
 //! The cases come from outside: two other programs agreed on them. The program stands on `cpu65816`,
-//! prints the label of each case that differs, and last how many there were. A file has a case
-//! a line, `cpu LABEL A X Y S D PC PBR DBR P E | BYTES | ACCESSES | A X Y S D PC PBR DBR P E`, with
+//! prints each case that differs, and last how many there were. Those of `data/differing.txt` are wrong
+//! in one thing each, and have to differ.
+//!
+//! A file has a case a line,
+//! `cpu LABEL A X Y S D PC PBR DBR P E | BYTES | ACCESSES | A X Y S D PC PBR DBR P E`, with
 //! the registers before and after. An access is `F` (fetch), `R` or `W` with an address of six digits
 //! and a byte, or `I`; `S` with two digits gives the levels of NMI and IRQ.
 #![tactic(auto)]

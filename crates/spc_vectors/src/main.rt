@@ -1,9 +1,12 @@
 //! Runs the cases of the files that it is given, as `data/spc.txt`, through the SPC700.
 //!
 //! The cases come from outside: two other programs agreed on them. The program stands on `spc700`,
-//! prints the label of each case that differs, and last how many there were. A file has a case
-//! a line, `spc LABEL A X Y SP PC PSW | BYTES | ACCESSES | A X Y SP PC PSW`, with the registers before
-//! and after. An access is `F` (fetch), `R` or `W` with an address of four digits and a byte, or `I`.
+//! prints each case that differs, and last how many there were. Those of `data/differing.txt` are wrong
+//! in one thing each, and have to differ.
+//!
+//! A file has a case a line, `spc LABEL A X Y SP PC PSW | BYTES | ACCESSES | A X Y SP PC PSW`, with
+//! the registers before and after. An access is `F` (fetch), `R` or `W` with an address of four digits
+//! and a byte, or `I`.
 #![tactic(auto)]
 
 mod case;
