@@ -1,4 +1,5 @@
-pub mod FirstBytes
-pub mod Legs
+pub mod LegalRuns
 pub mod RunBound
 pub mod SerialOrder
+pub mod StepsInTime
+pub mod TurnsEnd

@@ -1,12 +1,13 @@
 -- How many turns the serial run to the end of so many frames has.
 use Rattle.std.proofs.Common.{◌≡◌, ℕ, zero, suc, ◌+◌, ◌*◌, ◌<◌, ◌≤◌, sym, subst, ⊎_elim, arith}
 use Rattle.std.proofs.lemmas.Bool.{cases_lt}
+use Rattle.snes_defs.specs.declared.region.Region.{Region}
 use Rattle.snes_defs.specs.declared.ports.Side.TheVariants.{Sound}
 use Rattle.clock_ratio.specs.Stamp.{stamp_of, end_stamp_of}
 use Rattle.side_law.specs.Moves.{Moves, IsLawful}
 use Rattle.side_law.specs.Serial.{SerialState, serial_of, turn, sound_step, sound_got}
 use Rattle.side_law.specs.SerialRun.{after_turns, IsPast, RunsFor}
-use Rattle.side_law.specs.TurnBound.{most_turns}
+use Rattle.run_laws.specs.TurnBound.{most_turns}
 use Rattle.side_law.proofs.SerialKeeps.{IsServing, got_small, serving_at_first, TurnOf, by_console, by_sound, turn_of, turn_console, turn_sound, turn_serves, console_step_rises}
 
 module _ {C S : Type 0} (region : Region) (console_valid : C → Type 0) (sound_valid : S → Type 0) (console_most sound_most : ℕ)

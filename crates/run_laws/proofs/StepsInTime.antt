@@ -1,13 +1,14 @@
 -- In the serial run no side waits long: after at most 8 * (i + 1) turns it has made i steps.
 use Rattle.std.proofs.Common.{◌≡◌, ℕ, zero, suc, ◌+◌, ◌*◌, ◌<◌, ◌≤◌, refl, ap, sym, subst, ⊎_elim, arith}
 use Rattle.std.proofs.lemmas.Bool.{cases_lt}
+use Rattle.snes_defs.specs.declared.region.Region.{Region}
 use Rattle.snes_defs.specs.declared.ports.Side.TheVariants.{Console, Sound}
 use Rattle.port_entries.proofs.Seen.{seen_le}
 use Rattle.side_law.specs.Moves.{Moves, IsLawful}
-use Rattle.side_law.specs.History.{History}
-use Rattle.side_law.specs.OnRun.{serial_run}
-use Rattle.side_law.proofs.Sequences.{TurnAt, own_turn, other_turn}
-use Rattle.side_law.proofs.HistoryRun.{console_turns, sound_turns}
+use Rattle.commute_laws.specs.History.{History}
+use Rattle.commute_laws.specs.OnRun.{serial_run}
+use Rattle.commute_laws.proofs.Sequences.{TurnAt, own_turn, other_turn}
+use Rattle.commute_laws.proofs.HistoryRun.{console_turns, sound_turns}
 
 -- after `turns` turns, at `i` steps of one side and `j` of the other, each with its stamp
 record Balance (turns i at j other : ℕ) : Type 0 where
@@ -58,7 +59,7 @@ module _ {C S : Type 0} (region : Region) (console_valid : C → Type 0) (sound_
     (console_lawful : IsLawful region console_valid console_most cm) (sound_lawful : IsLawful region sound_valid sound_most sm)
     (c0 : C) (s0 : S) (c0_valid : console_valid c0) (s0_valid : sound_valid s0)
     (c0_first : cm.stamp c0 ≡ 0) (s0_first : sm.stamp s0 ≡ 0) where
-  balance_on : (n : ℕ) → TurnAt Console cm sm (λ k. (serial_run cm sm c0 s0 k).console) (λ k. (serial_run cm sm c0 s0 k).sound) n
+  balance_on : (n : ℕ) → TurnAt region Console cm sm (λ k. (serial_run cm sm c0 s0 k).console) (λ k. (serial_run cm sm c0 s0 k).sound) n
       → Balance n (serial_run cm sm c0 s0 n).console.steps (cm.stamp (serial_run cm sm c0 s0 n).console.now)
       (serial_run cm sm c0 s0 n).sound.steps (sm.stamp (serial_run cm sm c0 s0 n).sound.now)
       → Balance (suc n) (serial_run cm sm c0 s0 (suc n)).console.steps (cm.stamp (serial_run cm sm c0 s0 (suc n)).console.now)
@@ -99,7 +100,7 @@ module _ {C S : Type 0} (region : Region) (console_valid : C → Type 0) (sound_
   console_by_one n =
       go (console_turns region console_valid sound_valid console_most sound_most cm sm console_lawful sound_lawful c0 s0 c0_valid s0_valid n)
     where
-      go : TurnAt Console cm sm (λ k. (serial_run cm sm c0 s0 k).console) (λ k. (serial_run cm sm c0 s0 k).sound) n
+      go : TurnAt region Console cm sm (λ k. (serial_run cm sm c0 s0 k).console) (λ k. (serial_run cm sm c0 s0 k).sound) n
           → (serial_run cm sm c0 s0 (suc n)).console.steps ≤ suc (serial_run cm sm c0 s0 n).console.steps
       go (own_turn first step advances same) = omega (arith, advances.steps)
       go (other_turn first same advances) = omega (arith, ap (λ (q : History C). q.steps) same)
@@ -108,7 +109,7 @@ module _ {C S : Type 0} (region : Region) (console_valid : C → Type 0) (sound_
   sound_by_one n =
       go (sound_turns region console_valid sound_valid console_most sound_most cm sm console_lawful sound_lawful c0 s0 c0_valid s0_valid n)
     where
-      go : TurnAt Sound sm cm (λ k. (serial_run cm sm c0 s0 k).sound) (λ k. (serial_run cm sm c0 s0 k).console) n
+      go : TurnAt region Sound sm cm (λ k. (serial_run cm sm c0 s0 k).sound) (λ k. (serial_run cm sm c0 s0 k).console) n
           → (serial_run cm sm c0 s0 (suc n)).sound.steps ≤ suc (serial_run cm sm c0 s0 n).sound.steps
       go (own_turn first step advances same) = omega (arith, advances.steps)
       go (other_turn first same advances) = omega (arith, ap (λ (q : History S). q.steps) same)

@@ -1,10 +1,11 @@
 -- How many steps fit below an end stamp.
 use Rattle.std.proofs.Common.{◌≡◌, ℕ, suc, ◌+◌, ◌*◌, ◌<◌, ◌≤◌, List, [], ◌∷◌, length, refl, inl, inr, ⊎_elim, arith, length-append}
 use Rattle.std.specs.Prelude.{◌⊎◌}
+use Rattle.snes_defs.specs.declared.region.Region.{Region}
 use Rattle.snes_defs.specs.declared.ports.Side.TheVariants.{Console, Sound}
 use Rattle.clock_ratio.specs.Stamp.{end_stamp_of}
 use Rattle.side_law.specs.Moves.{Moves, IsLawful}
-use Rattle.side_law.specs.TurnBound.{Made, By, AreBelow, steps_in, EachSteps, most_turns}
+use Rattle.run_laws.specs.TurnBound.{Made, By, AreBelow, steps_in, EachSteps, most_turns}
 
 made_by_console : List Made → ℕ
 made_by_console [] = 0
