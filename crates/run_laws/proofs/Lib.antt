@@ -1,3 +1,4 @@
+pub mod Counts
 pub mod LegalRuns
 pub mod RunBound
 pub mod SerialOrder

@@ -51,17 +51,6 @@ pub fn legal_goes_on<C: Machine, S: Machine>()
         × (steps_of Console more + steps_of Sound more ≡ 1) }
 {}
 
-/// The serial order is itself a legal list, however long.
-#[tactic(none)]
-pub fn serial_is_legal<C: Machine, S: Machine>()
-    ensures { (region : Region) (console : C.State) (sound : S.State) → C.valid region console → S.valid region sound → (turns : ℕ)
-        → (moves : List Move) × IsLegal region C.moves S.moves moves (halves_of console sound)
-        × ((after_moves C.moves S.moves moves (halves_of console sound)).console.history
-        ≡ (serial_run C.moves S.moves console sound turns).console)
-        × ((after_moves C.moves S.moves moves (halves_of console sound)).sound.history
-        ≡ (serial_run C.moves S.moves console sound turns).sound) }
-{}
-
 /// The serial run's own order is a legal list, however long: in each turn both sides publish their
 /// stamps, and the earlier one steps. After the moves of the first turns both histories are those of
 /// the serial run after as many turns.
