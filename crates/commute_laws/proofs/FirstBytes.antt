@@ -1,6 +1,6 @@
 -- What a pair on the serial run has emitted and written: first bytes of the output, and entries
 -- that carry bytes.
-use Rattle.std.proofs.Common.{◌≡◌, ℕ, zero, suc, ◌+◌, ◌-◌, ◌<◌, ◌≤◌, List, [], ◌++◌, ap, sym, ◌∙◌, subst, ⊎_elim, arith, append_assoc}
+use Rattle.std.proofs.Common.{◌≡◌, ℕ, zero, suc, ◌+◌, ◌-◌, ◌<◌, ◌≤◌, List, [], ◌++◌, ap, sym, ◌∙◌, subst, ⊎_elim, arith}
 use Rattle.std.specs.Prelude.{◌⊎◌}
 use Rattle.std.proofs.lemmas.Bool.{cases_lt}
 use Rattle.std.proofs.lemmas.List.{append-nil}
@@ -9,8 +9,8 @@ use Rattle.snes_defs.specs.declared.ports.Act.{Act}
 use Rattle.snes_defs.specs.declared.ports.Act.TheVariants.{Quiet, Read, Write, Clear}
 use Rattle.port_entries.specs.Entry.{CarriesByte, CarryBytes}
 use Rattle.side_law.specs.Moves.{Moves, IsLawful, IsAtPorts}
-use Rattle.side_law.specs.Serial.{SerialState, serial_of, console_emits, sound_emits}
-use Rattle.side_law.specs.SerialRun.{after_turns, console_output, sound_output, IsOutput}
+use Rattle.side_law.specs.Serial.{serial_of}
+use Rattle.side_law.specs.SerialRun.{console_output, sound_output, IsOutput}
 use Rattle.side_law.proofs.SerialRuns.{console_output_later, sound_output_later}
 use Rattle.commute_laws.specs.History.{History, entry_of}
 use Rattle.commute_laws.specs.OnRun.{serial_run, IsOnRun, StaysBelow}

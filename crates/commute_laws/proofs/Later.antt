@@ -9,7 +9,6 @@ use Rattle.snes_defs.specs.declared.ports.Act.{Act}
 use Rattle.snes_defs.specs.declared.ports.Act.TheVariants.{Quiet, Read, Write, Clear}
 use Rattle.snes_defs.specs.declared.region.Region.{Region}
 use Rattle.clock_ratio.specs.Stamp.{least_of, most_of}
-use Rattle.clock_ratio.proofs.Numbers.{numbers}
 use Rattle.port_entries.specs.Entry.{Entry, entry_stamp, CarryBytes}
 use Rattle.port_entries.specs.LastValue.{sees}
 use Rattle.port_entries.proofs.Seen.{unseen_later}

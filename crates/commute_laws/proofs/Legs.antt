@@ -1,5 +1,5 @@
 -- Legs, as they go on and as more is heard.
-use Rattle.std.proofs.Common.{◌≡◌, ℕ, zero, suc, ◌<◌, ◌≤◌, List, refl, ap, sym, ◌∙◌, subst}
+use Rattle.std.proofs.Common.{ℕ, zero, suc, ◌<◌, ◌≤◌, List, refl, ap, sym, ◌∙◌, subst}
 use Rattle.snes_defs.specs.declared.ports.Side.{Side}
 use Rattle.port_entries.specs.Entry.{Entry}
 use Rattle.port_entries.specs.Window.{IsSettled}

@@ -1,5 +1,5 @@
 -- Where two machines stand that are both on the serial run, the one maybe further than the other.
-use Rattle.std.specs.Prelude.{◌≡◌, ℕ, ◌+◌, ◌<◌, ◌≤◌}
+use Rattle.std.specs.Prelude.{◌≡◌, ℕ, ◌+◌, ◌<◌}
 use Rattle.side_law.specs.Moves.{Moves}
 use Rattle.side_law.specs.Serial.{SerialState, serial_of}
 use Rattle.side_law.specs.SerialRun.{after_turns, console_output, sound_output}

@@ -1,6 +1,6 @@
 -- Legal lists of moves: where they lead, and that they can go on.
-use Rattle.std.proofs.Common.{◌≡◌, ℕ, zero, suc, ◌+◌, ◌<◌, ◌≤◌, List, [], ◌∷◌, ◌++◌, refl, ap, sym, ◌∙◌, subst, ⊎_elim, arith}
-use Rattle.std.proofs.lemmas.Bool.{cases_lt, both_ways, ltb-true}
+use Rattle.std.proofs.Common.{◌≡◌, ℕ, ◌+◌, ◌<◌, ◌≤◌, List, [], ◌∷◌, ◌++◌, refl, ⊎_elim, arith}
+use Rattle.std.proofs.lemmas.Bool.{cases_lt}
 use Rattle.std.proofs.lemmas.List.{append-nil}
 use Rattle.snes_defs.specs.declared.region.Region.{Region}
 use Rattle.snes_defs.specs.declared.ports.Side.{Side}
@@ -9,19 +9,16 @@ use Rattle.snes_defs.specs.declared.ports.Act.{Act}
 use Rattle.snes_defs.specs.declared.ports.Act.TheVariants.{Quiet, Read, Write, Clear}
 use Rattle.clock_ratio.specs.Stamp.{least_of}
 use Rattle.port_entries.specs.Entry.{Entry}
-use Rattle.port_entries.specs.LastValue.{sees}
 use Rattle.port_entries.specs.Window.{IsSettled}
-use Rattle.port_entries.proofs.Seen.{settled_later, seen_le, seen_back}
+use Rattle.port_entries.proofs.Seen.{settled_later}
 use Rattle.side_law.specs.Moves.{Moves, IsLawful}
 use Rattle.commute_laws.specs.History.{History}
 use Rattle.commute_laws.specs.Heard.{heard_step, OnLook, IsHeard}
 use Rattle.run_laws.specs.Legal.{Halves, halves_of, Move, Publish, Step, MayStep, clock_after, MayPublish, MayMake, after_move, after_moves, IsLegal, steps_of}
-use Rattle.commute_laws.specs.OnRun.{serial_run, IsOnRun}
+use Rattle.commute_laws.specs.OnRun.{IsOnRun}
 use Rattle.run_laws.specs.Place.{IsSerialAt}
-use Rattle.commute_laws.proofs.Later.{Advances, on_look, always_on_look, same_steps}
-use Rattle.commute_laws.proofs.Sequences.{TurnAt, own_turn, other_turn}
-use Rattle.commute_laws.proofs.HistoryRun.{console_turns, sound_turns}
-use Rattle.commute_laws.proofs.OnRuns.{console_heard, sound_heard, console_each, sound_each}
+use Rattle.commute_laws.proofs.Later.{Advances, on_look, always_on_look}
+use Rattle.commute_laws.proofs.OnRuns.{console_heard, sound_heard}
 
 -- what may be looked at is settled
 may_look : (region : Region) (side : Side) (at other : ℕ) (act : Act) → MayStep region side at other act → OnLook act (IsSettled side at other)

@@ -1,17 +1,15 @@
 -- The moves of the serial run are a legal list.
-use Rattle.std.proofs.Common.{◌≡◌, ℕ, zero, suc, ◌+◌, ◌<◌, ◌≤◌, List, [], ◌∷◌, ◌++◌, refl, ap, sym, ◌∙◌, subst, arith}
+use Rattle.std.proofs.Common.{◌≡◌, ℕ, zero, suc, ◌<◌, ◌≤◌, List, [], ◌∷◌, ◌++◌, refl, ap, sym, ◌∙◌, subst, arith}
 use Rattle.std.specs.Prelude.{if◌then◌else◌}
 use Rattle.std.proofs.lemmas.Bool.{ltb-true}
 use Rattle.snes_defs.specs.declared.region.Region.{Region}
 use Rattle.snes_defs.specs.declared.ports.Side.TheVariants.{Console, Sound}
-use Rattle.snes_defs.specs.declared.ports.Act.{Act}
-use Rattle.snes_defs.specs.declared.ports.Act.TheVariants.{Quiet, Read, Write, Clear}
 use Rattle.port_entries.proofs.Seen.{seen_le}
 use Rattle.side_law.specs.Moves.{Moves, IsLawful}
 use Rattle.side_law.specs.Serial.{SerialState}
 use Rattle.commute_laws.specs.History.{History, recorded}
 use Rattle.commute_laws.specs.Heard.{heard_step}
-use Rattle.run_laws.specs.Legal.{Halves, halves_of, Move, Publish, Step, MayPublish, after_move, after_moves, IsLegal}
+use Rattle.run_laws.specs.Legal.{Halves, halves_of, Move, Publish, Step, after_moves, IsLegal}
 use Rattle.commute_laws.specs.OnRun.{serial_run}
 use Rattle.side_law.proofs.SerialKeeps.{TurnOf, by_console, by_sound, turn_of}
 use Rattle.commute_laws.proofs.Later.{Advances}

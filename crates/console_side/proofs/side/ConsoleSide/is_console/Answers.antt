@@ -1,8 +1,7 @@
-use Rattle.std.proofs.Common.{subst, arith, rules}
+use Rattle.std.proofs.Common.{subst, arith}
 use mathlib.Core.Logic.{∥∥₁_map}
 use Rattle.snes_defs.specs.Bytes.{AreBytes}
 use Rattle.console_side.specs.Console.{ConsoleValue, IsConsole}
-use Rattle.console_side.specs.Side.{state_of}
 use Rattle.console_side.proofs.side.ConsoleSide.is_console.Goals as goal
 
 pub returns : goal.returns
