@@ -3,7 +3,7 @@ use Rattle.std.proofs.Common.{◌≡◌, ℕ, suc, ◌<◌, ◌≤◌, List, [],
 use Rattle.std.proofs.lemmas.List.{take-append-drop}
 use Rattle.snes_defs.specs.declared.region.Region.TheVariants.{Ntsc}
 use Rattle.clock_ratio.specs.Stamp.{end_stamp_of}
-use Rattle.snes_defs.specs.declared.part.Part.{Part}
+use Rattle.unbuilt_part.specs.declared.part.Part.{Part}
 use Rattle.file_shelf.specs.declared.shelves.Out.{Out}
 use Rattle.file_shelf.specs.declared.shelves.Out.TheVariants.{Video, Sound}
 use Rattle.file_shelf.specs.Told.{Holds, Appends, AppendsSome}
