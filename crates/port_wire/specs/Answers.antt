@@ -19,6 +19,8 @@ pub record HearsOn (old new : Half) : Type 0 where
   pub later : AllByRecursion (λ e. old.upto ≤ entry_stamp e) more
   pub upto : old.upto ≤ new.upto
   pub known : old.known ≤ new.known
+  -- it was told of a clock up to which it has heard all
+  pub told : new.upto ≤ new.known
 
 -- a refused call changes nothing else than the tally
 pub record IsRefused (name : CallName) (at : ℕ) (late : PassLate) (old new : Half) : Type 0 where

@@ -1,5 +1,5 @@
 -- The tally that a pass keeps of its refused calls. This project's own profile.
-use Rattle.std.specs.Prelude.{◌≡◌, ℕ, ◌+◌, ◌-◌, ◌^◌, ◌==◌, ◌≤◌, ◌⊎◌, Bool, true, false, ◌&&◌, Option, None, Some, min, if◌then◌else◌}
+use Rattle.std.specs.Prelude.{◌≡◌, ℕ, ◌+◌, ◌-◌, ◌^◌, ◌==◌, ◌≤◌, ◌⊎◌, Bool, true, false, ◌&&◌, Option, None, Some, if◌then◌else◌}
 use Rattle.port_wire.specs.declared.late.PassLate.{PassLate}
 use Rattle.port_wire.specs.declared.late.CallName.{CallName}
 use Rattle.port_wire.specs.declared.late.CallName.TheVariants.{Read, Clear, Write, Advance}
@@ -43,7 +43,7 @@ no_tally = record { refused = 0; row = 0; last = None }
 
 -- a count of 64 bits, which stands still at its end
 abbrev pub counted_on : ℕ → ℕ
-counted_on n = min (n + 1) (2 ^ 64 - 1)
+counted_on n = if n == 2 ^ 64 - 1 then n else n + 1
 
 -- whether the row goes on: the last refused call had this name and this stamp
 abbrev pub is_again : Option Refused → CallName → ℕ → Bool
