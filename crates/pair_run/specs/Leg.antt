@@ -3,7 +3,6 @@ use Rattle.std.specs.Prelude.{◌≡◌, ℕ, ◌+◌, ◌≤◌, List, ◌++◌
 use Rattle.snes_defs.specs.declared.ports.Side.{Side}
 use Rattle.side_law.specs.Moves.{Moves}
 use Rattle.commute_laws.specs.History.{History}
-use Rattle.commute_laws.specs.Heard.{StepsBelow}
 use Rattle.commute_laws.specs.Leg.{IsLeg}
 use Rattle.port_wire.specs.declared.late.PassLate.{PassLate}
 use Rattle.port_wire.specs.declared.late.PassLate.TheVariants as late
@@ -24,7 +23,7 @@ pub record LegRan {State : Type 0} (side : Side) (moves : Moves State) (window e
   pub emitted_is : before.emitted ++ emitted ≡ after.emitted
   pub waits_is : waited ++ emitted ≡ waits
   -- no step was further ahead than the window of a clock that the pass was told
-  pub within : StepsBelow side moves new.heard (new.known + window + 1) leg.ran.steps before
+  pub within : IsLeg side moves new.heard new.upto (new.known + window + 1) before after
 
 -- the end of a leg that was held back for too long
 abbrev pub end_of : PassLate → LegEnd

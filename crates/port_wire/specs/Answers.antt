@@ -19,8 +19,6 @@ pub record HearsOn (old new : Half) : Type 0 where
   pub later : AllByRecursion (λ e. old.upto ≤ entry_stamp e) more
   pub upto : old.upto ≤ new.upto
   pub known : old.known ≤ new.known
-  -- it was told of a clock up to which it has heard all
-  pub told : new.upto ≤ new.known
 
 -- a refused call changes nothing else than the tally
 pub record IsRefused (name : CallName) (at : ℕ) (late : PassLate) (old new : Half) : Type 0 where
@@ -51,6 +49,8 @@ pub record HasRead (side : Side) (at port byte : ℕ) (old new : Half) : Type 0 
   pub mine : new.mine ≡ old.mine
   pub clock : new.at ≡ old.at
   pub settled : IsSettled side at new.upto
+  -- the clock that it was told is not earlier
+  pub soon : at ≤ new.known
   pub value : byte ≡ last_value side old.mine port at new.heard
   pub tally : new.tally ≡ after_answer old.tally
 
@@ -63,6 +63,8 @@ pub record HasCleared (side : Side) (at mask : ℕ) (old new : Half) : Type 0 wh
   pub mine : new.mine ≡ old.mine ++ ClearAt at mask ∷ []
   pub clock : new.at ≡ old.at
   pub settled : IsSettled side at new.upto
+  -- the clock that it was told is not earlier
+  pub soon : at ≤ new.known
   pub tally : new.tally ≡ after_answer old.tally
 
 abbrev pub EndsClear : {A : Type 0} → Side → ℕ → ℕ → Result A PassLate → Half → Half → Type 0
