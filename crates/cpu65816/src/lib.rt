@@ -11,5 +11,6 @@
 #![tactic(auto)]
 
 mod processor;
+mod settling;
 
 pub use processor::Cpu;

@@ -10,20 +10,18 @@
 //! one of the three. Choosing the next instruction is the layer above.
 #![tactic(auto)]
 
-mod access;
 mod address;
 mod cycles;
 mod end;
 mod enter;
 mod micro;
-mod moves;
 mod parts;
 mod place;
 mod reads;
+mod transitions;
 mod uses;
 mod writes;
 
-pub use access::next;
 pub use address::code_address;
 pub use micro::Micro;
 pub use place::{
