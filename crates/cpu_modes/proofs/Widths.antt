@@ -3,7 +3,7 @@ use Rattle.cpu_tables.specs.declared.opcode.Row.{Row}
 use Rattle.cpu_tables.specs.declared.regs.Regs.{Regs}
 use Rattle.cpu_modes.specs.Addresses.{second}
 use Rattle.cpu_modes.specs.Orders.{fetch, pull, done, load, load_high, immediate, immediate_high, pull_data, pull_high}
-use Rattle.cpu_modes.specs.Plan.{Plan, reads}
+use Rattle.cpu_modes.specs.Plan.{reads}
 use Rattle.cpu_modes.specs.declared.place.Reach.{Reach}
 use Rattle.cpu_modes.specs.declared.place.Traffic.{Traffic}
 
