@@ -1,0 +1,5 @@
+pub mod Start
+pub mod Levels
+pub mod Reads
+pub mod Writes
+pub mod Events
