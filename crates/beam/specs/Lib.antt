@@ -1,3 +1,0 @@
-pub mod Table
-pub mod Passing
-pub mod Where
