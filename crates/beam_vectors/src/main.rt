@@ -5,11 +5,9 @@
 //! in one thing each, and have to differ.
 //!
 //! A line `beam K REGION` begins a new beam, `ntsc` or `pal`. `p CLOCKS TIMES KIND H V OVERSCAN EVENTS
-//! LINECLOCK LINE BLANK` is TIMES calls of `pass(CLOCKS, ..)` with that timer and overscan bit. EVENTS
-//! are all their events in order, a letter each: L Line, B Blank, F HdmaFrame, R Refresh, D Draw, H
+//! LINECLOCK LINE BLANK` is TIMES steps of so many clocks with that timer and overscan bit. EVENTS are
+//! all their events in order, a letter each: L Line, B Blank, F HdmaFrame, R Refresh, D Draw, H
 //! HdmaLine, T Timer, and `-` where none came. The last three are where the beam stands after them.
-//! A second beam goes the same way by `left` and `go_on`, and passes only where something can come; it
-//! has to stay beside the first.
 #![tactic(auto)]
 
 mod case;
@@ -24,13 +22,13 @@ fn main(rt: HostRuntime) -> io::Result<()> {
     let mut different = 0u64;
     for name in env::args(&rt)?.skip(1) {
         let text = fs::read_to_string(&rt, name.as_str())?;
-        let mut pair = case::Pair::new(Beam::new(Region::Ntsc));
+        let mut beam = Beam::new(Region::Ntsc);
         for line in text.lines() {
             if line.starts_with('#') {
                 continue;
             }
             lines = lines.saturating_add(1);
-            if !pair.holds(line) {
+            if !case::holds(&mut beam, line) {
                 different = different.saturating_add(1);
                 println!(rt; "differs: {line}")?;
             }
