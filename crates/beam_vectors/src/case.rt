@@ -37,8 +37,8 @@ fn passes(beam: &mut Beam, mut words: SplitWhitespace<'_>) -> Option<bool> {
     };
     let overscan = decimal(words.next()?)? == 1;
     let mut letters = words.next()?.as_bytes();
-    if letters == b"-" {
-        letters = b"";
+    if letters == b"-".as_slice() {
+        letters = b"".as_slice();
     }
     beam.aim(irq);
     let mut same = true;
