@@ -126,19 +126,20 @@ after_read r addr =
     else if addr == 0x4211 then record r { interrupts = record r.interrupts { irq_flag = false } }
     else r
 
--- a pad that auto-read reads to its end; while the strobe is set it stays at its first bit
-unfoldable pub auto_read_pad : Bool → Pad → ℕ → Pad
-auto_read_pad strobe p word = record p { kept = word; position = if strobe then 0 else 16 }
+-- a pad at vertical blank: it has its word; where auto-read is on it is read to its end, but for a strobe
+-- that is set, which keeps it at its first bit
+unfoldable pub pad_blanked : Bool → Bool → Pad → ℕ → Pad
+pad_blanked auto_read strobe p word =
+    if auto_read then record p { word = word; kept = word; position = if strobe then 0 else 16 }
+    else record p { word = word }
 
 -- vertical blank begins: the NMI flag, and auto-read where it is on
 unfoldable pub blanked : IoRegisters → ℕ → ℕ → IoRegisters
-blanked r word1 word2 =
-    if r.interrupts.auto_read then record r {
-      interrupts = record r.interrupts { nmi_flag = true };
-      pad1 = auto_read_pad r.strobe r.pad1 word1;
-      pad2 = auto_read_pad r.strobe r.pad2 word2;
-    }
-    else record r { interrupts = record r.interrupts { nmi_flag = true } }
+blanked r word1 word2 = record r {
+  interrupts = record r.interrupts { nmi_flag = true };
+  pad1 = pad_blanked r.interrupts.auto_read r.strobe r.pad1 word1;
+  pad2 = pad_blanked r.interrupts.auto_read r.strobe r.pad2 word2;
+}
 
 -- a frame begins: the NMI flag goes, and the pads have their words of this frame
 unfoldable pub framed : IoRegisters → ℕ → ℕ → IoRegisters

@@ -1,5 +1,5 @@
 ghost use Rattle.std.specs.Prelude.{◌≡◌, ◌<◌, ◌≤◌};
-ghost use Rattle.io_math.specs.Registers.{with_low, with_high, bit_if, registers_start, strobe_written, nmitimen_written, multiplied, divided, written, pad_bit, pad_read, byte_read, after_read, auto_read_pad, blanked, framed, timed, nmi_level, irq_level};
+ghost use Rattle.io_math.specs.Registers.{with_low, with_high, bit_if, registers_start, strobe_written, nmitimen_written, multiplied, divided, written, pad_bit, pad_read, byte_read, after_read, pad_blanked, blanked, framed, timed, nmi_level, irq_level};
 
 use crate::registers::{Arithmetic, Interrupts, IoRegisters, Pad};
 use snes_defs::{IrqTime, Spot};
@@ -229,11 +229,10 @@ fn begin_blank(r: &mut IoRegisters, pad1: u16, pad2: u16)
     ensures first { r.old.pad1.position ≤ 16 → r.new.pad1.position ≤ 16 }
     ensures second { r.old.pad2.position ≤ 16 → r.new.pad2.position ≤ 16 }
 {
+    let on = r.interrupts.auto_read;
     r.interrupts.nmi_flag = true;
-    if r.interrupts.auto_read {
-        auto_read(&mut r.pad1, r.strobe, pad1);
-        auto_read(&mut r.pad2, r.strobe, pad2);
-    }
+    blank_pad(&mut r.pad1, on, r.strobe, pad1);
+    blank_pad(&mut r.pad2, on, r.strobe, pad2);
 }
 
 #[tactic(auto, unfolding(crate::specs::Registers::strobe_written))]
@@ -322,11 +321,14 @@ fn take_bit(pad: &mut Pad, strobe: bool) -> u8
     bit as u8
 }
 
-#[tactic(auto, unfolding(crate::specs::Registers::auto_read_pad))]
-fn auto_read(pad: &mut Pad, strobe: bool, word: u16)
-    ensures after { pad.new ≡ auto_read_pad strobe pad.old word }
-    ensures within { pad.new.position ≤ 16 }
+#[tactic(auto, unfolding(crate::specs::Registers::pad_blanked))]
+fn blank_pad(pad: &mut Pad, auto_read: bool, strobe: bool, word: u16)
+    ensures after { pad.new ≡ pad_blanked auto_read strobe pad.old word }
+    ensures within { pad.old.position ≤ 16 → pad.new.position ≤ 16 }
 {
-    pad.kept = word;
-    pad.position = if strobe { 0 } else { 16 };
+    pad.word = word;
+    if auto_read {
+        pad.kept = word;
+        pad.position = if strobe { 0 } else { 16 };
+    }
 }
