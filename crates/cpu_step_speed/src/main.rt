@@ -75,18 +75,15 @@ struct Page {
     rise: u64,
 }
 
-/// A processor, a memory with its pages, and the stamps of the present and of the next event.
+/// A memory with its pages, and the stamp, which each access raises.
 #[derive(Drop)]
-struct Machine {
-    cpu: Cpu,
+struct Bus {
     memory: Vec<u8>,
     pages: Vec<Page>,
     stamp: u64,
-    next_event: u64,
-    events: u64,
 }
 
-impl Machine {
+impl Bus {
     /// The place of an address in the memory, after the stamp has risen by its clocks.
     #[inline(always)]
     fn reach(&mut self, at: u32) -> usize {
@@ -99,45 +96,70 @@ impl Machine {
         }
     }
 
+    /// The byte at an address.
+    #[inline(always)]
+    fn read(&mut self, at: u32) -> u8 {
+        let place = self.reach(at);
+        match self.memory.get(place) {
+            Some(byte) => *byte,
+            None => 0,
+        }
+    }
+
+    /// A byte goes to an address.
+    #[inline(always)]
+    fn write(&mut self, at: u32, byte: u8) {
+        let place = self.reach(at);
+        if let Some(cell) = self.memory.get_mut(place) {
+            *cell = byte;
+        }
+    }
+
+    /// A cycle in which the bus isn't used.
+    #[inline(always)]
+    fn rest(&mut self) {
+        self.stamp = self.stamp.wrapping_add(6 * 5632);
+    }
+}
+
+/// A processor on a bus, and the stamp of the next event.
+#[derive(Drop)]
+struct Machine {
+    cpu: Cpu,
+    bus: Bus,
+    next_event: u64,
+    events: u64,
+}
+
+impl Machine {
     /// An event has come: the next one is a line later.
     fn pass(&mut self) {
         self.events = self.events.wrapping_add(1);
         self.next_event = self.next_event.wrapping_add(1364 * 5632);
     }
 
-    /// One step.
+    /// One step. The stamp has risen before the processor goes on, so that nothing lives across that.
     #[inline(always)]
     fn step(&mut self) {
         match self.cpu.next() {
             Access::Fetch(at) => {
-                let place = self.reach(at);
-                let byte = match self.memory.get(place) {
-                    Some(byte) => *byte,
-                    None => 0,
-                };
+                let byte = self.bus.read(at);
                 self.cpu.took(byte);
             }
             Access::Read(at) => {
-                let place = self.reach(at);
-                let byte = match self.memory.get(place) {
-                    Some(byte) => *byte,
-                    None => 0,
-                };
+                let byte = self.bus.read(at);
                 self.cpu.took(byte);
             }
             Access::Write(at, byte) => {
-                let place = self.reach(at);
-                if let Some(cell) = self.memory.get_mut(place) {
-                    *cell = byte;
-                }
+                self.bus.write(at, byte);
                 self.cpu.wrote();
             }
             Access::Inner => {
-                self.stamp = self.stamp.wrapping_add(6 * 5632);
+                self.bus.rest();
                 self.cpu.idle();
             }
         }
-        if self.next_event <= self.stamp {
+        if self.next_event <= self.bus.stamp {
             self.pass();
         }
     }
@@ -174,18 +196,20 @@ fn main(rt: HostRuntime) -> anyhow::Result<()> {
     }
     let mut machine = Machine {
         cpu: Cpu::new(),
-        memory,
-        pages,
-        stamp: 0,
+        bus: Bus {
+            memory,
+            pages,
+            stamp: 0,
+        },
         next_event: 1364 * 5632,
         events: 0,
     };
     machine.run(steps);
-    let (stamp, events) = (machine.stamp, machine.events);
+    let (stamp, events) = (machine.bus.stamp, machine.events);
     println!(rt;
         "{steps} {:?} {stamp} {events} {}",
         machine.cpu.regs(),
-        sum(machine.memory.as_slice())
+        sum(machine.bus.memory.as_slice())
     )?;
     Ok(())
 }
