@@ -1,5 +1,5 @@
 ghost use Rattle.std.specs.Prelude.{◌≡◌, ◌-◌, ◌+◌, ◌==◌, ◌<◌, ◌≤◌, Bool, [], false, if◌then◌else◌};
-ghost use Rattle.beam.specs.Events.{BeamValue, lines_of, fires, next_v, next_h, happens_at, events_of, blank_after, beam_after, passed};
+ghost use Rattle.beam.specs.Events.{BeamValue, lines_of, fires, next_v, next_h, happens_at, events_of, happens_next, beam_next, blank_after, beam_after, passed};
 ghost use Rattle.beam.specs.Places.{table_place, timer_place, next_place, clocks_left};
 
 use crate::events::Happens;
@@ -94,6 +94,7 @@ impl Beam {
         ensures moved { (overscan : Bool) → self.new ≡ beam_after overscan self.old clocks }
         ensures none { (overscan : Bool) → passed overscan self.old clocks ≡ [] }
         ensures closer { clocks_left self.new ≡ clocks_left self.old - clocks }
+        ensures same_timer { self.new.timer ≡ self.old.timer }
     {
         self.left -= clocks;
     }
@@ -103,6 +104,10 @@ impl Beam {
     pub fn reach(&mut self, overscan: bool) -> Happens
         ensures moved { self.new ≡ beam_after overscan self.old (clocks_left self.old) }
         ensures happened { passed overscan self.old (clocks_left self.old) ≡ events_of result }
+        ensures none_before { passed overscan self.old (clocks_left self.old - 1) ≡ [] }
+        ensures last { result ≡ happens_next overscan (beam_after overscan self.old (clocks_left self.old - 1)) }
+        ensures last_moved { self.new ≡ beam_next overscan (beam_after overscan self.old (clocks_left self.old - 1)) }
+        ensures same_timer { self.new.timer ≡ self.old.timer }
     {
         let (v, h) = place_of(self.region, self.v, self.place);
         let happens = happens(self.timer, overscan, self.blank, v, h);

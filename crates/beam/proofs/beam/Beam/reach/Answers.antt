@@ -1,7 +1,7 @@
-use Rattle.std.proofs.Common.{Bool, ◌≡◌, ℕ, suc, ◌-◌, ◌+◌, ◌<◌, ◌≤◌, ap, sym, refl, ◌∙◌, arith}
+use Rattle.std.proofs.Common.{Bool, [], ◌≡◌, ℕ, suc, ◌-◌, ◌+◌, ◌<◌, ◌≤◌, ap, sym, refl, ◌∙◌, arith}
 use Rattle.beam.specs.Events.{BeamValue, lines_of, next_v, next_h, happens_at, happens_next, beam_next, beam_after, passed, events_of, blank_after}
 use Rattle.beam.specs.Places.{next_place}
-use Rattle.beam.proofs.Quiet.{reached_by, further}
+use Rattle.beam.proofs.Quiet.{reached_by, quiet_passed, further}
 use Rattle.beam.proofs.beam.Beam.reach.Goals as goal
 
 -- what contracts see of the fields
@@ -63,3 +63,27 @@ returns-clause-moved c =
 pub returns-clause-happened : goal.returns-clause-happened
 returns-clause-happened c =
     rw (← c.self.view_is) (rw (left_is c) ((at_last c).1 ∙ ap events_of (sym (answered c))))
+
+-- the clocks before the last lead there, and nothing happens in them
+to_last : (c : goal.After-self-4-1) →
+    (beam_after c.args.overscan (seen c) (c.self.inside.left - 1) ≡ last c) × (passed c.args.overscan (seen c) (c.self.inside.left - 1) ≡ [])
+to_last c =
+    let i = c.self.invariant in
+    let i1 = i.1 in
+    let i2 = i.2 in
+    let i4 = i.4 in
+    let q = quiet_passed c.args.overscan (seen c) (c.self.inside.left - 1) (omega arith) in
+    let same : further (seen c) (c.self.inside.left - 1) ≡ last c = ap (λ x. record (seen c) { h = x }) (omega arith) in
+    (q.0 ∙ same, q.1)
+
+pub returns-clause-none_before : goal.returns-clause-none_before
+returns-clause-none_before c = rw (← c.self.view_is) (rw (left_is c) ((to_last c).1))
+
+pub returns-clause-last : goal.returns-clause-last
+returns-clause-last c = rw (← c.self.view_is) (rw (left_is c) (answered c ∙ ap (λ x. happens_next c.args.overscan x) (sym (to_last c).0)))
+
+pub returns-clause-last_moved : goal.returns-clause-last_moved
+returns-clause-last_moved c =
+    let later = c.next_place-place.ensures.later in
+    let h : c.next_place-place.result - (c.next_place-place.result - c.place_of-v.result.1) ≡ c.place_of-v.result.1 = omega arith in
+    rw (← c.self.view_is) (rw (left_is c) (rw h (moved_to c ∙ ap (λ x. beam_next c.args.overscan x) (sym (to_last c).0))))
