@@ -1,7 +1,7 @@
 -- What words ask for, before anything is copied.
 use Rattle.run_io.specs.declared.order.Files.{Files}
-use Rattle.run_io.specs.declared.command.Command.{Command}
-use Rattle.run_io.specs.declared.command.Command.TheVariants.{Run, Serial, Make, Demo}
+use Rattle.run_io.specs.declared.commands.Command.{Command}
+use Rattle.run_io.specs.declared.commands.Command.TheVariants.{Run, Serial, Make, Demo}
 use Rattle.run_io.specs.declared.asked.Given.{Given}
 use Rattle.run_io.specs.declared.asked.Asked.{Asked}
 use Rattle.run_io.specs.declared.asked.Asked.TheVariants as asked

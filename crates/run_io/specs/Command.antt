@@ -4,8 +4,8 @@ use Rattle.std.specs.Prelude.{◌≡◌, ℕ, ◌+◌, Bool, not, ◌&&◌, nat_
 use Rattle.std.specs.Str.{bytes_eq}
 use Rattle.run_io.specs.Number.{number_of}
 use Rattle.run_io.specs.declared.order.Files.{Files}
-use Rattle.run_io.specs.declared.command.Command.{Command}
-use Rattle.run_io.specs.declared.command.Command.TheVariants.{Run, Serial, Make, Demo}
+use Rattle.run_io.specs.declared.commands.Command.{Command}
+use Rattle.run_io.specs.declared.commands.Command.TheVariants.{Run, Serial, Make, Demo}
 
 -- a value that may be missing, and what is made of it
 abbrev pub given : {A B : Type 0} → Option A → (A → Option B) → Option B

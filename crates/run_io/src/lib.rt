@@ -7,14 +7,15 @@
 #![tactic(auto)]
 
 mod asked;
-mod command;
+mod command_words;
+mod commands;
 mod lines;
 mod order;
 mod read;
-mod read_command;
 mod words;
 
-pub use command::Command;
+pub use command_words::read_command;
+pub use commands::Command;
 pub use file_shelf::{
     Failed, FileShelf, Input, LoadEnd, MemShelf, Out, Shelf, ShelfCall, SureShelf,
 };
@@ -24,7 +25,6 @@ pub use lines::{
 };
 pub use order::{Files, Name, Order, WordsEnd};
 pub use read::read_words;
-pub use read_command::read_command;
 pub use words::Argv;
 
 #[cfg(test)]

@@ -5,7 +5,7 @@ ghost use Rattle.run_io.specs.Command.{given, value_in, value_of, number_in, fra
 ghost use Rattle.run_io.specs.Asked.{files_for, command_for, AreValues, NamesValues};
 
 use crate::asked::{Asked, Given};
-use crate::command::Command;
+use crate::commands::Command;
 use crate::order::{Files, Name, WordsEnd};
 use crate::words::{Argv, Word};
 use std::alloc::{AllocError, Global};

@@ -1,6 +1,6 @@
 use Rattle.std.proofs.Common.{◌≡◌, ◌^◌, ◌<◌, drop}
 use Rattle.run_io.specs.Number.{number_of, number_after}
-use Rattle.run_io.proofs.read_command.number_of.Given as goal
+use Rattle.run_io.proofs.command_words.number_of.Given as goal
 
 abbrev pub invariant-loop-digit : goal.invariant-loop-digit
 invariant-loop-digit l =
