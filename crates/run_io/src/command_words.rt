@@ -142,7 +142,8 @@ fn value_in<'a>(words: &'a [Word], option: &str) -> Option<&'a Word>
     if name.text() == option {
         return Some(value);
     }
-    value_in(rest, option)
+    let found = value_in(rest, option)?;
+    Some(found)
 }
 
 /// A number of so many decimal digits at most, and at most so large.
@@ -179,7 +180,7 @@ fn number_of(digits: &[u8]) -> Option<u64>
 
 /// Copies what was found out of the words.
 fn kept(alloc: Global, asked: Asked<'_>) -> Result<Command, AllocError>
-    requires { NamesValues asked.entry }
+    requires { NamesValues asked }
     ensures { IfOk result (λ command. command ≡ command_for asked.entry) }
 {
     match asked {
@@ -195,7 +196,7 @@ fn kept(alloc: Global, asked: Asked<'_>) -> Result<Command, AllocError>
 
 /// Copies the names of a run's files.
 fn files_kept(alloc: Global, given: Given<'_>) -> Result<Files, AllocError>
-    requires { AreValues given.entry }
+    requires { AreValues given }
     ensures { IfOk result (λ files. files ≡ files_for given.entry) }
 {
     Ok(Files {
