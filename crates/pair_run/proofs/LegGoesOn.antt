@@ -1,0 +1,85 @@
+-- How a leg over a pass goes on: by a try that was answered, and by one that was held back.
+use Rattle.std.proofs.Common.{◌≡◌, ℕ, zero, suc, ◌+◌, ◌<◌, ◌≤◌, List, [], ◌++◌, refl, ap, sym, ◌∙◌, arith, append_assoc}
+use Rattle.std.proofs.lemmas.List.{append-nil}
+use Rattle.snes_defs.specs.declared.ports.Side.{Side}
+use Rattle.port_entries.specs.Entry.{Entry}
+use Rattle.side_law.specs.Moves.{Moves}
+use Rattle.commute_laws.specs.History.{History}
+use Rattle.commute_laws.specs.Heard.{IsHeard, StepsBelow, heard_step}
+use Rattle.commute_laws.specs.Leg.{IsLeg}
+use Rattle.commute_laws.proofs.Legs.{leg_at_once, leg_on, leg_longer}
+use Rattle.port_wire.specs.Seen.{Half}
+use Rattle.port_wire.specs.Answers.{HearsOn}
+use Rattle.pair_run.specs.Tried.{Tried}
+use Rattle.pair_run.specs.Leg.{LegRan}
+
+module _ {State : Type 0} (side : Side) (moves : Moves State) where
+  below_later : (heard : List Entry) (end later k : ℕ) (h : History State) → end ≤ later
+      → StepsBelow side moves heard end k h → StepsBelow side moves heard later k h
+  below_later heard end later zero h le below = tt
+  below_later heard end later (suc k) h le below =
+      (omega (arith, below.0), below_later heard end later k (heard_step side moves heard h) le below.1)
+
+  -- a leg below an end is one below a later end
+  pub leg_below_later : (heard : List Entry) (upto end later : ℕ) (before after : History State) → end ≤ later
+      → IsLeg side moves heard upto end before after → IsLeg side moves heard upto later before after
+  leg_below_later heard upto end later before after le leg =
+      record { ran = leg.ran; below = below_later heard end later leg.ran.steps before le leg.below }
+
+  hears_all : (old new : Half) → HearsOn old new → IsHeard old.heard new.heard old.upto
+  hears_all old new h = record { rest = h.more; whole_is = h.heard; later = h.later }
+
+  -- a leg begins
+  pub leg_begins : (window end : ℕ) (stands : State → Type 0) (half : Half) (waits : List ℕ) (before : History State)
+      → stands before.now → before.entries ≡ half.mine → LegRan side moves window end stands half waits waits before
+  leg_begins window end stands half waits before now entries_is = record {
+    after = before;
+    leg = leg_at_once side moves half.heard half.upto end before;
+    now_stands = now;
+    entries = entries_is;
+    emitted = [];
+    emitted_is = append-nil before.emitted;
+    waits_is = append-nil waits;
+    within = leg_at_once side moves half.heard half.upto (half.known + window + 1) before;
+  }
+
+  -- more was heard, and nothing else came
+  pub leg_waits : (window end : ℕ) (stands : State → Type 0) (old new : Half) (waited waits : List ℕ) (before : History State)
+      → LegRan side moves window end stands old waited waits before → HearsOn old new → new.mine ≡ old.mine
+      → LegRan side moves window end stands new waited waits before
+  leg_waits window end stands old new waited waits before ran hears mine_is =
+      let heard = hears_all old new hears in
+      record {
+        after = ran.after;
+        leg = leg_longer side moves old.heard new.heard old.upto new.upto end before ran.after ran.leg heard hears.upto;
+        now_stands = ran.now_stands;
+        entries = ran.entries ∙ sym mine_is;
+        emitted = ran.emitted;
+        emitted_is = ran.emitted_is;
+        waits_is = ran.waits_is;
+        within = leg_below_later new.heard new.upto (old.known + window + 1) (new.known + window + 1) before ran.after (omega (arith, hears.known))
+            (leg_longer side moves old.heard new.heard old.upto new.upto (old.known + window + 1) before ran.after ran.within heard hears.upto);
+      }
+
+  -- a step was made below the end
+  pub leg_steps : (window end : ℕ) (stands next : State → Type 0) (old new : Half) (waited waits more : List ℕ) (before : History State)
+      → (ran : LegRan side moves window end stands old waited waits before) → HearsOn old new
+      → moves.stamp ran.after.now < end
+      → Tried side moves window next new waits more ran.after
+      → LegRan side moves window end next new waited more before
+  leg_steps window end stands next old new waited waits more before ran hears early step =
+      let heard = hears_all old new hears in
+      record {
+        after = heard_step side moves new.heard ran.after;
+        leg = leg_on side moves new.heard new.upto end before ran.after
+            (leg_longer side moves old.heard new.heard old.upto new.upto end before ran.after ran.leg heard hears.upto) early step.settled;
+        now_stands = step.now_stands;
+        entries = step.entries;
+        emitted = ran.emitted ++ step.emitted;
+        emitted_is = sym (append_assoc before.emitted ran.emitted step.emitted) ∙ ap (λ l. l ++ step.emitted) ran.emitted_is ∙ step.emitted_is;
+        waits_is = sym (append_assoc waited ran.emitted step.emitted) ∙ ap (λ l. l ++ step.emitted) ran.waits_is ∙ step.waits_is;
+        within = leg_on side moves new.heard new.upto (new.known + window + 1) before ran.after
+            (leg_below_later new.heard new.upto (old.known + window + 1) (new.known + window + 1) before ran.after (omega (arith, hears.known))
+            (leg_longer side moves old.heard new.heard old.upto new.upto (old.known + window + 1) before ran.after ran.within heard hears.upto))
+            (omega (arith, step.within)) step.settled;
+      }

@@ -1,0 +1,2 @@
+pub mod LegGoesOn
+pub mod Tries

@@ -1,0 +1,39 @@
+-- What a leg has done, and why it has ended. This project's own profile.
+use Rattle.std.specs.Prelude.{◌≡◌, ℕ, ◌+◌, ◌≤◌, List, ◌++◌, Option, Some}
+use Rattle.snes_defs.specs.declared.ports.Side.{Side}
+use Rattle.side_law.specs.Moves.{Moves}
+use Rattle.commute_laws.specs.History.{History}
+use Rattle.commute_laws.specs.Leg.{IsLeg}
+use Rattle.port_wire.specs.declared.late.PassLate.{PassLate}
+use Rattle.port_wire.specs.declared.late.PassLate.TheVariants as late
+use Rattle.port_wire.specs.declared.late.CallName.{CallName}
+use Rattle.port_wire.specs.Seen.{Half}
+use Rattle.port_wire.specs.Tally.{HasRisenBy}
+use Rattle.pair_run.specs.declared.ends.LegEnd.{LegEnd}
+use Rattle.pair_run.specs.declared.ends.LegEnd.TheVariants.{Behind, Ahead, Held}
+
+-- from a history with the pass's entries the machine has run a leg against what the pass has heard: its
+-- state and entries are those of the leg, and the bytes of the leg wait
+pub record LegRan {State : Type 0} (side : Side) (moves : Moves State) (window end : ℕ) (stands : State → Type 0) (new : Half) (waited waits : List ℕ) (before : History State) : Type 0 where
+  pub after : History State
+  pub leg : IsLeg side moves new.heard new.upto end before after
+  pub now_stands : stands after.now
+  pub entries : after.entries ≡ new.mine
+  pub emitted : List ℕ
+  pub emitted_is : before.emitted ++ emitted ≡ after.emitted
+  pub waits_is : waited ++ emitted ≡ waits
+  -- no step was further ahead than the window of a clock that the pass was told
+  pub within : IsLeg side moves new.heard new.upto (new.known + window + 1) before after
+
+-- the end of a leg that was held back for too long
+abbrev pub end_of : PassLate → LegEnd
+end_of (late.Behind need other) = Behind need other
+end_of (late.Ahead at other) = Ahead at other
+end_of (late.Held by) = Held by
+
+-- the last calls, as many as there are tries, were all this call at this stamp, all in this leg, and each
+-- was refused, the last of them so
+pub record IsSpent (name : CallName) (at : ℕ) (late : PassLate) (tries : ℕ) (old new : Half) : Type 0 where
+  pub refused : HasRisenBy tries old.tally.refused new.tally.refused
+  pub row : tries ≤ new.tally.row
+  pub last : new.tally.last ≡ Some (record { name = name; at = at; late = late })

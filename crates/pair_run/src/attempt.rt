@@ -1,0 +1,171 @@
+ghost use Rattle.std.specs.Prelude.{◌≡◌, ◌+◌, ◌^◌, ◌<◌, ◌≤◌, ℕ, OnOk, OnErr, IfErr, length};
+ghost use Rattle.clock_ratio.specs.Stamp.{least_of, window_of};
+ghost use Rattle.commute_laws.specs.History.{History};
+ghost use Rattle.port_wire.specs.Answers.{HearsOn};
+ghost use Rattle.pair_run.specs.Tried.{Tried, IsHeldBack, call_of};
+
+use clock_ratio::{least, window};
+use port_wire::{PassLate, Wire};
+use side_law::Machine;
+use snes_defs::Act;
+
+/// A quiet step, where an advance tells a clock that is not too early for it.
+#[inline(always)]
+fn try_quiet<W: Wire, M: Machine>(
+    wire: &W,
+    pass: &mut W::Pass,
+    machine: &mut M,
+) -> Result<(), PassLate>
+    requires of { W.is_pass_of wire.now pass.old }
+    requires region { M.region_of machine.old ≡ W.region_of wire.now }
+    requires room { length (M.waiting machine.old) + M.MOST ≤ M.CAP }
+    requires early { M.stamp_of machine.old ≤ 2 ^ 62 }
+    requires clock { (W.seen pass.old).half.at ≤ M.stamp_of machine.old }
+    requires act { (m : M.State) → M.stands machine.old m → M.moves.act m ≡ Act.Quiet }
+    ensures still_of { W.is_pass_of wire.now pass.new }
+    ensures side { (W.seen pass.new).side ≡ (W.seen pass.old).side }
+    ensures hears { HearsOn (W.seen pass.old).half (W.seen pass.new).half }
+    ensures clock { (W.seen pass.new).half.at ≤ M.stamp_of machine.new }
+    ensures same_region { M.region_of machine.new ≡ M.region_of machine.old }
+    ensures steps { OnOk result ((before : History M.State) → M.stands machine.old before.now → before.entries ≡ (W.seen pass.old).half.mine → Tried (W.seen pass.old).side M.moves (window_of (W.region_of wire.now)) (M.stands machine.new) (W.seen pass.new).half (M.waiting machine.old) (M.waiting machine.new) before) }
+    ensures rises { OnOk result (M.stamp_of machine.old + least_of (M.region_of machine.old) ≤ M.stamp_of machine.new) }
+    ensures emits_at_most { length (M.waiting machine.new) ≤ length (M.waiting machine.old) + M.MOST }
+    ensures stays { OnErr result (machine.new ≡ machine.old) }
+    ensures held_back { IfErr result (λ late. (m : M.State) → M.stands machine.old m → IsHeldBack (call_of (M.moves.act m)) (M.stamp_of machine.old) late (W.seen pass.old).half (W.seen pass.new).half) }
+{
+    let at = machine.stamp();
+    let other = wire.advance(pass, at)?;
+    if at > other && at - other > window(wire.region()) {
+        return Err(PassLate::Ahead { at, other });
+    }
+    machine.step(0);
+    Ok(())
+}
+
+/// A step that reads a port.
+#[inline(always)]
+fn try_read<W: Wire, M: Machine>(
+    wire: &W,
+    pass: &mut W::Pass,
+    machine: &mut M,
+    port: u8,
+) -> Result<(), PassLate>
+    requires of { W.is_pass_of wire.now pass.old }
+    requires region { M.region_of machine.old ≡ W.region_of wire.now }
+    requires room { length (M.waiting machine.old) + M.MOST ≤ M.CAP }
+    requires early { M.stamp_of machine.old ≤ 2 ^ 62 }
+    requires clock { (W.seen pass.old).half.at ≤ M.stamp_of machine.old }
+    requires port { port < 4 }
+    requires act { (m : M.State) → M.stands machine.old m → M.moves.act m ≡ Act.Read port }
+    ensures still_of { W.is_pass_of wire.now pass.new }
+    ensures side { (W.seen pass.new).side ≡ (W.seen pass.old).side }
+    ensures hears { HearsOn (W.seen pass.old).half (W.seen pass.new).half }
+    ensures clock { (W.seen pass.new).half.at ≤ M.stamp_of machine.new }
+    ensures same_region { M.region_of machine.new ≡ M.region_of machine.old }
+    ensures steps { OnOk result ((before : History M.State) → M.stands machine.old before.now → before.entries ≡ (W.seen pass.old).half.mine → Tried (W.seen pass.old).side M.moves (window_of (W.region_of wire.now)) (M.stands machine.new) (W.seen pass.new).half (M.waiting machine.old) (M.waiting machine.new) before) }
+    ensures rises { OnOk result (M.stamp_of machine.old + least_of (M.region_of machine.old) ≤ M.stamp_of machine.new) }
+    ensures emits_at_most { length (M.waiting machine.new) ≤ length (M.waiting machine.old) + M.MOST }
+    ensures stays { OnErr result (machine.new ≡ machine.old) }
+    ensures held_back { IfErr result (λ late. (m : M.State) → M.stands machine.old m → IsHeldBack (call_of (M.moves.act m)) (M.stamp_of machine.old) late (W.seen pass.old).half (W.seen pass.new).half) }
+{
+    let at = machine.stamp();
+    let byte = wire.read(pass, at, port)?;
+    machine.step(byte);
+    Ok(())
+}
+
+/// A step that clears ports.
+#[inline(always)]
+fn try_clear<W: Wire, M: Machine>(
+    wire: &W,
+    pass: &mut W::Pass,
+    machine: &mut M,
+    mask: u8,
+) -> Result<(), PassLate>
+    requires of { W.is_pass_of wire.now pass.old }
+    requires region { M.region_of machine.old ≡ W.region_of wire.now }
+    requires room { length (M.waiting machine.old) + M.MOST ≤ M.CAP }
+    requires early { M.stamp_of machine.old ≤ 2 ^ 62 }
+    requires clock { (W.seen pass.old).half.at ≤ M.stamp_of machine.old }
+    requires mask { (1 ≤ mask) × (mask ≤ 15) }
+    requires act { (m : M.State) → M.stands machine.old m → M.moves.act m ≡ Act.Clear mask }
+    ensures still_of { W.is_pass_of wire.now pass.new }
+    ensures side { (W.seen pass.new).side ≡ (W.seen pass.old).side }
+    ensures hears { HearsOn (W.seen pass.old).half (W.seen pass.new).half }
+    ensures clock { (W.seen pass.new).half.at ≤ M.stamp_of machine.new }
+    ensures same_region { M.region_of machine.new ≡ M.region_of machine.old }
+    ensures steps { OnOk result ((before : History M.State) → M.stands machine.old before.now → before.entries ≡ (W.seen pass.old).half.mine → Tried (W.seen pass.old).side M.moves (window_of (W.region_of wire.now)) (M.stands machine.new) (W.seen pass.new).half (M.waiting machine.old) (M.waiting machine.new) before) }
+    ensures rises { OnOk result (M.stamp_of machine.old + least_of (M.region_of machine.old) ≤ M.stamp_of machine.new) }
+    ensures emits_at_most { length (M.waiting machine.new) ≤ length (M.waiting machine.old) + M.MOST }
+    ensures stays { OnErr result (machine.new ≡ machine.old) }
+    ensures held_back { IfErr result (λ late. (m : M.State) → M.stands machine.old m → IsHeldBack (call_of (M.moves.act m)) (M.stamp_of machine.old) late (W.seen pass.old).half (W.seen pass.new).half) }
+{
+    let at = machine.stamp();
+    wire.clear(pass, at, mask)?;
+    machine.step(0);
+    Ok(())
+}
+
+/// A step that writes a byte to a port. The least stamp of the step after it is published with it.
+#[inline(always)]
+fn try_write<W: Wire, M: Machine>(
+    wire: &W,
+    pass: &mut W::Pass,
+    machine: &mut M,
+    port: u8,
+    v: u8,
+) -> Result<(), PassLate>
+    requires of { W.is_pass_of wire.now pass.old }
+    requires region { M.region_of machine.old ≡ W.region_of wire.now }
+    requires room { length (M.waiting machine.old) + M.MOST ≤ M.CAP }
+    requires early { M.stamp_of machine.old ≤ 2 ^ 62 }
+    requires clock { (W.seen pass.old).half.at ≤ M.stamp_of machine.old }
+    requires port { port < 4 }
+    requires act { (m : M.State) → M.stands machine.old m → M.moves.act m ≡ Act.Write port v }
+    ensures still_of { W.is_pass_of wire.now pass.new }
+    ensures side { (W.seen pass.new).side ≡ (W.seen pass.old).side }
+    ensures hears { HearsOn (W.seen pass.old).half (W.seen pass.new).half }
+    ensures clock { (W.seen pass.new).half.at ≤ M.stamp_of machine.new }
+    ensures same_region { M.region_of machine.new ≡ M.region_of machine.old }
+    ensures steps { OnOk result ((before : History M.State) → M.stands machine.old before.now → before.entries ≡ (W.seen pass.old).half.mine → Tried (W.seen pass.old).side M.moves (window_of (W.region_of wire.now)) (M.stands machine.new) (W.seen pass.new).half (M.waiting machine.old) (M.waiting machine.new) before) }
+    ensures rises { OnOk result (M.stamp_of machine.old + least_of (M.region_of machine.old) ≤ M.stamp_of machine.new) }
+    ensures emits_at_most { length (M.waiting machine.new) ≤ length (M.waiting machine.old) + M.MOST }
+    ensures stays { OnErr result (machine.new ≡ machine.old) }
+    ensures held_back { IfErr result (λ late. (m : M.State) → M.stands machine.old m → IsHeldBack (call_of (M.moves.act m)) (M.stamp_of machine.old) late (W.seen pass.old).half (W.seen pass.new).half) }
+{
+    let at = machine.stamp();
+    wire.write(pass, at, port, v, at + least(wire.region()))?;
+    machine.step(0);
+    Ok(())
+}
+
+/// Tries the next step of a machine once, by the call of its act, and makes it where the call is answered.
+#[inline(always)]
+pub(crate) fn attempt<W: Wire, M: Machine>(
+    wire: &W,
+    pass: &mut W::Pass,
+    machine: &mut M,
+) -> Result<(), PassLate>
+    requires of { W.is_pass_of wire.now pass.old }
+    requires region { M.region_of machine.old ≡ W.region_of wire.now }
+    requires room { length (M.waiting machine.old) + M.MOST ≤ M.CAP }
+    requires early { M.stamp_of machine.old ≤ 2 ^ 62 }
+    requires clock { (W.seen pass.old).half.at ≤ M.stamp_of machine.old }
+    ensures still_of { W.is_pass_of wire.now pass.new }
+    ensures side { (W.seen pass.new).side ≡ (W.seen pass.old).side }
+    ensures hears { HearsOn (W.seen pass.old).half (W.seen pass.new).half }
+    ensures clock { (W.seen pass.new).half.at ≤ M.stamp_of machine.new }
+    ensures same_region { M.region_of machine.new ≡ M.region_of machine.old }
+    ensures steps { OnOk result ((before : History M.State) → M.stands machine.old before.now → before.entries ≡ (W.seen pass.old).half.mine → Tried (W.seen pass.old).side M.moves (window_of (W.region_of wire.now)) (M.stands machine.new) (W.seen pass.new).half (M.waiting machine.old) (M.waiting machine.new) before) }
+    ensures rises { OnOk result (M.stamp_of machine.old + least_of (M.region_of machine.old) ≤ M.stamp_of machine.new) }
+    ensures emits_at_most { length (M.waiting machine.new) ≤ length (M.waiting machine.old) + M.MOST }
+    ensures stays { OnErr result (machine.new ≡ machine.old) }
+    ensures held_back { IfErr result (λ late. (m : M.State) → M.stands machine.old m → IsHeldBack (call_of (M.moves.act m)) (M.stamp_of machine.old) late (W.seen pass.old).half (W.seen pass.new).half) }
+{
+    match machine.act() {
+        Act::Quiet => try_quiet(wire, pass, machine),
+        Act::Read(port) => try_read(wire, pass, machine, port),
+        Act::Clear(mask) => try_clear(wire, pass, machine, mask),
+        Act::Write(port, v) => try_write(wire, pass, machine, port, v),
+    }
+}

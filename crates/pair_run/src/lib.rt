@@ -1,0 +1,19 @@
+// Two machines that run apart, each over a pass to the ports, and meet.
+//
+// Stands on the trait of a machine, on the laws of steps that commute and on `port_wire`, the trait of what
+// carries the entries of the two sides. `leg` lets one machine run by itself until it has come to an end
+// stamp, has no room for more bytes, or is held back for so many tries: what it did is a leg of the laws,
+// a run of that machine alone against what its pass has heard by then. No step is made at the end stamp or
+// later, and none further ahead of a clock of the other side that the pass was told than the window.
+//
+// A caller parts a whole, runs a leg of each side, and reunites the passes: by the laws the two machines
+// then stand on the serial run.
+#![tactic(auto)]
+
+mod attempt;
+mod ends;
+mod gate;
+
+pub use ends::LegEnd;
+pub use gate::Gate;
+pub use port_wire::{CallName, PassLate, Wire};

@@ -1,0 +1,115 @@
+ghost use Rattle.std.specs.Prelude.{◌≡◌, ◌+◌, ◌<◌, ◌≤◌};
+ghost use Rattle.snes_defs.specs.declared.region.Region.{Region};
+ghost use Rattle.clock_ratio.specs.Stamp.{least_of, window_of};
+ghost use Rattle.port_wire.specs.Seen.{Seen, Both, Half, parted, AreReunited, half_of, with_half};
+ghost use Rattle.port_wire.specs.Answers.{HearsOn, EndsRead, EndsClear, EndsWrite, EndsAdvance};
+
+use crate::late::PassLate;
+use snes_defs::{Region, Side};
+
+/// What carries the entries of two sides between them. Each side has a pass, over which it reads, clears
+/// and writes its ports and publishes its clock; both passes together are a whole.
+///
+/// Each call over a pass tries once, and is answered or refused. In every answer the pass has heard all
+/// that was in its `heard` before, and more only of what is stamped at its `upto` or later.
+pub trait Wire: Sync {
+    type Pass: Send;
+
+    type Whole;
+
+    // The region whose window and rises hold.
+    ghost region_of: { Self → Region };
+
+    // The pass, or the whole, is of this wire.
+    ghost is_pass_of: { Self → Self.Pass → Type 0 };
+
+    ghost is_whole_of: { Self → Self.Whole → Type 0 };
+
+    // What is seen of them.
+    ghost seen: { Self.Pass → Seen };
+
+    ghost both: { Self.Whole → Both };
+
+    /// The region.
+    fn region(&self) -> Region
+        ensures { result ≡ region_of self.now };
+
+    /// The side of a pass.
+    fn side(&self, pass: &Self::Pass) -> Side
+        ensures { result ≡ (seen pass.now).side };
+
+    /// The latest clock of the other side that the pass was told.
+    fn known(&self, pass: &Self::Pass) -> u64
+        ensures { result ≡ (seen pass.now).half.known };
+
+    /// The clock that the side of the pass has published.
+    fn clock(&self, pass: &Self::Pass) -> u64
+        ensures { result ≡ (seen pass.now).half.at };
+
+    /// Two passes of a whole: the console's, then the sound side's.
+    fn part(&self, whole: Self::Whole) -> (Self::Pass, Self::Pass)
+        requires { is_whole_of self.now whole }
+        ensures console_of { is_pass_of self.now result.0 }
+        ensures sound_of { is_pass_of self.now result.1 }
+        ensures console { seen result.0 ≡ record { side = Side.Console; half = parted (both whole).console } }
+        ensures sound { seen result.1 ≡ record { side = Side.Sound; half = parted (both whole).sound } };
+
+    /// The whole of its two passes. Each side has heard a beginning of what the other logged, which has
+    /// all of it up to a stamp that the other has published.
+    fn reunite(&self, console: Self::Pass, sound: Self::Pass) -> Self::Whole
+        requires console_of { is_pass_of self.now console }
+        requires sound_of { is_pass_of self.now sound }
+        requires console_side { (seen console).side ≡ Side.Console }
+        requires sound_side { (seen sound).side ≡ Side.Sound }
+        ensures whole { is_whole_of self.now result }
+        ensures console { (both result).console ≡ (seen console).half }
+        ensures sound { (both result).sound ≡ (seen sound).half }
+        ensures heard { AreReunited (seen console).half (seen sound).half };
+
+    /// The incoming byte of a port at a stamp.
+    fn read(&self, pass: &mut Self::Pass, at: u64, port: u8) -> Result<u8, PassLate>
+        requires of { is_pass_of self.now pass.old }
+        requires port { port < 4 }
+        requires own_clock { (seen pass.old).half.at ≤ at }
+        ensures still_of { is_pass_of self.now pass.new }
+        ensures side { (seen pass.new).side ≡ (seen pass.old).side }
+        ensures hears { HearsOn (seen pass.old).half (seen pass.new).half }
+        ensures ends { EndsRead (seen pass.old).side at port result (seen pass.old).half (seen pass.new).half };
+
+    /// Zeroes the own incoming bytes of a mask at a stamp.
+    fn clear(&self, pass: &mut Self::Pass, at: u64, mask: u8) -> Result<(), PassLate>
+        requires of { is_pass_of self.now pass.old }
+        requires mask { (1 ≤ mask) × (mask ≤ 15) }
+        requires own_clock { (seen pass.old).half.at ≤ at }
+        ensures still_of { is_pass_of self.now pass.new }
+        ensures side { (seen pass.new).side ≡ (seen pass.old).side }
+        ensures hears { HearsOn (seen pass.old).half (seen pass.new).half }
+        ensures ends { EndsClear (seen pass.old).side at mask result (seen pass.old).half (seen pass.new).half };
+
+    /// Writes a byte to an outgoing port at a stamp, and publishes the clock `next` with it.
+    fn write(
+        &self,
+        pass: &mut Self::Pass,
+        at: u64,
+        port: u8,
+        v: u8,
+        next: u64,
+    ) -> Result<(), PassLate>
+        requires of { is_pass_of self.now pass.old }
+        requires port { port < 4 }
+        requires own_clock { (seen pass.old).half.at ≤ at }
+        requires rises { at + least_of (region_of self.now) ≤ next }
+        ensures still_of { is_pass_of self.now pass.new }
+        ensures side { (seen pass.new).side ≡ (seen pass.old).side }
+        ensures hears { HearsOn (seen pass.old).half (seen pass.new).half }
+        ensures ends { EndsWrite (window_of (region_of self.now)) at port v next result (seen pass.old).half (seen pass.new).half };
+
+    /// Publishes a clock, and answers the other side's.
+    fn advance(&self, pass: &mut Self::Pass, at: u64) -> Result<u64, PassLate>
+        requires of { is_pass_of self.now pass.old }
+        requires own_clock { (seen pass.old).half.at ≤ at }
+        ensures still_of { is_pass_of self.now pass.new }
+        ensures side { (seen pass.new).side ≡ (seen pass.old).side }
+        ensures hears { HearsOn (seen pass.old).half (seen pass.new).half }
+        ensures ends { EndsAdvance (window_of (region_of self.now)) at result (seen pass.old).half (seen pass.new).half };
+}
