@@ -1,10 +1,7 @@
 -- What is kept of a port after a clear.
 use Rattle.std.proofs.Common.{◌≡◌, ℕ, ◌+◌, ◌<◌, ◌≤◌, Bool, true, false, List, [], ◌∷◌, length, get_or, refl, ap, ◌∙◌, zero-add, arith, add-zero, suc, zero, Option, Some, None, if◌then◌else◌}
-use Rattle.snes_defs.specs.declared.ports.Side.{Side}
-use Rattle.snes_defs.specs.declared.ports.Side.TheVariants.{Console, Sound}
 use Rattle.port_entries.specs.Entry.{covers}
-use Rattle.port_entries.specs.Window.{IsSettled}
-use Rattle.port_log.specs.Kept.{LogValue, other_side, clock_of, later, cleared_after, with_clear, IsKept}
+use Rattle.port_log.specs.Kept.{later, cleared_after, latches_after}
 
 -- a clear changes what is kept of the ports that it covers
 pub greatest-after : (clears : List (Option ℕ)) (first mask at port : ℕ) → port < length clears
@@ -43,30 +40,6 @@ greatest-within clears mask at more bound n h k port t p e =
     let known = greatest-after clears 0 mask at port (omega arith) in
     within-by (covers mask (0 + port)) (get_or clears port None) at t more bound h (λ s. k port s p) (rw known at e)
 
--- what every log keeps holds after a clear that the other side's clock settles
-pub kept-after-clear : (side : Side) (log : LogValue) (at mask : ℕ) → IsKept log
-    → IsSettled side at (clock_of (other_side side) log) → IsKept (with_clear side at mask log)
-kept-after-clear Console log at mask kept settled = record {
-  console_ports = length-cleared_after log.console.cleared 0 mask at ∙ kept.console_ports;
-  sound_ports = kept.sound_ports;
-  console_clears = λ port t p e.
-      let bound : t + 0 ≤ log.sound.clock =
-      greatest-within log.console.cleared mask at 0 log.sound.clock kept.console_ports (omega arith)
-      (λ q s r i. let h : s ≤ log.sound.clock = kept.console_clears q s r i in omega arith) port t p e in
-      omega arith;
-  sound_clears = kept.sound_clears;
-}
-kept-after-clear Sound log at mask kept settled = record {
-  console_ports = kept.console_ports;
-  sound_ports = length-cleared_after log.sound.cleared 0 mask at ∙ kept.sound_ports;
-  console_clears = kept.console_clears;
-  sound_clears = λ port t p e.
-      let bound : t + 1 ≤ log.console.clock =
-      greatest-within log.sound.cleared mask at 1 log.console.clock kept.sound_ports (omega arith)
-      (λ q s r i. let h : s < log.console.clock = kept.sound_clears q s r i in omega arith) port t p e in
-      omega arith;
-}
-
 -- what is kept of a port by whether the clear covers it, after one clear and after two
 pub greatest-once : (clears : List (Option ℕ)) (mask at port : ℕ) (covered : Bool)
     → port < length clears → covers mask port ≡ covered
@@ -87,3 +60,34 @@ greatest-twice clears mask at mask2 at2 port first second h e e2 =
     greatest-once (cleared_after clears 0 mask at) mask2 at2 port second
     (omega (arith, length-cleared_after clears 0 mask at)) e2
     ∙ ap (λ c. if second then Some (later c at2) else c) (greatest-once clears mask at port first h e)
+
+-- a clear zeroes the latches of the ports that it covers
+latch-after : (latches : List ℕ) (first mask port : ℕ) → port < length latches
+    → get_or (latches_after latches first mask) port 0
+    ≡ (if covers mask (first + port) then 0 else get_or latches port 0)
+latch-after [] first mask port h = absurd (omega arith)
+latch-after (l ∷ ls) first mask zero h = rw add-zero
+latch-after (l ∷ ls) first mask (suc port) h =
+    let e : first + suc port ≡ first + 1 + port = omega arith in
+    rw e (latch-after ls (first + 1) mask port (omega arith))
+
+pub length-latches_after : (latches : List ℕ) (first mask : ℕ)
+    → length (latches_after latches first mask) ≡ length latches
+length-latches_after [] first mask = refl
+length-latches_after (l ∷ ls) first mask = ap (λ n. suc n) (length-latches_after ls (first + 1) mask)
+
+pub latch-once : (latches : List ℕ) (mask port : ℕ) (covered : Bool) → port < length latches
+    → covers mask port ≡ covered
+    → get_or (latches_after latches 0 mask) port 0 ≡ (if covered then 0 else get_or latches port 0)
+latch-once latches mask port covered h e =
+    latch-after latches 0 mask port h
+    ∙ ap (λ b. if b then 0 else get_or latches port 0) (ap (λ n. covers mask n) (zero-add port) ∙ e)
+
+pub latch-twice : (latches : List ℕ) (mask mask2 port : ℕ) (first second : Bool)
+    → port < length latches → covers mask port ≡ first → covers mask2 port ≡ second
+    → get_or (latches_after (latches_after latches 0 mask) 0 mask2) port 0
+    ≡ (if second then 0 else (if first then 0 else get_or latches port 0))
+latch-twice latches mask mask2 port first second h e e2 =
+    latch-once (latches_after latches 0 mask) mask2 port second
+    (omega (arith, length-latches_after latches 0 mask)) e2
+    ∙ ap (λ l. if second then 0 else l) (latch-once latches mask port first h e)

@@ -1,4 +1,7 @@
 pub mod Clears
+pub mod Looking
+pub mod Moving
+pub mod Holding
 pub mod Reading
 pub mod Standing
 pub mod Stands

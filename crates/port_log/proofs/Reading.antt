@@ -79,14 +79,14 @@ left-append side own port written e =
     ∙ ap (λ b. list_all (leaves side port written) own && b) (and-true (leaves side port written e))
 
 -- one more write that is found as the lists have it
-pub byte-append : (side : Side) (clear : Option ℕ) (own others : List Entry) (writes : List Written)
-    (w : Written) (port at : ℕ)
+pub byte-append : (side : Side) (clear : Option ℕ) (latch : ℕ) (own others : List Entry)
+    (waiting : List Written) (w : Written) (port at : ℕ)
     → not (is_zeroed side clear w.at) ≡ list_all (leaves side port w.at) own
-    → byte_by side clear port at writes ≡ last_value side own port at others
-    → byte_by side clear port at (writes ++ w ∷ [])
+    → byte_by side clear port at latch waiting ≡ last_value side own port at others
+    → byte_by side clear port at latch (waiting ++ w ∷ [])
     ≡ last_value side own port at (others ++ WriteAt w.at w.port w.byte ∷ [])
-byte-append side clear own others writes w port at e h =
-    fold-append (byte_with side clear port at) 0 writes (w ∷ [])
+byte-append side clear latch own others waiting w port at e h =
+    fold-append (byte_with side clear port at) latch waiting (w ∷ [])
     ∙ ap (λ b. byte_with side clear port at b w) h
     ∙ ap (λ b. if w.port == port && (sees side w.at at && b) then w.byte else last_value side own port at others) e
     ∙ sym (value-append side own port at others (WriteAt w.at w.port w.byte))

@@ -3,13 +3,14 @@ use Rattle.std.proofs.Common.{ℕ, ◌<◌, ◌≤◌, List, [], ◌∷◌, ◌+
 use Rattle.std.specs.List.{AllByRecursion}
 use Rattle.snes_defs.specs.declared.ports.Side.{Side}
 use Rattle.snes_defs.specs.declared.ports.Side.TheVariants.{Console, Sound}
-use Rattle.port_entries.specs.Entry.{Entry, WriteAt, ClearAt}
+use Rattle.port_entries.specs.Entry.{Entry, WriteAt, ClearAt, CarriesByte, CarryBytes}
 use Rattle.port_entries.specs.Window.{IsSettled}
 use Rattle.port_entries.proofs.Seen.{settled_later}
 use Rattle.port_log.specs.declared.written.Written.{Written}
-use Rattle.port_log.specs.Kept.{LogValue, clock_of, other_clock, published, with_clear, with_write, IsKept}
+use Rattle.port_log.specs.Kept.{LogValue, clock_of, other_clock, published, with_clear, with_write}
+use Rattle.port_log.specs.Held.{IsKept}
 use Rattle.port_log.specs.Entries.{Entries, made_by, with_entry, WritesRiseBelow, IsWrittenAfter, IsSettledClear, AnswersBy, StandsFor}
-use Rattle.port_log.proofs.Standing.{Reads, reads-from, reads-own-write, reads-other-clear, reads-other-write, reads-own-clear}
+use Rattle.port_log.proofs.Standing.{Reads, reads-published, reads-own-write, reads-other-clear, reads-other-write, reads-own-clear}
 
 -- the stamps of the writes stay below a later clock
 rise-from : (clock next : ℕ) (es : List Entry) → clock ≤ next → WritesRiseBelow clock es
@@ -55,25 +56,27 @@ clears-append : (side : Side) (other : ℕ) (es : List Entry) (e : Entry)
 clears-append side other [] e h k = (k, tt)
 clears-append side other (x ∷ es) e h k = (h.0, clears-append side other es e h.1 k)
 
+bytes-append : (es : List Entry) (e : Entry) → CarryBytes es → CarriesByte e → CarryBytes (es ++ e ∷ [])
+bytes-append [] e h k = (k, tt)
+bytes-append (x ∷ es) e h k = (h.0, bytes-append es e h.1 k)
+
 -- the console's part of the relation, and the sound side's
 abbrev ConsoleReads : LogValue → Entries → Type 0
-ConsoleReads log entries =
-    Reads Console log.console.clock log.console.cleared log.sound.writes entries.console entries.sound
+ConsoleReads log entries = Reads Console log.console entries.console entries.sound
 
 abbrev SoundReads : LogValue → Entries → Type 0
-SoundReads log entries =
-    Reads Sound log.sound.clock log.sound.cleared log.console.writes entries.sound entries.console
+SoundReads log entries = Reads Sound log.sound entries.sound entries.console
 
 console-reads : (log : LogValue) (entries : Entries) → StandsFor log entries → ConsoleReads log entries
 console-reads log entries s = record {
   now = s.answers Console;
-  after_clear = s.answers_after_clear Console;
+  once_cleared = s.answers_after_clear Console;
 }
 
 sound-reads : (log : LogValue) (entries : Entries) → StandsFor log entries → SoundReads log entries
 sound-reads log entries s = record {
   now = s.answers Sound;
-  after_clear = s.answers_after_clear Sound;
+  once_cleared = s.answers_after_clear Sound;
 }
 
 -- and back
@@ -84,8 +87,8 @@ module _ (log : LogValue) (entries : Entries) (c : ConsoleReads log entries) (s 
 
   answers-after : (side : Side) (clear_at mask : ℕ) → clock_of side log ≤ clear_at
       → AnswersBy (with_clear side clear_at mask log) (clock_of side log) side (with_entry side (ClearAt clear_at mask) entries)
-  answers-after Console = c.after_clear
-  answers-after Sound = s.after_clear
+  answers-after Console = c.once_cleared
+  answers-after Sound = s.once_cleared
 
 by-sides : (P : Side → Type 0) → P Console → P Sound → (side : Side) → P side
 by-sides P c s Console = c
@@ -94,11 +97,13 @@ by-sides P c s Sound = s
 stands-by : (log : LogValue) (entries : Entries)
     → WritesRiseBelow log.console.clock entries.console
     → WritesRiseBelow log.sound.clock entries.sound
+    → CarryBytes entries.console → CarryBytes entries.sound
     → AllByRecursion (IsSettledClear Console log.sound.clock) entries.console
     → AllByRecursion (IsSettledClear Sound log.console.clock) entries.sound
     → ConsoleReads log entries → SoundReads log entries → StandsFor log entries
-stands-by log entries rise_c rise_s settled_c settled_s c s = record {
+stands-by log entries rise_c rise_s bytes_c bytes_s settled_c settled_s c s = record {
   rises = by-sides (λ x. WritesRiseBelow (clock_of x log) (made_by x entries)) rise_c rise_s;
+  bytes = by-sides (λ x. CarryBytes (made_by x entries)) bytes_c bytes_s;
   settled = by-sides
       (λ x. AllByRecursion (IsSettledClear x (other_clock x log)) (made_by x entries)) settled_c settled_s;
   answers = answers-by log entries c s;
@@ -106,24 +111,23 @@ stands-by log entries rise_c rise_s settled_c settled_s c s = record {
 }
 
 -- a side publishes a clock
-pub stands-published : (side : Side) (log : LogValue) (entries : Entries) (clock : ℕ)
+pub stands-published : (side : Side) (log : LogValue) (entries : Entries) (clock : ℕ) → IsKept log
     → clock_of side log ≤ clock → StandsFor log entries → StandsFor (published side clock log) entries
-stands-published Console log entries clock h s =
+stands-published Console log entries clock kept h s =
     stands-by (published Console clock log) entries
     (rise-from log.console.clock clock entries.console h (s.rises Console))
-    (s.rises Sound)
-    (s.settled Console)
+    (s.rises Sound) (s.bytes Console) (s.bytes Sound) (s.settled Console)
     (clears-from Sound log.console.clock clock entries.sound h (s.settled Sound))
-    (reads-from (console-reads log entries s) clock h)
+    (reads-published (console-reads log entries s) clock kept.console.latches kept.console.ports kept.console.to_ports h)
     (sound-reads log entries s)
-stands-published Sound log entries clock h s =
-    stands-by (published Sound clock log) entries
-    (s.rises Console)
+stands-published Sound log entries clock kept h s =
+    stands-by (published Sound clock log) entries (s.rises Console)
     (rise-from log.sound.clock clock entries.sound h (s.rises Sound))
+    (s.bytes Console) (s.bytes Sound)
     (clears-from Console log.sound.clock clock entries.console h (s.settled Console))
     (s.settled Sound)
     (console-reads log entries s)
-    (reads-from (sound-reads log entries s) clock h)
+    (reads-published (sound-reads log entries s) clock kept.sound.latches kept.sound.ports kept.sound.to_ports h)
 
 -- a side clears some of its ports at a stamp that the other's clock settles
 pub stands-cleared : (side : Side) (log : LogValue) (entries : Entries) (at mask : ℕ) → IsKept log
@@ -133,42 +137,53 @@ stands-cleared Console log entries at mask kept h settled s =
     stands-by (with_clear Console at mask log) (with_entry Console (ClearAt at mask) entries)
     (rise-clear log.console.clock entries.console at mask (s.rises Console))
     (s.rises Sound)
+    (bytes-append entries.console (ClearAt at mask) (s.bytes Console) tt)
+    (s.bytes Sound)
     (clears-append Console log.sound.clock entries.console (ClearAt at mask) (s.settled Console) settled)
     (s.settled Sound)
-    (reads-own-clear (console-reads log entries s) at mask kept.console_ports h)
+    (reads-own-clear (console-reads log entries s) at mask _ _ kept.console h)
     (reads-other-clear (sound-reads log entries s) at mask)
 stands-cleared Sound log entries at mask kept h settled s =
     stands-by (with_clear Sound at mask log) (with_entry Sound (ClearAt at mask) entries)
     (s.rises Console)
     (rise-clear log.sound.clock entries.sound at mask (s.rises Sound))
+    (s.bytes Console)
+    (bytes-append entries.sound (ClearAt at mask) (s.bytes Sound) tt)
     (s.settled Console)
     (clears-append Sound log.console.clock entries.sound (ClearAt at mask) (s.settled Sound) settled)
     (reads-other-clear (console-reads log entries s) at mask)
-    (reads-own-clear (sound-reads log entries s) at mask kept.sound_ports h)
+    (reads-own-clear (sound-reads log entries s) at mask _ _ kept.sound h)
 
 -- a side writes a byte and publishes a clock
 pub stands-written : (side : Side) (log : LogValue) (entries : Entries) (w : Written) (next : ℕ)
-    → IsKept log → clock_of side log ≤ w.at → w.at < next → StandsFor log entries
-    → StandsFor (with_write side w next log) (with_entry side (WriteAt w.at w.port w.byte) entries)
-stands-written Console log entries w next kept h k s =
+    → IsKept log → clock_of side log ≤ w.at → w.at < next → w.port < 4 → w.byte < 256
+    → StandsFor log entries
+    → StandsFor (with_write side w (published side next log)) (with_entry side (WriteAt w.at w.port w.byte) entries)
+stands-written Console log entries w next kept h k port byte s =
     let rises : log.console.clock ≤ next = omega arith in
     let e : Entry = WriteAt w.at w.port w.byte in
-    stands-by (with_write Console w next log) (with_entry Console e entries)
+    stands-by (with_write Console w (published Console next log)) (with_entry Console e entries)
     (rise-write log.console.clock next entries.console w.at w.port w.byte h k (s.rises Console))
     (s.rises Sound)
+    (bytes-append entries.console e (s.bytes Console) byte)
+    (s.bytes Sound)
     (clears-append Console log.sound.clock entries.console e (s.settled Console) tt)
     (clears-from Sound log.console.clock next entries.sound rises (s.settled Sound))
-    (reads-from (reads-own-write (console-reads log entries s) w.at w.port w.byte) next rises)
-    (reads-other-write (sound-reads log entries s) log.console.clock w
-    kept.sound_ports kept.sound_clears (s.settled Sound) h)
-stands-written Sound log entries w next kept h k s =
+    (reads-own-write
+    (reads-published (console-reads log entries s) next kept.console.latches kept.console.ports kept.console.to_ports rises)
+    w.at w.port w.byte)
+    (reads-other-write _ log.console.clock w (sound-reads log entries s) kept.sound port (s.settled Sound) h)
+stands-written Sound log entries w next kept h k port byte s =
     let rises : log.sound.clock ≤ next = omega arith in
     let e : Entry = WriteAt w.at w.port w.byte in
-    stands-by (with_write Sound w next log) (with_entry Sound e entries)
+    stands-by (with_write Sound w (published Sound next log)) (with_entry Sound e entries)
     (s.rises Console)
     (rise-write log.sound.clock next entries.sound w.at w.port w.byte h k (s.rises Sound))
+    (s.bytes Console)
+    (bytes-append entries.sound e (s.bytes Sound) byte)
     (clears-from Console log.sound.clock next entries.console rises (s.settled Console))
     (clears-append Sound log.console.clock entries.sound e (s.settled Sound) tt)
-    (reads-other-write (console-reads log entries s) log.sound.clock w
-    kept.console_ports kept.console_clears (s.settled Console) h)
-    (reads-from (reads-own-write (sound-reads log entries s) w.at w.port w.byte) next rises)
+    (reads-other-write _ log.sound.clock w (console-reads log entries s) kept.console port (s.settled Console) h)
+    (reads-own-write
+    (reads-published (sound-reads log entries s) next kept.sound.latches kept.sound.ports kept.sound.to_ports rises)
+    w.at w.port w.byte)

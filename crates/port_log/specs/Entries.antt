@@ -1,9 +1,9 @@
--- The two whole lists of entries, and what it means that a log stands for them.
+-- The two whole lists of entries, and what it means that a log stands for them. This project's own profile.
 use Rattle.std.specs.Prelude.{◌≡◌, ℕ, ◌<◌, ◌≤◌, List, [], ◌∷◌, ◌++◌}
 use Rattle.std.specs.List.{AllByRecursion}
 use Rattle.snes_defs.specs.declared.ports.Side.{Side}
 use Rattle.snes_defs.specs.declared.ports.Side.TheVariants.{Console, Sound}
-use Rattle.port_entries.specs.Entry.{Entry, WriteAt, ClearAt}
+use Rattle.port_entries.specs.Entry.{Entry, WriteAt, ClearAt, CarryBytes}
 use Rattle.port_entries.specs.LastValue.{last_value}
 use Rattle.port_entries.specs.Window.{IsSettled}
 use Rattle.port_log.specs.Kept.{LogValue, other_side, clock_of, other_clock, answer, with_clear}
@@ -60,6 +60,8 @@ AnswersBy log clock side entries =
 pub record StandsFor (log : LogValue) (entries : Entries) : Type 0 where
   -- each side's writes have rising stamps below the clock that it has published
   pub rises : (side : Side) → WritesRiseBelow (clock_of side log) (made_by side entries)
+  -- what it wrote are bytes
+  pub bytes : (side : Side) → CarryBytes (made_by side entries)
   -- nothing that the other side still writes is zeroed by a clear of the side
   pub settled : (side : Side)
       → AllByRecursion (IsSettledClear side (other_clock side log)) (made_by side entries)

@@ -1,10 +1,10 @@
--- What a log keeps of the two sides, and the byte that it answers by that.
-use Rattle.std.specs.Prelude.{◌≡◌, ℕ, ◌+◌, ◌<◌, ◌==◌, Bool, false, ◌&&◌, not, max, Option, Some, None, List, [], ◌∷◌, ◌++◌, fold, if◌then◌else◌, length, slice_index_or}
+-- What a log keeps of the two sides, and the byte that it answers by that. This project's own profile.
+use Rattle.std.specs.Prelude.{ℕ, ◌+◌, ◌==◌, Bool, false, ◌&&◌, not, max, Option, Some, None, List, [], ◌∷◌, ◌++◌, fold, if◌then◌else◌, length, slice_index, slice_index_or, slice_set}
 use Rattle.snes_defs.specs.declared.ports.Side.{Side}
 use Rattle.snes_defs.specs.declared.ports.Side.TheVariants.{Console, Sound}
+use Rattle.snes_defs.specs.declared.region.Region.{Region}
 use Rattle.port_entries.specs.Entry.{covers}
 use Rattle.port_entries.specs.LastValue.{sees}
-use Rattle.port_entries.specs.Window.{IsSettled}
 use Rattle.port_log.specs.declared.written.Written.{Written}
 
 abbrev pub other_side : Side → Side
@@ -15,13 +15,16 @@ other_side Sound = Console
 pub record SideValue : Type 0 where
   -- the stamp that it has published: each of its steps to come is at that stamp or later
   pub clock : ℕ
-  -- its writes, in the order in which it made them
-  pub writes : List Written
-  -- for each of its four incoming ports the greatest stamp at which it cleared the port
+  -- the other side's writes that it doesn't see at its clock yet, in the order in which they were made
+  pub waiting : List Written
+  -- for each of its four incoming ports the byte that what it sees at its clock has left there
+  pub latches : List ℕ
+  -- for each of these ports the greatest stamp at which it cleared the port
   pub cleared : List (Option ℕ)
 
 -- what contracts see of a log
 pub record LogValue : Type 0 where
+  pub region : Region
   pub console : SideValue
   pub sound : SideValue
 
@@ -37,9 +40,13 @@ clock_of side log = (kept_of side log).clock
 abbrev pub other_clock : Side → LogValue → ℕ
 other_clock side log = clock_of (other_side side) log
 
+-- how many of the other side's writes a side doesn't see at its clock yet
+abbrev pub unseen_by : Side → LogValue → ℕ
+unseen_by side log = length (kept_of side log).waiting
+
 -- the greatest stamp at which a side cleared a port, if it ever did
-abbrev pub greatest_clear : SideValue → ℕ → Option ℕ
-greatest_clear kept port = slice_index_or kept.cleared port None
+abbrev pub greatest_clear : List (Option ℕ) → ℕ → Option ℕ
+greatest_clear cleared port = slice_index_or cleared port None
 
 -- a clear zeroes what the side sees at its stamp. What the greatest one leaves, each one leaves
 abbrev pub is_zeroed : Side → Option ℕ → ℕ → Bool
@@ -55,14 +62,18 @@ abbrev pub byte_with : Side → Option ℕ → ℕ → ℕ → ℕ → Written �
 byte_with side clear port at byte w =
     if w.port == port && finds side clear at w.at then w.byte else byte
 
--- the byte of a port at a stamp, by the writes of the other side and the greatest clear of the port
-abbrev pub byte_by : Side → Option ℕ → ℕ → ℕ → List Written → ℕ
-byte_by side clear port at writes = fold (byte_with side clear port at) 0 writes
+-- the byte of a port at a stamp, by the latch and the greatest clear of the port and the writes that wait
+abbrev pub byte_by : Side → Option ℕ → ℕ → ℕ → ℕ → List Written → ℕ
+byte_by side clear port at latch waiting = fold (byte_with side clear port at) latch waiting
+
+-- the byte that a side finds at a port and a stamp, by what is kept of it
+abbrev pub found_in : Side → SideValue → ℕ → ℕ → ℕ
+found_in side kept port at =
+    byte_by side (greatest_clear kept.cleared port) port at (slice_index kept.latches port) kept.waiting
 
 -- the byte that a log answers to a side at a port and a stamp, where nothing is held back
 abbrev pub answer : LogValue → Side → ℕ → ℕ → ℕ
-answer log side port at =
-    byte_by side (greatest_clear (kept_of side log) port) port at (kept_of (other_side side) log).writes
+answer log side port at = found_in side (kept_of side log) port at
 
 -- the greatest stamp of a clear after one more
 abbrev pub later : Option ℕ → ℕ → ℕ
@@ -76,6 +87,53 @@ cleared_after (clear ∷ clears) port mask at =
     (if covers mask port then Some (later clear at) else clear)
     ∷ cleared_after clears (port + 1) mask at
 
+-- the latches of the ports from `port` on, after a clear
+abbrev pub latches_after : List ℕ → ℕ → ℕ → List ℕ
+latches_after [] port mask = []
+latches_after (latch ∷ latches) port mask =
+    (if covers mask port then 0 else latch) ∷ latches_after latches (port + 1) mask
+
+-- what is kept of a side after a clear of its own
+abbrev pub after_clear : ℕ → ℕ → SideValue → SideValue
+after_clear at mask kept = record kept {
+  latches = latches_after kept.latches 0 mask;
+  cleared = cleared_after kept.cleared 0 mask at;
+}
+
+-- the latches after a write has moved to the one of its port, unless a clear has zeroed it
+abbrev pub latched : Side → List (Option ℕ) → List ℕ → Written → List ℕ
+latched side cleared latches w =
+    if is_zeroed side (greatest_clear cleared w.port) w.at then latches else slice_set latches w.port w.byte
+
+-- the latches after the writes that the side sees at a clock have moved to them
+abbrev pub latches_at : Side → ℕ → List (Option ℕ) → List ℕ → List Written → List ℕ
+latches_at side clock cleared latches [] = latches
+latches_at side clock cleared latches (w ∷ waiting) =
+    if sees side w.at clock then latches_at side clock cleared (latched side cleared latches w) waiting else latches
+
+-- the writes that still wait at a clock
+abbrev pub waiting_at : Side → ℕ → List Written → List Written
+waiting_at side clock [] = []
+waiting_at side clock (w ∷ waiting) =
+    if sees side w.at clock then waiting_at side clock waiting else w ∷ waiting
+
+-- what is kept of a side after it has published a clock: what it sees then has moved to the latches
+abbrev pub after_clock : Side → ℕ → SideValue → SideValue
+after_clock side clock kept = record {
+  clock = clock;
+  waiting = waiting_at side clock kept.waiting;
+  latches = latches_at side clock kept.cleared kept.latches kept.waiting;
+  cleared = kept.cleared;
+}
+
+-- what is kept of a side after one more write of the other's: it moves to its latch at once where the
+-- side's clock sees it, and waits otherwise
+abbrev pub after_write : Side → Written → SideValue → SideValue
+after_write side w kept = record kept {
+  waiting = if sees side w.at kept.clock then kept.waiting else kept.waiting ++ w ∷ [];
+  latches = if sees side w.at kept.clock then latched side kept.cleared kept.latches w else kept.latches;
+}
+
 -- the log with this kept of the side, and the same of the other
 abbrev pub with_kept : Side → SideValue → LogValue → LogValue
 with_kept Console kept log = record log { console = kept }
@@ -83,31 +141,13 @@ with_kept Sound kept log = record log { sound = kept }
 
 -- the log after the side has published a clock
 abbrev pub published : Side → ℕ → LogValue → LogValue
-published side clock log = with_kept side (record (kept_of side log) { clock = clock }) log
+published side clock log = with_kept side (after_clock side clock (kept_of side log)) log
 
 -- the log after one more clear of the side
 abbrev pub with_clear : Side → ℕ → ℕ → LogValue → LogValue
-with_clear side at mask log = with_kept side (record (kept_of side log) {
-  cleared = cleared_after (kept_of side log).cleared 0 mask at;
-}) log
+with_clear side at mask log = with_kept side (after_clear at mask (kept_of side log)) log
 
--- the log after one more write of the side, which publishes a clock
-abbrev pub with_write : Side → Written → ℕ → LogValue → LogValue
-with_write side written clock log = with_kept side (record {
-  clock = clock;
-  writes = (kept_of side log).writes ++ written ∷ [];
-  cleared = (kept_of side log).cleared;
-}) log
-
--- what a log keeps of the clears of a side is settled by the other's clock
-abbrev pub HasSettledClears : Side → LogValue → Type 0
-HasSettledClears side log =
-    (port at : ℕ) → port < 4 → greatest_clear (kept_of side log) port ≡ Some at
-    → IsSettled side at (other_clock side log)
-
--- what every log keeps: four ports of each side, and settled clears
-pub record IsKept (log : LogValue) : Type 0 where
-  pub console_ports : length log.console.cleared ≡ 4
-  pub sound_ports : length log.sound.cleared ≡ 4
-  pub console_clears : HasSettledClears Console log
-  pub sound_clears : HasSettledClears Sound log
+-- the log after one more write of the side
+abbrev pub with_write : Side → Written → LogValue → LogValue
+with_write side w log =
+    with_kept (other_side side) (after_write (other_side side) w (kept_of (other_side side) log)) log

@@ -1,4 +1,5 @@
 pub mod Kept
+pub mod Held
 pub mod Entries
 pub mod Refused
 pub mod StandsOnce

@@ -5,7 +5,7 @@ use Rattle.std.specs.Coded.{Unit-prop, le_prop}
 use Rattle.std.proofs.Props.{props}
 use Rattle.snes_defs.specs.declared.ports.Side.{Side}
 use Rattle.snes_defs.specs.declared.ports.Side.TheVariants.{Console, Sound}
-use Rattle.port_entries.specs.Entry.{Entry, WriteAt, ClearAt}
+use Rattle.port_entries.specs.Entry.{Entry, WriteAt, ClearAt, CarriesByte, CarryBytes}
 use Rattle.port_log.specs.Kept.{LogValue, clock_of, other_clock}
 use Rattle.port_log.specs.Entries.{Entries, made_by, IsWrittenAfter, WritesRiseBelow, IsSettledClear, StandsFor}
 
@@ -21,6 +21,10 @@ WritesRiseBelow-prop clock (WriteAt at port byte ∷ es) =
     hlevel (props, after, rest)
 WritesRiseBelow-prop clock (ClearAt at mask ∷ es) = WritesRiseBelow-prop clock es
 
+CarriesByte-prop : (e : Entry) → IsProp (CarriesByte e)
+CarriesByte-prop (WriteAt at port byte) = le_prop
+CarriesByte-prop (ClearAt at mask) = Unit-prop
+
 IsSettledClear-prop : (side : Side) (other : ℕ) (e : Entry) → IsProp (IsSettledClear side other e)
 IsSettledClear-prop side other (WriteAt at port byte) = Unit-prop
 IsSettledClear-prop Console other (ClearAt at mask) = le_prop
@@ -30,9 +34,11 @@ pub StandsFor-prop : (log : LogValue) (entries : Entries) → IsProp (StandsFor 
 StandsFor-prop log entries =
     let rises : (side : Side) → IsProp (WritesRiseBelow (clock_of side log) (made_by side entries)) =
     λ side. WritesRiseBelow-prop (clock_of side log) (made_by side entries) in
+    let bytes : (side : Side) → IsProp (CarryBytes (made_by side entries)) =
+    λ side. AllByRecursion-prop CarriesByte CarriesByte-prop (made_by side entries) in
     let settled : (side : Side)
     → IsProp (AllByRecursion (IsSettledClear side (other_clock side log)) (made_by side entries)) =
     λ side.
     AllByRecursion-prop (IsSettledClear side (other_clock side log))
     (IsSettledClear-prop side (other_clock side log)) (made_by side entries) in
-    hlevel (props, rises, settled)
+    hlevel (props, rises, bytes, settled)

@@ -16,6 +16,4 @@ pub enum Late {
         /// What the other side has published.
         other: u64,
     },
-    /// No memory was left for one more write.
-    NoMemory,
 }

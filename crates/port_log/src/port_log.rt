@@ -1,16 +1,18 @@
 ghost use Rattle.std.specs.Prelude.{◌≡◌, ◌+◌, ◌<◌, ◌≤◌, ◌++◌, ◌∷◌, ℕ, [], IfOk, IfErr, OnOk, OnErr, IsOk, IsErr, ◌↔◌};
-ghost use Rattle.snes_defs.specs.declared.TheConstants.{LEAST_RISE};
 ghost use Rattle.port_entries.specs.Entry.{WriteAt, ClearAt};
 ghost use Rattle.port_entries.specs.Window.{IsSettled, IsWithinWindow};
-ghost use Rattle.port_log.specs.Kept.{LogValue, clock_of, other_clock, answer, published, with_clear, with_write, IsKept};
+ghost use Rattle.clock_ratio.specs.Stamp.{window_of, least_of};
+ghost use Rattle.port_log.specs.Kept.{LogValue, clock_of, other_clock, other_side, unseen_by, answer, published, with_clear, with_write};
+ghost use Rattle.port_log.specs.Held.{IsKept};
 ghost use Rattle.port_log.specs.Entries.{Entries, no_entries, with_entry, value_by, StandsFor};
-ghost use Rattle.port_log.specs.Refused.{IsBehind, IsAhead, WriteCause};
+ghost use Rattle.port_log.specs.Refused.{IsBehind, IsAhead};
 
+use crate::incoming::Incoming;
 use crate::late::Late;
-use crate::seen::{across, is_ahead, is_behind, newest_byte};
-use crate::side_log::SideLog;
+use crate::seen::{across, is_ahead, is_behind};
 use crate::written::Written;
-use snes_defs::{NoMemory, Side};
+use clock_ratio::window;
+use snes_defs::{NoMemory, Region, Side};
 use std::alloc::Global;
 use std::marker::Model;
 
@@ -19,38 +21,50 @@ use std::marker::Model;
 ///
 /// A log stands for the two whole lists of entries, one for each side. Each call answers by these
 /// lists and the two clocks, and the log then stands for the lists with the call's entry appended.
+/// It keeps only what can still be asked for.
 #[derive(Drop)]
 pub struct PortLog {
-    console: SideLog,
-    sound: SideLog,
+    region: Region,
+    console: Incoming,
+    sound: Incoming,
 }
 
 impl Model for PortLog {
-    ghost use Rattle.port_log.specs.Kept.{LogValue, IsKept};
+    ghost use Rattle.port_log.specs.Kept.{LogValue};
+    ghost use Rattle.port_log.specs.Held.{IsKept};
 
     ghost Value = { LogValue };
 
-    ghost view = { λ p. record { console = p.console; sound = p.sound } };
+    ghost view = { λ p. record { region = p.region; console = p.console; sound = p.sound } };
 
-    ghost invariant = { λ p. IsKept (record { console = p.console; sound = p.sound }) };
+    ghost invariant = { λ p. IsKept (record {
+      region = p.region;
+      console = p.console;
+      sound = p.sound;
+    }) };
 }
 
 impl PortLog {
-    /// A log with no write, zero bytes and both clocks at 0. It takes room for the writes of a
-    /// window, and refuses only for want of memory.
-    pub fn new(alloc: Global) -> Result<PortLog, NoMemory>
+    /// A log with no write, zero bytes and both clocks at 0, for two machines of the region. It takes
+    /// all the memory that it ever needs, and refuses only for want of it.
+    pub fn new(alloc: Global, region: Region) -> Result<PortLog, NoMemory>
         ensures stands { IfOk result (λ log. StandsFor log no_entries) }
+        ensures region { IfOk result (λ log. log.region ≡ region) }
         ensures console_clock { IfOk result (λ log. clock_of Side.Console log ≡ 0) }
         ensures sound_clock { IfOk result (λ log. clock_of Side.Sound log ≡ 0) }
     {
-        let console = SideLog::new(alloc)?;
-        let sound = SideLog::new(alloc)?;
-        Ok(PortLog { console, sound })
+        let console = Incoming::new(alloc)?;
+        let sound = Incoming::new(alloc)?;
+        Ok(PortLog {
+            region,
+            console,
+            sound,
+        })
     }
 
     /// The clock that a side has published.
     #[inline(always)]
-    fn clock(&self, side: Side) -> u64
+    pub fn clock(&self, side: Side) -> u64
         ensures { result ≡ clock_of side self.now }
     {
         match side {
@@ -61,19 +75,13 @@ impl PortLog {
 
     /// The byte that the side finds at the port at `at`, where nothing is held back.
     #[inline(always)]
-    fn byte(&self, side: Side, at: u64, port: u8) -> u8
+    fn found(&self, side: Side, at: u64, port: u8) -> u8
         requires { port < 4 }
         ensures { result ≡ answer self.now side port at }
     {
         match side {
-            Side::Console => {
-                let clear = self.console.greatest_clear(port);
-                newest_byte(side, clear, port, at, self.sound.writes())
-            }
-            Side::Sound => {
-                let clear = self.sound.greatest_clear(port);
-                newest_byte(side, clear, port, at, self.console.writes())
-            }
+            Side::Console => self.console.found(Side::Console, at, port),
+            Side::Sound => self.sound.found(Side::Sound, at, port),
         }
     }
 
@@ -82,10 +90,11 @@ impl PortLog {
     fn publish(&mut self, side: Side, clock: u64)
         requires { clock_of side self.old ≤ clock }
         ensures kept { self.new ≡ published side clock self.old }
+        ensures was_kept { IsKept self.old }
     {
         match side {
-            Side::Console => self.console.publish(clock),
-            Side::Sound => self.sound.publish(clock),
+            Side::Console => self.console.publish(Side::Console, clock),
+            Side::Sound => self.sound.publish(Side::Sound, clock),
         }
     }
 
@@ -102,17 +111,26 @@ impl PortLog {
         }
     }
 
-    /// Keeps a write of the side, and publishes a clock.
+    /// Keeps a write of the side, and publishes a clock of it.
     #[inline(always)]
-    fn keep_write(&mut self, side: Side, written: Written, clock: u64) -> Result<(), NoMemory>
-        requires { clock_of side self.old ≤ clock }
-        ensures kept { OnOk result (self.new ≡ with_write side written clock self.old) }
-        ensures refused { OnErr result (self.new ≡ self.old) }
+    fn keep_write(&mut self, side: Side, write: Written, clock: u64)
+        requires port { write.port < 4 }
+        requires own_clock { clock_of side self.old ≤ write.at }
+        requires rises { write.at + least_of self.old.region ≤ clock }
+        requires within { IsWithinWindow (window_of self.old.region) write.at (other_clock side self.old) }
+        ensures kept { self.new ≡ with_write side write (published side clock self.old) }
         ensures was_kept { IsKept self.old }
+        ensures few { unseen_by (other_side side) self.new ≤ 3638 }
     {
         match side {
-            Side::Console => self.console.write(written, clock),
-            Side::Sound => self.sound.write(written, clock),
+            Side::Console => {
+                self.console.publish(Side::Console, clock);
+                self.sound.receive(Side::Sound, write);
+            }
+            Side::Sound => {
+                self.sound.publish(Side::Sound, clock);
+                self.console.receive(Side::Console, write);
+            }
         }
     }
 
@@ -138,7 +156,7 @@ impl PortLog {
         if is_behind(side, at, other) {
             Err(Late::Behind { need: at, other })
         } else {
-            Ok(self.byte(side, at, port))
+            Ok(self.found(side, at, port))
         }
     }
 
@@ -159,6 +177,7 @@ impl PortLog {
         ensures refused { OnErr result (self.new ≡ self.old) }
         ensures clock_stays { clock_of side self.new ≡ clock_of side self.old }
         ensures other_stays { other_clock side self.new ≡ other_clock side self.old }
+        ensures region_stays { self.new.region ≡ self.old.region }
     {
         let other = self.clock(across(side));
         if is_behind(side, at, other) {
@@ -171,32 +190,32 @@ impl PortLog {
     /// Logs that `side` wrote the byte `v` to its outgoing port `port`, 0 to 3, at the stamp `at`,
     /// and publishes `next`, the stamp of its next step.
     ///
-    /// It is refused as `Ahead` where `at` lies more than the window past the other side's clock,
-    /// and otherwise only for want of memory.
+    /// It is refused as `Ahead` exactly where `at` lies more than the region's window past the other
+    /// side's clock.
     #[inline(always)]
     pub fn write(&mut self, side: Side, at: u64, port: u8, v: u8, next: u64) -> Result<(), Late>
         requires port { port < 4 }
         requires own_clock { clock_of side self.old ≤ at }
-        requires rises { at + LEAST_RISE ≤ next }
-        ensures ahead { IsAhead at (other_clock side self.old)
-            → result ≡ Err (Late.Ahead at (other_clock side self.old)) }
-        ensures cause { IfErr result (λ e. WriteCause at (other_clock side self.old) e) }
-        ensures within { OnOk result (IsWithinWindow at (other_clock side self.old)) }
+        requires rises { at + least_of self.old.region ≤ next }
+        ensures ahead { IsErr result ↔ IsAhead (window_of self.old.region) at (other_clock side self.old) }
+        ensures cause { IfErr result (λ e. e ≡ Late.Ahead at (other_clock side self.old)) }
+        ensures within { OnOk result
+            (IsWithinWindow (window_of self.old.region) at (other_clock side self.old)) }
         ensures stands { (entries : Entries) → StandsFor self.old entries
             → OnOk result (StandsFor self.new (with_entry side (WriteAt at port v) entries)) }
         ensures refused { OnErr result (self.new ≡ self.old) }
         ensures publishes { OnOk result (clock_of side self.new ≡ next) }
         ensures other_stays { other_clock side self.new ≡ other_clock side self.old }
+        ensures region_stays { self.new.region ≡ self.old.region }
+        ensures few { OnOk result (unseen_by (other_side side) self.new ≤ 3638) }
     {
         let other = self.clock(across(side));
-        if is_ahead(at, other) {
+        if is_ahead(window(self.region), at, other) {
             return Err(Late::Ahead { at, other });
         }
-        let written = Written { at, port, byte: v };
-        match self.keep_write(side, written, next) {
-            Ok(()) => Ok(()),
-            Err(NoMemory) => Err(Late::NoMemory),
-        }
+        let write = Written { at, port, byte: v };
+        self.keep_write(side, write, next);
+        Ok(())
     }
 
     /// Publishes that each step of `side` to come is at `at` or later, and answers the clock that the
@@ -209,6 +228,7 @@ impl PortLog {
             → StandsFor self.new entries }
         ensures publishes { clock_of side self.new ≡ at }
         ensures other_stays { other_clock side self.new ≡ other_clock side self.old }
+        ensures region_stays { self.new.region ≡ self.old.region }
     {
         self.publish(side, at);
         self.clock(across(side))
