@@ -4,11 +4,13 @@
 //! `specs/Picture.antt`: all registers by name, and VRAM, CGRAM and OAM as lists.
 #![tactic(auto)]
 
+mod dots;
 mod layers;
 mod ppu;
 mod registers;
 mod start;
 
+pub use dots::{Candidate, Dot, Planes, colour, direct_colour, dot};
 pub use ppu::Ppu;
 pub use registers::{
     Background, CgramPort, ColourMath, Combine, Counters, Display, LayerScreens, LayerWindows,
