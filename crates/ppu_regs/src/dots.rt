@@ -58,39 +58,41 @@ pub fn direct_colour(value: u8, palette: u8) -> u16
     red + 32 * green + 1024 * blue
 }
 
-/// The colour of a candidate.
-#[inline(always)]
-#[tactic(auto, unfolding(crate::specs::Dots::colour_of))]
-pub fn colour(candidate: Candidate, cgram: &[u16; 256]) -> u16
-    requires { candidate.palette < 8 }
-    ensures { result ≡ colour_of cgram.now candidate }
-{
-    if candidate.direct {
-        direct_colour(candidate.number, candidate.palette)
-    } else {
-        cgram[candidate.number as usize]
+impl Candidate {
+    /// Its colour.
+    #[inline(always)]
+    #[tactic(auto, unfolding(crate::specs::Dots::colour_of))]
+    pub fn colour(self, cgram: &[u16; 256]) -> u16
+        requires { self.palette < 8 }
+        ensures { result ≡ colour_of cgram.now self }
+    {
+        if self.direct {
+            direct_colour(self.number, self.palette)
+        } else {
+            cgram[self.number as usize]
+        }
     }
-}
 
-/// The dot of a candidate.
-#[inline(always)]
-#[tactic(auto, unfolding(crate::specs::Dots::dot_of))]
-pub fn dot(candidate: Candidate, cgram: &[u16; 256]) -> Dot
-    requires { candidate.palette < 8 }
-    ensures { result ≡ dot_of cgram.now candidate }
-{
-    if !candidate.on {
-        return Dot {
-            on: false,
-            prio: 0,
-            colour: 0,
-            math: false,
-        };
-    }
-    Dot {
-        on: true,
-        prio: candidate.priority,
-        colour: colour(candidate, cgram),
-        math: candidate.math,
+    /// Its dot.
+    #[inline(always)]
+    #[tactic(auto, unfolding(crate::specs::Dots::dot_of))]
+    pub fn dot(self, cgram: &[u16; 256]) -> Dot
+        requires { self.palette < 8 }
+        ensures { result ≡ dot_of cgram.now self }
+    {
+        if !self.on {
+            return Dot {
+                on: false,
+                prio: 0,
+                colour: 0,
+                math: false,
+            };
+        }
+        Dot {
+            on: true,
+            prio: self.priority,
+            colour: self.colour(cgram),
+            math: self.math,
+        }
     }
 }

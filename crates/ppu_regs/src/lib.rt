@@ -10,7 +10,7 @@ mod ppu;
 mod registers;
 mod start;
 
-pub use dots::{Candidate, Dot, Planes, colour, direct_colour, dot};
+pub use dots::{Candidate, Dot, Planes, direct_colour};
 pub use ppu::Ppu;
 pub use registers::{
     Background, CgramPort, ColourMath, Combine, Counters, Display, LayerScreens, LayerWindows,
