@@ -1,3 +1,4 @@
 pub mod Bits
 pub mod Dots
+pub mod Pages
 pub mod Picture

@@ -4,8 +4,10 @@
 //! `specs/Picture.antt`: all registers by name, and VRAM, CGRAM and OAM as lists.
 #![tactic(auto)]
 
+mod bits;
 mod dots;
 mod layers;
+mod pages;
 mod ppu;
 mod registers;
 mod start;
