@@ -2,3 +2,6 @@ pub mod Bits
 pub mod Dots
 pub mod Pages
 pub mod Picture
+pub mod Ports
+pub mod Reads
+pub mod Writes

@@ -5,12 +5,17 @@
 #![tactic(auto)]
 
 mod bits;
+mod cgram;
 mod dots;
 mod layers;
+mod oam;
 mod pages;
 mod ppu;
+mod reads;
 mod registers;
 mod start;
+mod vram;
+mod writes;
 
 pub use dots::{Candidate, Dot, Planes, direct_colour};
 pub use ppu::Ppu;

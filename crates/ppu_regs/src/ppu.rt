@@ -1,8 +1,13 @@
 ghost use Rattle.std.specs.Prelude.{◌≡◌, ℕ, ◌<◌, ◌≤◌, length, slice_index, All, IfOk};
 ghost use Rattle.ppu_regs.specs.Picture.{IsInRange, picture_start, vram_words, zeros};
+ghost use Rattle.ppu_regs.specs.Writes.{registers_written, oam_written, vram_low_set, vram_high_set, vram_low_put, vram_high_put, colour_put, after_write, word_written, after_over, after_frame, after_blank};
+ghost use Rattle.ppu_regs.specs.Reads.{byte_read, after_read};
+ghost use Rattle.ppu_regs.specs.Ports.{vram_place};
 
-use crate::registers::Registers;
-use snes_defs::NoMemory;
+use crate::reads::part_of_count;
+use crate::registers::{Over, Registers};
+use crate::{cgram, oam, vram};
+use snes_defs::{NoMemory, Spot};
 use std::alloc::Global;
 use std::marker::Model;
 
@@ -83,6 +88,119 @@ impl Ppu {
         ensures { IsInRange self.now }
     {
         let _mode = self.registers.mode;
+    }
+
+    /// A byte is written to the register 2100 plus `reg`. The word of VRAM that this writes, which is so
+    /// exactly at 2118 and 2119.
+    #[inline]
+    #[tactic(auto, unfolding(crate::specs::Writes::after_write, crate::specs::Writes::word_written))]
+    pub fn write(&mut self, reg: u8, v: u8) -> Option<u16>
+        requires { reg < 0x40 }
+        ensures word { result ≡ word_written self.old reg }
+        ensures after { self.new ≡ after_write self.old reg v }
+    {
+        match reg {
+            0x04 => self.write_oam(v),
+            0x16 => self.aim_vram_low(v),
+            0x17 => self.aim_vram_high(v),
+            0x18 => return Some(self.put_vram_low(v)),
+            0x19 => return Some(self.put_vram_high(v)),
+            0x22 => self.put_colour(v),
+            _ => self.write_register(reg, v),
+        }
+        None
+    }
+
+    /// The flags of a row are added.
+    pub fn over(&mut self, row: Over)
+        ensures { self.new ≡ after_over self.old row }
+    {
+        let over = &mut self.registers.over;
+        over.range = over.range || row.range;
+        over.time = over.time || row.time;
+    }
+
+    /// A frame begins: the flags of the objects' limits are cleared.
+    pub fn frame(&mut self)
+        ensures { self.new ≡ after_frame self.old }
+    {
+        self.registers.over = Over {
+            range: false,
+            time: false,
+        };
+    }
+
+    /// Vertical blank begins: the byte address of OAM is loaded anew, unless forced blank is set.
+    pub fn blank(&mut self)
+        ensures { self.new ≡ after_blank self.old }
+    {
+        if self.registers.display.blanked {
+            return;
+        }
+        self.registers.oam.address = 2 * self.registers.oam.word;
+    }
+
+    /// Any register that reaches no memory.
+    fn write_register(&mut self, reg: u8, v: u8)
+        ensures { self.new ≡ (let r = registers_written self.old.registers reg v in record self.old { registers = r }) }
+    {
+        self.registers.write(reg, v);
+    }
+
+    /// 2104 OAMDATA.
+    #[inline(always)]
+    #[tactic(auto, unfolding(crate::specs::Writes::oam_written))]
+    fn write_oam(&mut self, v: u8)
+        ensures { self.new ≡ oam_written self.old v }
+    {
+        oam::put(&mut self.oam, &mut self.registers.oam, v);
+    }
+
+    /// 2116 VMADDL.
+    #[inline(always)]
+    #[tactic(auto, unfolding(crate::specs::Writes::vram_low_set))]
+    fn aim_vram_low(&mut self, v: u8)
+        ensures { self.new ≡ vram_low_set self.old v }
+    {
+        vram::aim_low(self.vram.as_slice(), &mut self.registers.vram, v);
+    }
+
+    /// 2117 VMADDH.
+    #[inline(always)]
+    #[tactic(auto, unfolding(crate::specs::Writes::vram_high_set))]
+    fn aim_vram_high(&mut self, v: u8)
+        ensures { self.new ≡ vram_high_set self.old v }
+    {
+        vram::aim_high(self.vram.as_slice(), &mut self.registers.vram, v);
+    }
+
+    /// 2118 VMDATAL.
+    #[inline(always)]
+    #[tactic(auto, unfolding(crate::specs::Writes::vram_low_put))]
+    fn put_vram_low(&mut self, v: u8) -> u16
+        ensures word { result ≡ vram_place self.old.registers.vram }
+        ensures after { self.new ≡ vram_low_put self.old v }
+    {
+        vram::put_low(self.vram.as_mut_slice(), &mut self.registers.vram, v)
+    }
+
+    /// 2119 VMDATAH.
+    #[inline(always)]
+    #[tactic(auto, unfolding(crate::specs::Writes::vram_high_put))]
+    fn put_vram_high(&mut self, v: u8) -> u16
+        ensures word { result ≡ vram_place self.old.registers.vram }
+        ensures after { self.new ≡ vram_high_put self.old v }
+    {
+        vram::put_high(self.vram.as_mut_slice(), &mut self.registers.vram, v)
+    }
+
+    /// 2122 CGDATA.
+    #[inline(always)]
+    #[tactic(auto, unfolding(crate::specs::Writes::colour_put))]
+    fn put_colour(&mut self, v: u8)
+        ensures { self.new ≡ colour_put self.old v }
+    {
+        cgram::put(&mut self.cgram, &mut self.registers.cgram, v);
     }
 }
 
