@@ -1,8 +1,8 @@
-ghost use Rattle.std.specs.Prelude.{◌≡◌, ℕ, ◌<◌, ◌≤◌, length, slice_index, All, IfOk};
+ghost use Rattle.std.specs.Prelude.{◌≡◌, ℕ, ◌<◌, ◌≤◌, length, slice_index, All, IfOk, not, true, false};
 ghost use Rattle.ppu_regs.specs.Picture.{IsInRange, picture_start, vram_words, zeros};
 ghost use Rattle.ppu_regs.specs.Writes.{registers_written, oam_written, vram_low_set, vram_high_set, vram_low_put, vram_high_put, colour_put, after_write, word_written, after_over, after_frame, after_blank};
-ghost use Rattle.ppu_regs.specs.Reads.{byte_read, after_read};
-ghost use Rattle.ppu_regs.specs.Ports.{vram_place};
+ghost use Rattle.ppu_regs.specs.Reads.{byte_read, after_read, counters_latched, count_byte, status_two};
+ghost use Rattle.ppu_regs.specs.Ports.{vram_place, oam_place, oam_stepped, vram_port_read, cgram_byte, cgram_port_read};
 
 use crate::reads::part_of_count;
 use crate::registers::{Over, Registers};
@@ -111,6 +111,34 @@ impl Ppu {
         None
     }
 
+    /// A byte is read from the register 2100 plus `reg`, where `bus` was the byte last on the data bus.
+    #[inline]
+    #[tactic(auto, unfolding(crate::specs::Reads::byte_read, crate::specs::Reads::registers_read))]
+    pub fn read(&mut self, reg: u8, bus: u8, spot: Spot) -> u8
+        requires { reg < 0x40 }
+        ensures byte { result ≡ byte_read self.old reg bus }
+        ensures after { self.new ≡ after_read self.old reg spot }
+    {
+        match reg {
+            0x34 => (self.registers.rotation.product() % 256) as u8,
+            0x35 => (self.registers.rotation.product() / 256 % 256) as u8,
+            0x36 => (self.registers.rotation.product() / 65536) as u8,
+            0x37 => {
+                self.latch(spot);
+                bus
+            }
+            0x38 => self.take_oam(),
+            0x39 => (self.take_vram(false) % 256) as u8,
+            0x3a => (self.take_vram(true) / 256) as u8,
+            0x3b => self.take_colour(),
+            0x3c => self.take_h(),
+            0x3d => self.take_v(),
+            0x3e => self.registers.over.status(),
+            0x3f => self.take_status(),
+            _ => bus,
+        }
+    }
+
     /// The flags of a row are added.
     pub fn over(&mut self, row: Over)
         ensures { self.new ≡ after_over self.old row }
@@ -201,6 +229,80 @@ impl Ppu {
         ensures { self.new ≡ colour_put self.old v }
     {
         cgram::put(&mut self.cgram, &mut self.registers.cgram, v);
+    }
+
+    /// 2137 SLHV: the place of the beam is kept.
+    #[inline(always)]
+    fn latch(&mut self, spot: Spot)
+        ensures { self.new ≡ (let k = counters_latched self.old.registers.counters spot in record self.old { registers = record self.old.registers { counters = k } }) }
+    {
+        self.registers.counters.latch(spot);
+    }
+
+    /// 2138 OAMDATAREAD.
+    #[inline(always)]
+    fn take_oam(&mut self) -> u8
+        ensures byte { result ≡ slice_index self.old.oam (oam_place self.old.registers.oam.address) }
+        ensures after { self.new ≡ (record self.old { registers = record self.old.registers { oam = oam_stepped self.old.registers.oam } }) }
+    {
+        let byte = self.oam[oam::place(self.registers.oam.address)];
+        oam::step(&mut self.registers.oam);
+        byte
+    }
+
+    /// 2139 RDVRAML or 213A RDVRAMH: the word that was fetched ahead.
+    #[inline(always)]
+    fn take_vram(&mut self, high: bool) -> u16
+        ensures word { result ≡ self.old.registers.vram.fetched }
+        ensures after { self.new ≡ (record self.old { registers = record self.old.registers { vram = vram_port_read self.old.vram self.old.registers.vram high } }) }
+    {
+        let word = self.registers.vram.fetched;
+        vram::fetch_after(self.vram.as_slice(), &mut self.registers.vram, high);
+        word
+    }
+
+    /// 213B RDCGRAM.
+    #[inline(always)]
+    fn take_colour(&mut self) -> u8
+        ensures byte { result ≡ cgram_byte self.old.cgram self.old.registers.cgram }
+        ensures after { self.new ≡ (record self.old { registers = record self.old.registers { cgram = cgram_port_read self.old.registers.cgram } }) }
+    {
+        cgram::take(&self.cgram, &mut self.registers.cgram)
+    }
+
+    /// 213C OPHCT.
+    #[inline(always)]
+    fn take_h(&mut self) -> u8
+        ensures byte { result ≡ count_byte self.old.registers.counters.h self.old.registers.counters.h_high }
+        ensures after { self.new ≡ (record self.old { registers = record self.old.registers { counters = record self.old.registers.counters { h_high = not self.old.registers.counters.h_high } } }) }
+    {
+        let high = self.registers.counters.h_high;
+        self.registers.counters.h_high = !high;
+        part_of_count(self.registers.counters.h, high)
+    }
+
+    /// 213D OPVCT.
+    #[inline(always)]
+    fn take_v(&mut self) -> u8
+        ensures byte { result ≡ count_byte self.old.registers.counters.v self.old.registers.counters.v_high }
+        ensures after { self.new ≡ (record self.old { registers = record self.old.registers { counters = record self.old.registers.counters { v_high = not self.old.registers.counters.v_high } } }) }
+    {
+        let high = self.registers.counters.v_high;
+        self.registers.counters.v_high = !high;
+        part_of_count(self.registers.counters.v, high)
+    }
+
+    /// 213F STAT78: the flag of the counters and their orders go back.
+    #[inline(always)]
+    fn take_status(&mut self) -> u8
+        ensures byte { result ≡ status_two self.old.registers.counters }
+        ensures after { self.new ≡ (record self.old { registers = record self.old.registers { counters = record self.old.registers.counters { latched = false; h_high = false; v_high = false } } }) }
+    {
+        let status = self.registers.counters.status();
+        self.registers.counters.latched = false;
+        self.registers.counters.h_high = false;
+        self.registers.counters.v_high = false;
+        status
     }
 }
 
