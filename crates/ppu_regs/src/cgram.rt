@@ -1,4 +1,4 @@
-ghost use Rattle.std.specs.Prelude.{◌≡◌, ℕ, ◌<◌, slice_index};
+ghost use Rattle.std.specs.Prelude.{◌≡◌, ℕ, ◌<◌, slice_index, length};
 ghost use Rattle.ppu_regs.specs.Ports.{cgram_written, cgram_port_written, cgram_byte, cgram_port_read};
 
 use crate::registers::CgramPort;
@@ -11,6 +11,7 @@ pub fn put(cgram: &mut [u16; 256], port: &mut CgramPort, v: u8)
     ensures colours { cgram.new ≡ cgram_written cgram.old port.old v }
     ensures port { port.new ≡ cgram_port_written port.old v }
     ensures small { (k : ℕ) → slice_index cgram.new k < 32768 }
+    ensures size { length cgram.new ≡ length cgram.old }
 {
     if !port.high {
         port.kept = v;

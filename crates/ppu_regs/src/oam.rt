@@ -1,4 +1,4 @@
-ghost use Rattle.std.specs.Prelude.{◌≡◌, ◌<◌};
+ghost use Rattle.std.specs.Prelude.{◌≡◌, ◌<◌, length};
 ghost use Rattle.ppu_regs.specs.Ports.{oam_place, oam_stepped, oam_bytes_written, oam_port_written};
 
 use crate::registers::OamPort;
@@ -33,6 +33,7 @@ pub fn put(oam: &mut [u8; 544], port: &mut OamPort, v: u8)
     requires { port.old.address < 1024 }
     ensures bytes { oam.new ≡ oam_bytes_written oam.old port.old v }
     ensures port { port.new ≡ oam_port_written port.old v }
+    ensures size { length oam.new ≡ length oam.old }
     ensures address { port.new.address < 1024 }
     ensures word { port.new.word ≡ port.old.word }
 {

@@ -1,0 +1,2 @@
+pub mod Backgrounds
+pub mod Modes
