@@ -6,6 +6,7 @@ use Rattle.ppu_regs.specs.declared.registers.Registers.{Registers}
 use Rattle.ppu_regs.specs.declared.registers.Background.{Background}
 use Rattle.ppu_regs.specs.declared.dots.Candidate.{Candidate}
 use Rattle.ppu_regs.specs.Picture.{Picture, background_of}
+use Rattle.ppu_tiles.specs.declared.scrolls.Scroll.{Scroll}
 use Rattle.tile_cache.specs.Planes.{value_of}
 use Rattle.ppu_tiles.specs.Modes.{depth_of, is_hires, has_offsets, tile_width, tile_height}
 
@@ -28,10 +29,7 @@ unfoldable pub entry_at : Picture → Background → ℕ → ℕ → ℕ
 entry_at p b px py =
     slice_index p.vram (map_word b (px / tile_width p.registers.mode b) (py / tile_height b))
 
--- scrolls of a layer at one place: ten bits across and down
-pub record Scroll : Type 0 where
-  pub across : ℕ
-  pub down : ℕ
+-- The scrolls of a layer at one place are ten bits across and down.
 
 -- those of its registers
 unfoldable pub own_scroll : Background → Scroll
@@ -65,11 +63,15 @@ one_offset layer own entry =
     then (if entry / 32768 == 1 then (record own { down = entry % 1024 }) else (record own { across = across_by own entry }))
     else own
 
--- the scrolls of a layer at the pixel x of a row, after mosaic; the column at the left edge has its own
-unfoldable pub scroll_at : Picture → ℕ → ℕ → Scroll
-scroll_at p layer x =
+-- the column of tiles in which pixel x of a row lies: a column begins where the scroll across, of which only
+-- the low three bits count, begins a tile
+abbrev pub column_of : Background → ℕ → ℕ
+column_of b x = (x + b.scroll_x % 8) / 8
+
+-- the scrolls of a layer in a column; the one at the left edge has the layer's own
+unfoldable pub column_scroll : Picture → ℕ → ℕ → Scroll
+column_scroll p layer c =
     let own = own_scroll (background_of p.registers layer) in
-    let c = (x + own.across % 8) / 8 in
     if not (has_offsets p.registers.mode) || (c == 0) then own
     else if p.registers.mode == 4 then one_offset layer own (offset_entry p c 0)
     else two_offsets layer own (offset_entry p c 0) (offset_entry p c 8)
@@ -117,15 +119,21 @@ candidate_of r layer entry value =
       math = true;
     }
 
--- the candidate of a layer at dot e, 0 to 511, of a row. Pixel x is dots 2x and 2x + 1; in modes 5 and 6
--- dot e is a pixel of its own, of the mosaic block of its pair.
+-- the candidate of a layer at pixel x of row y, both after mosaic; `odd` is the dot of the pixel's pair, which
+-- counts in modes 5 and 6, where each dot is a pixel of the map
+unfoldable pub candidate_at : Picture → ℕ → ℕ → ℕ → ℕ → Candidate
+candidate_at p layer y x odd =
+    let r = p.registers in
+    let b = background_of r layer in
+    let s = column_scroll p layer (column_of b x) in
+    let px = if is_hires r.mode then 2 * (x + s.across) + odd else x + s.across in
+    let py = y + 1 + s.down in
+    let entry = entry_at p b px py in
+    candidate_of r layer entry (pixel_at p b (depth_of r.mode layer) entry px py)
+
+-- the candidate of a layer at dot e, 0 to 511, of a row; pixel x is the dots 2x and 2x + 1
 unfoldable pub background_candidate : Picture → ℕ → ℕ → ℕ → Candidate
 background_candidate p layer row e =
     let r = p.registers in
     let b = background_of r layer in
-    let x = block_start r b (e / 2) in
-    let s = scroll_at p layer x in
-    let px = if is_hires r.mode then 2 * (x + s.across) + e % 2 else x + s.across in
-    let py = block_start r b row + 1 + s.down in
-    let entry = entry_at p b px py in
-    candidate_of r layer entry (pixel_at p b (depth_of r.mode layer) entry px py)
+    candidate_at p layer (block_start r b row) (block_start r b (e / 2)) (e % 2)

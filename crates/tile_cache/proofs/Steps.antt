@@ -36,7 +36,7 @@ pub line_in_step :
 unfolding cached_value value_of
 line_in_step cache vram word depth within step =
     eight_ext (λ k. cached_value cache word depth k) (λ k. value_of vram word depth k)
-    (λ k small. planes_ext (λ w j. cached cache w j) (λ w j. pixel_of (slice_index vram w)  j) word depth k within small (λ w h. step.at w h k small))
+    (λ k small. planes_ext (λ w j. cached cache w j) (λ w j. pixel_of (slice_index vram w) j) word depth k within small (λ w h. step.at w h k small))
 
 -- a list of zeros has 0 everywhere
 zero_at : (xs : List ℕ) (i : ℕ) → All (λ b. b ≡ 0) xs → slice_index xs i ≡ 0
@@ -55,7 +55,7 @@ pixel_of_zero k = simp zero-div
 pub zeros_in_step : (cache : List ℕ) → All (λ b. b ≡ 0) cache → IsInStep cache picture_start.vram
 zeros_in_step cache all = record {
   at = λ word within k small.
-    zero_at cache (8 * word + k) all ∙ sym (ap (λ w. pixel_of w k) (zero_of_zeros vram_words word) ∙ pixel_of_zero k);
+      zero_at cache (8 * word + k) all ∙ sym (ap (λ w. pixel_of w k) (zero_of_zeros vram_words word) ∙ pixel_of_zero k);
 }
 
 pub small_zeros : (cache : List ℕ) → All (λ b. b ≡ 0) cache → (k : ℕ) → slice_index cache k < 4
@@ -68,15 +68,15 @@ pub small_after :
     ((k : ℕ) → at + 8 ≤ k → slice_index new k ≡ slice_index old k) → (k : ℕ) → slice_index new k < 4
 small_after new old line at hold hline put below above k =
     elim (cases_lt k at) [
-      inl h ↦ (let e = below k h in let f = hold k in omega (arith, e, f))
+      | inl h ↦ (let e = below k h in let f = hold k in omega (arith, e, f))
       | inr h ↦ elim (cases_lt k (at + 8)) [
-        inl g ↦ (
-          let j : at + (k - at) ≡ k = omega arith in
-          let e = put (k - at) (omega arith) in
-          let f = hline (k - at) in
-          let s = ap (λ n. slice_index new n) j in
-          omega (arith, e, f, s)
-        )
+        | inl g ↦ (
+            let j : at + (k - at) ≡ k = omega arith in
+            let e = put (k - at) (omega arith) in
+            let f = hline (k - at) in
+            let s = ap (λ n. slice_index new n) j in
+            omega (arith, e, f, s)
+            )
         | inr g ↦ (let e = above k g in let f = hold k in omega (arith, e, f))
       ]
     ]

@@ -31,7 +31,7 @@ impl Model for TileCache {
 
 impl TileCache {
     /// The cache of a VRAM of zeros, as it is in a new unit. Refused only for want of memory.
-    #[tactic(auto, using(crate::proofs::Steps::zeros_in_step))]
+    #[tactic(auto, using(crate::proofs::Steps::zeros_in_step, crate::proofs::Steps::small_zeros))]
     pub fn new(alloc: Global) -> Result<TileCache, NoMemory>
         ensures start { IfOk result (λ t. IsInStep t picture_start.vram) }
     {
@@ -150,7 +150,16 @@ impl TileCache {
         ensures cached { result ≡ eight (λ k. cached_value self.now word depth k) }
         ensures decoded { (vram : List ℕ) → IsInStep self.now vram → result ≡ eight (λ k. value_of vram word depth k) }
     {
-        let word = word as usize;
+        self.cached_line(word as usize, depth)
+    }
+
+    /// That line, as the cache has it.
+    #[inline(always)]
+    fn cached_line(&self, word: usize, depth: u8) -> [u8; 8]
+        requires word { word < 32768 }
+        requires depth { IsTrue ((depth == 2) || (depth == 4) || (depth == 8)) }
+        ensures { result ≡ eight (λ k. cached_value self.now word depth k) }
+    {
         match depth {
             2 => self.line_of_two(word),
             4 => self.line_of_four(word),
