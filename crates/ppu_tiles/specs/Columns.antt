@@ -1,6 +1,6 @@
 -- How a row of a background is cut into columns of one tile: column c is the pixels x whose place from the
 -- scroll's low three bits on, x + scroll % 8, is 8c to 8c + 7. A column has one scroll and one map entry.
-use Rattle.std.specs.Prelude.{ℕ, Bool, ◌+◌, ◌-◌, ◌*◌, ◌/◌, ◌%◌, ◌==◌, ◌||◌, if◌then◌else◌}
+use Rattle.std.specs.Prelude.{ℕ, Bool, true, not, ◌+◌, ◌-◌, ◌*◌, ◌/◌, ◌%◌, ◌==◌, ◌||◌, if◌then◌else◌}
 use Rattle.ppu_regs.specs.declared.registers.Registers.{Registers}
 use Rattle.ppu_regs.specs.declared.registers.Background.{Background}
 use Rattle.ppu_regs.specs.declared.dots.Candidate.{Candidate}
@@ -39,3 +39,14 @@ column_rank p layer y odd low high c j =
 
 unfoldable pub column_number : Picture → ℕ → ℕ → ℕ → ℕ → ℕ → ℕ
 column_number p layer y odd c j = (column_candidate p layer y odd c j).number
+
+-- the candidate that two bytes of a row stand for, where the byte of priority 1 is 32 and that of 0 is 16
+unfoldable pub planes_candidate : ℕ → ℕ → Bool → Candidate
+planes_candidate rank number direct = record {
+  on = not (rank == 0);
+  priority = rank / 32;
+  number = number;
+  direct = direct;
+  palette = rank % 8;
+  math = true;
+}

@@ -196,7 +196,7 @@ fn base(entry: u16, low: u8, high: u8, palette: u8) -> u8
 
 /// The dots of column `c` of a layer in row `y`, which is that after mosaic.
 #[inline(always)]
-pub fn column(
+pub fn column_dots(
     p: &Ppu,
     tiles: &TileCache,
     layer: u8,

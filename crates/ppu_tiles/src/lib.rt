@@ -7,10 +7,12 @@
 #![tactic(auto)]
 
 mod columns;
+mod dots;
 mod entries;
 mod modes;
 mod rows;
 mod scrolls;
 
+pub use dots::bg_row;
 pub use modes::depth;
-pub use rows::{bg_row, ink_row};
+pub use rows::ink_row;

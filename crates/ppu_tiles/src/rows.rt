@@ -6,7 +6,7 @@ ghost use Rattle.ppu_tiles.specs.Modes.{depth_of};
 ghost use Rattle.ppu_tiles.specs.Backgrounds.{background_candidate};
 ghost use Rattle.ppu_tiles.specs.Columns.{base_of, column_rank, column_number};
 
-use crate::columns::column;
+use crate::columns::column_dots;
 use crate::entries::block;
 use ppu_regs::Ppu;
 use tile_cache::TileCache;
@@ -47,7 +47,7 @@ fn paint(
     ensures numbers { (k : ℕ) → k < 264 → slice_index numbers.new k ≡ column_number p.now layer y (bit_of odd) (k / 8) (k % 8) }
 {
     for c in 0..33usize {
-        let eight = column(p, tiles, layer, y, odd, c as u16, low, high);
+        let eight = column_dots(p, tiles, layer, y, odd, c as u16, low, high);
         put_eight(ranks, 8 * c, eight.ranks);
         put_eight(numbers, 8 * c, eight.numbers);
     }
