@@ -225,3 +225,25 @@ candidate_is p layer row x odd ho =
 pub block_before : (r : Registers) (b : Background) (x : ℕ) → block_start r b x ≤ x
 unfolding block_start
 block_before r b x = grind arith
+
+-- the two bytes of a dot, from a painted row that begins at the scroll's low three bits
+pub row_rank :
+    (p : Picture) (layer y odd low high x from : ℕ) (values bases : List ℕ) → odd < 2 →
+    from ≡ (background_of p.registers layer).scroll_x % 8 →
+    slice_index values (x + from) ≡ column_value p layer y odd ((x + from) / 8) ((x + from) % 8) →
+    slice_index bases (x + from) ≡ column_base p layer y low high ((x + from) / 8) →
+    (let c = candidate_at p layer y x odd in
+    (if slice_index values (x + from) == 0 then 0 else slice_index bases (x + from)) ≡ rank_of (base_of low high c) c)
+row_rank p layer y odd low high x from values bases ho hf hv hb = rw (hv, hb) (rw hf (column_rank p layer y x odd low high ho))
+
+pub row_number :
+    (p : Picture) (layer y odd x from : ℕ) (values firsts : List ℕ) → odd < 2 → layer ≤ 4 →
+    from ≡ (background_of p.registers layer).scroll_x % 8 →
+    slice_index values (x + from) ≡ column_value p layer y odd ((x + from) / 8) ((x + from) % 8) →
+    slice_index firsts (x + from) ≡ column_first p layer y ((x + from) / 8) →
+    (slice_index firsts (x + from) + slice_index values (x + from)) % 256 ≡ (candidate_at p layer y x odd).number
+row_number p layer y odd x from values firsts ho hl hf hv hb = rw (hv, hb) (rw hf (column_number p layer y x odd ho hl))
+
+pub odd_small : (odd : Bool) → (if odd then 1 else 0) < 2
+odd_small true = omega arith
+odd_small false = omega arith

@@ -4,7 +4,7 @@ ghost use Rattle.tile_cache.specs.Planes.{cached_value, IsInStep};
 ghost use Rattle.ppu_regs.specs.Picture.{background_of};
 ghost use Rattle.ppu_tiles.specs.Modes.{depth_of, is_hires};
 ghost use Rattle.ppu_tiles.specs.Backgrounds.{entry_at, pixel_at, number_of, tile_of, line_word};
-ghost use Rattle.ppu_tiles.specs.Columns.{IsDepth, column_place, half_word, wide_value, column_value, column_base, column_first};
+ghost use Rattle.ppu_tiles.specs.Columns.{IsDepth, column_start, column_place, half_word, wide_value, column_value, column_base, column_first};
 
 use crate::entries::{entry, line_place, tile, turn};
 use crate::modes::{depth, height, hires, width};
@@ -57,6 +57,7 @@ fn put_eight(tiles: &TileCache, row: &mut [u8; 264], at: usize, word: usize, dep
 
 /// The line of one half of a tile at row `py` of the map: the word of VRAM where it begins.
 #[inline(always)]
+#[tactic(auto, unfolding(crate::specs::Columns::half_word))]
 fn half_place(b: &Background, depth: u8, entry: u16, x: u16, py: u16) -> usize
     requires depth { depth ≤ 8 }
     requires x { x < 16 }
@@ -69,6 +70,7 @@ fn half_place(b: &Background, depth: u8, entry: u16, x: u16, py: u16) -> usize
 
 /// Puts every second of the sixteen pixels of a tile, from the first or the second.
 #[inline(always)]
+#[tactic(auto, unfolding(crate::specs::Columns::wide_value))]
 fn put_wide(
     tiles: &TileCache,
     row: &mut [u8; 264],
@@ -94,6 +96,7 @@ fn put_wide(
 
 /// Puts the eight pixels of a map entry in a column of which `m` is the place in the map, in eights of pixels.
 #[inline(always)]
+#[tactic(auto, using(crate::proofs::ColumnSteps::line_value, crate::proofs::ColumnSteps::wide_value_is))]
 fn put_values(
     p: &Ppu,
     tiles: &TileCache,
@@ -128,6 +131,15 @@ fn put_values(
             flip,
         );
     }
+}
+
+/// The first pixel of the map in a column of which `m` is the place there, in eights of pixels.
+#[inline(always)]
+fn start(mode: u8, m: u16) -> u16
+    requires { m ≤ 160 }
+    ensures { result ≡ column_start mode m }
+{
+    if hires(mode) { 16 * m } else { 8 * m }
 }
 
 /// Puts a byte eight times.
@@ -193,6 +205,7 @@ fn base(entry: u16, low: u8, high: u8, palette: u8) -> u8
 /// Puts column `c` of a layer in row `y`, which is that after mosaic: its values, and what they are counted
 /// from in both planes.
 #[inline(always)]
+#[tactic(auto, unfolding(crate::specs::Columns::column_value, crate::specs::Columns::column_base, crate::specs::Columns::column_first))]
 pub fn put_column(
     p: &Ppu,
     tiles: &TileCache,
@@ -227,8 +240,7 @@ pub fn put_column(
     let s = in_column(p, layer, c as u16);
     let m = c as u16 + s.across / 8;
     let py = y + 1 + s.down;
-    let px = if hires(r.mode) { 16 * m } else { 8 * m };
-    let entry = entry(p, b, px, py);
+    let entry = entry(p, b, start(r.mode, m), py);
     let palette = (entry / 1024 % 8) as u8;
     put_same(
         bases,

@@ -70,6 +70,18 @@ fn ink(
     }
 }
 
+/// The place in a block of the dot after one.
+#[inline(always)]
+#[tactic(auto, using(crate::proofs::Blocks::mod_next))]
+fn next_place(place: usize, size: usize) -> usize
+    requires positive { 1 ≤ size }
+    requires small { size ≤ 16 }
+    requires within { place < size }
+    ensures { (x : ℕ) → place ≡ x % size → result ≡ (x + 1) % size }
+{
+    if place + 1 == size { 0 } else { place + 1 }
+}
+
 /// Each byte becomes that of the first dot of its block of `size` dots.
 #[inline(always)]
 fn spread(row: &mut [u8; 256], size: usize)
@@ -80,7 +92,7 @@ fn spread(row: &mut [u8; 256], size: usize)
     let mut place = 0;
     for x in 0..256 {
         row[x] = row[x - place];
-        place = if place + 1 == size { 0 } else { place + 1 };
+        place = next_place(place, size);
     }
 }
 
