@@ -7,7 +7,7 @@ ghost use Rattle.ppu_tiles.specs.Backgrounds.{entry_at, pixel_at, number_of, til
 ghost use Rattle.ppu_tiles.specs.Columns.{IsDepth, column_start, column_place, half_word, wide_value, column_value, column_base, column_first};
 
 use crate::entries::{entry, line_place, tile, turn};
-use crate::modes::{depth, height, hires, width};
+use crate::modes::{height, hires, width};
 use crate::scrolls::in_column;
 use ppu_regs::{Background, Ppu, Registers};
 use tile_cache::TileCache;
@@ -209,6 +209,8 @@ fn base(entry: u16, low: u8, high: u8, palette: u8) -> u8
 pub fn put_column(
     p: &Ppu,
     tiles: &TileCache,
+    b: &Background,
+    bits: u8,
     layer: u8,
     y: u16,
     odd: bool,
@@ -221,7 +223,9 @@ pub fn put_column(
 )
     requires first { 1 ≤ layer }
     requires last { layer ≤ 4 }
-    requires depth { IsDepth (depth_of p.now.registers.mode layer) }
+    requires background { b.now ≡ background_of p.now.registers layer }
+    requires bits { bits ≡ depth_of p.now.registers.mode layer }
+    requires depth { IsDepth bits }
     requires step { IsInStep tiles.now p.now.vram }
     requires c { c ≤ 32 }
     requires y { y ≤ 239 }
@@ -235,8 +239,6 @@ pub fn put_column(
     ensures firsts_below { (k : ℕ) → k < 8 * c → slice_index firsts.new k ≡ slice_index firsts.old k }
 {
     let r = p.registers();
-    let b = r.background(layer);
-    let bits = depth(r.mode, layer);
     let s = in_column(p, layer, c as u16);
     let m = c as u16 + s.across / 8;
     let py = y + 1 + s.down;

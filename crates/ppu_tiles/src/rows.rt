@@ -8,6 +8,7 @@ ghost use Rattle.ppu_tiles.specs.Columns.{IsDepth, base_of, column_value, column
 
 use crate::columns::put_column;
 use crate::entries::block;
+use crate::modes::depth;
 use ppu_regs::{Background, Ppu, Registers};
 use tile_cache::TileCache;
 
@@ -36,8 +37,13 @@ fn paint(
     ensures bases { (k : ℕ) → k < 264 → slice_index bases.new k ≡ column_base p.now layer y low high (k / 8) }
     ensures firsts { (k : ℕ) → k < 264 → slice_index firsts.new k ≡ column_first p.now layer y (k / 8) }
 {
+    let r = p.registers();
+    let b = r.background(layer);
+    let bits = depth(r.mode, layer);
     for c in 0..33usize {
-        put_column(p, tiles, layer, y, odd, c, low, high, values, bases, firsts);
+        put_column(
+            p, tiles, b, bits, layer, y, odd, c, low, high, values, bases, firsts,
+        );
     }
 }
 
