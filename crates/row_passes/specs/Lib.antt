@@ -1,0 +1,4 @@
+pub mod Rows
+pub mod Windows
+pub mod Inks
+pub mod Colours

@@ -1,0 +1,57 @@
+//! Inks: what stands in front at each pixel of a row.
+
+ghost use Rattle.std.specs.Prelude.{◌≡◌, ℕ, ◌+◌, ◌*◌, ◌<◌, slice_index, if◌then◌else◌};
+ghost use Rattle.row_passes.specs.Inks.{Ink, seen_key, chosen, nearest, seen};
+
+#[inline(always)]
+#[tactic(auto, unfolding(crate::specs::Inks::seen_key))]
+fn key_behind(hidden: u8, key: u8) -> u8
+    ensures { result ≡ seen_key hidden key }
+{
+    if hidden == 0 { key } else { 0 }
+}
+
+#[inline(always)]
+#[tactic(auto, unfolding(crate::specs::Inks::is_nearer))]
+fn second_is_nearer(first: u8, second: u8) -> bool
+    ensures { result ≡ Rattle.row_passes.specs.Inks.is_nearer first second }
+{
+    first / 16 < second / 16
+}
+
+#[inline(always)]
+#[tactic(auto, unfolding(crate::specs::Inks::chosen))]
+fn choose(which: bool, taken: u8, other: u8) -> u8
+    ensures { result ≡ chosen which taken other }
+{
+    if which { taken } else { other }
+}
+
+/// Lays a layer's inks over those of a screen: at each pixel the nearer to the front stays, the screen's where
+/// both stand alike, and the layer has none where `hidden` isn't 0.
+#[tactic(auto, unfolding(crate::specs::Inks::nearest, crate::specs::Inks::seen))]
+pub fn lay(
+    keys: &[u8; 256],
+    numbers: &[u8; 256],
+    hidden: &[u8; 256],
+    front_keys: &mut [u8; 256],
+    front_numbers: &mut [u8; 256],
+)
+    ensures keys {
+        (x : ℕ) → x < 256 → slice_index front_keys.new x ≡
+          (nearest (record { key = slice_index front_keys.old x; number = slice_index front_numbers.old x })
+            (seen (slice_index hidden.now x) (record { key = slice_index keys.now x; number = slice_index numbers.now x }))).key
+    }
+    ensures numbers {
+        (x : ℕ) → x < 256 → slice_index front_numbers.new x ≡
+          (nearest (record { key = slice_index front_keys.old x; number = slice_index front_numbers.old x })
+            (seen (slice_index hidden.now x) (record { key = slice_index keys.now x; number = slice_index numbers.now x }))).number
+    }
+{
+    for x in 0..256usize {
+        let key = key_behind(hidden[x], keys[x]);
+        let nearer = second_is_nearer(front_keys[x], key);
+        front_keys[x] = choose(nearer, key, front_keys[x]);
+        front_numbers[x] = choose(nearer, numbers[x], front_numbers[x]);
+    }
+}
