@@ -1,4 +1,2 @@
-pub mod Rows
-pub mod Windows
 pub mod Inks
 pub mod Colours

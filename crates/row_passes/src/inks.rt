@@ -1,7 +1,7 @@
 //! Inks: what stands in front at each pixel of a row.
 
 ghost use Rattle.std.specs.Prelude.{◌≡◌, ℕ, ◌+◌, ◌*◌, ◌<◌, slice_index, if◌then◌else◌};
-ghost use Rattle.row_passes.specs.Inks.{Ink, seen_key, chosen, nearest, seen};
+ghost use Rattle.row_passes.specs.Inks.{Ink, seen_key, chosen, nearest, seen, is_found};
 
 #[inline(always)]
 #[tactic(auto, unfolding(crate::specs::Inks::seen_key))]
@@ -53,5 +53,23 @@ pub fn lay(
         let nearer = second_is_nearer(front_keys[x], key);
         front_keys[x] = choose(nearer, key, front_keys[x]);
         front_numbers[x] = choose(nearer, numbers[x], front_numbers[x]);
+    }
+}
+
+/// Whether an ink with this key stands on the screen at all.
+#[inline(always)]
+#[tactic(auto, unfolding(crate::specs::Inks::is_found))]
+pub fn is_found_key(key: u8) -> bool
+    ensures { result ≡ is_found key }
+{
+    key / 16 > 0
+}
+
+/// Writes one value into each place of a row.
+pub fn fill_row(value: u8, out: &mut [u8; 256])
+    ensures { (x : ℕ) → x < 256 → slice_index out.new x ≡ value }
+{
+    for x in 0..256usize {
+        out[x] = value;
     }
 }
