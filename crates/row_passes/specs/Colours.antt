@@ -1,6 +1,6 @@
 -- Colours of 15 bits (0bbbbbgg gggrrrrr), colour arithmetic and brightness (nocash fullsnes, "SNES PPU Color-Math").
 use Rattle.std.specs.Prelude.{ℕ, ◌+◌, ◌-◌, ◌*◌, ◌/◌, ◌%◌, ◌==◌, Bool, true, false, not, ◌&&◌, ◌||◌, List, slice_index, min, if◌then◌else◌}
-use Rattle.row_passes.specs.Inks.{rank_of, tint_of}
+use Rattle.row_passes.specs.Inks.{rank_of, tint_of, is_found}
 
 -- red, green and blue, five bits each
 abbrev pub red_of : ℕ → ℕ
@@ -43,8 +43,9 @@ unfoldable pub direct_colour : ℕ → ℕ → ℕ
 direct_colour byte tint =
     colour_of (byte % 8 * 4 + tint % 2 * 2) (byte / 8 % 8 * 4 + tint / 2 % 2 * 2) (byte / 64 % 4 * 8 + tint / 4 % 2 * 4)
 
--- The colour of an ink, by CGRAM; direct where it has one of the two ranks of a layer with direct colours.
+-- The colour of an ink, by CGRAM; direct where it has one of the two ranks of a layer with direct
+-- colours.
 unfoldable pub ink_colour : List ℕ → Bool → ℕ → ℕ → ℕ → ℕ → ℕ
 ink_colour cgram is_direct low high key number =
-    if is_direct && ((rank_of key == low) || (rank_of key == high)) then direct_colour number (tint_of key)
+    if is_direct && (is_found key && ((rank_of key == low) || (rank_of key == high))) then direct_colour number (tint_of key)
     else slice_index cgram number

@@ -3,6 +3,8 @@
 ghost use Rattle.std.specs.Prelude.{◌≡◌, ℕ, ◌+◌, ◌*◌, ◌/◌, ◌%◌, ◌<◌, ◌^◌, Bool, true, false, not, ◌&&◌, ◌||◌, ◌==◌, length, slice_index, if◌then◌else◌};
 ghost use Rattle.row_passes.specs.Colours.{component_with, colour_with, dimmed, direct_colour, ink_colour};
 
+use crate::inks::is_found_key;
+
 #[inline(always)]
 #[tactic(auto, unfolding(crate::specs::Colours::component_with))]
 fn component(subtracts: bool, halves: bool, one: u16, two: u16) -> u16
@@ -52,7 +54,7 @@ fn colour_at(cgram: &[u16], is_direct: bool, low: u8, high: u8, key: u8, number:
     requires { length cgram.now ≡ 256 }
     ensures { result ≡ ink_colour cgram.now is_direct low high key number }
 {
-    if is_direct && (key / 16 == low || key / 16 == high) {
+    if is_direct && is_found_key(key) && (key / 16 == low || key / 16 == high) {
         direct(number, key % 8)
     } else {
         cgram[number as usize]
