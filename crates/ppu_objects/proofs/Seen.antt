@@ -36,4 +36,3 @@ pub object_candidate_is : (p : Picture) (row x : ℕ) → IsOfObjects (object_ca
 unfolding object_candidate
 object_candidate_is p row x = all_are p row x nothing (drawn_pieces p row) nothing_is
 
-pub ruleset seen = object_candidate_is

@@ -101,8 +101,16 @@ fn dot_at(cgram: &[u16; 256], rank: u8, number: u8) -> Dot
     }
 }
 
+#[inline(always)]
+fn dot_in_row(p: &Ppu, row: u16, x: usize, rank: u8, number: u8) -> Dot
+    requires rank { rank ≡ object_rank row_bases true (object_candidate p.now row x) }
+    requires number { number ≡ (object_candidate p.now row x).number }
+    ensures { result ≡ dot_of p.now.cgram (object_candidate p.now row x) }
+{
+    dot_at(p.cgram(), rank, number)
+}
+
 /// Writes the dots of the objects of a row, and answers which limits were passed.
-#[tactic(auto, using(crate::proofs::Seen::seen))]
 pub fn obj_row(p: &Ppu, row: u16, out: &mut [Dot]) -> Over
     requires row { row < 239 }
     requires room { length out.old ≡ 256 }
@@ -116,7 +124,7 @@ pub fn obj_row(p: &Ppu, row: u16, out: &mut [Dot]) -> Over
     };
     let over = obj_planes(p, row, &[16, 32, 48, 64], true, &mut planes);
     for x in 0..256usize {
-        out[x] = dot_at(p.cgram(), planes.ranks[x], planes.numbers[x]);
+        out[x] = dot_in_row(p, row, x, planes.ranks[x], planes.numbers[x]);
     }
     over
 }

@@ -31,6 +31,7 @@ pub fn start(p: &Ppu, main: &mut Planes, sub: &mut Planes)
 
 /// The mask of the pixels at which a layer isn't seen.
 #[inline(always)]
+#[tactic(auto, unfolding(color_window::specs::Windows::mask_of))]
 fn hidden_row(p: &Ppu, layer: u8, masked: bool, out: &mut [u8; 256])
     requires first { 1 ≤ layer }
     requires last { layer ≤ 5 }
