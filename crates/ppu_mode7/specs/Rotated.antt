@@ -107,7 +107,7 @@ rotated_value p layer row x =
 unfoldable pub candidate_of : Bool → ℕ → ℕ → Candidate
 candidate_of is_direct layer value =
     if layer == 2
-    then (record { on = not (value % 128 == 0); priority = value / 128; number = value % 128; direct = false; palette = 0; math = true })
+    then (record { on = not (value % 128 == 0); priority = value / 128 % 2; number = value % 128; direct = false; palette = 0; math = true })
     else (record { on = not (value == 0); priority = 0; number = value; direct = is_direct; palette = 0; math = true })
 
 -- what a layer of mode 7 has at the pixel x of a row

@@ -61,7 +61,7 @@ fn candidate(is_direct: bool, layer: u8, value: u8) -> Candidate
     if layer == 2 {
         Candidate {
             on: value % 128 != 0,
-            priority: value / 128,
+            priority: value / 128 % 2,
             number: value % 128,
             direct: false,
             palette: 0,
@@ -109,9 +109,9 @@ pub fn m7_row(p: &Ppu, layer: u8, row: u16, out: &mut [Dot])
 #[tactic(auto, unfolding(ppu_regs::specs::Dots::rank_of))]
 fn rank_byte(c: &Candidate, low: u8, high: u8) -> u8
     requires { c.now.palette ≡ 0 }
-    ensures { result ≡ rank_of (if c.now.priority == 0 then low else high) c.now }
+    ensures { result ≡ rank_of (if c.now.priority == 1 then high else low) c.now }
 {
-    let base = if c.priority == 0 { low } else { high };
+    let base = if c.priority == 1 { high } else { low };
     if c.on { base } else { 0 }
 }
 
@@ -120,7 +120,7 @@ pub fn m7_planes(p: &Ppu, layer: u8, row: u16, low: u8, high: u8, out: &mut Plan
     requires { row < 239 }
     ensures ranks {
         (x : ℕ) → x < 256 → slice_index out.new.ranks x ≡
-          rank_of (if (rotated_candidate p.now layer row x).priority == 0 then low else high) (rotated_candidate p.now layer row x)
+          rank_of (if (rotated_candidate p.now layer row x).priority == 1 then high else low) (rotated_candidate p.now layer row x)
     }
     ensures numbers { (x : ℕ) → x < 256 → slice_index out.new.numbers x ≡ (rotated_candidate p.now layer row x).number }
 {

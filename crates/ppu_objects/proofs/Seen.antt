@@ -8,11 +8,11 @@ use Rattle.ppu_objects.specs.Pieces.{nothing, object_dot, piece_candidate, paint
 use Rattle.ppu_objects.specs.Ranks.{IsOfObjects}
 
 nothing_is : IsOfObjects nothing
-nothing_is = record { priority = lit< tt; direct = refl }
+nothing_is = record { priority = lit< tt; direct = refl; palette = refl }
 
 object_dot_is : (o : Object) (value : ℕ) → IsOfObjects (object_dot o value)
 unfolding object_dot
-object_dot_is o value = record { priority = omega arith; direct = refl }
+object_dot_is o value = record { priority = omega arith; direct = refl; palette = refl }
 
 either_is : (b : Bool) (c d : Candidate) → IsOfObjects c → IsOfObjects d → IsOfObjects (if b then c else d)
 either_is true c d hc hd = hc

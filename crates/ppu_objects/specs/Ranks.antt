@@ -14,7 +14,8 @@ object_rank bases named c = if c.on then rank_byte bases named c.priority c.math
 abbrev pub row_bases : List ℕ
 row_bases = 16 ∷ 32 ∷ 48 ∷ 64 ∷ []
 
--- what an object can have at a pixel: one of four priorities, and no direct colour
+-- what an object can have at a pixel: one of four priorities, and no direct colour nor its palette
 pub record IsOfObjects (c : Candidate) : Type 0 where
   pub priority : c.priority < 4
   pub direct : c.direct ≡ false
+  pub palette : c.palette ≡ 0
