@@ -37,19 +37,22 @@ length-vram = length-replicate {A = ℕ} vram_words 0
 -- the unit at the start is in range
 start_is_in_range : IsInRange picture_start
 start_is_in_range = record {
+  registers = record {
+    mode = omega arith;
+    mosaic = omega arith;
+    brightness = omega arith;
+    size_code = omega arith;
+    gap = omega arith;
+    first_object = omega arith;
+    oam_address = omega arith;
+    red = omega arith;
+    green = omega arith;
+    blue = omega arith;
+  };
   vram_size = length-vram;
   cgram_size = length-zeros 256;
   oam_size = length-zeros 544;
   colours = zeros_are_colours 256;
-  mode = omega arith;
-  mosaic = omega arith;
-  brightness = omega arith;
-  size_code = omega arith;
-  gap = omega arith;
-  first_object = omega arith;
-  red = omega arith;
-  green = omega arith;
-  blue = omega arith;
 }
 
 -- what is made of such registers and memories is the start

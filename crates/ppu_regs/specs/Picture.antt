@@ -16,21 +16,26 @@ pub record Picture : Type 0 where
   pub cgram : List ℕ
   pub oam : List ℕ
 
+-- the ranges of the registers
+pub record AreInRange (r : Registers) : Type 0 where
+  pub mode : r.mode < 8
+  pub mosaic : r.mosaic < 16
+  pub brightness : r.display.brightness < 16
+  pub size_code : r.object_tiles.size < 8
+  pub gap : r.object_tiles.gap < 4
+  pub first_object : r.oam.word < 512
+  pub oam_address : r.oam.address < 1024
+  pub red : r.colour.red < 32
+  pub green : r.colour.green < 32
+  pub blue : r.colour.blue < 32
+
 -- the ranges that every picture unit keeps
 pub record IsInRange (p : Picture) : Type 0 where
+  pub registers : AreInRange p.registers
   pub vram_size : length p.vram ≡ 32768
   pub cgram_size : length p.cgram ≡ 256
   pub oam_size : length p.oam ≡ 544
   pub colours : (k : ℕ) → slice_index p.cgram k < 32768
-  pub mode : p.registers.mode < 8
-  pub mosaic : p.registers.mosaic < 16
-  pub brightness : p.registers.display.brightness < 16
-  pub size_code : p.registers.object_tiles.size < 8
-  pub gap : p.registers.object_tiles.gap < 4
-  pub first_object : p.registers.oam.word < 512
-  pub red : p.registers.colour.red < 32
-  pub green : p.registers.colour.green < 32
-  pub blue : p.registers.colour.blue < 32
 
 -- the registers of BG1 to BG4
 unfoldable pub background_of : Registers → ℕ → Background

@@ -4,11 +4,18 @@
 //! `specs/Picture.antt`: all registers by name, and VRAM, CGRAM and OAM as lists.
 #![tactic(auto)]
 
+mod bits;
+mod cgram;
 mod dots;
 mod layers;
+mod oam;
+mod pages;
 mod ppu;
+mod reads;
 mod registers;
 mod start;
+mod vram;
+mod writes;
 
 pub use dots::{Candidate, Dot, Planes, direct_colour};
 pub use ppu::Ppu;
