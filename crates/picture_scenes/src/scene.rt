@@ -1,20 +1,10 @@
 //! One scene: a picture unit, and what its lines do with it.
 
-ghost use Rattle.std.specs.Prelude.{◌<◌, ◌≤◌};
+ghost use Rattle.std.specs.Prelude.{◌<◌, IfSome};
 
 use crate::number::{byte, decimal, hexadecimal};
-use picture_slow::draw_slowly;
-use ppu_regs::Ppu;
+use ppu_regs::{Over, Ppu};
 use snes_defs::Spot;
-
-/// How many answers were compared, and how many differ.
-#[derive(Clone, Copy)]
-pub struct Tally {
-    pub rows: u64,
-    pub rows_differing: u64,
-    pub reads: u64,
-    pub reads_differing: u64,
-}
 
 fn write(ppu: &mut Ppu, register: u8, v: u8) {
     let _word = ppu.write(register % 64, v);
@@ -62,7 +52,7 @@ fn fills(ppu: &mut Ppu, line: &str) {
 }
 
 /// `q RR BUS H V GOT`: whether a read gives that byte.
-fn reads_so(ppu: &mut Ppu, line: &str) -> bool {
+pub fn read_holds(ppu: &mut Ppu, line: &str) -> bool {
     let mut numbers = [0u32; 5];
     for (k, word) in line.split(' ').skip(1).take(5).enumerate() {
         if k < 5 {
@@ -82,8 +72,8 @@ fn reads_so(ppu: &mut Ppu, line: &str) -> bool {
     got == byte(numbers[4])
 }
 
-/// `r ROW OVER DOTS`: whether the row has those dots and flags, drawn slowly.
-fn row_is_so(ppu: &mut Ppu, line: &str) -> bool {
+/// The parts of a line `r ROW OVER DOTS`.
+fn row_parts(line: &str) -> (u32, u32, &str) {
     let mut row = 0u32;
     let mut flags = 0u32;
     let mut dots = "";
@@ -94,13 +84,24 @@ fn row_is_so(ppu: &mut Ppu, line: &str) -> bool {
             _ => dots = word,
         }
     }
+    (row, flags, dots)
+}
+
+/// The row of a line `r ROW OVER DOTS`, 0 to 238.
+pub fn row_number(line: &str) -> Option<u16>
+    ensures { IfSome result (λ row. row < 239) }
+{
+    let (row, _flags, _dots) = row_parts(line);
+    if row < 239 { Some(row as u16) } else { None }
+}
+
+/// Whether these are the flags and the dots of a line `r ROW OVER DOTS`.
+pub fn row_holds(line: &str, over: Over, drawn: &[u16; 512]) -> bool {
+    let (_row, flags, dots) = row_parts(line);
     let bytes = dots.as_bytes();
-    if row >= 239 || bytes.len() != 2048 {
+    if bytes.len() != 2048 {
         return false;
     }
-    let mut drawn = [0u16; 512];
-    let over = draw_slowly(ppu, row as u16 + 1, &mut drawn);
-    ppu.over(over);
     let mut so = over.range == (flags / 16 % 2 == 1) && over.time == (flags % 2 == 1);
     for e in 0..512usize {
         if drawn[e] as u32 != hexadecimal(&bytes[4 * e..4 * e + 4]) {
@@ -110,30 +111,13 @@ fn row_is_so(ppu: &mut Ppu, line: &str) -> bool {
     so
 }
 
-/// Does a line, and says whether it holds.
-pub fn does(ppu: &mut Ppu, tally: &mut Tally, line: &str) -> bool {
+/// Does a line that writes registers or begins a frame or vertical blank; any other line does nothing.
+pub fn acts(ppu: &mut Ppu, line: &str) {
     match line.as_bytes().first() {
         Some(b'w') => writes(ppu, line),
         Some(b'f') => fills(ppu, line),
         Some(b'b') => ppu.blank(),
         Some(b'n') => ppu.frame(),
-        Some(b'q') => {
-            let so = reads_so(ppu, line);
-            tally.reads = tally.reads.saturating_add(1);
-            if !so {
-                tally.reads_differing = tally.reads_differing.saturating_add(1);
-            }
-            return so;
-        }
-        Some(b'r') => {
-            let so = row_is_so(ppu, line);
-            tally.rows = tally.rows.saturating_add(1);
-            if !so {
-                tally.rows_differing = tally.rows_differing.saturating_add(1);
-            }
-            return so;
-        }
         _ => {}
     }
-    true
 }
