@@ -50,4 +50,4 @@ dot_colour (Some dot) = dot.colour
 unfoldable pub mixed_at : Picture → ℕ → Option (ℕ × Dot) → Option Dot → ℕ
 mixed_at p x front sub =
     mixed p.registers.colour (is_inside p.registers 6 x) (front_colour p.cgram front) (is_front_named p.registers front)
-      (is_some sub) (dot_colour sub)
+    (is_some sub) (dot_colour sub)

@@ -87,7 +87,15 @@ fn pick(which: bool, taken: u16, other: u16) -> u16
 /// One pixel of the main screen, by a mixer made of these registers.
 #[inline(always)]
 #[tactic(auto, unfolding(crate::specs::Mixing::mixed))]
-fn mixed_by(m: &ColourMath, mixer: &Mixer, inside: bool, main: u16, named: bool, found: bool, sub: u16) -> u16
+fn mixed_by(
+    m: &ColourMath,
+    mixer: &Mixer,
+    inside: bool,
+    main: u16,
+    named: bool,
+    found: bool,
+    sub: u16,
+) -> u16
     requires black_inside { mixer.now.black_inside ≡ holds_at m.now.black true }
     requires black_outside { mixer.now.black_outside ≡ holds_at m.now.black false }
     requires stopped_inside { mixer.now.stopped_inside ≡ holds_at m.now.none true }
@@ -166,11 +174,9 @@ pub fn mix_row(
     sub_keys: &[u8; 256],
     sub: &[u16; 256],
 )
-    ensures {
-        (x : ℕ) → x < 256 → slice_index main.new x ≡
-          mixed p.now.registers.colour (not (slice_index inside.now x == 0)) (slice_index main.old x)
-            (is_named (slice_index keys.now x)) (is_found (slice_index sub_keys.now x)) (slice_index sub.now x)
-    }
+    ensures { (x : ℕ) → x < 256 → slice_index main.new x ≡
+        mixed p.now.registers.colour (not (slice_index inside.now x == 0)) (slice_index main.old x)
+        (is_named (slice_index keys.now x)) (is_found (slice_index sub_keys.now x)) (slice_index sub.now x) }
 {
     let mixer = mixer_of(p);
     let m = &p.registers().colour;

@@ -22,7 +22,11 @@ pub fn inside(p: &Ppu, layer: u8, x: u8) -> bool
 fn inside_windows(r: &Registers, layer: u8, x: u8) -> bool
     ensures { result ≡ is_inside r.now layer x }
 {
-    truth(r.windows(layer), within(&r.window_one, x), within(&r.window_two, x))
+    truth(
+        r.windows(layer),
+        within(&r.window_one, x),
+        within(&r.window_two, x),
+    )
 }
 
 #[inline(always)]

@@ -44,9 +44,12 @@ fn show(ppu: &Ppu, bytes: &mut Vec<u8>) -> Result<(), AllocError> {
 
 fn main(rt: HostRuntime) -> io::Result<()> {
     let mut words = env::args(&rt)?.skip(1);
-    if let (Some(name), Some(out), Some(from), Some(upto)) =
-        (words.next(), words.next(), words.next(), words.next())
-    {
+    if let (Some(name), Some(out), Some(from), Some(upto)) = (
+        words.next(),
+        words.next(),
+        words.next(),
+        words.next(),
+    ) {
         let from = from.as_str().parse::<u64>().unwrap_or(0);
         let upto = upto.as_str().parse::<u64>().unwrap_or(0);
         let text = fs::read_to_string(&rt, name.as_str())?;

@@ -51,7 +51,11 @@ fn map_entry(p: &Ppu, b: &Background, wide_tiles: bool, x: u32, y: u32) -> u32
 fn blocked(is_on: bool, mosaic: u8, n: u32) -> u32
     ensures { result ≤ n }
 {
-    if is_on { n - n % (mosaic as u32 + 1) } else { n }
+    if is_on {
+        n - n % (mosaic as u32 + 1)
+    } else {
+        n
+    }
 }
 
 /// The scroll of a layer at a column, by the offsets of BG3 in modes 2, 4 and 6.
@@ -88,7 +92,11 @@ fn offsets(p: &Ppu, layer: u8, x: u32) -> (u32, u32)
         } else {
             across
         };
-        let new_down = if second / acts % 2 == 1 { second % 1024 } else { down };
+        let new_down = if second / acts % 2 == 1 {
+            second % 1024
+        } else {
+            down
+        };
         (new_across, new_down)
     }
 }
@@ -129,21 +137,37 @@ pub fn background_dot(p: &Ppu, layer: u8, row: u16, e: u16) -> Candidate
     let x = blocked(b.mosaic, r.mosaic, e as u32 / 2);
     let y = blocked(b.mosaic, r.mosaic, row as u32) + 1;
     let (across, down) = offsets(p, layer, x);
-    let plane_x = if hires { 2 * x + e as u32 % 2 + 2 * across } else { x + across };
+    let plane_x = if hires {
+        2 * x + e as u32 % 2 + 2 * across
+    } else {
+        x + across
+    };
     let plane_y = y + down;
     let entry = map_entry(p, b, hires, plane_x, plane_y);
     let width = if hires || b.large { 16 } else { 8 };
     let height = if b.large { 16 } else { 8 };
     let in_x = plane_x % width;
     let in_y = plane_y % height;
-    let tile_x = if entry / 0x4000 % 2 == 1 { width - 1 - in_x } else { in_x };
-    let tile_y = if entry / 0x8000 % 2 == 1 { height - 1 - in_y } else { in_y };
+    let tile_x = if entry / 0x4000 % 2 == 1 {
+        width - 1 - in_x
+    } else {
+        in_x
+    };
+    let tile_y = if entry / 0x8000 % 2 == 1 {
+        height - 1 - in_y
+    } else {
+        in_y
+    };
     let tile = (entry + tile_x / 8 + 16 * (tile_y / 8)) % 1024;
     let address = b.tile_base as u32 + tile * (4 * depth as u32) + tile_y % 8;
     let value = value(p, address, depth, tile_x % 8);
     let palette = (entry / 0x400 % 8) as u8;
     let direct = depth == 8 && r.colour.direct && (r.mode == 3 || r.mode == 4);
-    let group = if r.mode == 0 { 32 * ((layer as u32 + 3) % 4) } else { 0 };
+    let group = if r.mode == 0 {
+        32 * ((layer as u32 + 3) % 4)
+    } else {
+        0
+    };
     let number = match depth {
         2 => group + 4 * palette as u32 + value as u32,
         4 => 16 * palette as u32 + value as u32,

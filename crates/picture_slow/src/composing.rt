@@ -76,9 +76,7 @@ fn dim(brightness: u8, colour: u16) -> u16
         return 0;
     }
     let b = brightness as u16 + 1;
-    colour % 32 * b / 16
-        + colour / 32 % 32 * b / 16 * 32
-        + colour / 1024 % 32 * b / 16 * 1024
+    colour % 32 * b / 16 + colour / 32 % 32 * b / 16 * 32 + colour / 1024 % 32 * b / 16 * 1024
 }
 
 /// The number of a dot before brightness.

@@ -16,6 +16,6 @@ pub halves : (out : List ℕ) (even odd : ℕ → ℕ) → ((x : ℕ) → x < 25
 halves out even odd he ho e h =
     let here : e / 2 < 256 = omega arith in
     ⊎_elim
-      (λ (low : e % 2 < 1). even_dot_at out even odd e (he (e / 2) here) (omega arith))
-      (λ (high : 1 ≤ e % 2). odd_dot_at out even odd e (ho (e / 2) here) (omega arith))
-      (cases_lt (e % 2) 1)
+    (λ (low : e % 2 < 1). even_dot_at out even odd e (he (e / 2) here) (omega arith))
+    (λ (high : 1 ≤ e % 2). odd_dot_at out even odd e (ho (e / 2) here) (omega arith))
+    (cases_lt (e % 2) 1)

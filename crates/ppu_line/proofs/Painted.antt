@@ -33,10 +33,10 @@ unfolding ink_of
 painted_ink p layer c key number low high priority math l h k n =
     let named : Bool = (screens_of p.registers layer).arithmetic in
     let same : (if c.priority == 1 then high else low) ≡ rank_base (layer_rank p.registers layer c.priority) (named && c.math) =
-      ap (λ (v : ℕ). if c.priority == 1 then v else low) h
-      ∙ ap (λ (v : ℕ). if c.priority == 1 then rank_base (layer_rank p.registers layer 1) named else v) l
-      ∙ base_is (layer_rank p.registers layer) named c.priority priority
-      ∙ ap (λ (b : Bool). rank_base (layer_rank p.registers layer c.priority) (named && b)) (sym math) in
+    ap (λ (v : ℕ). if c.priority == 1 then v else low) h
+    ∙ ap (λ (v : ℕ). if c.priority == 1 then rank_base (layer_rank p.registers layer 1) named else v) l
+    ∙ base_is (layer_rank p.registers layer) named c.priority priority
+    ∙ ap (λ (b : Bool). rank_base (layer_rank p.registers layer c.priority) (named && b)) (sym math) in
     ink_is key number _ (k ∙ ap (λ (v : ℕ). rank_of v c) same) n
 
 -- what is always so of a background's candidate
@@ -81,4 +81,3 @@ tiles_pair p layer row x h =
     let even : 2 * x / 2 ≡ x = omega arith in
     let odd : (2 * x + 1) / 2 ≡ x = omega arith in
     rw h (rw even (rw odd refl))
-

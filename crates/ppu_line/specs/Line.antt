@@ -33,7 +33,7 @@ layer_candidate p layer row e =
 unfoldable pub ink_of : Picture → ℕ → Candidate → Ink
 ink_of p layer c = record {
   key = rank_of (rank_base (layer_rank p.registers layer c.priority) ((screens_of p.registers layer).arithmetic && c.math)) c;
-  number = c.number
+  number = c.number;
 }
 
 -- a layer's ink on the two screens at the pixel x: the main screen takes the odd dots, the sub screen the even ones

@@ -53,7 +53,17 @@ fn paint_tiles(p: &Ppu, tiles: &TileCache, layer: u8, row: u16, odd: bool, out: 
     let named = r.screens(layer).arithmetic;
     let low = base(r, layer, 0, named);
     let high = base(r, layer, 1, named);
-    ink_row(p, tiles, layer, row, odd, low, high, &mut out.ranks, &mut out.numbers);
+    ink_row(
+        p,
+        tiles,
+        layer,
+        row,
+        odd,
+        low,
+        high,
+        &mut out.ranks,
+        &mut out.numbers,
+    );
 }
 
 /// Paints a background of mode 7.
@@ -157,7 +167,13 @@ pub fn add_background(
 
 /// Adds the objects to both screens, and answers which of their limits were passed.
 #[tactic(auto, unfolding(crate::specs::Line::main_ink, crate::specs::Line::sub_ink, crate::specs::Line::layer_candidate), using(crate::proofs::Painted::objects))]
-pub fn add_objects(p: &Ppu, row: u16, work: &mut Planes, main: &mut Planes, sub: &mut Planes) -> Over
+pub fn add_objects(
+    p: &Ppu,
+    row: u16,
+    work: &mut Planes,
+    main: &mut Planes,
+    sub: &mut Planes,
+) -> Over
     requires row { row < 239 }
     ensures main { (x : ℕ) → x < 256 → ink_at main.new x ≡ nearest (ink_at main.old x) (main_ink p.now row x 5) }
     ensures sub { (x : ℕ) → x < 256 → ink_at sub.new x ≡ nearest (ink_at sub.old x) (sub_ink p.now row x 5) }

@@ -39,7 +39,7 @@ trimmed n = n / 64 * 64
 unfoldable pub line_start : ℕ → ℕ → ℕ → ℕ → ℕ → ℕ → ℕ
 line_start across along p q y centre =
     sum_of (sum_of (trimmed (product_of across p)) (trimmed (product_of along q)))
-      (sum_of (trimmed (product_of along y)) (product_of 256 centre))
+    (sum_of (trimmed (product_of along y)) (product_of 256 centre))
 
 unfoldable pub place_at : ℕ → ℕ → ℕ → ℕ
 place_at start across x = sum_of start (product_of across x)
@@ -99,8 +99,8 @@ column_of r layer x = turned r.rotation.flip_x (blocked (background_of r layer).
 unfoldable pub rotated_value : Picture → ℕ → ℕ → ℕ → ℕ
 rotated_value p layer row x =
     value_at p.registers.rotation.outside p.vram
-      (place_at (start_x p.registers.rotation (line_of p.registers layer row)) (signed_16 p.registers.rotation.a) (column_of p.registers layer x))
-      (place_at (start_y p.registers.rotation (line_of p.registers layer row)) (signed_16 p.registers.rotation.c) (column_of p.registers layer x))
+    (place_at (start_x p.registers.rotation (line_of p.registers layer row)) (signed_16 p.registers.rotation.a) (column_of p.registers layer x))
+    (place_at (start_y p.registers.rotation (line_of p.registers layer row)) (signed_16 p.registers.rotation.c) (column_of p.registers layer x))
 
 -- Layer 1 shows the whole byte, by CGRAM or as a direct colour. Layer 2, of EXTBG, has bit 7 as its priority and the low seven bits as
 -- its colour.

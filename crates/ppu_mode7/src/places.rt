@@ -29,7 +29,11 @@ pub fn signed_sixteen(v: u16) -> u32
 fn clip(n: u32) -> u32
     ensures { result ≡ clipped n }
 {
-    if n / 8192 % 2 == 1 { n % 1024 + 4_294_966_272 } else { n % 1024 }
+    if n / 8192 % 2 == 1 {
+        n % 1024 + 4_294_966_272
+    } else {
+        n % 1024
+    }
 }
 
 #[inline(always)]
@@ -102,7 +106,11 @@ fn block_of(is_on: bool, mosaic: u8, n: u32) -> u32
     ensures value { result ≡ blocked is_on mosaic n }
     ensures small { result ≤ n }
 {
-    if is_on { n - n % (mosaic as u32 + 1) } else { n }
+    if is_on {
+        n - n % (mosaic as u32 + 1)
+    } else {
+        n
+    }
 }
 
 #[inline(always)]
@@ -131,5 +139,8 @@ pub fn column(r: &Registers, layer: u8, x: u32) -> u32
     requires { x < 256 }
     ensures { result ≡ column_of r.now layer x }
 {
-    turn(r.rotation.flip_x, block_of(r.background(layer).mosaic, r.mosaic, x))
+    turn(
+        r.rotation.flip_x,
+        block_of(r.background(layer).mosaic, r.mosaic, x),
+    )
 }

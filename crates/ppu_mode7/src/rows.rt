@@ -88,7 +88,11 @@ fn candidate_in(p: &Ppu, along: &Line, layer: u8, row: u16, x: usize) -> Candida
     ensures palette { result.palette ≡ 0 }
     ensures priority { result.priority < 2 }
 {
-    candidate(p.registers().colour.direct, layer, value_in(p, along, layer, row, x))
+    candidate(
+        p.registers().colour.direct,
+        layer,
+        value_in(p, along, layer, row, x),
+    )
 }
 
 /// Writes the dots of a layer's row: layer 1, or 2 of EXTBG.
@@ -118,10 +122,8 @@ fn rank_byte(c: &Candidate, low: u8, high: u8) -> u8
 /// Writes a layer's row as planes: `low` and `high` are the rank bytes of the two priorities.
 pub fn m7_planes(p: &Ppu, layer: u8, row: u16, low: u8, high: u8, out: &mut Planes)
     requires { row < 239 }
-    ensures ranks {
-        (x : ℕ) → x < 256 → slice_index out.new.ranks x ≡
-          rank_of (if (rotated_candidate p.now layer row x).priority == 1 then high else low) (rotated_candidate p.now layer row x)
-    }
+    ensures ranks { (x : ℕ) → x < 256 → slice_index out.new.ranks x ≡
+        rank_of (if (rotated_candidate p.now layer row x).priority == 1 then high else low) (rotated_candidate p.now layer row x) }
     ensures numbers { (x : ℕ) → x < 256 → slice_index out.new.numbers x ≡ (rotated_candidate p.now layer row x).number }
 {
     let along = line_at(p, layer, row);

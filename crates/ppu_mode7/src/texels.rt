@@ -53,13 +53,7 @@ pub fn value(code: Outside, vram: &[u16], x: u32, y: u32) -> u8
     let tile = tile(vram, left, top);
     match code {
         Outside::Wrap => texel(vram, tile, left, top),
-        Outside::Nothing => {
-            if out {
-                0
-            } else {
-                texel(vram, tile, left, top)
-            }
-        }
+        Outside::Nothing => { if out { 0 } else { texel(vram, tile, left, top) } }
         Outside::TileZero => texel(vram, if out { 0 } else { tile }, left, top),
     }
 }

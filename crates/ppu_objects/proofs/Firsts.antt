@@ -69,7 +69,7 @@ pieces_from code list d i from next f n below = rw f (rw n (rw (drop-cons list i
 -- the pieces of the last objects, and of one more
 pub all_pieces_more : (code : ℕ) (list : List Object) (j : ℕ) (d : Object) → j < length list →
     all_pieces code (drop (length list - (j + 1)) list) ≡
-      all_pieces code (drop (length list - j) list) ++ pieces_of code (get_or list (length list - 1 - j) d)
+    all_pieces code (drop (length list - j) list) ++ pieces_of code (get_or list (length list - 1 - j) d)
 all_pieces_more code list j d h =
     pieces_from code list d (length list - 1 - j) (length list - (j + 1)) (length list - j) (omega arith) (omega arith) (omega arith)
 

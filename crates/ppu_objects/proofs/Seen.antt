@@ -22,7 +22,7 @@ piece_is : (p : Picture) (row : ℕ) (piece : Piece) (x : ℕ) → IsOfObjects (
 unfolding piece_candidate
 piece_is p row piece x =
     either_is (nat_lt (offset_in (piece_left piece.object piece.column) x) 8) _ nothing
-      (object_dot_is piece.object _) nothing_is
+    (object_dot_is piece.object _) nothing_is
 
 painted_is : (p : Picture) (row x : ℕ) (under : Candidate) (piece : Piece) → IsOfObjects under → IsOfObjects (painted p row x under piece)
 unfolding painted
@@ -35,4 +35,3 @@ all_are p row x under (piece ∷ rest) h = all_are p row x (painted p row x unde
 pub object_candidate_is : (p : Picture) (row x : ℕ) → IsOfObjects (object_candidate p row x)
 unfolding object_candidate
 object_candidate_is p row x = all_are p row x nothing (drawn_pieces p row) nothing_is
-

@@ -60,14 +60,14 @@ value_of first second k =
 unfoldable pub piece_word : ObjectTiles → Object → ℕ → ℕ → ℕ
 piece_word tiles o column row =
     tile_word tiles o.table
-      (tile_number o.tile (shown_column tiles.size o column) (shown_line tiles.size o row))
-      (shown_line tiles.size o row)
+    (tile_number o.tile (shown_column tiles.size o column) (shown_line tiles.size o row))
+    (shown_line tiles.size o row)
 
 -- the value of pixel k of a piece, k from the left on the screen
 unfoldable pub pixel_value : List ℕ → ObjectTiles → Object → ℕ → ℕ → ℕ → ℕ
 pixel_value vram tiles o column row k =
     value_of (slice_index vram (piece_word tiles o column row)) (slice_index vram ((piece_word tiles o column row + 8) % 32768))
-      (if o.flip_x then 7 - k else k)
+    (if o.flip_x then 7 - k else k)
 
 -- nothing
 abbrev pub nothing : Candidate
@@ -93,7 +93,7 @@ unfoldable pub piece_candidate : Picture → ℕ → Piece → ℕ → Candidate
 piece_candidate p row piece x =
     if nat_lt (offset_in (piece_left piece.object piece.column) x) 8
     then object_dot piece.object
-      (pixel_value p.vram p.registers.object_tiles piece.object piece.column row (offset_in (piece_left piece.object piece.column) x))
+    (pixel_value p.vram p.registers.object_tiles piece.object piece.column row (offset_in (piece_left piece.object piece.column) x))
     else nothing
 
 -- a piece drawn over what stands at a pixel: it covers it where its value isn't 0

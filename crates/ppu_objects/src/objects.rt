@@ -147,7 +147,11 @@ fn first(p: &Ppu) -> u8
     ensures small { result < 128 }
 {
     let oam = &p.registers().oam;
-    if oam.rotates { (oam.word / 2 % 128) as u8 } else { 0 }
+    if oam.rotates {
+        (oam.word / 2 % 128) as u8
+    } else {
+        0
+    }
 }
 
 #[inline(always)]
@@ -178,9 +182,7 @@ fn nth_in_turn(p: &Ppu, first: u8, k: u8) -> Object
 #[tactic(auto, unfolding(crate::specs::Objects::grown))]
 fn note(list: &mut ArrayVec<Object, 32>, more: bool, does: bool, o: Object) -> bool
     ensures items { (xs : List Object) → list.old.items ≡ take 32 xs → list.new.items ≡ take 32 (grown does o xs) }
-    ensures more {
-        (xs : List Object) → list.old.items ≡ take 32 xs → more ≡ nat_lt 32 (length xs) → result ≡ nat_lt 32 (length (grown does o xs))
-    }
+    ensures more { (xs : List Object) → list.old.items ≡ take 32 xs → more ≡ nat_lt 32 (length xs) → result ≡ nat_lt 32 (length (grown does o xs)) }
 {
     if does {
         if list.len() < 32 {

@@ -80,12 +80,8 @@ fn value(first: u16, second: u16, k: u16) -> u8
 fn put(left: u16, k: u16, on: bool, rank: u8, number: u8, out: &mut Planes)
     requires left { left < 512 }
     requires k { k < 8 }
-    ensures ranks {
-        (x : ℕ) → x < 256 → slice_index out.new.ranks x ≡ (if on && (offset_in left x == k) then rank else slice_index out.old.ranks x)
-    }
-    ensures numbers {
-        (x : ℕ) → x < 256 → slice_index out.new.numbers x ≡ (if on && (offset_in left x == k) then number else slice_index out.old.numbers x)
-    }
+    ensures ranks { (x : ℕ) → x < 256 → slice_index out.new.ranks x ≡ (if on && (offset_in left x == k) then rank else slice_index out.old.ranks x) }
+    ensures numbers { (x : ℕ) → x < 256 → slice_index out.new.numbers x ≡ (if on && (offset_in left x == k) then number else slice_index out.old.numbers x) }
 {
     let x = (left + k) as usize % 512;
     if on && x < 256 {
@@ -112,16 +108,12 @@ fn rank_of_object(bases: &[u8; 4], named: bool, o: &Object) -> u8
 pub fn paint(p: &Ppu, row: u16, piece: &Piece, bases: &[u8; 4], named: bool, out: &mut Planes)
     requires row { row < 239 }
     requires bases { (k : ℕ) → slice_index bases.now k ≤ 240 }
-    ensures ranks {
-        (x : ℕ) → x < 256 → slice_index out.new.ranks x ≡
-          (if (piece_candidate p.now row piece.now x).on then object_rank bases.now named (piece_candidate p.now row piece.now x)
-            else slice_index out.old.ranks x)
-    }
-    ensures numbers {
-        (x : ℕ) → x < 256 → slice_index out.new.numbers x ≡
-          (if (piece_candidate p.now row piece.now x).on then (piece_candidate p.now row piece.now x).number
-            else slice_index out.old.numbers x)
-    }
+    ensures ranks { (x : ℕ) → x < 256 → slice_index out.new.ranks x ≡
+        (if (piece_candidate p.now row piece.now x).on then object_rank bases.now named (piece_candidate p.now row piece.now x)
+        else slice_index out.old.ranks x) }
+    ensures numbers { (x : ℕ) → x < 256 → slice_index out.new.numbers x ≡
+        (if (piece_candidate p.now row piece.now x).on then (piece_candidate p.now row piece.now x).number
+        else slice_index out.old.numbers x) }
 {
     let tiles = &p.registers().object_tiles;
     let vram = p.vram();

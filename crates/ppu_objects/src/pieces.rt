@@ -39,9 +39,7 @@ fn on_screen(left: u16) -> bool
 #[tactic(auto, unfolding(crate::specs::Objects::grown))]
 fn note_piece(list: &mut ArrayVec<Piece, 34>, more: bool, does: bool, piece: Piece) -> bool
     ensures items { (xs : List Piece) → list.old.items ≡ take 34 xs → list.new.items ≡ take 34 (grown does piece xs) }
-    ensures more {
-        (xs : List Piece) → list.old.items ≡ take 34 xs → more ≡ nat_lt 34 (length xs) → result ≡ nat_lt 34 (length (grown does piece xs))
-    }
+    ensures more { (xs : List Piece) → list.old.items ≡ take 34 xs → more ≡ nat_lt 34 (length xs) → result ≡ nat_lt 34 (length (grown does piece xs)) }
 {
     if does {
         if list.len() < 34 {
@@ -57,9 +55,7 @@ fn note_piece(list: &mut ArrayVec<Piece, 34>, more: bool, does: bool, piece: Pie
 #[tactic(auto, unfolding(crate::specs::Pieces::pieces_of, crate::specs::Pieces::first_pieces))]
 fn add_pieces(code: u8, o: &Object, list: &mut ArrayVec<Piece, 34>, over: bool) -> bool
     ensures items { (xs : List Piece) → list.old.items ≡ take 34 xs → list.new.items ≡ take 34 (xs ++ pieces_of code o.now) }
-    ensures more {
-        (xs : List Piece) → list.old.items ≡ take 34 xs → over ≡ nat_lt 34 (length xs) → result ≡ nat_lt 34 (length (xs ++ pieces_of code o.now))
-    }
+    ensures more { (xs : List Piece) → list.old.items ≡ take 34 xs → over ≡ nat_lt 34 (length xs) → result ≡ nat_lt 34 (length (xs ++ pieces_of code o.now)) }
 {
     let columns = (width(code, o.large) / 8) as u8;
     let mut more = over;

@@ -47,9 +47,7 @@ fn paint_all(p: &Ppu, row: u16, pieces: &[Piece], bases: &[u8; 4], named: bool, 
     requires bases { (k : ℕ) → slice_index bases.now k ≤ 240 }
     requires ranks_clear { (x : ℕ) → x < 256 → slice_index out.old.ranks x ≡ 0 }
     requires numbers_clear { (x : ℕ) → x < 256 → slice_index out.old.numbers x ≡ 0 }
-    ensures ranks {
-        (x : ℕ) → x < 256 → slice_index out.new.ranks x ≡ object_rank bases.now named (fold (painted p.now row x) nothing pieces.now)
-    }
+    ensures ranks { (x : ℕ) → x < 256 → slice_index out.new.ranks x ≡ object_rank bases.now named (fold (painted p.now row x) nothing pieces.now) }
     ensures numbers { (x : ℕ) → x < 256 → slice_index out.new.numbers x ≡ (fold (painted p.now row x) nothing pieces.now).number }
 {
     for i in 0..pieces.len() {
@@ -80,9 +78,7 @@ pub fn obj_planes(p: &Ppu, row: u16, bases: &[u8; 4], named: bool, out: &mut Pla
 #[inline(always)]
 #[tactic(auto, unfolding(crate::specs::Ranks::object_rank, crate::specs::Ranks::rank_byte, ppu_regs::specs::Dots::dot_of, ppu_regs::specs::Dots::colour_of))]
 fn dot_at(cgram: &[u16; 256], rank: u8, number: u8) -> Dot
-    ensures {
-        (c : Candidate) → IsOfObjects c → rank ≡ object_rank row_bases true c → number ≡ c.number → result ≡ dot_of cgram.now c
-    }
+    ensures { (c : Candidate) → IsOfObjects c → rank ≡ object_rank row_bases true c → number ≡ c.number → result ≡ dot_of cgram.now c }
 {
     if rank == 0 {
         Dot {

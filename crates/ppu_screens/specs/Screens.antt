@@ -43,7 +43,7 @@ front_ink_colour p ink =
 unfoldable pub main_colour : Picture → ℕ → Ink → Ink → ℕ
 main_colour p x main sub =
     mixed p.registers.colour (is_inside p.registers 6 x) (front_ink_colour p main) (is_named main.key) (is_found sub.key)
-      (front_ink_colour p sub)
+    (front_ink_colour p sub)
 
 -- the sub screen's colour, the fixed colour where nothing is there
 unfoldable pub sub_colour : Picture → Ink → ℕ

@@ -49,10 +49,8 @@ fn hidden_row(p: &Ppu, layer: u8, masked: bool, out: &mut [u8; 256])
 fn lay_seen(p: &Ppu, layer: u8, masked: bool, row: &Planes, front: &mut Planes)
     requires first { 1 ≤ layer }
     requires last { layer ≤ 5 }
-    ensures {
-        (x : ℕ) → x < 256 → ink_at front.new x ≡
-          nearest (ink_at front.old x) (standing true masked (is_inside p.now.registers layer x) (ink_at row.now x))
-    }
+    ensures { (x : ℕ) → x < 256 → ink_at front.new x ≡
+        nearest (ink_at front.old x) (standing true masked (is_inside p.now.registers layer x) (ink_at row.now x)) }
 {
     let mut hidden = [0u8; 256];
     hidden_row(p, layer, masked, &mut hidden);
@@ -70,10 +68,8 @@ fn lay_seen(p: &Ppu, layer: u8, masked: bool, row: &Planes, front: &mut Planes)
 fn lay_on(p: &Ppu, layer: u8, on: bool, masked: bool, row: &Planes, front: &mut Planes)
     requires first { 1 ≤ layer }
     requires last { layer ≤ 5 }
-    ensures {
-        (x : ℕ) → x < 256 → ink_at front.new x ≡
-          nearest (ink_at front.old x) (standing on masked (is_inside p.now.registers layer x) (ink_at row.now x))
-    }
+    ensures { (x : ℕ) → x < 256 → ink_at front.new x ≡
+        nearest (ink_at front.old x) (standing on masked (is_inside p.now.registers layer x) (ink_at row.now x)) }
 {
     if on {
         lay_seen(p, layer, masked, row, front);
@@ -94,12 +90,8 @@ pub fn lay_layer(
 )
     requires first { 1 ≤ layer }
     requires last { layer ≤ 5 }
-    ensures main {
-        (x : ℕ) → x < 256 → ink_at main.new x ≡ nearest (ink_at main.old x) (on_main p.now.registers layer x (ink_at odd_dots.now x))
-    }
-    ensures sub {
-        (x : ℕ) → x < 256 → ink_at sub.new x ≡ nearest (ink_at sub.old x) (on_sub p.now.registers layer x (ink_at even_dots.now x))
-    }
+    ensures main { (x : ℕ) → x < 256 → ink_at main.new x ≡ nearest (ink_at main.old x) (on_main p.now.registers layer x (ink_at odd_dots.now x)) }
+    ensures sub { (x : ℕ) → x < 256 → ink_at sub.new x ≡ nearest (ink_at sub.old x) (on_sub p.now.registers layer x (ink_at even_dots.now x)) }
 {
     let screens = *p.registers().screens(layer);
     lay_on(p, layer, screens.main, screens.main_masked, odd_dots, main);

@@ -24,9 +24,9 @@ component_with subtracts halves one two =
 unfoldable pub colour_with : Bool → Bool → ℕ → ℕ → ℕ
 colour_with subtracts halves one two =
     colour_of
-      (component_with subtracts halves (red_of one) (red_of two))
-      (component_with subtracts halves (green_of one) (green_of two))
-      (component_with subtracts halves (blue_of one) (blue_of two))
+    (component_with subtracts halves (red_of one) (red_of two))
+    (component_with subtracts halves (green_of one) (green_of two))
+    (component_with subtracts halves (blue_of one) (blue_of two))
 
 -- a component at a brightness of 0 to 15: 0 is black, else so many sixteenths and one, rounded down
 abbrev pub dimmed_component : ℕ → ℕ → ℕ
@@ -36,7 +36,7 @@ dimmed_component brightness component = if brightness == 0 then 0 else component
 unfoldable pub dimmed : ℕ → ℕ → ℕ
 dimmed brightness colour =
     colour_of (dimmed_component brightness (red_of colour)) (dimmed_component brightness (green_of colour))
-      (dimmed_component brightness (blue_of colour))
+    (dimmed_component brightness (blue_of colour))
 
 -- a direct colour: the byte is BBGGGRRR, the tint has one more bit of blue, green and red (bits 2, 1, 0)
 unfoldable pub direct_colour : ℕ → ℕ → ℕ

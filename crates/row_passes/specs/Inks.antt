@@ -37,7 +37,7 @@ chosen which taken other = if which then taken else other
 unfoldable pub nearest : Ink → Ink → Ink
 nearest first second = record {
   key = chosen (is_nearer first.key second.key) second.key first.key;
-  number = chosen (is_nearer first.key second.key) second.number first.number
+  number = chosen (is_nearer first.key second.key) second.number first.number;
 }
 
 -- an ink behind a mask

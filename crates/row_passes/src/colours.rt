@@ -72,10 +72,8 @@ pub fn look_up(
     out: &mut [u16; 256],
 )
     requires { length cgram.now ≡ 256 }
-    ensures {
-        (x : ℕ) → x < 256 → slice_index out.new x ≡
-          ink_colour cgram.now is_direct low high (slice_index keys.now x) (slice_index numbers.now x)
-    }
+    ensures { (x : ℕ) → x < 256 → slice_index out.new x ≡
+        ink_colour cgram.now is_direct low high (slice_index keys.now x) (slice_index numbers.now x) }
 {
     for x in 0..256usize {
         out[x] = colour_at(cgram, is_direct, low, high, keys[x], numbers[x]);
@@ -88,7 +86,11 @@ fn dim(brightness: u8, colour: u16) -> u16
     requires { brightness < 16 }
     ensures { result ≡ dimmed brightness colour }
 {
-    let parts = if brightness == 0 { 0 } else { brightness as u16 + 1 };
+    let parts = if brightness == 0 {
+        0
+    } else {
+        brightness as u16 + 1
+    };
     let red = colour % 32 * parts / 16;
     let green = colour / 32 % 32 * parts / 16;
     let blue = colour / 1024 % 32 * parts / 16;

@@ -10,11 +10,11 @@ unfolding pixel
 returns-clause-dots c =
     let row : ℕ = c.args.v - 1 in
     halves _
-      (λ x. even_dot c.args.p.now x (main_front c.args.p.now row x) (sub_front c.args.p.now row x))
-      (λ x. odd_dot c.args.p.now x (main_front c.args.p.now row x) (sub_front c.args.p.now row x))
-      (λ x h. c.finish.ensures.even x h
-        ∙ ap (λ (i : Ink). even_dot c.args.p.now x i (ink_at c.fronts-over.new.sub x)) (c.fronts-over.ensures.main x h)
-        ∙ ap (λ (i : Ink). even_dot c.args.p.now x (main_front c.args.p.now row x) i) (c.fronts-over.ensures.sub x h))
-      (λ x h. c.finish.ensures.odd x h
-        ∙ ap (λ (i : Ink). odd_dot c.args.p.now x i (ink_at c.fronts-over.new.sub x)) (c.fronts-over.ensures.main x h)
-        ∙ ap (λ (i : Ink). odd_dot c.args.p.now x (main_front c.args.p.now row x) i) (c.fronts-over.ensures.sub x h))
+    (λ x. even_dot c.args.p.now x (main_front c.args.p.now row x) (sub_front c.args.p.now row x))
+    (λ x. odd_dot c.args.p.now x (main_front c.args.p.now row x) (sub_front c.args.p.now row x))
+    (λ x h. c.finish.ensures.even x h
+    ∙ ap (λ (i : Ink). even_dot c.args.p.now x i (ink_at c.fronts-over.new.sub x)) (c.fronts-over.ensures.main x h)
+    ∙ ap (λ (i : Ink). even_dot c.args.p.now x (main_front c.args.p.now row x) i) (c.fronts-over.ensures.sub x h))
+    (λ x h. c.finish.ensures.odd x h
+    ∙ ap (λ (i : Ink). odd_dot c.args.p.now x i (ink_at c.fronts-over.new.sub x)) (c.fronts-over.ensures.main x h)
+    ∙ ap (λ (i : Ink). odd_dot c.args.p.now x (main_front c.args.p.now row x) i) (c.fronts-over.ensures.sub x h))

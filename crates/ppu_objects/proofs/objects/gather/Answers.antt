@@ -14,9 +14,9 @@ loop-k-preserved c =
     let here : c.nth_in_turn-o.result ≡ object_in_turn c.args.p.now c.loop-k.k = c.nth_in_turn-o.ensures in
     let does : c.stands.result ≡ stands_on c.args.p.now.registers.object_tiles.size (object_in_turn c.args.p.now c.loop-k.k) c.args.row = cc in
     let same : grown c.stands.result c.nth_in_turn-o.result old ≡ on_row c.args.p.now c.args.row (c.loop-k.k + 1) =
-      ap (λ (b : Bool). grown b c.nth_in_turn-o.result old) does
-      ∙ ap (λ (o : Object). grown (stands_on c.args.p.now.registers.object_tiles.size (object_in_turn c.args.p.now c.loop-k.k) c.args.row) o old) here
-      ∙ sym (on_row_more c.args.p.now c.args.row c.loop-k.k) in
+    ap (λ (b : Bool). grown b c.nth_in_turn-o.result old) does
+    ∙ ap (λ (o : Object). grown (stands_on c.args.p.now.registers.object_tiles.size (object_in_turn c.args.p.now c.loop-k.k) c.args.row) o old) here
+    ∙ sym (on_row_more c.args.p.now c.args.row c.loop-k.k) in
     record {
       items = c.note-more.ensures.items old c.loop-k.invariant.items ∙ ap (take 32) same;
       more = c.note-more.ensures.more old c.loop-k.invariant.items c.loop-k.invariant.more ∙ ap (λ (l : List Object). nat_lt 32 (length l)) same;

@@ -11,12 +11,12 @@ loop-column-preserved c =
     let seen : c.on_screen.result ≡ is_on_screen (piece_left c.args.o.now c.loop-column.column) = c.on_screen.ensures ∙ ap is_on_screen c.left_of.ensures.value in
     record {
       items = λ xs e.
-        c.note_piece-more.ensures.items (xs ++ first_pieces c.args.o.now c.loop-column.column) (c.loop-column.invariant.items xs e)
-        ∙ ap (λ (does : Bool). take 34 (grown does piece (xs ++ first_pieces c.args.o.now c.loop-column.column))) seen
-        ∙ ap (take 34) (sym (pieces_more c.args.o.now c.loop-column.column xs));
+          c.note_piece-more.ensures.items (xs ++ first_pieces c.args.o.now c.loop-column.column) (c.loop-column.invariant.items xs e)
+          ∙ ap (λ (does : Bool). take 34 (grown does piece (xs ++ first_pieces c.args.o.now c.loop-column.column))) seen
+          ∙ ap (take 34) (sym (pieces_more c.args.o.now c.loop-column.column xs));
       more = λ xs e o.
-        c.note_piece-more.ensures.more (xs ++ first_pieces c.args.o.now c.loop-column.column) (c.loop-column.invariant.items xs e)
+          c.note_piece-more.ensures.more (xs ++ first_pieces c.args.o.now c.loop-column.column) (c.loop-column.invariant.items xs e)
           (c.loop-column.invariant.more xs e o)
-        ∙ ap (λ (does : Bool). nat_lt 34 (length (grown does piece (xs ++ first_pieces c.args.o.now c.loop-column.column)))) seen
-        ∙ ap (λ (l : List Piece). nat_lt 34 (length l)) (sym (pieces_more c.args.o.now c.loop-column.column xs));
+          ∙ ap (λ (does : Bool). nat_lt 34 (length (grown does piece (xs ++ first_pieces c.args.o.now c.loop-column.column)))) seen
+          ∙ ap (λ (l : List Piece). nat_lt 34 (length l)) (sym (pieces_more c.args.o.now c.loop-column.column xs));
     }

@@ -8,5 +8,5 @@ abbrev pub invariant-loop-column : goal.invariant-loop-column
 invariant-loop-column l = record {
   items : (xs : List Piece) → l.initial.list.items ≡ take 34 xs → l.list.items ≡ take 34 (xs ++ first_pieces l.o l.column);
   more : (xs : List Piece) → l.initial.list.items ≡ take 34 xs → l.over ≡ nat_lt 34 (length xs) →
-    l.more ≡ nat_lt 34 (length (xs ++ first_pieces l.o l.column));
+      l.more ≡ nat_lt 34 (length (xs ++ first_pieces l.o l.column));
 }
