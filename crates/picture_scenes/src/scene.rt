@@ -21,7 +21,7 @@ fn writes(ppu: &mut Ppu, line: &str) {
 }
 
 /// A byte of the generator: the AND of so many of its steps.
-fn generated(state: &mut u32, ands: u32) -> u8 {
+pub fn generated(state: &mut u32, ands: u32) -> u8 {
     let mut value = 255u8;
     for _ in 0..ands {
         *state = state.wrapping_mul(1_664_525).wrapping_add(1_013_904_223);

@@ -5,28 +5,31 @@
 //! in 14-10. A PNG comes of it by `ffmpeg -f rawvideo -pix_fmt bgr555le -video_size 512x224 -i OUT p%03d.png`.
 #![tactic(auto)]
 
-ghost use Rattle.std.specs.Prelude.{◌≡◌, ◌<◌, length};
+ghost use Rattle.std.specs.Prelude.{◌<◌};
+ghost use Rattle.tile_cache.specs.Planes.{IsInStep};
 
-use picture_scenes::acts;
-use picture_slow::draw_slowly;
+use picture_scenes::{acts, renew};
+use ppu_line::draw;
 use ppu_regs::Ppu;
-use snes_defs::NoMemory;
 use std::alloc::{AllocError, Global};
 use std::{env, fs, io};
+use tile_cache::TileCache;
 
-fn new_unit(alloc: Global) -> Option<Ppu> {
-    match Ppu::new(alloc) {
-        Ok(ppu) => Some(ppu),
-        Err(NoMemory) => None,
+/// A new unit and a cache.
+fn new_unit(alloc: Global) -> Option<(Ppu, TileCache)> {
+    match (Ppu::new(alloc), TileCache::new(alloc)) {
+        (Ok(ppu), Ok(tiles)) => Some((ppu, tiles)),
+        _ => None,
     }
 }
 
 /// Adds one row of the picture to the bytes.
-fn show_row(ppu: &Ppu, row: u16, bytes: &mut Vec<u8>) -> Result<(), AllocError>
-    requires { row < 239 }
+fn show_row(ppu: &Ppu, tiles: &TileCache, row: u16, bytes: &mut Vec<u8>) -> Result<(), AllocError>
+    requires row { row < 239 }
+    requires step { IsInStep tiles.now ppu.now.vram }
 {
     let mut drawn = [0u16; 512];
-    let _over = draw_slowly(ppu, row + 1, &mut drawn);
+    let _over = draw(ppu, tiles, row + 1, &mut drawn);
     for dot in drawn {
         bytes.push((dot % 256) as u8)?;
         bytes.push((dot / 256) as u8)?;
@@ -35,9 +38,10 @@ fn show_row(ppu: &Ppu, row: u16, bytes: &mut Vec<u8>) -> Result<(), AllocError>
 }
 
 /// Adds the picture as it stands.
-fn show(ppu: &Ppu, bytes: &mut Vec<u8>) -> Result<(), AllocError> {
+fn show(ppu: &Ppu, tiles: &mut TileCache, bytes: &mut Vec<u8>) -> Result<(), AllocError> {
+    renew(ppu, tiles);
     for row in 0..224u16 {
-        show_row(ppu, row, bytes)?;
+        show_row(ppu, tiles, row, bytes)?;
     }
     Ok(())
 }
@@ -60,13 +64,13 @@ fn main(rt: HostRuntime) -> io::Result<()> {
             if line.starts_with("scene ") {
                 unit = new_unit(rt.alloc());
             } else if line.starts_with("end") {
-                if let Some(ppu) = &unit {
+                if let Some((ppu, tiles)) = &mut unit {
                     if from <= scene && scene <= upto {
-                        show(ppu, &mut bytes)?;
+                        show(ppu, tiles, &mut bytes)?;
                     }
                 }
                 scene = scene.saturating_add(1);
-            } else if let Some(ppu) = &mut unit {
+            } else if let Some((ppu, _)) = &mut unit {
                 acts(ppu, line);
             }
         }

@@ -1,15 +1,16 @@
 //! Runs the scenes of the files that it is given, as `data/picture.txt`, through the picture unit.
 //!
 //! The scenes come from outside: two other programs agreed on every read and every dot. Each row is drawn
-//! twice, by `ppu_line` and slowly by `picture_slow`. The program prints the scene of each line that differs,
-//! and last how many there were.
+//! twice, by `ppu_line` and slowly by `picture_slow`, and both have to be so. The program prints the scene of
+//! each line that differs, and last how many there were.
 #![tactic(auto)]
 
-use picture_scenes::{acts, read_holds, row_holds, row_number};
+use picture_scenes::{acts, read_holds, renew, row_holds, row_number};
 use picture_slow::draw_slowly;
+use ppu_line::draw;
 use ppu_regs::Ppu;
-use snes_defs::NoMemory;
 use std::{env, fs, io};
+use tile_cache::TileCache;
 
 /// How many answers were compared, and how many differ.
 #[derive(Clone, Copy)]
@@ -20,30 +21,34 @@ struct Tally {
     reads_differing: u64,
 }
 
-fn new_unit(rt: &HostRuntime) -> Option<Ppu> {
-    match Ppu::new(rt.alloc()) {
-        Ok(ppu) => Some(ppu),
-        Err(NoMemory) => None,
+/// A new unit and a cache.
+fn new_unit(rt: &HostRuntime) -> Option<(Ppu, TileCache)> {
+    match (Ppu::new(rt.alloc()), TileCache::new(rt.alloc())) {
+        (Ok(ppu), Ok(tiles)) => Some((ppu, tiles)),
+        _ => None,
     }
 }
 
 /// Draws the row of a line, and says whether it holds.
-fn row_is_so(ppu: &mut Ppu, line: &str) -> bool {
+fn row_is_so(ppu: &mut Ppu, tiles: &mut TileCache, line: &str) -> bool {
     match row_number(line) {
         None => false,
         Some(row) => {
+            let mut slow = [0u16; 512];
+            let slow_over = draw_slowly(ppu, row + 1, &mut slow);
+            renew(ppu, tiles);
             let mut drawn = [0u16; 512];
-            let over = draw_slowly(ppu, row + 1, &mut drawn);
+            let over = draw(ppu, tiles, row + 1, &mut drawn);
             ppu.over(over);
-            row_holds(line, over, &drawn)
+            row_holds(line, slow_over, &slow) && row_holds(line, over, &drawn)
         }
     }
 }
 
 /// Does a line, and says whether it holds.
-fn does(ppu: &mut Ppu, tally: &mut Tally, line: &str) -> bool {
+fn does(ppu: &mut Ppu, tiles: &mut TileCache, tally: &mut Tally, line: &str) -> bool {
     if line.starts_with("r ") {
-        let so = row_is_so(ppu, line);
+        let so = row_is_so(ppu, tiles, line);
         tally.rows = tally.rows.saturating_add(1);
         if !so {
             tally.rows_differing = tally.rows_differing.saturating_add(1);
@@ -77,8 +82,8 @@ fn main(rt: HostRuntime) -> io::Result<()> {
             if line.starts_with("scene ") {
                 title = line;
                 unit = new_unit(&rt);
-            } else if let Some(ppu) = &mut unit {
-                if !does(ppu, &mut tally, line) {
+            } else if let Some((ppu, tiles)) = &mut unit {
+                if !does(ppu, tiles, &mut tally, line) {
                     println!(rt; "differs: {title}")?;
                 }
             }

@@ -1,10 +1,10 @@
 -- What stands at a pixel is always an object's.
-use Rattle.std.proofs.Common.{◌≡◌, ℕ, ◌<◌, ◌%◌, Bool, true, false, nat_lt, List, [], ◌∷◌, fold, refl, arith, lit<, if◌then◌else◌}
+use Rattle.std.proofs.Common.{ℕ, Bool, true, false, nat_lt, List, [], ◌∷◌, fold, refl, arith, lit<, if◌then◌else◌}
 use Rattle.ppu_regs.specs.declared.dots.Candidate.{Candidate}
 use Rattle.ppu_regs.specs.Picture.{Picture}
 use Rattle.ppu_objects.specs.declared.objects.Object.{Object}
 use Rattle.ppu_objects.specs.declared.pieces.Piece.{Piece}
-use Rattle.ppu_objects.specs.Pieces.{nothing, object_dot, piece_candidate, painted, object_candidate, drawn_pieces, offset_in, piece_left, pixel_value}
+use Rattle.ppu_objects.specs.Pieces.{nothing, object_dot, piece_candidate, painted, object_candidate, drawn_pieces, offset_in, piece_left}
 use Rattle.ppu_objects.specs.Ranks.{IsOfObjects}
 
 nothing_is : IsOfObjects nothing

@@ -1,5 +1,5 @@
 -- The pieces of eight pixels that the drawn objects have on a row, and what stands at a pixel.
-use Rattle.std.specs.Prelude.{ℕ, zero, suc, ◌+◌, ◌-◌, ◌*◌, ◌/◌, ◌%◌, ◌^◌, ◌==◌, Bool, true, false, not, ◌&&◌, ◌||◌, nat_lt, nat_le, List, [], ◌∷◌, ◌++◌, length, take, fold, slice_index, if◌then◌else◌}
+use Rattle.std.specs.Prelude.{ℕ, zero, suc, ◌+◌, ◌-◌, ◌*◌, ◌/◌, ◌%◌, ◌^◌, ◌==◌, Bool, false, not, ◌||◌, nat_lt, nat_le, List, [], ◌∷◌, ◌++◌, length, take, fold, slice_index, if◌then◌else◌}
 use Rattle.ppu_regs.specs.declared.registers.ObjectTiles.{ObjectTiles}
 use Rattle.ppu_regs.specs.declared.dots.Candidate.{Candidate}
 use Rattle.ppu_regs.specs.Picture.{Picture}

@@ -1,6 +1,6 @@
 -- Inks behind masks, and inks of two planes.
-use Rattle.std.proofs.Common.{◌≡◌, ℕ, ◌<◌, ◌/◌, Bool, true, false, ◌&&◌, nat_lt, refl, ap, ◌∙◌, arith}
-use Rattle.row_passes.specs.Inks.{Ink, nearest, seen, seen_key, is_nearer, chosen, rank_of}
+use Rattle.std.proofs.Common.{◌≡◌, ℕ, Bool, true, false, ◌&&◌, nat_lt, refl, ap, ◌∙◌, arith}
+use Rattle.row_passes.specs.Inks.{Ink, nearest, seen, seen_key, is_nearer, chosen}
 use Rattle.color_window.specs.Windows.{mask_of}
 use Rattle.ppu_screens.specs.Screens.{standing}
 

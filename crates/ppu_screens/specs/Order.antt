@@ -1,8 +1,7 @@
 -- Which layer stands in front of which, by mode (2105, 2133; Super Nintendo Development Manual, "BG and OBJ priority"; nocash fullsnes,
 -- "SNES PPU Background Priority").
-use Rattle.std.specs.Prelude.{ℕ, suc, ◌+◌, ◌*◌, ◌==◌, Bool, true, false, ◌&&◌, ◌||◌, List, [], ◌∷◌, length, if◌then◌else◌}
+use Rattle.std.specs.Prelude.{ℕ, ◌+◌, ◌*◌, ◌==◌, Bool, ◌&&◌, List, [], ◌∷◌, length, if◌then◌else◌}
 use Rattle.ppu_regs.specs.declared.registers.Registers.{Registers}
-use Rattle.ppu_regs.specs.Picture.{screens_of}
 
 -- a layer, 1 to 4 for BG1 to BG4 or 5 for the objects, with one of its priorities
 pub record Place : Type 0 where

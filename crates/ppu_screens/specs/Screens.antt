@@ -1,11 +1,10 @@
 -- What stands in front on the main and on the sub screen, and the 512 dots of a row (2100, 212C to 2133; nocash fullsnes, "SNES PPU
 -- Color-Math", "SNES PPU Resolution").
-use Rattle.std.specs.Prelude.{ℕ, zero, suc, ◌+◌, ◌*◌, ◌/◌, ◌%◌, ◌==◌, Bool, true, false, not, ◌&&◌, ◌||◌, List, slice_index, if◌then◌else◌}
+use Rattle.std.specs.Prelude.{ℕ, ◌==◌, Bool, not, ◌&&◌, ◌||◌, slice_index, if◌then◌else◌}
 use Rattle.ppu_regs.specs.declared.registers.Registers.{Registers}
-use Rattle.ppu_regs.specs.declared.registers.LayerScreens.{LayerScreens}
 use Rattle.ppu_regs.specs.declared.dots.Planes.{Planes}
 use Rattle.ppu_regs.specs.Picture.{Picture, screens_of}
-use Rattle.row_passes.specs.Inks.{Ink, nearest, is_named, is_found}
+use Rattle.row_passes.specs.Inks.{Ink, is_named, is_found}
 use Rattle.row_passes.specs.Colours.{ink_colour, dimmed}
 use Rattle.color_window.specs.Windows.{is_inside}
 use Rattle.color_window.specs.Mixing.{mixed, fixed_colour}

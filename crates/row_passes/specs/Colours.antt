@@ -1,5 +1,5 @@
 -- Colours of 15 bits (0bbbbbgg gggrrrrr), colour arithmetic and brightness (nocash fullsnes, "SNES PPU Color-Math").
-use Rattle.std.specs.Prelude.{ℕ, ◌+◌, ◌-◌, ◌*◌, ◌/◌, ◌%◌, ◌==◌, Bool, true, false, not, ◌&&◌, ◌||◌, List, slice_index, min, if◌then◌else◌}
+use Rattle.std.specs.Prelude.{ℕ, ◌+◌, ◌-◌, ◌*◌, ◌/◌, ◌%◌, ◌==◌, Bool, ◌&&◌, ◌||◌, List, slice_index, min, if◌then◌else◌}
 use Rattle.row_passes.specs.Inks.{rank_of, tint_of, is_found}
 
 -- red, green and blue, five bits each

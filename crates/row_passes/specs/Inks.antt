@@ -1,5 +1,5 @@
 -- What stands at one pixel of a screen, in two numbers, and which of two stands in front.
-use Rattle.std.specs.Prelude.{ℕ, ◌+◌, ◌*◌, ◌/◌, ◌%◌, ◌==◌, Bool, true, false, nat_lt, if◌then◌else◌}
+use Rattle.std.specs.Prelude.{ℕ, ◌/◌, ◌%◌, ◌==◌, Bool, nat_lt, if◌then◌else◌}
 
 -- An ink's key has in bits 7-4 its rank (0 nothing, else the greater the nearer to the front), in bit 3 whether colour
 -- arithmetic is named for it, and in bits 2-0 the palette bits of a direct colour. Its number is that of a colour in CGRAM, or the

@@ -1,5 +1,5 @@
 -- The first pixels of the piece are drawn, where their value isn't 0.
-use Rattle.std.proofs.Common.{◌≡◌, ℕ, ◌+◌, ◌-◌, ◌*◌, ◌%◌, ◌<◌, ◌==◌, ◌&&◌, not, nat_lt, get_or, if◌then◌else◌}
+use Rattle.std.proofs.Common.{◌≡◌, ℕ, ◌+◌, ◌-◌, ◌<◌, ◌==◌, ◌&&◌, not, nat_lt, get_or, if◌then◌else◌}
 use Rattle.ppu_objects.specs.Pieces.{offset_in, value_of}
 use Rattle.ppu_objects.proofs.painting.paint.Given as goal
 

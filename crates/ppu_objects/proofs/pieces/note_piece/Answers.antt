@@ -1,4 +1,4 @@
-use Rattle.std.proofs.Common.{◌≡◌, ◌<◌, ◌≤◌, List, length, ◌∙◌, arith}
+use Rattle.std.proofs.Common.{◌<◌, ◌≤◌, length, ◌∙◌, arith}
 use Rattle.ppu_objects.specs.Objects.{grown}
 use Rattle.ppu_objects.proofs.Firsts.{push_items, push_more, full_items, full_more}
 use Rattle.ppu_objects.proofs.pieces.note_piece.Goals as goal

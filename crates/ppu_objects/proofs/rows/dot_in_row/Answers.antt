@@ -1,4 +1,4 @@
-use Rattle.std.proofs.Common.{◌≡◌, ℕ, List, ap, ◌∙◌}
+use Rattle.std.proofs.Common.{ℕ, List, ap, ◌∙◌}
 use Rattle.ppu_regs.specs.Dots.{dot_of}
 use Rattle.ppu_objects.specs.Pieces.{object_candidate}
 use Rattle.ppu_objects.proofs.Seen.{object_candidate_is}
