@@ -5,6 +5,7 @@ ghost use Rattle.ppu_regs.specs.Picture.{windows_of};
 ghost use Rattle.color_window.specs.Windows.{is_within, truth_of, is_inside, mask_of};
 
 use ppu_regs::{Combine, LayerWindows, Ppu, Registers, Window};
+use row_passes::choose;
 
 /// Whether the pixel `x` lies in the windows of a layer: 1 to 4 for BG1 to BG4, 5 for the objects, 6 for the
 /// colour window.
@@ -93,12 +94,13 @@ fn cases_of(w: &LayerWindows) -> Cases
 }
 
 #[inline(always)]
+#[tactic(auto, unfolding(row_passes::specs::Inks::chosen))]
 fn case_at(cases: &Cases, in_one: bool, in_two: bool) -> u8
     ensures { result ≡ (if in_one then (if in_two then cases.now.both else cases.now.first) else (if in_two then cases.now.second else cases.now.neither)) }
 {
-    let without = if in_two { cases.second } else { cases.neither };
-    let within = if in_two { cases.both } else { cases.first };
-    if in_one { within } else { without }
+    let within = choose(in_two, cases.both, cases.first);
+    let without = choose(in_two, cases.second, cases.neither);
+    choose(in_one, within, without)
 }
 
 /// One pixel of a mask row.

@@ -11,4 +11,4 @@ mod colours;
 mod inks;
 
 pub use colours::{join_colours, look_up, write_dots};
-pub use inks::{fill_row, is_found_key, lay};
+pub use inks::{choose, fill_row, is_found_key, lay};
