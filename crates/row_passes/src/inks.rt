@@ -8,8 +8,7 @@ ghost use Rattle.row_passes.specs.Inks.{Ink, seen_key, chosen, nearest, seen, is
 fn key_behind(hidden: u8, key: u8) -> u8
     ensures { result ≡ seen_key hidden key }
 {
-    let shown = (hidden == 0) as u8 * 255;
-    key & shown
+    key * (hidden == 0) as u8
 }
 
 #[inline(always)]
@@ -20,14 +19,13 @@ fn second_is_nearer(first: u8, second: u8) -> bool
     first / 16 < second / 16
 }
 
-/// One of two bytes, by a mask and without a branch, so that loops become vector code.
+/// One of two bytes, without a branch, so that loops become vector code.
 #[inline(always)]
 #[tactic(auto, unfolding(crate::specs::Inks::chosen))]
 pub fn choose(which: bool, taken: u8, other: u8) -> u8
     ensures { result ≡ chosen which taken other }
 {
-    let mask = which as u8 * 255;
-    (taken & mask) | (other & (255 - mask))
+    taken * which as u8 + other * !which as u8
 }
 
 /// Lays a layer's inks over those of a screen: at each pixel the nearer to the front stays, the screen's where
