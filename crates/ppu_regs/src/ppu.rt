@@ -1,4 +1,4 @@
-ghost use Rattle.std.specs.Prelude.{◌≡◌, ℕ, ◌<◌, ◌≤◌, length, slice_index, All, IfOk, not, true, false};
+ghost use Rattle.std.specs.Prelude.{◌≡◌, ℕ, ◌<◌, ◌≤◌, length, slice_index, All, IfOk, IfSome, not, true, false};
 ghost use Rattle.ppu_regs.specs.Picture.{IsInRange, picture_start, vram_words, zeros};
 ghost use Rattle.ppu_regs.specs.Writes.{registers_written, oam_written, vram_low_set, vram_high_set, vram_low_put, vram_high_put, colour_put, after_write, word_written, after_over, after_frame, after_blank};
 ghost use Rattle.ppu_regs.specs.Reads.{byte_read, after_read, counters_latched, count_byte, status_two};
@@ -97,6 +97,7 @@ impl Ppu {
     pub fn write(&mut self, reg: u8, v: u8) -> Option<u16>
         requires { reg < 0x40 }
         ensures word { result ≡ word_written self.old reg }
+        ensures within { IfSome result (λ word. word < 32768) }
         ensures after { self.new ≡ after_write self.old reg v }
     {
         match reg {
@@ -207,6 +208,7 @@ impl Ppu {
     #[tactic(auto, unfolding(crate::specs::Writes::vram_low_put))]
     fn put_vram_low(&mut self, v: u8) -> u16
         ensures word { result ≡ vram_place self.old.registers.vram }
+        ensures within { result < 32768 }
         ensures after { self.new ≡ vram_low_put self.old v }
     {
         vram::put_low(self.vram.as_mut_slice(), &mut self.registers.vram, v)
@@ -217,6 +219,7 @@ impl Ppu {
     #[tactic(auto, unfolding(crate::specs::Writes::vram_high_put))]
     fn put_vram_high(&mut self, v: u8) -> u16
         ensures word { result ≡ vram_place self.old.registers.vram }
+        ensures within { result < 32768 }
         ensures after { self.new ≡ vram_high_put self.old v }
     {
         vram::put_high(self.vram.as_mut_slice(), &mut self.registers.vram, v)

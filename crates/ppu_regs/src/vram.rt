@@ -75,6 +75,7 @@ fn step_after(port: &mut VramPort, high: bool)
 pub fn put_low(vram: &mut [u16], port: &mut VramPort, v: u8) -> u16
     requires { length vram.old ≡ 32768 }
     ensures word { result ≡ vram_place port.old }
+    ensures within { result < 32768 }
     ensures words { vram.new ≡ vram_low_written vram.old port.old v }
     ensures port { port.new ≡ vram_port_after port.old false }
 {
@@ -91,6 +92,7 @@ pub fn put_low(vram: &mut [u16], port: &mut VramPort, v: u8) -> u16
 pub fn put_high(vram: &mut [u16], port: &mut VramPort, v: u8) -> u16
     requires { length vram.old ≡ 32768 }
     ensures word { result ≡ vram_place port.old }
+    ensures within { result < 32768 }
     ensures words { vram.new ≡ vram_high_written vram.old port.old v }
     ensures port { port.new ≡ vram_port_after port.old true }
 {

@@ -3,7 +3,7 @@ ghost use Rattle.ppu_regs.specs.Dots.{dot_of, no_dot};
 ghost use Rattle.tile_cache.specs.Planes.{IsInStep};
 ghost use Rattle.ppu_tiles.specs.Modes.{depth_of};
 ghost use Rattle.ppu_tiles.specs.Backgrounds.{background_candidate};
-ghost use Rattle.ppu_tiles.specs.Columns.{planes_candidate};
+ghost use Rattle.ppu_tiles.specs.Columns.{IsDepth, planes_candidate};
 
 use crate::modes::depth;
 use crate::rows::ink_row;
@@ -58,7 +58,7 @@ fn fill(
 pub fn bg_row(p: &Ppu, tiles: &TileCache, layer: u8, row: u16, out: &mut [Dot])
     requires first { 1 ≤ layer }
     requires last { layer ≤ 4 }
-    requires depth { IsTrue ((depth_of p.now.registers.mode layer == 2) || (depth_of p.now.registers.mode layer == 4) || (depth_of p.now.registers.mode layer == 8)) }
+    requires depth { IsDepth (depth_of p.now.registers.mode layer) }
     requires row { row < 239 }
     requires dots { length out.old ≡ 512 }
     requires step { IsInStep tiles.now p.now.vram }

@@ -1,29 +1,18 @@
-ghost use Rattle.std.specs.Prelude.{◌≡◌, ℕ, IsTrue, ◌<◌, ◌≤◌, ◌+◌, ◌-◌, ◌*◌, ◌/◌, ◌%◌, ◌==◌, ◌||◌, length, slice_index, slice_index_or};
+ghost use Rattle.std.specs.Prelude.{◌≡◌, ℕ, ◌<◌, ◌≤◌, ◌+◌, ◌-◌, ◌*◌, ◌/◌, ◌%◌, ◌==◌, slice_index, if◌then◌else◌};
 ghost use Rattle.ppu_regs.specs.Reads.{bit_of};
-ghost use Rattle.ppu_regs.specs.Dots.{rank_of, dot_of, no_dot};
-ghost use Rattle.tile_cache.specs.Planes.{IsInStep, eight};
+ghost use Rattle.ppu_regs.specs.Dots.{rank_of};
+ghost use Rattle.tile_cache.specs.Planes.{IsInStep};
 ghost use Rattle.ppu_tiles.specs.Modes.{depth_of};
-ghost use Rattle.ppu_tiles.specs.Backgrounds.{background_candidate};
-ghost use Rattle.ppu_tiles.specs.Columns.{base_of, column_rank, column_number};
+ghost use Rattle.ppu_tiles.specs.Backgrounds.{block_start, candidate_at, background_candidate};
+ghost use Rattle.ppu_tiles.specs.Columns.{IsDepth, base_of, column_value, column_base, column_first};
 
-use crate::columns::column_dots;
+use crate::columns::put_column;
 use crate::entries::block;
-use ppu_regs::Ppu;
+use crate::modes::depth;
+use ppu_regs::{Background, Ppu, Registers};
 use tile_cache::TileCache;
 
-/// Eight bytes are put side by side.
-#[inline(always)]
-fn put_eight(row: &mut [u8; 264], at: usize, line: [u8; 8])
-    requires { at + 8 ≤ 264 }
-    ensures put { (k : ℕ) → k < 8 → slice_index row.new (at + k) ≡ slice_index line k }
-    ensures below { (k : ℕ) → k < at → slice_index row.new k ≡ slice_index row.old k }
-{
-    for k in 0..8 {
-        row[at + k] = line[k];
-    }
-}
-
-/// The 33 columns of a row, side by side.
+/// The 33 columns of a row, side by side: their values, and what they are counted from in both planes.
 #[inline(always)]
 fn paint(
     p: &Ppu,
@@ -33,35 +22,70 @@ fn paint(
     odd: bool,
     low: u8,
     high: u8,
-    ranks: &mut [u8; 264],
-    numbers: &mut [u8; 264],
+    values: &mut [u8; 264],
+    bases: &mut [u8; 264],
+    firsts: &mut [u8; 264],
 )
     requires first { 1 ≤ layer }
     requires last { layer ≤ 4 }
-    requires depth { IsTrue ((depth_of p.now.registers.mode layer == 2) || (depth_of p.now.registers.mode layer == 4) || (depth_of p.now.registers.mode layer == 8)) }
+    requires depth { IsDepth (depth_of p.now.registers.mode layer) }
     requires step { IsInStep tiles.now p.now.vram }
     requires y { y ≤ 239 }
     requires low { low ≤ 248 }
     requires high { high ≤ 248 }
-    ensures ranks { (k : ℕ) → k < 264 → slice_index ranks.new k ≡ column_rank p.now layer y (bit_of odd) low high (k / 8) (k % 8) }
-    ensures numbers { (k : ℕ) → k < 264 → slice_index numbers.new k ≡ column_number p.now layer y (bit_of odd) (k / 8) (k % 8) }
+    ensures values { (k : ℕ) → k < 264 → slice_index values.new k ≡ column_value p.now layer y (bit_of odd) (k / 8) (k % 8) }
+    ensures bases { (k : ℕ) → k < 264 → slice_index bases.new k ≡ column_base p.now layer y low high (k / 8) }
+    ensures firsts { (k : ℕ) → k < 264 → slice_index firsts.new k ≡ column_first p.now layer y (k / 8) }
 {
+    let r = p.registers();
+    let b = r.background(layer);
+    let bits = depth(r.mode, layer);
     for c in 0..33usize {
-        let eight = column_dots(p, tiles, layer, y, odd, c as u16, low, high);
-        put_eight(ranks, 8 * c, eight.ranks);
-        put_eight(numbers, 8 * c, eight.numbers);
+        put_column(
+            p, tiles, b, bits, layer, y, odd, c, low, high, values, bases, firsts,
+        );
     }
 }
 
-/// 256 bytes of a painted row, from one of its first eight on.
+/// The byte of a value in the plane of ranks.
 #[inline(always)]
-fn cut(wide: &[u8; 264], from: usize, row: &mut [u8; 256])
-    requires { from < 8 }
-    ensures { (x : ℕ) → x < 256 → slice_index row.new x ≡ slice_index wide.now (x + from) }
+fn rank(value: u8, base: u8) -> u8
+    ensures { result ≡ (if value == 0 then 0 else base) }
 {
-    for x in 0..256 {
-        row[x] = wide[x + from];
+    if value == 0 { 0 } else { base }
+}
+
+/// The two planes from a painted row, from one of its first eight pixels on.
+#[inline(always)]
+fn ink(
+    values: &[u8; 264],
+    bases: &[u8; 264],
+    firsts: &[u8; 264],
+    from: usize,
+    ranks: &mut [u8; 256],
+    numbers: &mut [u8; 256],
+)
+    requires { from < 8 }
+    ensures ranks { (x : ℕ) → x < 256 → slice_index ranks.new x ≡ (if slice_index values.now (x + from) == 0 then 0 else slice_index bases.now (x + from)) }
+    ensures numbers { (x : ℕ) → x < 256 → slice_index numbers.new x ≡ (slice_index firsts.now (x + from) + slice_index values.now (x + from)) % 256 }
+{
+    for x in 0..256usize {
+        let value = values[x + from];
+        ranks[x] = rank(value, bases[x + from]);
+        numbers[x] = firsts[x + from].wrapping_add(value);
     }
+}
+
+/// The place in a block of the dot after one.
+#[inline(always)]
+#[tactic(auto, using(crate::proofs::Blocks::mod_next))]
+fn next_place(place: usize, size: usize) -> usize
+    requires positive { 1 ≤ size }
+    requires small { size ≤ 16 }
+    requires within { place < size }
+    ensures { (x : ℕ) → place ≡ x % size → result ≡ (x + 1) % size }
+{
+    if place + 1 == size { 0 } else { place + 1 }
 }
 
 /// Each byte becomes that of the first dot of its block of `size` dots.
@@ -74,8 +98,61 @@ fn spread(row: &mut [u8; 256], size: usize)
     let mut place = 0;
     for x in 0..256 {
         row[x] = row[x - place];
-        place = if place + 1 == size { 0 } else { place + 1 };
+        place = next_place(place, size);
     }
+}
+
+/// Each byte becomes that of the first dot of its mosaic block, where the layer has mosaic.
+#[inline(always)]
+#[tactic(auto, unfolding(crate::specs::Backgrounds::block_start))]
+fn take_blocks(r: &Registers, b: &Background, row: &mut [u8; 256])
+    ensures { (x : ℕ) → x < 256 → slice_index row.new x ≡ slice_index row.old (block_start r.now b.now x) }
+{
+    if b.mosaic {
+        spread(row, r.mosaic as usize + 1);
+    }
+}
+
+/// A row without mosaic, of row `y` of the screen.
+#[inline(always)]
+fn plain_row(
+    p: &Ppu,
+    tiles: &TileCache,
+    layer: u8,
+    y: u16,
+    odd: bool,
+    low: u8,
+    high: u8,
+    ranks: &mut [u8; 256],
+    numbers: &mut [u8; 256],
+)
+    requires first { 1 ≤ layer }
+    requires last { layer ≤ 4 }
+    requires depth { IsDepth (depth_of p.now.registers.mode layer) }
+    requires y { y ≤ 239 }
+    requires low { low ≤ 248 }
+    requires high { high ≤ 248 }
+    requires step { IsInStep tiles.now p.now.vram }
+    ensures ranks { (x : ℕ) → x < 256 → slice_index ranks.new x ≡ (let c = candidate_at p.now layer y x (bit_of odd) in rank_of (base_of low high c) c) }
+    ensures numbers { (x : ℕ) → x < 256 → slice_index numbers.new x ≡ (candidate_at p.now layer y x (bit_of odd)).number }
+{
+    let mut values = [0u8; 264];
+    let mut bases = [0u8; 264];
+    let mut firsts = [0u8; 264];
+    paint(
+        p,
+        tiles,
+        layer,
+        y,
+        odd,
+        low,
+        high,
+        &mut values,
+        &mut bases,
+        &mut firsts,
+    );
+    let from = (p.registers().background(layer).scroll_x % 8) as usize;
+    ink(&values, &bases, &firsts, from, ranks, numbers);
 }
 
 /// A row of a layer in two byte planes: `ranks` has 0 where the layer has nothing, else `low` or `high` by the
@@ -94,7 +171,7 @@ pub fn ink_row(
 )
     requires first { 1 ≤ layer }
     requires last { layer ≤ 4 }
-    requires depth { IsTrue ((depth_of p.now.registers.mode layer == 2) || (depth_of p.now.registers.mode layer == 4) || (depth_of p.now.registers.mode layer == 8)) }
+    requires depth { IsDepth (depth_of p.now.registers.mode layer) }
     requires row { row < 239 }
     requires low { low ≤ 248 }
     requires high { high ≤ 248 }
@@ -104,26 +181,8 @@ pub fn ink_row(
 {
     let r = p.registers();
     let b = r.background(layer);
-    let mut wide_ranks = [0u8; 264];
-    let mut wide_numbers = [0u8; 264];
     let y = block(r, b, row);
-    paint(
-        p,
-        tiles,
-        layer,
-        y,
-        odd,
-        low,
-        high,
-        &mut wide_ranks,
-        &mut wide_numbers,
-    );
-    let from = (b.scroll_x % 8) as usize;
-    cut(&wide_ranks, from, ranks);
-    cut(&wide_numbers, from, numbers);
-    if b.mosaic {
-        let size = r.mosaic as usize + 1;
-        spread(ranks, size);
-        spread(numbers, size);
-    }
+    plain_row(p, tiles, layer, y, odd, low, high, ranks, numbers);
+    take_blocks(r, b, ranks);
+    take_blocks(r, b, numbers);
 }

@@ -29,14 +29,22 @@ planes_ext f g word depth k within small same =
     let e3 = same ((word + 24) % 32768) (omega arith) in
     cc
 
--- a line of a cache in step is what decoding gives
+-- a pixel of a cache in step is what decoding gives
+pub value_in_step :
+    (cache vram : List ℕ) (word depth k : ℕ) → word < 32768 → k < 8 → IsInStep cache vram →
+    cached_value cache word depth k ≡ value_of vram word depth k
+unfolding cached_value value_of
+value_in_step cache vram word depth k within small step =
+    planes_ext (λ w j. cached cache w j) (λ w j. pixel_of (slice_index vram w) j) word depth k within small
+    (λ w h. step.at w h k small)
+
+-- and so is a line
 pub line_in_step :
     (cache vram : List ℕ) (word depth : ℕ) → word < 32768 → IsInStep cache vram →
     eight (λ k. cached_value cache word depth k) ≡ eight (λ k. value_of vram word depth k)
-unfolding cached_value value_of
 line_in_step cache vram word depth within step =
     eight_ext (λ k. cached_value cache word depth k) (λ k. value_of vram word depth k)
-    (λ k small. planes_ext (λ w j. cached cache w j) (λ w j. pixel_of (slice_index vram w) j) word depth k within small (λ w h. step.at w h k small))
+    (λ k small. value_in_step cache vram word depth k within small step)
 
 -- a list of zeros has 0 everywhere
 zero_at : (xs : List ℕ) (i : ℕ) → All (λ b. b ≡ 0) xs → slice_index xs i ≡ 0

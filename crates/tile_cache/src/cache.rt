@@ -1,5 +1,6 @@
 ghost use Rattle.std.specs.Prelude.{◌≡◌, ◌≢◌, ℕ, ◌⊎◌, ◌+◌, ◌*◌, ◌/◌, ◌%◌, ◌<◌, ◌≤◌, ◌^◌, ◌==◌, List, length, slice_index, slice_set, All, IfOk, IsTrue, ◌||◌};
 ghost use Rattle.ppu_regs.specs.Picture.{picture_start};
+ghost use Rattle.ppu_regs.specs.Writes.{after_write, word_written};
 ghost use Rattle.tile_cache.specs.Planes.{pixel_of, value_of, cached, cached_value, IsInStepAt, IsInStep, eight};
 
 use ppu_regs::Ppu;
@@ -86,58 +87,38 @@ impl TileCache {
             + 64 * self.pixel((word + 24) % WORDS, k)
     }
 
-    /// A line of 2 bits.
+    /// The pixel `k` from the left, 0 to 7, of the line that begins at a word, at a depth of 2, 4 or 8 bits.
     #[inline(always)]
     #[tactic(auto, unfolding(crate::specs::Planes::cached_value))]
-    fn line_of_two(&self, word: usize) -> [u8; 8]
+    pub fn value(&self, word: usize, depth: u8, k: usize) -> u8
         requires word { word < 32768 }
-        ensures { result ≡ eight (λ k. cached_value self.now word 2 k) }
+        requires depth { IsTrue ((depth == 2) || (depth == 4) || (depth == 8)) }
+        requires k { k < 8 }
+        ensures { result ≡ cached_value self.now word depth k }
     {
-        [
-            self.pixel(word, 0),
-            self.pixel(word, 1),
-            self.pixel(word, 2),
-            self.pixel(word, 3),
-            self.pixel(word, 4),
-            self.pixel(word, 5),
-            self.pixel(word, 6),
-            self.pixel(word, 7),
-        ]
+        match depth {
+            2 => self.pixel(word, k),
+            4 => self.pixel_of_four(word, k),
+            _ => self.pixel_of_eight(word, k),
+        }
     }
 
-    /// A line of 4 bits.
+    /// A line at a depth.
     #[inline(always)]
-    fn line_of_four(&self, word: usize) -> [u8; 8]
+    fn cached_line(&self, word: usize, depth: u8) -> [u8; 8]
         requires word { word < 32768 }
-        ensures { result ≡ eight (λ k. cached_value self.now word 4 k) }
+        requires depth { IsTrue ((depth == 2) || (depth == 4) || (depth == 8)) }
+        ensures { result ≡ eight (λ k. cached_value self.now word depth k) }
     {
         [
-            self.pixel_of_four(word, 0),
-            self.pixel_of_four(word, 1),
-            self.pixel_of_four(word, 2),
-            self.pixel_of_four(word, 3),
-            self.pixel_of_four(word, 4),
-            self.pixel_of_four(word, 5),
-            self.pixel_of_four(word, 6),
-            self.pixel_of_four(word, 7),
-        ]
-    }
-
-    /// A line of 8 bits.
-    #[inline(always)]
-    fn line_of_eight(&self, word: usize) -> [u8; 8]
-        requires word { word < 32768 }
-        ensures { result ≡ eight (λ k. cached_value self.now word 8 k) }
-    {
-        [
-            self.pixel_of_eight(word, 0),
-            self.pixel_of_eight(word, 1),
-            self.pixel_of_eight(word, 2),
-            self.pixel_of_eight(word, 3),
-            self.pixel_of_eight(word, 4),
-            self.pixel_of_eight(word, 5),
-            self.pixel_of_eight(word, 6),
-            self.pixel_of_eight(word, 7),
+            self.value(word, depth, 0),
+            self.value(word, depth, 1),
+            self.value(word, depth, 2),
+            self.value(word, depth, 3),
+            self.value(word, depth, 4),
+            self.value(word, depth, 5),
+            self.value(word, depth, 6),
+            self.value(word, depth, 7),
         ]
     }
 
@@ -152,20 +133,22 @@ impl TileCache {
     {
         self.cached_line(word as usize, depth)
     }
+}
 
-    /// That line, as the cache has it.
-    #[inline(always)]
-    fn cached_line(&self, word: usize, depth: u8) -> [u8; 8]
-        requires word { word < 32768 }
-        requires depth { IsTrue ((depth == 2) || (depth == 4) || (depth == 8)) }
-        ensures { result ≡ eight (λ k. cached_value self.now word depth k) }
-    {
-        match depth {
-            2 => self.line_of_two(word),
-            4 => self.line_of_four(word),
-            _ => self.line_of_eight(word),
-        }
+/// A byte is written to the register 2100 plus `reg`, and the cache stays in step.
+#[inline(always)]
+pub fn write(p: &mut Ppu, tiles: &mut TileCache, reg: u8, v: u8) -> Option<u16>
+    requires reg { reg < 0x40 }
+    requires step { IsInStep tiles.old p.old.vram }
+    ensures word { result ≡ word_written p.old reg }
+    ensures after { p.new ≡ after_write p.old reg v }
+    ensures step { IsInStep tiles.new p.new.vram }
+{
+    let word = p.write(reg, v);
+    if let Some(word) = word {
+        tiles.wrote(p, word);
     }
+    word
 }
 
 fn zeroed(alloc: Global, size: usize) -> Result<Vec<u8>, NoMemory>
