@@ -247,3 +247,9 @@ row_number p layer y odd x from values firsts ho hl hf hv hb = rw (hv, hb) (rw h
 pub odd_small : (odd : Bool) → (if odd then 1 else 0) < 2
 odd_small true = omega arith
 odd_small false = omega arith
+
+-- the candidate of a row that stands at its blocks' first
+pub row_candidate :
+    (p : Picture) (layer row x odd y : ℕ) (r : Registers) (b : Background) → odd < 2 → r ≡ p.registers → b ≡ background_of r layer →
+    y ≡ block_start r b row → candidate_at p layer y (block_start r b x) odd ≡ background_candidate p layer row (2 * x + odd)
+row_candidate p layer row x odd y r b ho hr hb hy = let e = candidate_is p layer row x odd ho in cc

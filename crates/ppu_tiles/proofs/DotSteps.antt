@@ -1,8 +1,9 @@
 -- The dots that the planes of a row stand for are those of its candidates.
-use Rattle.std.proofs.Common.{◌≡◌, ◌≢◌, ℕ, ◌+◌, ◌-◌, ◌*◌, ◌/◌, ◌%◌, ◌<◌, ◌≤◌, ◌==◌, ◌||◌, ◌&&◌, not, List, Bool, true, false, slice_index, slice_index_or, if◌then◌else◌, zero, suc, refl, sym, ap, ◌∙◌, arith}
+use Rattle.std.proofs.Common.{◌≡◌, ◌≢◌, ℕ, ◌+◌, ◌-◌, ◌*◌, ◌/◌, ◌%◌, ◌<◌, ◌≤◌, ◌==◌, ◌||◌, ◌&&◌, not, List, Bool, true, false, slice_index, slice_index_or, if◌then◌else◌, zero, suc, refl, sym, ap, subst, ◌∙◌, arith}
 use Rattle.std.proofs.lemmas.Bool.Decides.{nat_tests}
 use Rattle.ppu_regs.specs.declared.registers.Registers.{Registers}
 use Rattle.ppu_regs.specs.declared.dots.Candidate.{Candidate}
+use Rattle.ppu_regs.specs.declared.dots.Dot.{Dot}
 use Rattle.ppu_regs.specs.Dots.{rank_of, dot_of, no_dot}
 use Rattle.ppu_tiles.specs.Modes.{depth_of}
 use Rattle.ppu_tiles.specs.Backgrounds.{candidate_of, candidate_at, background_candidate}
@@ -52,3 +53,19 @@ pub row_dot :
     rank ≡ rank_of (base_of 16 32 c) c → number ≡ c.number → dot_of p.cgram (planes_candidate rank number direct) ≡ dot_of p.cgram c)
 unfolding background_candidate candidate_at
 row_dot p layer row e rank number direct hd hr hn = rw (hd, hr, hn) (dot_of_entry p.cgram p.registers layer _ _)
+
+-- the dots of one half of a row, from its planes
+pub half_of_dots :
+    (p : Picture) (layer row half : ℕ) (ranks numbers cgram : List ℕ) (direct : Bool) (out : List Dot) → cgram ≡ p.cgram →
+    direct ≡ ((depth_of p.registers.mode layer == 8) && p.registers.colour.direct) →
+    ((x : ℕ) → x < 256 → (let c = background_candidate p layer row (2 * x + half) in slice_index ranks x ≡ rank_of (base_of 16 32 c) c)) →
+    ((x : ℕ) → x < 256 → slice_index numbers x ≡ (background_candidate p layer row (2 * x + half)).number) →
+    ((x : ℕ) → x < 256 → slice_index_or out (2 * x + half) no_dot ≡ dot_of cgram (planes_candidate (slice_index ranks x) (slice_index numbers x) direct)) →
+    (e : ℕ) → e < 512 → e % 2 ≡ half → slice_index_or out e no_dot ≡ dot_of p.cgram (background_candidate p layer row e)
+half_of_dots p layer row half ranks numbers cgram direct out hc hd hr hn filled e h dot =
+    let place : 2 * (e / 2) + half ≡ e = omega arith in
+    let small : e / 2 < 256 = omega arith in
+    subst (λ n. slice_index_or out n no_dot ≡ dot_of p.cgram (background_candidate p layer row n)) place
+    (filled (e / 2) small
+    ∙ ap (λ xs. dot_of xs (planes_candidate (slice_index ranks (e / 2)) (slice_index numbers (e / 2)) direct)) hc
+    ∙ row_dot p layer row (2 * (e / 2) + half) (slice_index ranks (e / 2)) (slice_index numbers (e / 2)) direct hd (hr (e / 2) small) (hn (e / 2) small))

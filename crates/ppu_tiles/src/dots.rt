@@ -16,6 +16,15 @@ const LOW: u8 = 16;
 /// The same for priority 1.
 const HIGH: u8 = 32;
 
+/// Whether the colours of a layer are direct.
+#[inline(always)]
+fn is_direct(p: &Ppu, layer: u8) -> bool
+    ensures { result ≡ ((depth_of p.now.registers.mode layer == 8) && p.now.registers.colour.direct) }
+{
+    let r = p.registers();
+    depth(r.mode, layer) == 8 && r.colour.direct
+}
+
 /// The dot that two bytes of a row stand for.
 #[inline(always)]
 #[tactic(auto, unfolding(crate::specs::Columns::planes_candidate))]
@@ -64,8 +73,7 @@ pub fn bg_row(p: &Ppu, tiles: &TileCache, layer: u8, row: u16, out: &mut [Dot])
     requires step { IsInStep tiles.now p.now.vram }
     ensures { (e : ℕ) → e < 512 → slice_index_or out.new e no_dot ≡ dot_of p.now.cgram (background_candidate p.now layer row e) }
 {
-    let r = p.registers();
-    let direct = depth(r.mode, layer) == 8 && r.colour.direct;
+    let direct = is_direct(p, layer);
     let cgram = p.cgram();
     let mut ranks = [0u8; 256];
     let mut numbers = [0u8; 256];

@@ -106,6 +106,7 @@ fn spread(row: &mut [u8; 256], size: usize)
 #[inline(always)]
 #[tactic(auto, unfolding(crate::specs::Backgrounds::block_start))]
 fn take_blocks(r: &Registers, b: &Background, row: &mut [u8; 256])
+    requires { r.now.mosaic < 16 }
     ensures { (x : ℕ) → x < 256 → slice_index row.new x ≡ slice_index row.old (block_start r.now b.now x) }
 {
     if b.mosaic {
@@ -179,6 +180,7 @@ pub fn ink_row(
     ensures ranks { (x : ℕ) → x < 256 → slice_index ranks.new x ≡ (let c = background_candidate p.now layer row (2 * x + bit_of odd) in rank_of (base_of low high c) c) }
     ensures numbers { (x : ℕ) → x < 256 → slice_index numbers.new x ≡ (background_candidate p.now layer row (2 * x + bit_of odd)).number }
 {
+    p.in_range();
     let r = p.registers();
     let b = r.background(layer);
     let y = block(r, b, row);

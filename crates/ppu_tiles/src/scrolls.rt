@@ -1,5 +1,4 @@
 ghost use Rattle.std.specs.Prelude.{◌≡◌, ◌<◌, ◌≤◌, ◌%◌, ◌/◌, ◌*◌, ◌+◌, ◌==◌};
-ghost use Rattle.ppu_regs.specs.Picture.{background_of};
 ghost use Rattle.ppu_tiles.specs.Backgrounds.{own_scroll, offset_entry, acts_on, across_by, two_offsets, one_offset, column_scroll};
 
 use crate::entries::entry;
@@ -67,7 +66,6 @@ fn two(layer: u8, own: Scroll, first: u16, second: u16) -> Scroll
     ensures scroll { result ≡ two_offsets layer own first second }
     ensures across { result.across < 1024 }
     ensures down { result.down < 1024 }
-    ensures fine { result.across % 8 ≡ own.across % 8 }
 {
     Scroll {
         across: if acts(layer, first) {
@@ -92,7 +90,6 @@ fn one(layer: u8, own: Scroll, entry: u16) -> Scroll
     ensures scroll { result ≡ one_offset layer own entry }
     ensures across { result.across < 1024 }
     ensures down { result.down < 1024 }
-    ensures fine { result.across % 8 ≡ own.across % 8 }
 {
     if !acts(layer, entry) {
         return own;
@@ -118,7 +115,6 @@ pub fn in_column(p: &Ppu, layer: u8, c: u16) -> Scroll
     ensures scroll { result ≡ column_scroll p.now layer c }
     ensures across { result.across < 1024 }
     ensures down { result.down < 1024 }
-    ensures fine { result.across % 8 ≡ (background_of p.now.registers layer).scroll_x % 8 }
 {
     let r = p.registers();
     let own = own(r.background(layer));

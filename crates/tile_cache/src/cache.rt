@@ -144,11 +144,13 @@ pub fn write(p: &mut Ppu, tiles: &mut TileCache, reg: u8, v: u8) -> Option<u16>
     ensures after { p.new ≡ after_write p.old reg v }
     ensures step { IsInStep tiles.new p.new.vram }
 {
-    let word = p.write(reg, v);
-    if let Some(word) = word {
-        tiles.wrote(p, word);
+    match p.write(reg, v) {
+        Some(word) => {
+            tiles.wrote(p, word);
+            Some(word)
+        }
+        None => None,
     }
-    word
 }
 
 fn zeroed(alloc: Global, size: usize) -> Result<Vec<u8>, NoMemory>

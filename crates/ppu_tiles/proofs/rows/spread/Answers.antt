@@ -48,4 +48,4 @@ spread_next row before size place next x positive within counted h = record {
 
 pub loop-x-preserved : goal.loop-x-preserved
 loop-x-preserved c =
-    spread_next c.loop-x.row _ c.args.size c.loop-x.place _ c.loop-x.x c.requires.positive (omega arith) (c.next_place.ensures c.loop-x.x c.loop-x.invariant.counted) c.loop-x.invariant
+    spread_next c.loop-x.row _ c.args.size c.loop-x.place _ c.loop-x.x c.requires.positive (omega arith) (c.next_place-place.ensures c.loop-x.x c.loop-x.invariant.counted) c.loop-x.invariant

@@ -1,5 +1,6 @@
 -- The pixels are numbers below 4.
 use Rattle.std.proofs.Common.{◌≡◌, ◌++◌, ℕ, ◌<◌, ◌≤◌, List, length, take, drop, slice_index, ◌+◌, ◌∙◌, sym, ap, subst, rules, arith}
+use Rattle.std.proofs.Math.Seq.{take-append_seam}
 use Rattle.tile_cache.proofs.Steps.{small_after}
 use Rattle.tile_cache.proofs.cache.TileCache.wrote.Goals as goal
 
@@ -13,7 +14,7 @@ pixels_put :
     ((k : ℕ) → k < at → slice_index put k ≡ slice_index kept k) → ((k : ℕ) → at + 8 ≤ k → slice_index put k ≡ slice_index kept k) →
     ArePixels (take n (put ++ drop (length put) kept))
 pixels_put kept put line n at whole old small size here below above =
-    let e : take n (put ++ drop (length put) kept) ≡ put = rw whole (search rules) in
+    let e : take n (put ++ drop (length put) kept) ≡ put = rw whole (take-append_seam put (drop (length put) kept)) in
     subst ArePixels (sym e) (size ∙ old.0, small_after put kept line at old.1 small here below above)
 
 pub invariant_of-self : goal.invariant_of-self
