@@ -40,9 +40,13 @@ tapped x c = shifted (x *ℤ c) 6
 unfoldable pub evened : ℤ → ℤ
 evened z = pos 2 *ℤ shifted z 1
 
+-- taps 0 to 3, and 0 to 6
+unfoldable pub four_taps : Voices → History → ℤ
+four_taps d h = tapped h.h0 (tap d 0) +ℤ tapped h.h1 (tap d 1) +ℤ tapped h.h2 (tap d 2) +ℤ tapped h.h3 (tap d 3)
+
 unfoldable pub seven_taps : Voices → History → ℤ
 seven_taps d h =
-    tapped h.h0 (tap d 0) +ℤ tapped h.h1 (tap d 1) +ℤ tapped h.h2 (tap d 2) +ℤ tapped h.h3 (tap d 3) +ℤ tapped h.h4 (tap d 4) +ℤ tapped h.h5 (tap d 5) +ℤ tapped h.h6 (tap d 6)
+    four_taps d h +ℤ tapped h.h4 (tap d 4) +ℤ tapped h.h5 (tap d 5) +ℤ tapped h.h6 (tap d 6)
 
 -- THE FILTER: taps 0 to 6 wrap at 16 bits, the last one is held; the low bit is cleared
 unfoldable pub filtered : Voices → History → ℤ
@@ -71,13 +75,17 @@ left_history d ram e = pushed e.left (heard ram (place_of d e))
 unfoldable pub right_history : Voices → List ℕ → Echo → History
 right_history d ram e = pushed e.right (heard ram (place_of d e + 2))
 
--- THE ECHO AFTER A SAMPLE: the offset goes on by four bytes, and at the length begins anew
+-- four bytes on, and at the length 0 again
+abbrev pub offset_after : ℕ → ℕ → ℕ
+offset_after offset length = if nat_le length (offset + 4) then 0 else offset + 4
+
+-- THE ECHO AFTER A SAMPLE
 unfoldable pub after_mix : Voices → List ℕ → Echo → Echo
 after_mix d ram e =
     record {
       left = left_history d ram e;
       right = right_history d ram e;
-      offset = if nat_le (length_now d e) (e.offset + 4) then 0 else e.offset + 4;
+      offset = offset_after e.offset (length_now d e);
       length = length_now d e;
     }
 

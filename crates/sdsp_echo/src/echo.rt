@@ -1,4 +1,4 @@
-ghost use Rattle.std.specs.Prelude.{◌≡◌, ◌<◌, ◌≤◌, ◌^◌, length, unsigned_abs};
+ghost use Rattle.std.specs.Prelude.{◌≡◌, ◌<◌, ◌≤◌, ◌^◌, ◌*ℤ◌, length, unsigned_abs};
 ghost use Rattle.sdsp_voice.specs.Registers.{bit, kept};
 ghost use Rattle.sdsp_voice.specs.Signed.{signed_byte};
 ghost use Rattle.sdsp_echo.specs.Echo.{
@@ -7,10 +7,12 @@ ghost use Rattle.sdsp_echo.specs.Echo.{
   evened,
   fed_back,
   filtered,
+  four_taps,
   heard,
   heard_out,
   left_out,
   length_now,
+  offset_after,
   place_of,
   put_word,
   ram_after,
@@ -49,6 +51,15 @@ pub struct Echo {
     length: u16,
 }
 
+/// A product of a number and a signed byte.
+#[inline(always)]
+fn product(x: i16, c: i8) -> i32
+    ensures value { result ≡ x *ℤ c }
+    ensures small { unsigned_abs result ≤ 2 ^ 22 }
+{
+    x as i32 * c as i32
+}
+
 /// One tap of the filter.
 #[tactic(auto, unfolding(crate::specs::Echo::tapped))]
 #[inline(always)]
@@ -56,7 +67,7 @@ fn tap_of(x: i16, c: i8) -> i32
     ensures value { result ≡ tapped x c }
     ensures small { unsigned_abs result ≤ 2 ^ 17 }
 {
-    (x as i32 * c as i32) >> 6
+    product(x, c) >> 6
 }
 
 /// A tap's coefficient.
@@ -68,19 +79,26 @@ fn coefficient(voices: &Voices, k: u8) -> i8
     voices.kept(16 * k + 15).cast_signed()
 }
 
+/// The sum of the filter's first four taps.
+#[tactic(auto, unfolding(crate::specs::Echo::four_taps))]
+#[inline(always)]
+fn four(voices: &Voices, h: &History) -> i32
+    ensures value { result ≡ four_taps voices.now h.now }
+    ensures small { unsigned_abs result ≤ 2 ^ 19 }
+{
+    let first = tap_of(h.h0, coefficient(voices, 0));
+    let two = sum(first, tap_of(h.h1, coefficient(voices, 1)));
+    let three = sum(two, tap_of(h.h2, coefficient(voices, 2)));
+    sum(three, tap_of(h.h3, coefficient(voices, 3)))
+}
+
 /// The sum of the filter's first seven taps.
 #[tactic(auto, unfolding(crate::specs::Echo::seven_taps))]
 #[inline(always)]
 fn seven(voices: &Voices, h: &History) -> i32
     ensures { result ≡ seven_taps voices.now h.now }
 {
-    let two = sum(
-        tap_of(h.h0, coefficient(voices, 0)),
-        tap_of(h.h1, coefficient(voices, 1)),
-    );
-    let three = sum(two, tap_of(h.h2, coefficient(voices, 2)));
-    let four = sum(three, tap_of(h.h3, coefficient(voices, 3)));
-    let five = sum(four, tap_of(h.h4, coefficient(voices, 4)));
+    let five = sum(four(voices, h), tap_of(h.h4, coefficient(voices, 4)));
     let six = sum(five, tap_of(h.h5, coefficient(voices, 5)));
     sum(six, tap_of(h.h6, coefficient(voices, 6)))
 }
@@ -112,7 +130,7 @@ fn with_volume(z: i16, volume: u8) -> i32
     ensures value { result ≡ by_volume z volume }
     ensures small { unsigned_abs result ≤ 2 ^ 16 }
 {
-    (z as i32 * volume.cast_signed() as i32) >> 7
+    product(z, volume.cast_signed()) >> 7
 }
 
 /// One of the two numbers of a sample.
@@ -158,6 +176,19 @@ fn put(ram: &mut [u8], address: u32, number: u16)
 {
     ram[(address % 65536) as usize] = (number % 256) as u8;
     ram[((address + 1) % 65536) as usize] = (number / 256) as u8;
+}
+
+/// The offset after a sample: four bytes on, and 0 again at the length.
+#[inline(always)]
+fn next_offset(offset: u16, length: u16) -> u16
+    ensures { result ≡ offset_after offset length }
+{
+    let next = offset as u32 + 4;
+    if next >= length as u32 {
+        0
+    } else {
+        next as u16
+    }
 }
 
 impl Echo {
@@ -206,14 +237,9 @@ impl Echo {
     {
         let place = self.place(voices);
         let length = self.length_in_force(voices);
-        let next = self.offset as u32 + 4;
         self.left = push(self.left, hear(ram, place));
         self.right = push(self.right, hear(ram, place + 2));
-        self.offset = if next >= length as u32 {
-            0
-        } else {
-            next as u16
-        };
+        self.offset = next_offset(self.offset, length);
         self.length = length;
     }
 

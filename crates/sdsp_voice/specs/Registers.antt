@@ -76,3 +76,7 @@ setting d v =
 -- AFTER POWER ON: all bytes 0, but for 6C FLG, which is E0; the noise generator starts at 4000
 unfoldable pub at_power_on : Voices
 at_power_on = record { registers = slice_set (replicate 128 0) 0x6C 0xE0; voices = replicate 8 resting_voice; noise = 0x4000; notes = 0 }
+
+-- AFTER A RESET: FLG is E0 again and the notes of KON are dropped; all else stays
+unfoldable pub at_reset : Voices → Voices
+at_reset d = record d { registers = slice_set d.registers 0x6C 0xE0; notes = 0 }

@@ -1,13 +1,14 @@
 -- ONE SAMPLE of the eight voices (order: this project's own profile, after nocash fullsnes, "SNES APU DSP"): keys, noise, then for each voice from 0 its output, its envelope, and its position.
-use Rattle.std.specs.Prelude.{ℕ, ℤ, pos, zero, suc, ◌+◌, ◌*◌, ◌/◌, ◌%◌, ◌+ℤ◌, ◌*ℤ◌, List, slice_index_or, slice_set, if◌then◌else◌}
+use Rattle.std.specs.Prelude.{ℕ, ℤ, pos, zero, suc, ◌+◌, ◌*◌, ◌/◌, ◌%◌, ◌+ℤ◌, ◌*ℤ◌, ◌≡◌, ◌<◌, List, slice_index_or, slice_set, if◌then◌else◌}
 use Rattle.std.specs.Int.{w32, cast_unsigned, int_max, int_min}
 use Rattle.sdsp_voice.specs.Signed.{shifted, wrapped_15, clamped_16}
-use Rattle.sdsp_voice.specs.Registers.{resting_voice, setting}
+use Rattle.sdsp_voice.specs.Registers.{resting_voice, setting, voice}
 use Rattle.sdsp_voice.specs.Brr.{decoded_times}
 use Rattle.sdsp_voice.specs.Envelope.{after_envelope}
 use Rattle.sdsp_voice.specs.Interpolation.{interpolated}
 use Rattle.sdsp_voice.specs.Noise.{after_noise}
 use Rattle.sdsp_voice.specs.Keys.{after_keys}
+use Rattle.sdsp_voice.specs.declared.voice.Phase.TheVariants.{Release}
 use Rattle.sdsp_voice.specs.declared.voice.Voice.{Voice}
 use Rattle.sdsp_voice.specs.declared.setting.Setting.{Setting}
 use Rattle.sdsp_voice.specs.declared.sums.Sums.{Sums}
@@ -80,6 +81,13 @@ turn ram table s d v p =
 
 abbrev pub no_sums : Sums
 no_sums = record { left = pos 0; right = pos 0; echo_left = pos 0; echo_right = pos 0 }
+
+-- a voice that is silent, released, and without pitch: its turn changes nothing but what it shows
+pub record IsResting (d : Voices) (v : ℕ) : Type 0 where
+  pub silent : (voice d v).envelope ≡ 0
+  pub released : (voice d v).phase ≡ Release
+  pub near : (voice d v).position < 4096
+  pub still : (setting d v).pitch ≡ 0
 
 -- the turns of the first n voices
 unfoldable pub turns : List ℕ → List ℕ → ℕ → Voices → ℕ → Pass

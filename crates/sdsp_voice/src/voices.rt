@@ -1,8 +1,8 @@
-ghost use Rattle.std.specs.Prelude.{◌≡◌, ◌<◌, ◌≤◌, ◌^◌, length, unsigned_abs};
-ghost use Rattle.sdsp_voice.specs.Registers.{all_unended, at_power_on, bit, ended_bit, ended_bits, kept, read, setting, unended, written};
+ghost use Rattle.std.specs.Prelude.{◌≡◌, ◌<◌, ◌≤◌, ◌^◌, IsTrue, length, slice_set, unsigned_abs};
+ghost use Rattle.sdsp_voice.specs.Registers.{all_unended, at_power_on, at_reset, bit, ended_bit, ended_bits, kept, read, setting, unended, voice, written};
 ghost use Rattle.sdsp_voice.specs.Keys.{after_keys, key_taken, keyed, keyed_below};
 ghost use Rattle.sdsp_voice.specs.Noise.{after_noise};
-ghost use Rattle.sdsp_voice.specs.Sample.{after_sample, pass, sums_of, turn};
+ghost use Rattle.sdsp_voice.specs.Sample.{IsResting, after_sample, pass, sums_of, turn};
 
 use crate::envelope::due;
 use crate::keys::{key_off, mute, start};
@@ -139,6 +139,15 @@ impl Voices {
         self.registers[reg as usize]
     }
 
+    /// The reset button: FLG is E0 again, and what was written to KON is forgotten. All else stays.
+    #[tactic(auto, unfolding(crate::specs::Registers::at_reset))]
+    pub fn reset(&mut self)
+        ensures { self.new ≡ at_reset self.old }
+    {
+        self.registers[FLG] = 0xE0;
+        self.notes = 0;
+    }
+
     /// A voice whose bit of ENDX was cleared.
     #[inline(always)]
     fn unended(&self, v: usize) -> Voice
@@ -253,14 +262,16 @@ impl Voices {
     }
 
     /// The keys, which a sample looks at first.
-    #[tactic(auto, unfolding(crate::specs::Keys::after_keys))]
+    #[tactic(auto, using(crate::proofs::Quiet::keys_idle), unfolding(crate::specs::Keys::after_keys))]
     #[inline(always)]
     fn take_keys(&mut self, ram: &[u8])
         requires { length ram.now ≡ 65536 }
         ensures { self.new ≡ after_keys ram.now self.old }
     {
-        self.take_all_keys(ram);
-        self.notes = 0;
+        if is_on(self.registers[FLG], 7) || self.registers[KOFF] != 0 || self.notes != 0 {
+            self.take_all_keys(ram);
+            self.notes = 0;
+        }
     }
 
     /// The noise generator.
@@ -274,8 +285,69 @@ impl Voices {
         }
     }
 
-    /// The turn of voice `v` in a sample: its output goes into the sums, and it goes on.
+    /// The pitch of voice `v`.
+    #[tactic(auto, unfolding(crate::specs::Registers::setting))]
+    #[inline(always)]
+    fn pitch(&self, v: usize) -> u16
+        requires { v < 8 }
+        ensures { result ≡ (setting self.now v).pitch }
+    {
+        self.registers[16 * v + 2] as u16 + 256 * (self.registers[16 * v + 3] % 64) as u16
+    }
+
+    /// Whether voice `v` is silent and stays where it is.
+    #[inline(always)]
+    fn is_resting(&self, v: usize) -> bool
+        requires { v < 8 }
+        ensures { IsTrue result → IsResting self.now v }
+    {
+        let voice = &self.voices[v];
+        voice.envelope == 0
+            && voice.phase == Phase::Release
+            && voice.position < 4096
+            && self.pitch(v) == 0
+    }
+
+    /// A voice at rest shows zeros.
+    #[inline(always)]
+    fn rest(&mut self, v: usize)
+        requires { v < 8 }
+        ensures { self.new ≡ record self.old { voices = slice_set self.old.voices v (record (voice self.old v) { envx = 0; outx = 0 }) } }
+    {
+        let voice = &mut self.voices[v];
+        voice.envx = 0;
+        voice.outx = 0;
+    }
+
+    /// The same of any voice, whatever it does.
     #[tactic(auto, unfolding(crate::specs::Sample::turn))]
+    #[inline(always)]
+    fn full_turn(
+        &mut self,
+        ram: &[u8],
+        table: &Table,
+        s: u64,
+        v: usize,
+        sums: Sums,
+        before: i32,
+    ) -> (Sums, i32)
+        requires ram { length ram.now ≡ 65536 }
+        requires v { v < 8 }
+        requires before { unsigned_abs before ≤ 2 ^ 20 }
+        ensures voices { self.new ≡ record self.old { voices = (turn ram.now table.now s self.old v (pass self.old sums before)).voices } }
+        ensures sums { result.0 ≡ (turn ram.now table.now s self.old v (pass self.old sums before)).sums }
+        ensures before { result.1 ≡ (turn ram.now table.now s self.old v (pass self.old sums before)).before }
+        ensures small { unsigned_abs result.1 ≤ 2 ^ 20 }
+    {
+        let setting = self.setting(v);
+        let out = out_of(table, self.noise, &setting, &self.voices[v]);
+        let sums = mix(sums, out, &setting);
+        go_on(ram, &setting, s, before, out, &mut self.voices[v]);
+        (sums, out)
+    }
+
+    /// The turn of voice `v` in a sample: its output goes into the sums, and it goes on.
+    #[tactic(auto, using(crate::proofs::Quiet::turn_at_rest))]
     #[inline(always)]
     fn turn(
         &mut self,
@@ -294,13 +366,12 @@ impl Voices {
         ensures before { result.1 ≡ (turn ram.now table.now s self.old v (pass self.old sums before)).before }
         ensures small { unsigned_abs result.1 ≤ 2 ^ 20 }
     {
-        let setting = self.setting(v);
-        let mut voice = self.voices[v];
-        let out = out_of(table, self.noise, &setting, &voice);
-        let sums = mix(sums, out, &setting);
-        go_on(ram, &setting, s, before, out, &mut voice);
-        self.voices[v] = voice;
-        (sums, out)
+        if self.is_resting(v) {
+            self.rest(v);
+            (sums, 0)
+        } else {
+            self.full_turn(ram, table, s, v, sums, before)
+        }
     }
 
     /// Sample `s`: keys, noise, and then each voice's output, envelope and position.
