@@ -1,6 +1,7 @@
 ghost use Rattle.std.specs.Prelude.{◌<◌, length};
 
 use crate::bytes::Bytes;
+use crate::region::Region;
 use crate::script::Spans;
 use crate::table::Table;
 
@@ -35,4 +36,5 @@ pub struct Job {
     pub script: Spans,
     /// How many frames the run has, at most 36,000 in a job that the program makes.
     pub frames: u32,
+    pub region: Region,
 }

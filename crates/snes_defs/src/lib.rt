@@ -1,21 +1,25 @@
 // The plain types of the console, and the constants that both of its halves count by.
 //
-// Stands on nothing but std. A `Bytes`, a `Table` and a `Spans` are seen in contracts as the lists
-// that they keep, so that the crates above compare them with lists that definitions make.
+// Stands on nothing but std. A `Bytes` and a `Table` are seen in contracts as the lists that they
+// keep, and a `Spans` as a script, so that the crates above compare them with what definitions make.
 #![tactic(auto)]
 
 mod bytes;
 mod cart;
 mod part;
 mod ports;
+mod region;
 mod script;
+mod spot;
 mod table;
 
 pub use bytes::Bytes;
 pub use cart::{Cart, Job, MapKind};
 pub use part::Part;
 pub use ports::{Act, Side};
+pub use region::Region;
 pub use script::{Span, Spans};
+pub use spot::{IrqTime, Spot};
 pub use table::Table;
 
 /// Want of memory: the one refusal that no input causes.

@@ -1,7 +1,10 @@
-ghost use Rattle.std.specs.Prelude.{◌≡◌, ◌≤◌, List};
+ghost use Rattle.std.specs.Prelude.{◌≡◌, ◌≤◌, List, [], if◌then◌else◌};
+ghost use Rattle.snes_defs.specs.declared.region.Region.TheVariants.{Ntsc};
 ghost use Rattle.snes_defs.specs.declared.script.Span.{Span};
-ghost use Rattle.snes_defs.specs.Script.{frames_of, pads_at};
+ghost use Rattle.snes_defs.specs.Script.{Script, IsScript, RiseWithin, frames_of, pads_at, is_reset};
 
+use crate::region::Region;
+use std::alloc::Global;
 use std::marker::Model;
 
 /// A run of frames with the same pads.
@@ -16,36 +19,57 @@ pub struct Span {
     pub pad2: u16,
 }
 
-/// The controller script: spans one after another, at most 36,000 frames in all.
+/// The controller script: the machine's region, spans one after another, at most 36,000 frames in
+/// all, and the frames that begin with a press of the reset button.
 #[derive(Drop)]
 pub struct Spans {
+    region: Region,
     spans: Vec<Span>,
+    resets: Vec<u32>,
 }
 
 impl Model for Spans {
-    ghost use Rattle.std.specs.Prelude.{◌≤◌, List};
-    ghost use Rattle.snes_defs.specs.declared.script.Span.{Span};
-    ghost use Rattle.snes_defs.specs.Script.{frames_of};
+    ghost use Rattle.snes_defs.specs.Script.{Script, IsScript};
 
-    ghost Value = { List Span };
+    ghost Value = { Script };
 
-    ghost view = { λ s. s.spans.items };
+    ghost view = { λ s. record { region = s.region; spans = s.spans.items; resets = s.resets.items } };
 
-    ghost invariant = { λ s. frames_of s.spans.items ≤ 36000 };
+    ghost invariant = { λ s. IsScript (record { region = s.region; spans = s.spans.items; resets = s.resets.items }) };
 }
 
 impl Spans {
-    /// Keeps the list. No memory is taken.
-    pub fn of(v: Vec<Span>) -> Spans
+    /// Keeps the list as an Ntsc script without resets. No memory is taken.
+    pub fn of(alloc: Global, v: Vec<Span>) -> Spans
         requires { frames_of v.items ≤ 36000 }
-        ensures kept { result ≡ v.items }
+        ensures kept { result ≡ record { region = Ntsc; spans = v.items; resets = [] } }
     {
-        Spans { spans: v }
+        Spans::versioned(v, Region::Ntsc, Vec::new(alloc))
+    }
+
+    /// Keeps all three. The resets rise and lie from 1 to 36,000. No memory is taken.
+    pub fn versioned(v: Vec<Span>, region: Region, resets: Vec<u32>) -> Spans
+        requires frames { frames_of v.items ≤ 36000 }
+        requires resets { RiseWithin 1 36000 resets.items }
+        ensures kept { result ≡ record { region = region; spans = v.items; resets = resets.items } }
+    {
+        Spans {
+            region,
+            spans: v,
+            resets,
+        }
+    }
+
+    /// The region of the machine that the script is played on.
+    pub fn region(&self) -> Region
+        ensures { result ≡ self.now.region }
+    {
+        self.region
     }
 
     /// The pads of the span in which the frame lies, from 0, and zeros after the last.
     pub fn pads(&self, frame: u32) -> (u16, u16)
-        ensures { result ≡ pads_at self.now frame }
+        ensures { result ≡ pads_at self.now.spans frame }
     {
         let mut left = frame;
         for span in self.spans.as_slice() {
@@ -55,5 +79,17 @@ impl Spans {
             left -= span.count;
         }
         (0, 0)
+    }
+
+    /// Whether the frame begins with a press of the reset button.
+    pub fn resets(&self, frame: u32) -> bool
+        ensures { result ≡ is_reset self.now.resets frame }
+    {
+        for reset in self.resets.as_slice() {
+            if *reset == frame {
+                return true;
+            }
+        }
+        false
     }
 }

@@ -8,7 +8,7 @@ use crate::inputs::{load_built, load_cart};
 use crate::play::play;
 use crate::status::Status;
 use run_io::{Files, Input, Shelf};
-use snes_defs::{Job, Spans, Table};
+use snes_defs::{Job, Region, Spans, Table};
 use std::alloc::Global;
 
 /// Loads the four inputs, in their order, and makes a job of them.
@@ -28,8 +28,9 @@ fn load_job<H: Shelf>(alloc: Global, files: &Files, shelf: &mut H) -> Result<Job
         cart,
         boot: [0xef; 64],
         table: Table::of([0; 512]),
-        script: Spans::of(Vec::new(alloc)),
+        script: Spans::of(alloc, Vec::new(alloc)),
         frames: files.frames,
+        region: Region::Ntsc,
     })
 }
 

@@ -1,4 +1,4 @@
-use Rattle.std.proofs.Common.{rules, ◌≡◌, ◌<◌, ℕ, List, All, length, arith}
+use Rattle.std.proofs.Common.{arith}
 use Rattle.snes_defs.proofs.bytes.are_bytes.Goals as goal
 
 pub returns : goal.returns
