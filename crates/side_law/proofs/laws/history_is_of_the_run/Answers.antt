@@ -1,5 +1,0 @@
-use Rattle.side_law.proofs.ToTheEnd.{of_run}
-use Rattle.side_law.proofs.laws.history_is_of_the_run.Goals as goal
-
-pub returns : goal.returns
-returns g c = of_run g.C.Machine.moves g.S.Machine.moves
