@@ -1,2 +1,5 @@
-pub mod Quiet
-pub mod QuietLaws
+pub mod Timer
+pub mod Board
+pub mod Effect
+pub mod Sound
+pub mod SoundLaws

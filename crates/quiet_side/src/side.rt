@@ -1,6 +1,6 @@
 ghost use Rattle.std.specs.Prelude.{◌≡◌, [], None, IfOk};
 ghost use Rattle.snes_defs.specs.declared.region.Region.TheVariants.{Ntsc};
-ghost use Rattle.audio_side.specs.Quiet.{sound_start};
+ghost use Rattle.quiet_side.specs.Quiet.{sound_start};
 
 use circular_buffer::HeapCircularBuffer;
 use clock_ratio::SOUND_RATE;
@@ -22,7 +22,7 @@ pub struct AudioSide {
 
 impl Model for AudioSide {
     ghost use Rattle.std.specs.Prelude.{◌≡◌, ◌≤◌, ◌+◌, ◌*◌, ◌^◌, length};
-    ghost use Rattle.audio_side.specs.Quiet.{AudioValue};
+    ghost use Rattle.quiet_side.specs.Quiet.{AudioValue};
 
     ghost Value = { AudioValue };
 
@@ -57,8 +57,8 @@ impl Machine for AudioSide {
     ghost use Rattle.std.specs.Prelude.{◌*◌};
     ghost use Rattle.snes_defs.specs.declared.region.Region.TheVariants.{Ntsc};
     ghost use Rattle.std.proofs.Common.{rules};
-    ghost use Rattle.audio_side.specs.Quiet.{SoundState, IsSound, sound_moves, StandsAt};
-    ghost use Rattle.audio_side.specs.QuietLaws.{sound_is_lawful};
+    ghost use Rattle.quiet_side.specs.Quiet.{SoundState, IsSound, sound_moves, StandsAt};
+    ghost use Rattle.quiet_side.specs.QuietLaws.{sound_is_lawful};
 
     const CAP: usize = 4096;
 

@@ -1,0 +1,58 @@
+-- THE SOUND MACHINE: a processor on a board, each step a cycle or a reset of one cycle.
+use Rattle.std.specs.Prelude.{◌≡◌, ℕ, ◌+◌, ◌*◌, List, if◌then◌else◌}
+use Rattle.snes_defs.specs.declared.ports.Act.{Act}
+use Rattle.snes_defs.specs.declared.ports.Act.TheVariants.{Clear}
+use Rattle.snes_defs.specs.declared.region.Region.{Region}
+use Rattle.side_law.specs.Moves.{Moves}
+use Rattle.spc700.specs.Instruction.{Standing, at_reset, moved_on, next_of}
+use Rattle.spc700.specs.Stands.{Stands}
+use Rattle.spc700.specs.declared.processor.Spc.{Spc}
+use Rattle.audio_side.specs.Board.{Board, board_at_start, is_reset_due, stamp_now, vector}
+use Rattle.audio_side.specs.Effect.{act_of, effect, emitted, given, passed, reset_board}
+
+pub record SoundState : Type 0 where
+  pub processor : Standing
+  pub board : Board
+
+-- what the next step does at the ports
+unfoldable pub sound_act : SoundState → Act
+sound_act m = if is_reset_due m.board then Clear 15 else act_of (next_of m.processor)
+
+-- the processor after the next step, and the board before the cycle's end
+unfoldable pub processor_after : SoundState → ℕ → Standing
+processor_after m got =
+    if is_reset_due m.board then at_reset (vector m.board)
+    else moved_on m.processor (given m.board (next_of m.processor) got)
+
+unfoldable pub board_before_end : SoundState → Board
+board_before_end m = if is_reset_due m.board then reset_board m.board else effect m.board (next_of m.processor)
+
+unfoldable pub sound_next : SoundState → ℕ → SoundState
+sound_next m got = record { processor = processor_after m got; board = passed (board_before_end m) }
+
+unfoldable pub sound_bytes : SoundState → ℕ → List ℕ
+sound_bytes m got = emitted (board_before_end m)
+
+abbrev pub sound_moves : Moves SoundState
+sound_moves = record { stamp = λ m. stamp_now m.board; act = sound_act; next = sound_next; bytes = sound_bytes }
+
+-- BEFORE THE FIRST CYCLE of a job
+abbrev pub sound_start : Region → List ℕ → List ℕ → List ℕ → SoundState
+sound_start region' resets boot' table' =
+    let b = board_at_start region' resets boot' table' in
+    record { processor = at_reset (vector b); board = b }
+
+-- a state is one of a region's machine
+abbrev pub IsSound : Region → SoundState → Type 0
+IsSound region m = m.board.region ≡ region
+
+-- what contracts see of a sound side: its processor, its board, and the bytes that wait in it
+pub record AudioValue : Type 0 where
+  pub processor : Spc
+  pub board : Board
+  pub waiting : List ℕ
+
+-- the processor stands for the state's, and the board is the state's
+pub record StandsAt (v : AudioValue) (m : SoundState) : Type 0 where
+  pub processor : Stands v.processor m.processor
+  pub board : v.board ≡ m.board
