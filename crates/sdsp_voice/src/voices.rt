@@ -13,26 +13,29 @@ use crate::sums::Sums;
 use crate::voice::{Phase, Voice};
 use snes_defs::Table;
 
-/// FLG: bit 7 silences all voices, bit 6 mutes the output, bit 5 stops echo writes, bits 4-0 are
+/// 6C FLG: bit 7 silences all voices, bit 6 mutes the output, bit 5 stops echo writes, bits 4-0 are
 /// the noise's rate.
 const FLG: usize = 0x6C;
 
-/// KON.
+/// 4C KON: each set bit starts a voice.
 const KON: u8 = 0x4C;
 
-/// KOFF.
+/// 5C KOFF: each set bit releases a voice.
 const KOFF: usize = 0x5C;
 
-/// PMON, NON, EON, DIR.
+/// 2D PMON: each set bit has a voice's pitch moved by the voice before.
 const PMON: usize = 0x2D;
 
+/// 3D NON: each set bit has a voice sound noise.
 const NON: usize = 0x3D;
 
+/// 4D EON: each set bit has a voice go into the echo.
 const EON: usize = 0x4D;
 
+/// 5D DIR: the page of the directory of sources.
 const DIR: usize = 0x5D;
 
-/// ENDX.
+/// 7C ENDX: each set bit tells that a voice came to the end of a block with the end bit.
 const ENDX: u8 = 0x7C;
 
 /// A voice that was never started.
