@@ -1,5 +1,6 @@
 -- The sound side without its processor: RAM, boot ROM, timers, the S-DSP, and the number of the cycle.
-use Rattle.std.specs.Prelude.{ℕ, Bool, true, false, ◌+◌, ◌*◌, ◌/◌, ◌%◌, ◌-◌, ◌==◌, ◌&&◌, ◌||◌, zero, suc, List, [], ◌∷◌, ◌++◌, nat_lt, nat_le, replicate, slice_index, if◌then◌else◌}
+use Rattle.std.specs.Prelude.{ℕ, Bool, true, false, ◌+◌, ◌*◌, ◌/◌, ◌%◌, ◌-◌, ◌==◌, ◌&&◌, ◌||◌, zero, suc, List, [], ◌∷◌, ◌++◌, nat_lt, nat_le, map, replicate, slice_index, if◌then◌else◌}
+use Rattle.std.specs.List.{range_with_len}
 use Rattle.snes_defs.specs.declared.ports.Side.TheVariants.{Sound}
 use Rattle.snes_defs.specs.declared.region.Region.{Region}
 use Rattle.snes_defs.specs.Script.{is_reset}
@@ -49,6 +50,10 @@ reset_frames resets (suc n) = reset_frames resets n ++ (if is_reset resets n the
 unfoldable pub zeros : List ℕ
 zeros = replicate 65536 0
 
+-- the 512 numbers of an interpolation table
+unfoldable pub table_of : List ℕ → List ℕ
+table_of table = map (λ i. slice_index table i) (range_with_len 0 512)
+
 -- THE BOARD of a job before its first cycle
 unfoldable pub board_at_start : Region → List ℕ → List ℕ → List ℕ → Board
 board_at_start region' resets boot' table' =
@@ -56,7 +61,7 @@ board_at_start region' resets boot' table' =
       region = region';
       resets = reset_frames resets 36001;
       boot = boot';
-      table = table';
+      table = table_of table';
       ram = zeros;
       voices = at_power_on;
       echo = silent_echo;

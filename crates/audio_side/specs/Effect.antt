@@ -1,5 +1,5 @@
 -- What one access of the sound side's processor does: RAM, the boot ROM over it, and the registers F0 to FF (nocash fullsnes, "SNES APU Memory and I/O Map"; the timers' order: this project's own profile).
-use Rattle.std.specs.Prelude.{ℕ, Bool, true, false, ◌+◌, ◌-◌, ◌*◌, ◌/◌, ◌%◌, ◌==◌, ◌&&◌, nat_le, nat_lt, List, [], ◌∷◌, slice_index, slice_set, if◌then◌else◌}
+use Rattle.std.specs.Prelude.{ℕ, Bool, true, false, ◌+◌, ◌-◌, ◌*◌, ◌/◌, ◌%◌, ◌==◌, ◌&&◌, ◌||◌, nat_le, nat_lt, List, [], ◌∷◌, slice_index, slice_set, if◌then◌else◌}
 use Rattle.std.specs.Int.{w16, cast_unsigned}
 use Rattle.snes_defs.specs.declared.ports.Act.{Act}
 use Rattle.snes_defs.specs.declared.ports.Act.TheVariants.{Quiet, Read, Write, Clear}
@@ -11,20 +11,24 @@ use Rattle.sdsp_echo.specs.Echo.{after_mix, left_out, right_out, ram_after}
 use Rattle.audio_side.specs.Board.{Board}
 use Rattle.audio_side.specs.Timer.{stopped, switched, ticked}
 
--- THE BYTE that a fetch or a read at an address gets: F4 to F7 are the ports, whose byte is `got`
+-- what F0 to FF show: F4 to F7 are the ports, whose byte is `got`
+unfoldable pub register_shown : Board → ℕ → ℕ → ℕ
+register_shown b at got =
+    if at == 0xF2 then b.address
+    else (if at == 0xF3 then read b.voices (b.address % 128)
+    else (if nat_le 0xF4 at && nat_le at 0xF7 then got
+    else (if at == 0xF8 then slice_index b.ram 0xF8
+    else (if at == 0xF9 then slice_index b.ram 0xF9
+    else (if at == 0xFD then b.timer0.counter
+    else (if at == 0xFE then b.timer1.counter
+    else (if at == 0xFF then b.timer2.counter
+    else 0)))))))
+
+-- THE BYTE that a fetch or a read at an address gets
 unfoldable pub loaded : Board → ℕ → ℕ → ℕ
 loaded b at got =
     if nat_lt at 0xF0 then slice_index b.ram at
-    else (if nat_lt at 0x100 then
-      (if at == 0xF2 then b.address
-      else (if at == 0xF3 then read b.voices (b.address % 128)
-      else (if nat_le 0xF4 at && nat_le at 0xF7 then got
-      else (if at == 0xF8 then slice_index b.ram at
-      else (if at == 0xF9 then slice_index b.ram at
-      else (if at == 0xFD then b.timer0.counter
-      else (if at == 0xFE then b.timer1.counter
-      else (if at == 0xFF then b.timer2.counter
-      else 0))))))))
+    else (if nat_lt at 0x100 then register_shown b at got
     else (if nat_le 0xFFC0 at && b.boot_seen then slice_index b.boot (at - 0xFFC0)
     else slice_index b.ram at))
 
@@ -53,20 +57,21 @@ dsp_written b byte = if nat_lt b.address 128 then record b { voices = written b.
 abbrev pub stored_in_ram : Board → ℕ → ℕ → Board
 stored_in_ram b at byte = record b { ram = slice_set b.ram at byte }
 
--- A WRITE: the registers take it, but for F8 and F9, which are RAM, as are all other places, under the boot ROM too
+-- a write at F0 to FF: F8 and F9 are RAM
+unfoldable pub register_stored : Board → ℕ → ℕ → Board
+register_stored b at byte =
+    if at == 0xF1 then controlled b byte
+    else (if at == 0xF2 then record b { address = byte }
+    else (if at == 0xF3 then dsp_written b byte
+    else (if at == 0xF8 || at == 0xF9 then stored_in_ram b at byte
+    else (if at == 0xFA then record b { timer0 = record b.timer0 { target = byte } }
+    else (if at == 0xFB then record b { timer1 = record b.timer1 { target = byte } }
+    else (if at == 0xFC then record b { timer2 = record b.timer2 { target = byte } }
+    else b))))))
+
+-- A WRITE: all other places are RAM, under the boot ROM too
 unfoldable pub stored : Board → ℕ → ℕ → Board
-stored b at byte =
-    if nat_le 0xF0 at && nat_le at 0xFF then
-      (if at == 0xF1 then controlled b byte
-      else (if at == 0xF2 then record b { address = byte }
-      else (if at == 0xF3 then dsp_written b byte
-      else (if at == 0xF8 then stored_in_ram b at byte
-      else (if at == 0xF9 then stored_in_ram b at byte
-      else (if at == 0xFA then record b { timer0 = record b.timer0 { target = byte } }
-      else (if at == 0xFB then record b { timer1 = record b.timer1 { target = byte } }
-      else (if at == 0xFC then record b { timer2 = record b.timer2 { target = byte } }
-      else b))))))))
-    else stored_in_ram b at byte
+stored b at byte = if nat_le 0xF0 at && nat_le at 0xFF then register_stored b at byte else stored_in_ram b at byte
 
 -- THE ACT of an access: F4 to F7 are ports 0 to 3; a write of F1 clears the incoming ports 0 and 1 by bit 4, 2 and 3 by bit 5
 unfoldable pub act_of_load : ℕ → Act

@@ -8,7 +8,7 @@ use Rattle.spc700.specs.Instruction.{Standing, at_reset, moved_on, next_of}
 use Rattle.spc700.specs.Stands.{Stands}
 use Rattle.spc700.specs.declared.processor.Spc.{Spc}
 use Rattle.audio_side.specs.Board.{Board, board_at_start, is_reset_due, stamp_now, vector}
-use Rattle.audio_side.specs.Effect.{act_of, effect, emitted, given, passed, reset_board}
+use Rattle.audio_side.specs.Effect.{act_of, effect, emitted, given, passed, reset_board, timed}
 
 pub record SoundState : Type 0 where
   pub processor : Standing
@@ -31,7 +31,7 @@ unfoldable pub sound_next : SoundState → ℕ → SoundState
 sound_next m got = record { processor = processor_after m got; board = passed (board_before_end m) }
 
 unfoldable pub sound_bytes : SoundState → ℕ → List ℕ
-sound_bytes m got = emitted (board_before_end m)
+sound_bytes m got = emitted (timed (board_before_end m))
 
 abbrev pub sound_moves : Moves SoundState
 sound_moves = record { stamp = λ m. stamp_now m.board; act = sound_act; next = sound_next; bytes = sound_bytes }
@@ -45,6 +45,10 @@ sound_start region' resets boot' table' =
 -- a state is one of a region's machine
 abbrev pub IsSound : Region → SoundState → Type 0
 IsSound region m = m.board.region ≡ region
+
+-- a processor stands for some instruction and its accesses so far
+abbrev pub IsRunning : Spc → Type 0
+IsRunning spc = ∥ ((s : Standing) × Stands spc s) ∥₁
 
 -- what contracts see of a sound side: its processor, its board, and the bytes that wait in it
 pub record AudioValue : Type 0 where

@@ -6,8 +6,8 @@ use Rattle.audio_side.specs.declared.timer.Timer.{Timer}
 unfoldable pub ticked : Timer → Timer
 ticked t =
     if t.on then
-      (if (t.stage + 1) % 256 == t.target then record t { stage = 0; counter = (t.counter + 1) % 16 }
-      else record t { stage = (t.stage + 1) % 256 })
+    (if (t.stage + 1) % 256 == t.target then record t { stage = 0; counter = (t.counter + 1) % 16 }
+    else record t { stage = (t.stage + 1) % 256 })
     else t
 
 -- F1 turns a timer on or off: one that was off and is turned on begins anew

@@ -9,6 +9,7 @@
 
 mod board;
 mod side;
+mod step;
 mod timer;
 
 pub use side::AudioSide;

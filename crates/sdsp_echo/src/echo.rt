@@ -1,4 +1,4 @@
-ghost use Rattle.std.specs.Prelude.{◌≡◌, ◌<◌, ◌≤◌, ◌^◌, ◌*ℤ◌, length, unsigned_abs};
+ghost use Rattle.std.specs.Prelude.{◌≡◌, ◌<◌, ◌≤◌, ◌+◌, ◌^◌, ◌*ℤ◌, length, unsigned_abs};
 ghost use Rattle.sdsp_voice.specs.Registers.{bit, kept};
 ghost use Rattle.sdsp_voice.specs.Signed.{signed_byte};
 ghost use Rattle.sdsp_echo.specs.Echo.{
@@ -10,12 +10,14 @@ ghost use Rattle.sdsp_echo.specs.Echo.{
   four_taps,
   heard,
   heard_out,
+  left_history,
   left_out,
   length_now,
   offset_after,
   place_of,
   put_word,
   ram_after,
+  right_history,
   right_out,
   seven_taps,
   silent_echo,
@@ -79,6 +81,16 @@ fn coefficient(voices: &Voices, k: u8) -> i8
     voices.kept(16 * k + 15).cast_signed()
 }
 
+/// A number by tap `k`.
+#[inline(always)]
+fn tapped_by(voices: &Voices, x: i16, k: u8) -> i32
+    requires { k < 8 }
+    ensures value { result ≡ tapped x (tap voices.now k) }
+    ensures small { unsigned_abs result ≤ 2 ^ 17 }
+{
+    tap_of(x, coefficient(voices, k))
+}
+
 /// The sum of the filter's first four taps.
 #[tactic(auto, unfolding(crate::specs::Echo::four_taps))]
 #[inline(always)]
@@ -86,10 +98,10 @@ fn four(voices: &Voices, h: &History) -> i32
     ensures value { result ≡ four_taps voices.now h.now }
     ensures small { unsigned_abs result ≤ 2 ^ 19 }
 {
-    let first = tap_of(h.h0, coefficient(voices, 0));
-    let two = sum(first, tap_of(h.h1, coefficient(voices, 1)));
-    let three = sum(two, tap_of(h.h2, coefficient(voices, 2)));
-    sum(three, tap_of(h.h3, coefficient(voices, 3)))
+    let first = tapped_by(voices, h.h0, 0);
+    let two = sum(first, tapped_by(voices, h.h1, 1));
+    let three = sum(two, tapped_by(voices, h.h2, 2));
+    sum(three, tapped_by(voices, h.h3, 3))
 }
 
 /// The sum of the filter's first seven taps.
@@ -98,9 +110,9 @@ fn four(voices: &Voices, h: &History) -> i32
 fn seven(voices: &Voices, h: &History) -> i32
     ensures { result ≡ seven_taps voices.now h.now }
 {
-    let five = sum(four(voices, h), tap_of(h.h4, coefficient(voices, 4)));
-    let six = sum(five, tap_of(h.h5, coefficient(voices, 5)));
-    sum(six, tap_of(h.h6, coefficient(voices, 6)))
+    let five = sum(four(voices, h), tapped_by(voices, h.h4, 4));
+    let six = sum(five, tapped_by(voices, h.h5, 5));
+    sum(six, tapped_by(voices, h.h6, 6))
 }
 
 /// The filter over a history.
@@ -110,7 +122,7 @@ fn filter(voices: &Voices, h: &History) -> i16
     ensures { result ≡ filtered voices.now h.now }
 {
     let first = low_16(seven(voices, h));
-    let last = tap_of(h.h7, coefficient(voices, 7));
+    let last = tapped_by(voices, h.h7, 7);
     even(clamped(sum(first as i32, last)))
 }
 
@@ -228,19 +240,52 @@ impl Echo {
         (256 * voices.kept(0x6D) as u32 + self.offset as u32) % 65536
     }
 
+    /// The left history with the number that the delay line holds.
+    #[tactic(auto, unfolding(crate::specs::Echo::left_history))]
+    #[inline(always)]
+    fn next_left(&self, voices: &Voices, ram: &[u8]) -> History
+        requires { length ram.now ≡ 65536 }
+        ensures { result ≡ left_history voices.now ram.now self.now }
+    {
+        push(self.left, hear(ram, self.place(voices)))
+    }
+
+    /// The right history with the number that the delay line holds.
+    #[tactic(auto, unfolding(crate::specs::Echo::right_history))]
+    #[inline(always)]
+    fn next_right(&self, voices: &Voices, ram: &[u8]) -> History
+        requires { length ram.now ≡ 65536 }
+        ensures { result ≡ right_history voices.now ram.now self.now }
+    {
+        push(self.right, hear(ram, self.place(voices) + 2))
+    }
+
     /// The histories with what the delay line holds, and the place for the next sample.
-    #[tactic(auto, unfolding(crate::specs::Echo::after_mix, crate::specs::Echo::left_history, crate::specs::Echo::right_history))]
+    #[tactic(auto, unfolding(crate::specs::Echo::after_mix))]
     #[inline(always)]
     fn go_on(&mut self, voices: &Voices, ram: &[u8])
         requires { length ram.now ≡ 65536 }
         ensures { self.new ≡ after_mix voices.now ram.now self.old }
     {
-        let place = self.place(voices);
+        let left = self.next_left(voices, ram);
+        let right = self.next_right(voices, ram);
         let length = self.length_in_force(voices);
-        self.left = push(self.left, hear(ram, place));
-        self.right = push(self.right, hear(ram, place + 2));
-        self.offset = next_offset(self.offset, length);
+        let offset = next_offset(self.offset, length);
+        self.left = left;
+        self.right = right;
+        self.offset = offset;
         self.length = length;
+    }
+
+    /// What goes back into the delay line, unless FLG stops it.
+    #[inline(always)]
+    fn write_back(ram: &mut [u8], place: u32, left: u16, right: u16)
+        requires ram { length ram.old ≡ 65536 }
+        requires place { place < 65536 }
+        ensures { ram.new ≡ put_word (put_word ram.old place left) (place + 2) right }
+    {
+        put(ram, place, left);
+        put(ram, place + 2, right);
     }
 
     /// The two numbers of a sample, left and right, from what the voices add up to. RAM holds the
@@ -259,8 +304,9 @@ impl Echo {
         let left = filter(voices, &self.left);
         let right = filter(voices, &self.right);
         if voices.kept(0x6C) / 32 % 2 == 0 {
-            put(ram, place, feed_back(voices, sums.echo_left, left));
-            put(ram, place + 2, feed_back(voices, sums.echo_right, right));
+            let left_word = feed_back(voices, sums.echo_left, left);
+            let right_word = feed_back(voices, sums.echo_right, right);
+            Echo::write_back(ram, place, left_word, right_word);
         }
         (
             out(

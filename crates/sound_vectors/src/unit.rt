@@ -74,19 +74,24 @@ impl Unit {
     fn play(&mut self, ram: &mut [u8], mut words: SplitWhitespace<'_>) -> Option<Outcome>
         requires { length ram.old ≡ 65536 }
     {
-        let _count = words.next()?;
+        let mut left_to_play = decimal(words.next()?.as_bytes())?;
         let mut outcome = Outcome::Holds;
         'samples: for word in words {
             let expected = hexadecimal(word.as_bytes())?;
             let sums = self.voices.sample(ram, &self.table, self.sample);
             let (left, right) = self.echo.mix(&self.voices, sums, ram);
             self.sample = self.sample.checked_add(1)?;
+            left_to_play = left_to_play.checked_sub(1)?;
             let pair = left.cast_unsigned() as u64 * 65536 + right.cast_unsigned() as u64;
             if pair != expected {
                 outcome = Outcome::Differs;
             }
         }
-        Some(outcome)
+        if left_to_play == 0 {
+            Some(outcome)
+        } else {
+            None
+        }
     }
 
     /// A register, compared with the line's byte.
@@ -96,13 +101,17 @@ impl Unit {
             return None;
         }
         let expected = byte(words.next()?.as_bytes())?;
-        Some(outcome(self.voices.read(reg) == expected))
+        Some(told(self.voices.read(reg) == expected))
     }
 }
 
 /// Whether it holds.
-fn outcome(same: bool) -> Outcome {
-    if same { Outcome::Holds } else { Outcome::Differs }
+fn told(same: bool) -> Outcome {
+    if same {
+        Outcome::Holds
+    } else {
+        Outcome::Differs
+    }
 }
 
 /// The table of which entry i is 4 i, 2047 at most.
@@ -168,5 +177,5 @@ fn same_hash(ram: &[u8], mut words: SplitWhitespace<'_>) -> Option<Outcome> {
     for byte in ram {
         hash = (hash ^ *byte as u64).wrapping_mul(0x100_0000_01B3);
     }
-    Some(outcome(hash == expected))
+    Some(told(hash == expected))
 }

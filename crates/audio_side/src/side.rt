@@ -1,0 +1,198 @@
+ghost use Rattle.std.specs.Prelude.{◌≡◌, ◌+◌, ◌*◌, ◌++◌, ◌≤◌, ◌^◌, [], IfOk, length};
+ghost use Rattle.audio_side.specs.Board.{reset_frames, stamp_now, table_of, zeros};
+ghost use Rattle.audio_side.specs.Effect.{emitted, passed};
+ghost use Rattle.audio_side.specs.Sound.{StandsAt, sound_start};
+
+use crate::board::Hardware;
+use crate::step::{begin, next_act};
+use crate::timer::stopped_timer;
+use circular_buffer::HeapCircularBuffer;
+use sdsp_echo::Echo;
+use sdsp_voice::Voices;
+use side_law::Machine;
+use snes_defs::{Act, Job, NoMemory, Region, Spans, Table};
+use spc700::Spc;
+use std::alloc::Global;
+use std::marker::Model;
+
+/// The sound side of a console.
+#[derive(Drop)]
+pub struct AudioSide {
+    spc: Spc,
+    board: Hardware,
+    waiting: HeapCircularBuffer<u8>,
+}
+
+impl Model for AudioSide {
+    ghost use Rattle.std.specs.Prelude.{◌≡◌, ◌≤◌, length};
+    ghost use Rattle.audio_side.specs.Sound.{AudioValue, IsRunning};
+
+    ghost Value = { AudioValue };
+
+    ghost view = { λ s. record { processor = s.spc; board = s.board; waiting = s.waiting.items } };
+
+    ghost invariant = { λ s. IsRunning s.spc × (s.waiting.capacity ≡ 4096) × (length s.waiting.items ≤ 4096) };
+}
+
+/// The frames, from 0 to 36,000, that a script begins with a reset, in order.
+fn frames_with_reset(alloc: Global, script: &Spans) -> Result<Vec<u32>, NoMemory>
+    ensures { IfOk result (λ v. v.items ≡ reset_frames script.now.resets 36001) }
+{
+    let mut frames = Vec::new(alloc);
+    'frames: for frame in 0..36001 {
+        if script.resets(frame) {
+            match frames.push(frame) {
+                Ok(()) => {}
+                Err(_) => return Err(NoMemory),
+            }
+        }
+    }
+    Ok(frames)
+}
+
+/// RAM of zeros.
+#[tactic(auto, unfolding(crate::specs::Board::zeros))]
+fn empty_ram(alloc: Global) -> Result<Vec<u8>, NoMemory>
+    ensures { IfOk result (λ v. v.items ≡ zeros) }
+{
+    match vec![in alloc; 0u8; 65536] {
+        Ok(ram) => Ok(ram),
+        Err(_) => Err(NoMemory),
+    }
+}
+
+/// A table of its own with the same numbers.
+fn copied(table: &Table) -> Table
+    ensures { result ≡ table_of table.now }
+{
+    let mut numbers = [0u16; 512];
+    'numbers: for i in 0..512 {
+        numbers[i] = table.at(i);
+    }
+    Table::of(numbers)
+}
+
+impl AudioSide {
+    /// The sound side of a job before its first cycle. It takes the room for RAM and for the bytes
+    /// that wait, and refuses only for want of memory.
+    #[tactic(auto, unfolding(crate::specs::Board::board_at_start))]
+    pub fn new(alloc: Global, job: &Job) -> Result<AudioSide, NoMemory>
+        ensures starts { IfOk result (λ s. StandsAt s (sound_start job.now.region job.now.script.resets job.now.boot job.now.table)) }
+        ensures empty { IfOk result (λ s. s.waiting ≡ []) }
+    {
+        let resets = frames_with_reset(alloc, &job.script)?;
+        let ram = empty_ram(alloc)?;
+        let waiting = match HeapCircularBuffer::with_capacity(alloc, 4096) {
+            Ok(waiting) => waiting,
+            Err(_) => return Err(NoMemory),
+        };
+        let board = Hardware {
+            region: job.region,
+            resets,
+            boot: job.boot,
+            table: copied(&job.table),
+            ram,
+            voices: Voices::new(),
+            echo: Echo::new(),
+            timer0: stopped_timer(),
+            timer1: stopped_timer(),
+            timer2: stopped_timer(),
+            boot_seen: true,
+            address: 0,
+            cycle: 0,
+        };
+        let spc = Spc::new(board.entry());
+        Ok(AudioSide {
+            spc,
+            board,
+            waiting,
+        })
+    }
+
+    /// The end of a step: the timers, and by the last of each 32 cycles a sample.
+    #[tactic(auto, unfolding(crate::specs::Effect::passed, crate::specs::Effect::emitted))]
+    #[inline(always)]
+    fn end_cycle(&mut self)
+        requires room { length self.old.waiting + 4 ≤ 4096 }
+        requires early { stamp_now self.old.board ≤ 2 ^ 62 }
+        ensures processor { self.new.processor ≡ self.old.processor }
+        ensures board { self.new.board ≡ passed self.old.board }
+        ensures waiting { self.new.waiting ≡ self.old.waiting ++ emitted (timed self.old.board) }
+        ensures region { self.new.board.region ≡ self.old.board.region }
+        ensures cycle { self.new.board.cycle ≡ self.old.board.cycle + 1 }
+        ensures few { length self.new.waiting ≤ length self.old.waiting + 4 }
+    {
+        self.board.time();
+        if self.board.samples() {
+            let bytes = self.board.sample();
+            self.waiting.fill_from_slice(&bytes);
+        }
+        self.board.count();
+    }
+}
+
+impl Machine for AudioSide {
+    ghost use Rattle.std.specs.Prelude.{◌*◌};
+    ghost use Rattle.std.proofs.Common.{rules};
+    ghost use Rattle.audio_side.specs.Board.{stamp_now};
+    ghost use Rattle.audio_side.specs.Sound.{SoundState, IsSound, sound_moves, StandsAt};
+    ghost use Rattle.audio_side.specs.SoundLaws.{sound_is_lawful, region_stands, stamp_stands};
+
+    const CAP: usize = 4096;
+
+    const MOST: usize = 4;
+
+    ghost CAP = { 4096 };
+
+    ghost MOST = { 4 };
+
+    ghost State = { SoundState };
+
+    ghost valid = { IsSound };
+
+    ghost moves = { sound_moves };
+
+    ghost stands = { StandsAt };
+
+    ghost region_of = { λ s. s.board.region };
+
+    ghost stamp_of = { λ s. stamp_now s.board };
+
+    ghost waiting = { λ s. s.waiting };
+
+    #[inline(always)]
+    fn region(&self) -> Region {
+        self.board.region
+    }
+
+    #[inline(always)]
+    fn stamp(&self) -> u64 {
+        self.board.stamp()
+    }
+
+    #[inline(always)]
+    fn act(&self) -> Act {
+        next_act(&self.spc, &self.board)
+    }
+
+    #[inline(always)]
+    fn step(&mut self, got: u8) {
+        begin(&mut self.spc, &mut self.board, got);
+        self.end_cycle();
+    }
+
+    #[inline(always)]
+    fn pending(&self) -> usize {
+        self.waiting.len()
+    }
+
+    fn drain(&mut self, into: &mut [u8]) -> usize {
+        self.waiting.read_into(into)
+    }
+
+    ghost stands_valid = { region_stands };
+
+    ghost stands_stamp = { stamp_stands };
+
+    ghost lawful = { sound_is_lawful };
+}

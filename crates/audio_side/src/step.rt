@@ -1,0 +1,131 @@
+ghost use Rattle.std.specs.Prelude.{◌≡◌, ◌≤◌, ◌^◌};
+ghost use Rattle.spc700.specs.Instruction.{Standing, at_reset, moved_on, next_of};
+ghost use Rattle.spc700.specs.Stands.{Stands};
+ghost use Rattle.audio_side.specs.Board.{is_reset_due, stamp_now, vector};
+ghost use Rattle.audio_side.specs.Effect.{
+  act_of,
+  act_of_load,
+  act_of_store,
+  effect,
+  emitted,
+  given,
+  passed,
+  reset_board,
+  timed,
+};
+ghost use Rattle.audio_side.specs.Sound.{IsRunning, SoundState, board_before_end, processor_after, sound_act};
+
+use crate::board::{Hardware, cleared};
+use snes_defs::Act;
+use spc700::{Spc, SpcAccess};
+
+/// What a fetch or a read does at the ports.
+#[tactic(auto, unfolding(crate::specs::Effect::act_of_load))]
+#[inline(always)]
+fn load_act(at: u16) -> Act
+    ensures { result ≡ act_of_load at }
+{
+    if at >= 0xF4 && at <= 0xF7 {
+        Act::Read((at - 0xF4) as u8)
+    } else {
+        Act::Quiet
+    }
+}
+
+/// What a write does at the ports.
+#[tactic(auto, unfolding(crate::specs::Effect::act_of_store))]
+#[inline(always)]
+fn store_act(at: u16, byte: u8) -> Act
+    ensures { result ≡ act_of_store at byte }
+{
+    if at >= 0xF4 && at <= 0xF7 {
+        Act::Write((at - 0xF4) as u8, byte)
+    } else if at == 0xF1 && cleared(byte) > 0 {
+        Act::Clear(cleared(byte))
+    } else {
+        Act::Quiet
+    }
+}
+
+/// What the next access does at the ports.
+#[inline(always)]
+fn access_act(spc: &Spc) -> Act
+    ensures { (s : Standing) → Stands spc.now s → result ≡ act_of (next_of s) }
+{
+    match spc.next() {
+        SpcAccess::Fetch(at) => load_act(at),
+        SpcAccess::Read(at) => load_act(at),
+        SpcAccess::Write(at, byte) => store_act(at, byte),
+        SpcAccess::Inner => Act::Quiet,
+    }
+}
+
+/// What the next step does at the ports.
+#[tactic(auto, unfolding(crate::specs::Sound::sound_act))]
+#[inline(always)]
+pub fn next_act(spc: &Spc, board: &Hardware) -> Act
+    ensures { (s : Standing) → Stands spc.now s → result ≡ sound_act (record { processor = s; board = board.now }) }
+{
+    if board.is_due() {
+        Act::Clear(15)
+    } else {
+        access_act(spc)
+    }
+}
+
+/// The processor's next access is made.
+#[inline(always)]
+fn access(spc: &mut Spc, board: &mut Hardware, got: u8)
+    ensures processor { (s : Standing) → Stands spc.old s → Stands spc.new (moved_on s (given board.old (next_of s) got)) }
+    ensures board { (s : Standing) → Stands spc.old s → board.new ≡ effect board.old (next_of s) }
+    ensures region { board.new.region ≡ board.old.region }
+    ensures cycle { board.new.cycle ≡ board.old.cycle }
+{
+    match spc.next() {
+        SpcAccess::Fetch(at) => {
+            let byte = board.load(at, got);
+            board.finish_load(at);
+            spc.took(byte);
+        }
+        SpcAccess::Read(at) => {
+            let byte = board.load(at, got);
+            board.finish_load(at);
+            spc.took(byte);
+        }
+        SpcAccess::Write(at, byte) => {
+            board.store(at, byte);
+            spc.wrote();
+        }
+        SpcAccess::Inner => spc.idle(),
+    }
+}
+
+/// A reset.
+#[inline(never)]
+fn restart(spc: &mut Spc, board: &mut Hardware)
+    ensures processor { Stands spc.new (at_reset (vector board.old)) }
+    ensures board { board.new ≡ reset_board board.old }
+    ensures region { board.new.region ≡ board.old.region }
+    ensures cycle { board.new.cycle ≡ board.old.cycle }
+{
+    *spc = Spc::new(board.entry());
+    board.reset();
+}
+
+/// The next step but for its end: a reset, or an access.
+#[tactic(auto, unfolding(crate::specs::Sound::processor_after, crate::specs::Sound::board_before_end))]
+#[inline(always)]
+pub fn begin(spc: &mut Spc, board: &mut Hardware, got: u8)
+    ensures processor { (s : Standing) → Stands spc.old s
+        → Stands spc.new (processor_after (record { processor = s; board = board.old }) got) }
+    ensures board { (s : Standing) → Stands spc.old s
+        → board.new ≡ board_before_end (record { processor = s; board = board.old }) }
+    ensures region { board.new.region ≡ board.old.region }
+    ensures cycle { board.new.cycle ≡ board.old.cycle }
+{
+    if board.is_due() {
+        restart(spc, board);
+    } else {
+        access(spc, board, got);
+    }
+}
