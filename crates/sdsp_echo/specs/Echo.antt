@@ -1,5 +1,5 @@
 -- The echo: a delay line in RAM behind a filter of eight taps, and the final mix (nocash fullsnes, "SNES APU DSP Echo").
-use Rattle.std.specs.Prelude.{ℕ, ℤ, pos, Bool, ◌+◌, ◌-◌, ◌*◌, ◌/◌, ◌%◌, ◌==◌, ◌+ℤ◌, ◌*ℤ◌, nat_le, List, [], ◌∷◌, slice_set, if◌then◌else◌}
+use Rattle.std.specs.Prelude.{ℕ, ℤ, pos, ◌+◌, ◌*◌, ◌/◌, ◌%◌, ◌==◌, ◌+ℤ◌, ◌*ℤ◌, nat_le, List, slice_set, if◌then◌else◌}
 use Rattle.std.specs.Int.{w16, w32, cast_signed, cast_unsigned}
 use Rattle.sdsp_voice.specs.Signed.{shifted, signed_byte, wrapped_16, clamped_16}
 use Rattle.sdsp_voice.specs.Brr.{at, word_at}
