@@ -111,23 +111,24 @@ unfoldable pub reset_board : Board → Board
 reset_board b =
     record b { boot_seen = true; address = 0; timer0 = stopped; timer1 = stopped; timer2 = stopped; voices = at_reset b.voices }
 
--- THE END OF A CYCLE: timer 2 ticks each 16 cycles, timers 0 and 1 each 128
-unfoldable pub timed : Board → Board
-timed b =
+-- THE END OF CYCLE n: timer 2 ticks each 16 cycles, timers 0 and 1 each 128
+unfoldable pub timed : ℕ → Board → Board
+timed n b =
     record b {
-      timer0 = if (b.cycle + 1) % 128 == 0 then ticked b.timer0 else b.timer0;
-      timer1 = if (b.cycle + 1) % 128 == 0 then ticked b.timer1 else b.timer1;
-      timer2 = if (b.cycle + 1) % 16 == 0 then ticked b.timer2 else b.timer2;
+      timer0 = if (n + 1) % 128 == 0 then ticked b.timer0 else b.timer0;
+      timer1 = if (n + 1) % 128 == 0 then ticked b.timer1 else b.timer1;
+      timer2 = if (n + 1) % 16 == 0 then ticked b.timer2 else b.timer2;
     }
 
--- a sample, by the last of each 32 cycles: its number is the cycle's by 32
-abbrev pub is_sampling : Board → Bool
-is_sampling b = b.cycle % 32 == 31
+-- A SAMPLE is made by the last of each 32 cycles: its number is the cycle's by 32
+abbrev pub is_sampling : ℕ → Bool
+is_sampling n = n % 32 == 31
 
-unfoldable pub sampled : Board → Board
-sampled b =
-    let voices' = after_sample b.ram b.table (b.cycle / 32) b.voices in
-    let sums = sums_of b.ram b.table (b.cycle / 32) b.voices in
+-- the board after sample s
+unfoldable pub sampled : ℕ → Board → Board
+sampled s b =
+    let voices' = after_sample b.ram b.table s b.voices in
+    let sums = sums_of b.ram b.table s b.voices in
     record b {
       voices = voices';
       echo = after_mix voices' b.ram b.echo;
@@ -140,21 +141,19 @@ low_byte n = n % 256
 abbrev pub high_byte : ℕ → ℕ
 high_byte n = n / 256
 
--- left, then right, each with its low byte first
-unfoldable pub sample_bytes : Board → List ℕ
-sample_bytes b =
-    let voices' = after_sample b.ram b.table (b.cycle / 32) b.voices in
-    let sums = sums_of b.ram b.table (b.cycle / 32) b.voices in
-    let left = cast_unsigned w16 (left_out voices' sums b.ram b.echo) in
-    let right = cast_unsigned w16 (right_out voices' sums b.ram b.echo) in
-    low_byte left ∷ high_byte left ∷ low_byte right ∷ high_byte right ∷ []
+-- a number's two bytes, the low one first, left before right
+abbrev pub pair_bytes : ℕ → ℕ → List ℕ
+pair_bytes left right = low_byte left ∷ high_byte left ∷ low_byte right ∷ high_byte right ∷ []
 
--- the board after the end of its cycle, and the bytes that it emits
-unfoldable pub passed : Board → Board
-passed b =
-    let t = timed b in
-    let done = (if is_sampling t then sampled t else t) in
-    record done { cycle = b.cycle + 1 }
+unfoldable pub sample_bytes : ℕ → Board → List ℕ
+sample_bytes s b =
+    let voices' = after_sample b.ram b.table s b.voices in
+    let sums = sums_of b.ram b.table s b.voices in
+    pair_bytes (cast_unsigned w16 (left_out voices' sums b.ram b.echo)) (cast_unsigned w16 (right_out voices' sums b.ram b.echo))
 
-unfoldable pub emitted : Board → List ℕ
-emitted b = if is_sampling b then sample_bytes b else []
+-- the board after the end of cycle n, and the bytes that it emits
+unfoldable pub passed : ℕ → Board → Board
+passed n b = if is_sampling n then sampled (n / 32) (timed n b) else timed n b
+
+unfoldable pub emitted : ℕ → Board → List ℕ
+emitted n b = if is_sampling n then sample_bytes (n / 32) (timed n b) else []

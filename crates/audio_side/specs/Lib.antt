@@ -1,4 +1,5 @@
 pub mod Timer
+pub mod Clock
 pub mod Board
 pub mod Effect
 pub mod Sound

@@ -8,6 +8,7 @@
 #![tactic(auto)]
 
 mod board;
+mod clock;
 mod side;
 mod step;
 mod timer;

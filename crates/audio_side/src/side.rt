@@ -1,9 +1,11 @@
 ghost use Rattle.std.specs.Prelude.{◌≡◌, ◌+◌, ◌*◌, ◌++◌, ◌≤◌, ◌^◌, [], IfOk, length};
-ghost use Rattle.audio_side.specs.Board.{reset_frames, stamp_now, table_of, zeros};
+ghost use Rattle.audio_side.specs.Board.{table_of, zeros};
+ghost use Rattle.audio_side.specs.Clock.{gone_on, reset_frames, stamp_now};
 ghost use Rattle.audio_side.specs.Effect.{emitted, passed};
 ghost use Rattle.audio_side.specs.Sound.{StandsAt, sound_start};
 
 use crate::board::Hardware;
+use crate::clock::CycleClock;
 use crate::step::{begin, next_act};
 use crate::timer::stopped_timer;
 use circular_buffer::HeapCircularBuffer;
@@ -20,6 +22,7 @@ use std::marker::Model;
 pub struct AudioSide {
     spc: Spc,
     board: Hardware,
+    clock: CycleClock,
     waiting: HeapCircularBuffer<u8>,
 }
 
@@ -29,7 +32,7 @@ impl Model for AudioSide {
 
     ghost Value = { AudioValue };
 
-    ghost view = { λ s. record { processor = s.spc; board = s.board; waiting = s.waiting.items } };
+    ghost view = { λ s. record { processor = s.spc; board = s.board; clock = s.clock; waiting = s.waiting.items } };
 
     ghost invariant = { λ s. IsRunning s.spc × (s.waiting.capacity ≡ 4096) × (length s.waiting.items ≤ 4096) };
 }
@@ -87,8 +90,6 @@ impl AudioSide {
             Err(_) => return Err(NoMemory),
         };
         let board = Hardware {
-            region: job.region,
-            resets,
             boot: job.boot,
             table: copied(&job.table),
             ram,
@@ -99,12 +100,17 @@ impl AudioSide {
             timer2: stopped_timer(),
             boot_seen: true,
             address: 0,
+        };
+        let clock = CycleClock {
+            region: job.region,
+            resets,
             cycle: 0,
         };
         let spc = Spc::new(board.entry());
         Ok(AudioSide {
             spc,
             board,
+            clock,
             waiting,
         })
     }
@@ -114,27 +120,27 @@ impl AudioSide {
     #[inline(always)]
     fn end_cycle(&mut self)
         requires room { length self.old.waiting + 4 ≤ 4096 }
-        requires early { stamp_now self.old.board ≤ 2 ^ 62 }
+        requires early { stamp_now self.old.clock ≤ 2 ^ 62 }
         ensures processor { self.new.processor ≡ self.old.processor }
-        ensures board { self.new.board ≡ passed self.old.board }
-        ensures waiting { self.new.waiting ≡ self.old.waiting ++ emitted (timed self.old.board) }
-        ensures region { self.new.board.region ≡ self.old.board.region }
-        ensures cycle { self.new.board.cycle ≡ self.old.board.cycle + 1 }
+        ensures board { self.new.board ≡ passed self.old.clock.cycle self.old.board }
+        ensures waiting { self.new.waiting ≡ self.old.waiting ++ emitted self.old.clock.cycle self.old.board }
+        ensures clock { self.new.clock ≡ gone_on self.old.clock }
         ensures few { length self.new.waiting ≤ length self.old.waiting + 4 }
     {
-        self.board.time();
-        if self.board.samples() {
-            let bytes = self.board.sample();
+        let cycle = self.clock.cycle;
+        self.board.time(cycle);
+        if cycle % 32 == 31 {
+            let bytes = self.board.sample(cycle / 32);
             self.waiting.fill_from_slice(&bytes);
         }
-        self.board.count();
+        self.clock.go_on();
     }
 }
 
 impl Machine for AudioSide {
     ghost use Rattle.std.specs.Prelude.{◌*◌};
     ghost use Rattle.std.proofs.Common.{rules};
-    ghost use Rattle.audio_side.specs.Board.{stamp_now};
+    ghost use Rattle.audio_side.specs.Clock.{stamp_now};
     ghost use Rattle.audio_side.specs.Sound.{SoundState, IsSound, sound_moves, StandsAt};
     ghost use Rattle.audio_side.specs.SoundLaws.{sound_is_lawful, region_stands, stamp_stands};
 
@@ -154,30 +160,30 @@ impl Machine for AudioSide {
 
     ghost stands = { StandsAt };
 
-    ghost region_of = { λ s. s.board.region };
+    ghost region_of = { λ s. s.clock.region };
 
-    ghost stamp_of = { λ s. stamp_now s.board };
+    ghost stamp_of = { λ s. stamp_now s.clock };
 
     ghost waiting = { λ s. s.waiting };
 
     #[inline(always)]
     fn region(&self) -> Region {
-        self.board.region
+        self.clock.region
     }
 
     #[inline(always)]
     fn stamp(&self) -> u64 {
-        self.board.stamp()
+        self.clock.stamp()
     }
 
     #[inline(always)]
     fn act(&self) -> Act {
-        next_act(&self.spc, &self.board)
+        next_act(&self.spc, &self.board, &self.clock)
     }
 
     #[inline(always)]
     fn step(&mut self, got: u8) {
-        begin(&mut self.spc, &mut self.board, got);
+        begin(&mut self.spc, &mut self.board, &self.clock, got);
         self.end_cycle();
     }
 

@@ -1,21 +1,12 @@
 ghost use Rattle.std.specs.Prelude.{◌≡◌, ◌≤◌, ◌^◌};
 ghost use Rattle.spc700.specs.Instruction.{Standing, at_reset, moved_on, next_of};
 ghost use Rattle.spc700.specs.Stands.{Stands};
-ghost use Rattle.audio_side.specs.Board.{is_reset_due, stamp_now, vector};
-ghost use Rattle.audio_side.specs.Effect.{
-  act_of,
-  act_of_load,
-  act_of_store,
-  effect,
-  emitted,
-  given,
-  passed,
-  reset_board,
-  timed,
-};
+ghost use Rattle.audio_side.specs.Board.{vector};
+ghost use Rattle.audio_side.specs.Effect.{act_of, act_of_load, act_of_store, effect, given, reset_board};
 ghost use Rattle.audio_side.specs.Sound.{IsRunning, SoundState, board_before_end, processor_after, sound_act};
 
 use crate::board::{Hardware, cleared};
+use crate::clock::CycleClock;
 use snes_defs::Act;
 use spc700::{Spc, SpcAccess};
 
@@ -63,10 +54,12 @@ fn access_act(spc: &Spc) -> Act
 /// What the next step does at the ports.
 #[tactic(auto, unfolding(crate::specs::Sound::sound_act))]
 #[inline(always)]
-pub fn next_act(spc: &Spc, board: &Hardware) -> Act
-    ensures { (s : Standing) → Stands spc.now s → result ≡ sound_act (record { processor = s; board = board.now }) }
+pub fn next_act(spc: &Spc, board: &Hardware, clock: &CycleClock) -> Act
+    ensures { (s : Standing) → Stands spc.now s
+        → result ≡ sound_act (record { processor = s; board = board.now; clock = clock.now }) }
 {
-    if board.is_due() {
+    let _board = board;
+    if clock.is_due() {
         Act::Clear(15)
     } else {
         access_act(spc)
@@ -78,8 +71,6 @@ pub fn next_act(spc: &Spc, board: &Hardware) -> Act
 fn access(spc: &mut Spc, board: &mut Hardware, got: u8)
     ensures processor { (s : Standing) → Stands spc.old s → Stands spc.new (moved_on s (given board.old (next_of s) got)) }
     ensures board { (s : Standing) → Stands spc.old s → board.new ≡ effect board.old (next_of s) }
-    ensures region { board.new.region ≡ board.old.region }
-    ensures cycle { board.new.cycle ≡ board.old.cycle }
 {
     match spc.next() {
         SpcAccess::Fetch(at) => {
@@ -105,8 +96,6 @@ fn access(spc: &mut Spc, board: &mut Hardware, got: u8)
 fn restart(spc: &mut Spc, board: &mut Hardware)
     ensures processor { Stands spc.new (at_reset (vector board.old)) }
     ensures board { board.new ≡ reset_board board.old }
-    ensures region { board.new.region ≡ board.old.region }
-    ensures cycle { board.new.cycle ≡ board.old.cycle }
 {
     *spc = Spc::new(board.entry());
     board.reset();
@@ -115,15 +104,13 @@ fn restart(spc: &mut Spc, board: &mut Hardware)
 /// The next step but for its end: a reset, or an access.
 #[tactic(auto, unfolding(crate::specs::Sound::processor_after, crate::specs::Sound::board_before_end))]
 #[inline(always)]
-pub fn begin(spc: &mut Spc, board: &mut Hardware, got: u8)
+pub fn begin(spc: &mut Spc, board: &mut Hardware, clock: &CycleClock, got: u8)
     ensures processor { (s : Standing) → Stands spc.old s
-        → Stands spc.new (processor_after (record { processor = s; board = board.old }) got) }
+        → Stands spc.new (processor_after (record { processor = s; board = board.old; clock = clock.now }) got) }
     ensures board { (s : Standing) → Stands spc.old s
-        → board.new ≡ board_before_end (record { processor = s; board = board.old }) }
-    ensures region { board.new.region ≡ board.old.region }
-    ensures cycle { board.new.cycle ≡ board.old.cycle }
+        → board.new ≡ board_before_end (record { processor = s; board = board.old; clock = clock.now }) }
 {
-    if board.is_due() {
+    if clock.is_due() {
         restart(spc, board);
     } else {
         access(spc, board, got);

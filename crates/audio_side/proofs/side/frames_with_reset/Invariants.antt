@@ -1,5 +1,5 @@
 use Rattle.std.proofs.Common.{◌≡◌}
-use Rattle.audio_side.specs.Board.{reset_frames}
+use Rattle.audio_side.specs.Clock.{reset_frames}
 use Rattle.audio_side.proofs.side.frames_with_reset.Given as goal
 
 abbrev pub invariant-frames : goal.invariant-frames
