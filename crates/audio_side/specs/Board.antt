@@ -24,8 +24,12 @@ pub record Board : Type 0 where
   -- F2, the address of the S-DSP's registers
   pub address : ℕ
 
+-- 64 KiB, which start as zeros
+unfoldable pub ram_size : ℕ
+ram_size = 65536
+
 unfoldable pub zeros : List ℕ
-zeros = replicate 65536 0
+zeros = replicate ram_size 0
 
 -- the 512 numbers of an interpolation table
 unfoldable pub table_of : List ℕ → List ℕ

@@ -1,4 +1,4 @@
-use Rattle.std.proofs.Common.{◌≡◌, ℕ, Bool, true, false, ◌+◌, ◌-◌, ◌*◌, ◌<◌, ◌≤◌, ◌&&◌, nat_le, nat_lt, List, [], length, arith, sym, ap, subst, refl, zero-le, lit≤, if◌then◌else◌}
+use Rattle.std.proofs.Common.{◌≡◌, ℕ, Bool, true, false, ◌+◌, ◌-◌, ◌*◌, ◌<◌, ◌≤◌, ◌==◌, ◌&&◌, nat_le, nat_lt, List, [], length, arith, sym, ap, subst, refl, zero-le, lit≤, if◌then◌else◌}
 use Rattle.snes_defs.specs.declared.ports.Act.{Act}
 use Rattle.snes_defs.specs.declared.ports.Act.TheVariants.{Quiet, Read, Write, Clear}
 use Rattle.snes_defs.specs.declared.ports.Side.TheVariants.{Sound}
@@ -23,8 +23,8 @@ stamp_stands x m h = sym (ap stamp_now h.clock)
 
 -- a test goes one way or the other
 by_test : {P : Type 0} (b : Bool) → (b ≡ true → P) → (b ≡ false → P) → P
-by_test true yes no = yes refl
-by_test false yes no = no refl
+by_test true f g = f refl
+by_test false f g = g refl
 
 below_four : (at : ℕ) → nat_le 0xF4 at && nat_le at 0xF7 ≡ true → at - 0xF4 < 4
 below_four at h = grind arith

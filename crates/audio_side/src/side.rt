@@ -1,12 +1,11 @@
-ghost use Rattle.std.specs.Prelude.{◌≡◌, ◌+◌, ◌*◌, ◌++◌, ◌≤◌, ◌^◌, [], IfOk, length};
+ghost use Rattle.std.specs.Prelude.{◌≡◌, ◌++◌, [], ◌∷◌, All, IfOk, OnOk, length, if◌then◌else◌};
 ghost use Rattle.audio_side.specs.Board.{table_of, zeros};
-ghost use Rattle.audio_side.specs.Clock.{gone_on, reset_frames, stamp_now};
-ghost use Rattle.audio_side.specs.Effect.{emitted, passed};
-ghost use Rattle.audio_side.specs.Sound.{StandsAt, sound_start};
+ghost use Rattle.audio_side.specs.Clock.{reset_frames};
+ghost use Rattle.audio_side.specs.Sound.{IsRunning, StandsAt, sound_start};
 
 use crate::board::Hardware;
 use crate::clock::CycleClock;
-use crate::step::{begin, next_act};
+use crate::step::{begin, finish, fresh, next_act};
 use crate::timer::stopped_timer;
 use circular_buffer::HeapCircularBuffer;
 use sdsp_echo::Echo;
@@ -37,29 +36,51 @@ impl Model for AudioSide {
     ghost invariant = { λ s. IsRunning s.spc × (s.waiting.capacity ≡ 4096) × (length s.waiting.items ≤ 4096) };
 }
 
+/// A frame put at the end of a list, if it has a reset.
+fn add_frame(frames: &mut Vec<u32>, frame: u32, has_reset: bool) -> Result<(), NoMemory>
+    ensures { OnOk result (frames.new.items ≡ frames.old.items ++ (if has_reset then frame ∷ [] else [])) }
+{
+    if has_reset {
+        match frames.push(frame) {
+            Ok(()) => Ok(()),
+            Err(_) => Err(NoMemory),
+        }
+    } else {
+        Ok(())
+    }
+}
+
 /// The frames, from 0 to 36,000, that a script begins with a reset, in order.
+#[tactic(auto, using(crate::proofs::Frames::no_frame, crate::proofs::Frames::one_more_frame))]
 fn frames_with_reset(alloc: Global, script: &Spans) -> Result<Vec<u32>, NoMemory>
     ensures { IfOk result (λ v. v.items ≡ reset_frames script.now.resets 36001) }
 {
     let mut frames = Vec::new(alloc);
     'frames: for frame in 0..36001 {
-        if script.resets(frame) {
-            match frames.push(frame) {
-                Ok(()) => {}
-                Err(_) => return Err(NoMemory),
-            }
-        }
+        add_frame(&mut frames, frame, script.resets(frame))?;
     }
     Ok(frames)
 }
 
+/// The bytes of RAM.
+const RAM: usize = 65_536;
+
 /// RAM of zeros.
-#[tactic(auto, unfolding(crate::specs::Board::zeros))]
+#[tactic(auto, using(crate::proofs::Zeros::zeros_is))]
 fn empty_ram(alloc: Global) -> Result<Vec<u8>, NoMemory>
-    ensures { IfOk result (λ v. v.items ≡ zeros) }
+    ensures zeros { IfOk result (λ ram. ram.items ≡ zeros) }
+    ensures size { IfOk result (λ ram. length ram.items ≡ 65536) }
 {
-    match vec![in alloc; 0u8; 65536] {
-        Ok(ram) => Ok(ram),
+    zeroed(alloc, RAM)
+}
+
+/// So many zeros.
+fn zeroed(alloc: Global, size: usize) -> Result<Vec<u8>, NoMemory>
+    ensures size { IfOk result (λ bytes. length bytes.items ≡ size) }
+    ensures zeros { IfOk result (λ bytes. All (λ b. b ≡ 0) bytes.items) }
+{
+    match vec![in alloc; 0u8; size] {
+        Ok(bytes) => Ok(bytes),
         Err(_) => Err(NoMemory),
     }
 }
@@ -106,7 +127,7 @@ impl AudioSide {
             resets,
             cycle: 0,
         };
-        let spc = Spc::new(board.entry());
+        let spc = fresh(board.entry());
         Ok(AudioSide {
             spc,
             board,
@@ -115,25 +136,12 @@ impl AudioSide {
         })
     }
 
-    /// The end of a step: the timers, and by the last of each 32 cycles a sample.
-    #[tactic(auto, unfolding(crate::specs::Effect::passed, crate::specs::Effect::emitted))]
+    /// The processor stands for some instruction.
     #[inline(always)]
-    fn end_cycle(&mut self)
-        requires room { length self.old.waiting + 4 ≤ 4096 }
-        requires early { stamp_now self.old.clock ≤ 2 ^ 62 }
-        ensures processor { self.new.processor ≡ self.old.processor }
-        ensures board { self.new.board ≡ passed self.old.clock.cycle self.old.board }
-        ensures waiting { self.new.waiting ≡ self.old.waiting ++ emitted self.old.clock.cycle self.old.board }
-        ensures clock { self.new.clock ≡ gone_on self.old.clock }
-        ensures few { length self.new.waiting ≤ length self.old.waiting + 4 }
+    fn running(&self)
+        ensures { IsRunning self.now.processor }
     {
-        let cycle = self.clock.cycle;
-        self.board.time(cycle);
-        if cycle % 32 == 31 {
-            let bytes = self.board.sample(cycle / 32);
-            self.waiting.fill_from_slice(&bytes);
-        }
-        self.clock.go_on();
+        let _spc = self.spc;
     }
 }
 
@@ -173,6 +181,7 @@ impl Machine for AudioSide {
 
     #[inline(always)]
     fn stamp(&self) -> u64 {
+        self.running();
         self.clock.stamp()
     }
 
@@ -184,7 +193,8 @@ impl Machine for AudioSide {
     #[inline(always)]
     fn step(&mut self, got: u8) {
         begin(&mut self.spc, &mut self.board, &self.clock, got);
-        self.end_cycle();
+        finish(&mut self.board, self.clock.cycle, &mut self.waiting);
+        self.clock.go_on();
     }
 
     #[inline(always)]

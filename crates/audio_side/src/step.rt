@@ -1,12 +1,13 @@
-ghost use Rattle.std.specs.Prelude.{◌≡◌, ◌≤◌, ◌^◌};
+ghost use Rattle.std.specs.Prelude.{◌≡◌, ◌≤◌, ◌+◌, ◌^◌, ◌++◌, length};
 ghost use Rattle.spc700.specs.Instruction.{Standing, at_reset, moved_on, next_of};
 ghost use Rattle.spc700.specs.Stands.{Stands};
 ghost use Rattle.audio_side.specs.Board.{vector};
-ghost use Rattle.audio_side.specs.Effect.{act_of, act_of_load, act_of_store, effect, given, reset_board};
+ghost use Rattle.audio_side.specs.Effect.{act_of, act_of_load, act_of_store, effect, emitted, given, passed, reset_board};
 ghost use Rattle.audio_side.specs.Sound.{IsRunning, SoundState, board_before_end, processor_after, sound_act};
 
 use crate::board::{Hardware, cleared};
 use crate::clock::CycleClock;
+use circular_buffer::HeapCircularBuffer;
 use snes_defs::Act;
 use spc700::{Spc, SpcAccess};
 
@@ -91,6 +92,14 @@ fn access(spc: &mut Spc, board: &mut Hardware, got: u8)
     }
 }
 
+/// A processor at the vector `pc`.
+pub fn fresh(pc: u16) -> Spc
+    ensures stands { Stands result (at_reset pc) }
+    ensures runs { IsRunning result }
+{
+    Spc::new(pc)
+}
+
 /// A reset.
 #[inline(never)]
 fn restart(spc: &mut Spc, board: &mut Hardware)
@@ -102,9 +111,21 @@ fn restart(spc: &mut Spc, board: &mut Hardware)
 }
 
 /// The next step but for its end: a reset, or an access.
-#[tactic(auto, unfolding(crate::specs::Sound::processor_after, crate::specs::Sound::board_before_end))]
 #[inline(always)]
 pub fn begin(spc: &mut Spc, board: &mut Hardware, clock: &CycleClock, got: u8)
+    ensures processor { (s : Standing) → Stands spc.old s
+        → Stands spc.new (processor_after (record { processor = s; board = board.old; clock = clock.now }) got) }
+    ensures board { (s : Standing) → Stands spc.old s
+        → board.new ≡ board_before_end (record { processor = s; board = board.old; clock = clock.now }) }
+    ensures runs { IsRunning spc.old → IsRunning spc.new }
+{
+    make(spc, board, clock, got);
+}
+
+/// The same, by the instruction that the processor stands for.
+#[tactic(auto, unfolding(crate::specs::Sound::processor_after, crate::specs::Sound::board_before_end))]
+#[inline(always)]
+fn make(spc: &mut Spc, board: &mut Hardware, clock: &CycleClock, got: u8)
     ensures processor { (s : Standing) → Stands spc.old s
         → Stands spc.new (processor_after (record { processor = s; board = board.old; clock = clock.now }) got) }
     ensures board { (s : Standing) → Stands spc.old s
@@ -114,5 +135,23 @@ pub fn begin(spc: &mut Spc, board: &mut Hardware, clock: &CycleClock, got: u8)
         restart(spc, board);
     } else {
         access(spc, board, got);
+    }
+}
+
+/// The end of a step: the timers, and by the last of each 32 cycles a sample, whose bytes wait.
+#[tactic(auto, unfolding(crate::specs::Effect::passed, crate::specs::Effect::emitted))]
+#[inline(always)]
+pub fn finish(board: &mut Hardware, cycle: u64, waiting: &mut HeapCircularBuffer<u8>)
+    requires cycle { cycle ≤ 2 ^ 46 }
+    requires room { length waiting.old.items + 4 ≤ waiting.old.capacity }
+    ensures board { board.new ≡ passed cycle board.old }
+    ensures waiting { waiting.new.items ≡ waiting.old.items ++ emitted cycle board.old }
+    ensures capacity { waiting.new.capacity ≡ waiting.old.capacity }
+    ensures few { length waiting.new.items ≤ length waiting.old.items + 4 }
+{
+    board.time(cycle);
+    if cycle % 32 == 31 {
+        let bytes = board.sample(cycle / 32);
+        waiting.fill_from_slice(&bytes);
     }
 }

@@ -2,4 +2,8 @@ use Rattle.std.proofs.Common.{◌≡◌, ℕ, ◌<◌, ◌≤◌, length, get_or
 use Rattle.audio_side.proofs.side.copied.Given as goal
 
 abbrev pub invariant-numbers : goal.invariant-numbers
-invariant-numbers l = (length l.numbers ≡ 512) × ((k : ℕ) → k < l.i → get_or l.numbers k 0 ≡ slice_index l.table k) × ((k : ℕ) → get_or l.numbers k 0 ≤ 2047)
+invariant-numbers l = record {
+  whole : length l.numbers ≡ 512;
+  same : (k : ℕ) → k < l.i → get_or l.numbers k 0 ≡ slice_index l.table k;
+  small : All (λ n. n ≤ 2047) l.numbers;
+}
