@@ -16,15 +16,21 @@ mod generator;
 mod number;
 mod unit;
 
+use std::alloc::Global;
 use std::{env, fs, io};
 use unit::{Outcome, Unit};
+
+/// So many zeros.
+fn zeros(alloc: Global, size: usize) -> io::Result<Vec<u8>> {
+    Ok(vec![in alloc; 0u8; size]?)
+}
 
 fn main(rt: HostRuntime) -> io::Result<()> {
     let mut cases = 0u64;
     let mut different = 0u64;
     for name in env::args(&rt)?.skip(1) {
         let text = fs::read_to_string(&rt, name.as_str())?;
-        let mut ram = vec![in rt.alloc(); 0u8; 65536]?;
+        let mut ram = zeros(rt.alloc(), 65536)?;
         let mut unit = Unit::new();
         let mut holds = true;
         for line in text.lines() {

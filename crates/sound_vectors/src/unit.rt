@@ -35,10 +35,11 @@ impl Unit {
         }
     }
 
-    /// One line of a case, but for its first and last.
-    pub fn line(&mut self, ram: &mut [u8], line: &str) -> Option<Outcome>
-        requires { length ram.old ≡ 65536 }
-    {
+    /// One line of a case, but for its first and last. RAM has 64 KiB.
+    pub fn line(&mut self, ram: &mut [u8], line: &str) -> Option<Outcome> {
+        if ram.len() != 65536 {
+            return None;
+        }
         let mut words = line.split_whitespace();
         let kind = words.next()?;
         match kind.as_bytes() {
