@@ -3,4 +3,5 @@ pub mod Clock
 pub mod Board
 pub mod Effect
 pub mod Sound
+pub mod Parts
 pub mod SoundLaws

@@ -22,7 +22,7 @@ pub stamp_stands : (x : AudioValue) (m : SoundState) → StandsAt x m → sound_
 stamp_stands x m h = sym (ap stamp_now h.clock)
 
 -- a test goes one way or the other
-by_test : {P : Type 0} (b : Bool) → (b ≡ true → P) → (b ≡ false → P) → P
+pub by_test : {P : Type 0} (b : Bool) → (b ≡ true → P) → (b ≡ false → P) → P
 by_test true f g = f refl
 by_test false f g = g refl
 

@@ -9,6 +9,7 @@
 
 mod board;
 mod clock;
+mod parts;
 mod side;
 mod step;
 mod timer;

@@ -5,24 +5,21 @@ ghost use Rattle.audio_side.specs.Sound.{IsRunning, StandsAt, sound_start};
 
 use crate::board::Hardware;
 use crate::clock::CycleClock;
-use crate::step::{begin, finish, fresh, next_act};
+use crate::parts::Parts;
+use crate::step::fresh;
 use crate::timer::stopped_timer;
 use circular_buffer::HeapCircularBuffer;
 use sdsp_echo::Echo;
 use sdsp_voice::Voices;
 use side_law::Machine;
 use snes_defs::{Act, Job, NoMemory, Region, Spans, Table};
-use spc700::Spc;
 use std::alloc::Global;
 use std::marker::Model;
 
 /// The sound side of a console.
 #[derive(Drop)]
 pub struct AudioSide {
-    spc: Spc,
-    board: Hardware,
-    clock: CycleClock,
-    waiting: HeapCircularBuffer<u8>,
+    parts: Parts,
 }
 
 impl Model for AudioSide {
@@ -31,9 +28,9 @@ impl Model for AudioSide {
 
     ghost Value = { AudioValue };
 
-    ghost view = { λ s. record { processor = s.spc; board = s.board; clock = s.clock; waiting = s.waiting.items } };
+    ghost view = { λ s. record { processor = s.parts.spc; board = s.parts.board; clock = s.parts.clock; waiting = s.parts.waiting.items } };
 
-    ghost invariant = { λ s. IsRunning s.spc × (s.waiting.capacity ≡ 4096) × (length s.waiting.items ≤ 4096) };
+    ghost invariant = { λ s. IsRunning s.parts.spc × (s.parts.waiting.capacity ≡ 4096) × (length s.parts.waiting.items ≤ 4096) };
 }
 
 /// A frame put at the end of a list, if it has a reset.
@@ -129,10 +126,12 @@ impl AudioSide {
         };
         let spc = fresh(board.entry());
         Ok(AudioSide {
-            spc,
-            board,
-            clock,
-            waiting,
+            parts: Parts {
+                spc,
+                board,
+                clock,
+                waiting,
+            },
         })
     }
 
@@ -141,7 +140,7 @@ impl AudioSide {
     fn running(&self)
         ensures { IsRunning self.now.processor }
     {
-        let _spc = self.spc;
+        let _spc = self.parts.spc;
     }
 }
 
@@ -176,34 +175,32 @@ impl Machine for AudioSide {
 
     #[inline(always)]
     fn region(&self) -> Region {
-        self.clock.region
+        self.parts.clock.region
     }
 
     #[inline(always)]
     fn stamp(&self) -> u64 {
         self.running();
-        self.clock.stamp()
+        self.parts.clock.stamp()
     }
 
     #[inline(always)]
     fn act(&self) -> Act {
-        next_act(&self.spc, &self.board, &self.clock)
+        self.parts.act()
     }
 
     #[inline(always)]
     fn step(&mut self, got: u8) {
-        begin(&mut self.spc, &mut self.board, &self.clock, got);
-        finish(&mut self.board, self.clock.cycle, &mut self.waiting);
-        self.clock.go_on();
+        self.parts.step(got);
     }
 
     #[inline(always)]
     fn pending(&self) -> usize {
-        self.waiting.len()
+        self.parts.waiting.len()
     }
 
     fn drain(&mut self, into: &mut [u8]) -> usize {
-        self.waiting.read_into(into)
+        self.parts.waiting.read_into(into)
     }
 
     ghost stands_valid = { region_stands };

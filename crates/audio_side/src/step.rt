@@ -1,4 +1,5 @@
 ghost use Rattle.std.specs.Prelude.{◌≡◌, ◌≤◌, ◌+◌, ◌^◌, ◌++◌, length};
+ghost use Rattle.side_law.specs.Moves.{IsAtPorts};
 ghost use Rattle.spc700.specs.Instruction.{Standing, at_reset, moved_on, next_of};
 ghost use Rattle.spc700.specs.Stands.{Stands};
 ghost use Rattle.audio_side.specs.Board.{vector};
@@ -15,7 +16,8 @@ use spc700::{Spc, SpcAccess};
 #[tactic(auto, unfolding(crate::specs::Effect::act_of_load))]
 #[inline(always)]
 fn load_act(at: u16) -> Act
-    ensures { result ≡ act_of_load at }
+    ensures value { result ≡ act_of_load at }
+    ensures at_ports { IsAtPorts result }
 {
     if at >= 0xF4 && at <= 0xF7 {
         Act::Read((at - 0xF4) as u8)
@@ -28,7 +30,8 @@ fn load_act(at: u16) -> Act
 #[tactic(auto, unfolding(crate::specs::Effect::act_of_store))]
 #[inline(always)]
 fn store_act(at: u16, byte: u8) -> Act
-    ensures { result ≡ act_of_store at byte }
+    ensures value { result ≡ act_of_store at byte }
+    ensures at_ports { IsAtPorts result }
 {
     if at >= 0xF4 && at <= 0xF7 {
         Act::Write((at - 0xF4) as u8, byte)
@@ -42,7 +45,8 @@ fn store_act(at: u16, byte: u8) -> Act
 /// What the next access does at the ports.
 #[inline(always)]
 fn access_act(spc: &Spc) -> Act
-    ensures { (s : Standing) → Stands spc.now s → result ≡ act_of (next_of s) }
+    ensures value { (s : Standing) → Stands spc.now s → result ≡ act_of (next_of s) }
+    ensures at_ports { IsAtPorts result }
 {
     match spc.next() {
         SpcAccess::Fetch(at) => load_act(at),
@@ -56,8 +60,9 @@ fn access_act(spc: &Spc) -> Act
 #[tactic(auto, unfolding(crate::specs::Sound::sound_act))]
 #[inline(always)]
 pub fn next_act(spc: &Spc, board: &Hardware, clock: &CycleClock) -> Act
-    ensures { (s : Standing) → Stands spc.now s
+    ensures value { (s : Standing) → Stands spc.now s
         → result ≡ sound_act (record { processor = s; board = board.now; clock = clock.now }) }
+    ensures at_ports { IsAtPorts result }
 {
     let _board = board;
     if clock.is_due() {
