@@ -27,17 +27,19 @@ processor_taken m got =
     by_test (is_reset_due m.clock) (λ e. rw e refl) (λ e. rw e (ap (moved_on m.processor) (given_taken m.board (next_of m.processor) got)))
 
 -- the state of a value, by the processor that it stands for
-same_state : (x : AudioValue) (m : SoundState) → StandsAt x m → record { processor = m.processor; board = x.board; clock = x.clock } ≡ m
+abbrev state_with : Standing → Board → Clock → SoundState
+state_with s b k = record { processor = s; board = b; clock = k }
+
+same_state : (x : AudioValue) (m : SoundState) → StandsAt x m → state_with m.processor x.board x.clock ≡ m
 same_state x m h =
-    ap (λ (b : Board). record { processor = m.processor; board = b; clock = x.clock }) h.board
-    ∙ ap (λ (c : Clock). record { processor = m.processor; board = m.board; clock = c }) h.clock
+    ap (λ (b : Board). state_with m.processor b x.clock) h.board ∙ ap (λ (k : Clock). state_with m.processor m.board k) h.clock
 
 pub next_stands : (old new : AudioValue) (m : SoundState) (got : ℕ) → StandsAt old m
     → ((s : Standing) → Stands old.processor s → Stands new.processor (processor_after (record { processor = s; board = old.board; clock = old.clock }) got))
     → ((s : Standing) → Stands old.processor s → new.board ≡ passed old.clock.cycle (board_before_end (record { processor = s; board = old.board; clock = old.clock })))
     → new.clock ≡ gone_on old.clock → StandsAt new (sound_next m (taken (sound_act m) got))
 next_stands old new m got h p b k =
-    let e : record { processor = m.processor; board = old.board; clock = old.clock } ≡ m = same_state old m h in
+    let e : state_with m.processor old.board old.clock ≡ m = same_state old m h in
     record {
       processor = subst (λ (q : Standing). Stands new.processor q) (sym (processor_taken m got)) (subst (λ (n : SoundState). Stands new.processor (processor_after n got)) e (p m.processor h.processor));
       board = subst (λ (n : SoundState). new.board ≡ passed n.clock.cycle (board_before_end n)) e (b m.processor h.processor);
