@@ -1,13 +1,13 @@
 ghost use Rattle.std.specs.Prelude.{◌≡◌, ◌≤◌, [], length};
 ghost use Rattle.file_shelf.specs.Told.{Holds};
 ghost use Rattle.console_side.specs.Console.{console_start, IsConsole};
-ghost use Rattle.audio_side.specs.Quiet.{sound_start};
+ghost use Rattle.quiet_side.specs.Quiet.{sound_start};
 ghost use Rattle.snes_run.specs.Shown.{shown, OnlyRuns};
 ghost use Rattle.snes_run.specs.Outcome.{EndsRun};
 
 use crate::status::Status;
 use crate::turns::turn_out;
-use audio_side::AudioSide;
+use quiet_side::AudioSide;
 use clock_ratio::end_stamp;
 use console_side::ConsoleSide;
 use run_io::{Out, Shelf};

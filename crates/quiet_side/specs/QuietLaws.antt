@@ -3,7 +3,7 @@ use Rattle.std.proofs.Common.{ℕ, ◌≤◌, length, arith}
 use Rattle.snes_defs.specs.declared.region.Region.{Region}
 use Rattle.snes_defs.specs.declared.region.Region.TheVariants.{Ntsc, Pal}
 use Rattle.side_law.specs.Moves.{IsLawful}
-use Rattle.audio_side.specs.Quiet.{IsSound, sound_moves, sample_at}
+use Rattle.quiet_side.specs.Quiet.{IsSound, sound_moves, sample_at}
 
 -- a cycle emits a sample at most
 pub length-sample_at : (cycle : ℕ) → length (sample_at cycle) ≤ 4
