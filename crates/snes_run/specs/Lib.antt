@@ -3,6 +3,5 @@ pub mod Inputs
 pub mod Outcome
 pub mod Outputs
 pub mod Run
-pub mod Shown
 pub mod Snes
 pub mod Status
