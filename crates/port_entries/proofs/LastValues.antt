@@ -72,3 +72,12 @@ byte_after_all-byte side own port at byte (ClearAt w m ∷ xs) small h =
 pub last_value-byte : (side : Side) (own : List Entry) (port at : ℕ) (xs : List Entry)
     → CarryBytes xs → last_value side own port at xs < 256
 last_value-byte side own port at xs h = byte_after_all-byte side own port at 0 xs (omega arith) h
+
+-- lists of entries that carry bytes, joined and at their end
+pub carry_bytes-append : (xs ys : List Entry) → CarryBytes xs → CarryBytes ys → CarryBytes (xs ++ ys)
+carry_bytes-append [] ys h k = k
+carry_bytes-append (x ∷ xs) ys h k = (h.0, carry_bytes-append xs ys h.1 k)
+
+pub carry_bytes-left : (xs ys : List Entry) → CarryBytes (xs ++ ys) → CarryBytes xs
+carry_bytes-left [] ys h = tt
+carry_bytes-left (x ∷ xs) ys h = (h.0, carry_bytes-left xs ys h.1)

@@ -1,4 +1,5 @@
--- The entries of a side's list: each write and each clear that it made, in order.
+-- The entries of a side's list: each write and each clear that it made, in order. What a write writes
+-- is a byte: lists of which that holds `CarryBytes`. This project's own profile.
 use Rattle.std.specs.Prelude.{ℕ, ◌^◌, ◌/◌, ◌%◌, ◌<◌, ◌==◌, Bool, List}
 use Rattle.std.specs.List.{AllByRecursion}
 

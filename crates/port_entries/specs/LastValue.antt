@@ -1,5 +1,5 @@
 -- What a side finds at one of its incoming ports at a stamp: the last write of the other side that
--- it sees then, unless a clear of its own has zeroed that write.
+-- it sees then, unless a clear of its own has zeroed that write. This project's own profile.
 use Rattle.std.specs.Prelude.{ℕ, ◌==◌, Bool, true, ◌&&◌, ◌||◌, not, nat_lt, nat_le, List, [], ◌∷◌, if◌then◌else◌}
 use Rattle.std.specs.List.{list_all}
 use Rattle.snes_defs.specs.declared.ports.Side.{Side}

@@ -9,9 +9,9 @@ use Rattle.side_law.specs.SerialRun.{after_turns, IsPast, RunsFor}
 use Rattle.side_law.specs.TurnBound.{most_turns}
 use Rattle.side_law.proofs.SerialKeeps.{IsServing, got_small, serving_at_first, TurnOf, by_console, by_sound, turn_of, turn_console, turn_sound, turn_serves, console_step_rises}
 
-module _ {C S : Type 0} (console_valid : C → Type 0) (sound_valid : S → Type 0) (console_most sound_most : ℕ)
+module _ {C S : Type 0} (region : Region) (console_valid : C → Type 0) (sound_valid : S → Type 0) (console_most sound_most : ℕ)
     (cm : Moves C) (sm : Moves S)
-    (console_lawful : IsLawful console_valid console_most cm) (sound_lawful : IsLawful sound_valid sound_most sm)
+    (console_lawful : IsLawful region console_valid console_most cm) (sound_lawful : IsLawful region sound_valid sound_most sm)
     (by_a_cycle : (m : S) (got : ℕ) → sound_valid m → got < 256 → sm.stamp (sm.next m got) ≡ sm.stamp m + stamp_of Sound 1) where
   -- how many steps each side has made by then: each was made below the end, and raised its stamp
   record Counted (end n : ℕ) (w : SerialState C S) : Type 0 where
@@ -28,13 +28,13 @@ module _ {C S : Type 0} (console_valid : C → Type 0) (sound_valid : S → Type
   counted_on end n w short h = go (turn_of cm sm w)
     where
       serves_on : IsServing console_valid sound_valid (turn cm sm w)
-      serves_on = turn_serves console_valid sound_valid console_most sound_most cm sm console_lawful sound_lawful w h.serves
+      serves_on = turn_serves region console_valid sound_valid console_most sound_most cm sm console_lawful sound_lawful w h.serves
 
       go : TurnOf cm sm w → Counted end (suc n) (turn cm sm w)
       go (by_console le e) =
           let early : cm.stamp w.console < end =
           ⊎_elim (λ lt. lt) (λ c. absurd (short (record { console = c; sound = omega (arith, c, le) }))) (cases_lt (cm.stamp w.console) end) in
-          let rises = console_step_rises console_valid sound_valid console_most sound_most cm sm console_lawful sound_lawful w h.serves in
+          let rises = console_step_rises region console_valid sound_valid console_most sound_most cm sm console_lawful sound_lawful w h.serves in
           record {
             serves = serves_on;
             console = suc h.console;

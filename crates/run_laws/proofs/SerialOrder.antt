@@ -39,9 +39,9 @@ module _ {C S : Type 0} (cm : Moves C) (sm : Moves S) where
   turn_moves : SerialState (History C) (History S) → Move → List Move
   turn_moves w step = Publish Console (cm.stamp w.console.now) ∷ Publish Sound (sm.stamp w.sound.now) ∷ step ∷ []
 
-module _ {C S : Type 0} (console_valid : C → Type 0) (sound_valid : S → Type 0) (console_most sound_most : ℕ)
+module _ {C S : Type 0} (region : Region) (console_valid : C → Type 0) (sound_valid : S → Type 0) (console_most sound_most : ℕ)
     (cm : Moves C) (sm : Moves S)
-    (console_lawful : IsLawful console_valid console_most cm) (sound_lawful : IsLawful sound_valid sound_most sm)
+    (console_lawful : IsLawful region console_valid console_most cm) (sound_lawful : IsLawful region sound_valid sound_most sm)
     (c0 : C) (s0 : S) (c0_valid : console_valid c0) (s0_valid : sound_valid s0) where
   -- the moves of so many turns are legal, and lead to the run after as many turns
   pub record Follows (n : ℕ) : Type 0 where
@@ -82,7 +82,7 @@ module _ {C S : Type 0} (console_valid : C → Type 0) (sound_valid : S → Type
   console_turns_on n f le step advances same =
       let h : Halves C S = after_moves cm sm (serial_moves cm sm c0 s0 n) (halves_of c0 s0) in
       let w : SerialState (History C) (History S) = serial_run cm sm c0 s0 n in
-      let at = legal_on_run console_valid sound_valid console_most sound_most cm sm console_lawful sound_lawful c0 s0 c0_valid s0_valid
+      let at = legal_on_run region console_valid sound_valid console_most sound_most cm sm console_lawful sound_lawful c0 s0 c0_valid s0_valid
       (serial_moves cm sm c0 s0 n) f.legal in
       let a : cm.stamp h.console.history.now ≡ cm.stamp w.console.now = ap (λ (q : History C). cm.stamp q.now) f.console_is in
       let b : sm.stamp h.sound.history.now ≡ sm.stamp w.sound.now = ap (λ (q : History S). sm.stamp q.now) f.sound_is in
@@ -121,7 +121,7 @@ module _ {C S : Type 0} (console_valid : C → Type 0) (sound_valid : S → Type
   sound_turns_on n f lt step advances same =
       let h : Halves C S = after_moves cm sm (serial_moves cm sm c0 s0 n) (halves_of c0 s0) in
       let w : SerialState (History C) (History S) = serial_run cm sm c0 s0 n in
-      let at = legal_on_run console_valid sound_valid console_most sound_most cm sm console_lawful sound_lawful c0 s0 c0_valid s0_valid
+      let at = legal_on_run region console_valid sound_valid console_most sound_most cm sm console_lawful sound_lawful c0 s0 c0_valid s0_valid
       (serial_moves cm sm c0 s0 n) f.legal in
       let a : cm.stamp h.console.history.now ≡ cm.stamp w.console.now = ap (λ (q : History C). cm.stamp q.now) f.console_is in
       let b : sm.stamp h.sound.history.now ≡ sm.stamp w.sound.now = ap (λ (q : History S). sm.stamp q.now) f.sound_is in
@@ -173,12 +173,12 @@ module _ {C S : Type 0} (console_valid : C → Type 0) (sound_valid : S → Type
           joined n f (Step Console (cm.stamp (serial_run cm sm c0 s0 (suc n)).console.now))
           (ap (λ t. turn_moves cm sm (serial_run cm sm c0 s0 n)
           (if t then Step Console (cm.stamp (serial_run cm sm c0 s0 (suc n)).console.now) else Step Sound (sm.stamp (serial_run cm sm c0 s0 (suc n)).sound.now))) e)
-          (console_goes le (console_turns console_valid sound_valid console_most sound_most cm sm console_lawful sound_lawful c0 s0 c0_valid s0_valid n))
+          (console_goes le (console_turns region console_valid sound_valid console_most sound_most cm sm console_lawful sound_lawful c0 s0 c0_valid s0_valid n))
       go (by_sound lt e) =
           joined n f (Step Sound (sm.stamp (serial_run cm sm c0 s0 (suc n)).sound.now))
           (ap (λ t. turn_moves cm sm (serial_run cm sm c0 s0 n)
           (if t then Step Console (cm.stamp (serial_run cm sm c0 s0 (suc n)).console.now) else Step Sound (sm.stamp (serial_run cm sm c0 s0 (suc n)).sound.now))) e)
-          (sound_goes lt (sound_turns console_valid sound_valid console_most sound_most cm sm console_lawful sound_lawful c0 s0 c0_valid s0_valid n))
+          (sound_goes lt (sound_turns region console_valid sound_valid console_most sound_most cm sm console_lawful sound_lawful c0 s0 c0_valid s0_valid n))
 
   pub follows : (n : ℕ) → Follows n
   follows zero = record { legal = tt; console_is = refl; sound_is = refl }

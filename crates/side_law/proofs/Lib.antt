@@ -1,12 +1,3 @@
-pub mod HeardRuns
-pub mod HistoryRun
-pub mod Later
-pub mod LegalRuns
-pub mod OnRuns
-pub mod Ports
-pub mod Sequences
+pub mod Cleared
 pub mod SerialKeeps
 pub mod SerialRuns
-pub mod StepsInTime
-pub mod ToTheEnd
-pub mod TurnsEnd

@@ -5,11 +5,12 @@ use Rattle.std.proofs.lemmas.List.{get_or-set_same, get_or-set_other}
 use Rattle.std.proofs.lemmas.Bool.{cases_eq, leb-true, leb-false}
 use Rattle.snes_defs.specs.declared.ports.Act.{Act}
 use Rattle.snes_defs.specs.declared.ports.Act.TheVariants.{Quiet, Read, Write, Clear}
-use Rattle.snes_defs.specs.declared.TheConstants.{LEAST_RISE}
+use Rattle.snes_defs.specs.declared.region.Region.{Region}
+use Rattle.clock_ratio.specs.Stamp.{least_of}
 use Rattle.port_entries.specs.Entry.{covers}
 use Rattle.side_law.specs.Moves.{Moves, IsLawful, IsAtPorts}
 use Rattle.side_law.specs.Serial.{SerialState, serial_of, got_of, outgoing_after, incoming_after, is_console_first, console_got, sound_got, console_step, sound_step, turn}
-use Rattle.side_law.proofs.Ports.{cleared-at, length-cleared_from}
+use Rattle.side_law.proofs.Cleared.{cleared-at, length-cleared_from}
 
 -- four bytes
 pub record AreBytes (bytes : List ℕ) : Type 0 where
@@ -97,9 +98,9 @@ module _ {C S : Type 0} (console_moves : Moves C) (sound_moves : Moves S) where
       → turn console_moves sound_moves w ≡ sound_step console_moves sound_moves w
   turn_sound w e = ap (λ t. if t then console_step console_moves sound_moves w else sound_step console_moves sound_moves w) e
 
-module _ {C S : Type 0} (console_valid : C → Type 0) (sound_valid : S → Type 0) (console_most sound_most : ℕ)
+module _ {C S : Type 0} (region : Region) (console_valid : C → Type 0) (sound_valid : S → Type 0) (console_most sound_most : ℕ)
     (console_moves : Moves C) (sound_moves : Moves S)
-    (console_lawful : IsLawful console_valid console_most console_moves) (sound_lawful : IsLawful sound_valid sound_most sound_moves) where
+    (console_lawful : IsLawful region console_valid console_most console_moves) (sound_lawful : IsLawful region sound_valid sound_most sound_moves) where
   console_step_serves : (w : SerialState C S) → IsServing console_valid sound_valid w
       → IsServing console_valid sound_valid (console_step console_moves sound_moves w)
   console_step_serves w h = record {
@@ -127,9 +128,9 @@ module _ {C S : Type 0} (console_valid : C → Type 0) (sound_valid : S → Type
       go (by_sound lt e) = subst (IsServing console_valid sound_valid) (sym (turn_sound console_moves sound_moves w e)) (sound_step_serves w h)
 
   pub console_step_rises : (w : SerialState C S) → IsServing console_valid sound_valid w
-      → console_moves.stamp w.console + LEAST_RISE ≤ console_moves.stamp (console_step console_moves sound_moves w).console
+      → console_moves.stamp w.console + least_of region ≤ console_moves.stamp (console_step console_moves sound_moves w).console
   console_step_rises w h = console_lawful.rises w.console (console_got console_moves sound_moves w) h.console (got_small (console_moves.act w.console) w.to_console h.to_console)
 
   pub sound_step_rises : (w : SerialState C S) → IsServing console_valid sound_valid w
-      → sound_moves.stamp w.sound + LEAST_RISE ≤ sound_moves.stamp (sound_step console_moves sound_moves w).sound
+      → sound_moves.stamp w.sound + least_of region ≤ sound_moves.stamp (sound_step console_moves sound_moves w).sound
   sound_step_rises w h = sound_lawful.rises w.sound (sound_got console_moves sound_moves w) h.sound (got_small (sound_moves.act w.sound) w.to_sound h.to_sound)

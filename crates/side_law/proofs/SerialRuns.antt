@@ -4,6 +4,8 @@ use Rattle.std.specs.Prelude.{◌⊎◌}
 use Rattle.std.proofs.lemmas.Bool.{cases_lt, cases_order}
 use Rattle.std.proofs.lemmas.List.{append-nil}
 use Rattle.std.proofs.Common.{append_assoc}
+use Rattle.snes_defs.specs.declared.region.Region.{Region}
+use Rattle.clock_ratio.proofs.Numbers.{numbers}
 use Rattle.side_law.specs.Moves.{Moves, IsLawful}
 use Rattle.side_law.specs.Serial.{SerialState, turn, console_emits, sound_emits}
 use Rattle.side_law.specs.SerialRun.{after_turns, console_output, sound_output, IsPast, RunsFor, IsOutput, IsUnderway}
@@ -114,9 +116,9 @@ module _ {C S : Type 0} (console_moves : Moves C) (sound_moves : Moves S) where
         (a.0, ap (λ x. x ++ a.0) (sym h.audio_is) ∙ a.1 ∙ ap (sound_output console_moves sound_moves w) e ∙ k.audio_is),
       )
 
-module _ {C S : Type 0} (console_valid : C → Type 0) (sound_valid : S → Type 0) (console_most sound_most : ℕ)
+module _ {C S : Type 0} (region : Region) (console_valid : C → Type 0) (sound_valid : S → Type 0) (console_most sound_most : ℕ)
     (console_moves : Moves C) (sound_moves : Moves S)
-    (console_lawful : IsLawful console_valid console_most console_moves) (sound_lawful : IsLawful sound_valid sound_most sound_moves) where
+    (console_lawful : IsLawful region console_valid console_most console_moves) (sound_lawful : IsLawful region sound_valid sound_most sound_moves) where
   -- whether a serial machine is past the end
   past_or_not : (w : SerialState C S) (end : ℕ)
       → IsPast console_moves sound_moves end w ⊎ ¬ IsPast console_moves sound_moves end w
@@ -140,12 +142,12 @@ module _ {C S : Type 0} (console_valid : C → Type 0) (sound_valid : S → Type
       go : TurnOf console_moves sound_moves w → left end (turn console_moves sound_moves w) < left end w
       go (by_console le e) =
           subst (λ v. left end v < left end w) (sym (turn_console console_moves sound_moves w e))
-          (⊎_elim (λ lt. let rises = console_step_rises console_valid sound_valid console_most sound_most console_moves sound_moves console_lawful sound_lawful w h in omega arith)
+          (⊎_elim (λ lt. let rises = console_step_rises region console_valid sound_valid console_most sound_most console_moves sound_moves console_lawful sound_lawful w h in omega (arith, (numbers region).rises))
           (λ c. absurd (short (record { console = c; sound = omega arith })))
           (cases_lt (console_moves.stamp w.console) end))
       go (by_sound lt e) =
           subst (λ v. left end v < left end w) (sym (turn_sound console_moves sound_moves w e))
-          (⊎_elim (λ lt. let rises = sound_step_rises console_valid sound_valid console_most sound_most console_moves sound_moves console_lawful sound_lawful w h in omega arith)
+          (⊎_elim (λ lt. let rises = sound_step_rises region console_valid sound_valid console_most sound_most console_moves sound_moves console_lawful sound_lawful w h in omega (arith, (numbers region).rises))
           (λ s. absurd (short (record { console = omega arith; sound = s })))
           (cases_lt (sound_moves.stamp w.sound) end))
 
@@ -160,7 +162,7 @@ module _ {C S : Type 0} (console_valid : C → Type 0) (sound_valid : S → Type
       (λ short. ends_within fuel w end (turn console_moves sound_moves now)
       (video ++ console_emits console_moves sound_moves now) (audio ++ sound_emits console_moves sound_moves now)
       (run_goes_on console_moves sound_moves w end now video audio h short)
-      (turn_serves console_valid sound_valid console_most sound_most console_moves sound_moves console_lawful sound_lawful now serves)
+      (turn_serves region console_valid sound_valid console_most sound_most console_moves sound_moves console_lawful sound_lawful now serves)
       (omega (arith, less_left now end serves short)))
       (past_or_not now end)
 

@@ -1,10 +1,5 @@
-pub mod Heard
-pub mod History
-pub mod Legal
 pub mod Moves
-pub mod OnRun
 pub mod Serial
 pub mod SerialRun
 pub mod Tape
 pub mod TapeLaws
-pub mod TurnBound

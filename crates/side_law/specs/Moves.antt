@@ -2,7 +2,8 @@
 use Rattle.std.specs.Prelude.{ℕ, ◌+◌, ◌<◌, ◌≤◌, List, length}
 use Rattle.snes_defs.specs.declared.ports.Act.{Act}
 use Rattle.snes_defs.specs.declared.ports.Act.TheVariants.{Quiet, Read, Write, Clear}
-use Rattle.snes_defs.specs.declared.TheConstants.{LEAST_RISE, MOST_RISE}
+use Rattle.snes_defs.specs.declared.region.Region.{Region}
+use Rattle.clock_ratio.specs.Stamp.{least_of, most_of}
 
 -- the moves of a machine. `next` and `bytes` are given the byte that the step takes
 pub record Moves (State : Type 0) : Type 0 where
@@ -29,12 +30,13 @@ IsAtPorts (Read port) = port < 4
 IsAtPorts (Write port byte) = (port < 4) × (byte < 256)
 IsAtPorts (Clear mask) = (1 ≤ mask) × (mask ≤ 15)
 
--- what every machine keeps in its valid states, at each step by a byte
-pub record IsLawful {State : Type 0} (valid : State → Type 0) (most : ℕ) (moves : Moves State) : Type 0 where
+-- what every machine of a region keeps in its valid states, at each step by a byte: a step emits at
+-- most `bytes` bytes
+pub record IsLawful {State : Type 0} (region : Region) (valid : State → Type 0) (bytes : ℕ) (moves : Moves State) : Type 0 where
   pub at_ports : (m : State) → valid m → IsAtPorts (moves.act m)
   pub stays_valid : (m : State) (got : ℕ) → valid m → got < 256 → valid (moves.next m got)
   pub rises : (m : State) (got : ℕ) → valid m → got < 256
-      → moves.stamp m + LEAST_RISE ≤ moves.stamp (moves.next m got)
+      → moves.stamp m + least_of region ≤ moves.stamp (moves.next m got)
   pub rises_at_most : (m : State) (got : ℕ) → valid m → got < 256
-      → moves.stamp (moves.next m got) ≤ moves.stamp m + MOST_RISE
-  pub emits_at_most : (m : State) (got : ℕ) → valid m → got < 256 → length (moves.bytes m got) ≤ most
+      → moves.stamp (moves.next m got) ≤ moves.stamp m + most_of region
+  pub emits_at_most : (m : State) (got : ℕ) → valid m → got < 256 → length (moves.bytes m got) ≤ bytes

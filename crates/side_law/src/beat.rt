@@ -3,7 +3,7 @@ use snes_defs::Act;
 /// One step of a `Tape`.
 #[derive(Clone, Copy, Debug, PartialEq, Eq)]
 pub struct Beat {
-    /// By how much it raises the stamp, from `LEAST_RISE` to `MOST_RISE`.
+    /// By how much it raises the stamp, from the least to the most of its region.
     pub rise: u64,
     /// What it does at the ports.
     pub act: Act,

@@ -1,18 +1,18 @@
-// Machines that step, and the laws by which the steps of two of them commute.
+// Machines that step, and the serial console that two of them make.
 //
 // Stands on the plain types, on stamps (`clock_ratio`) and on the entries of the ports
 // (`port_entries`). `Machine` is the trait of both halves of the console, and its laws are members
-// that each machine proves; `Tape` is a machine for tests. `specs/` defines the serial machine, its
-// runs and their output, histories, runs of one machine by itself and legal lists of moves. `laws`
-// says, for any two machines, which orders of their steps are as good as the serial one.
+// that each machine proves; `Tape` is a machine for tests. `specs/` defines what a machine means
+// (`Moves`), the serial machine of two of them, its runs and their output; `proofs/` how a run goes
+// on and ends.
 //
 // A caller states what a machine is by a state that its value stands for (`Machine::stands`): a
-// constructor ensures one, and each call's clauses lead from it to the next. `docs/COMMUTING.md`
-// says in plain words why the laws are true.
+// constructor ensures one, and each call's clauses lead from it to the next. Machines that meet are of
+// one region. Why the steps of two of them commute is said, and proved, above: `commute_laws` has the
+// laws for whoever runs them apart, `run_laws` those of legal orders and the bounds on turns.
 #![tactic(auto)]
 
 mod beat;
-pub mod laws;
 mod machine;
 mod tape;
 

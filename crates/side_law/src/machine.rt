@@ -1,15 +1,19 @@
-ghost use Rattle.std.specs.Prelude.{◌≡◌, ◌+◌, ◌*◌, ◌^◌, ◌<◌, ◌≤◌, ◌↔◌, ℕ, List, ◌++◌, IsTrue, length, min, take, drop};
-ghost use Rattle.snes_defs.specs.declared.TheConstants.{LEAST_RISE, MOST_RISE};
+ghost use Rattle.std.specs.Prelude.{◌≡◌, ◌+◌, ◌*◌, ◌^◌, ◌<◌, ◌≤◌, ◌↔◌, ℕ, false, List, ◌++◌, IsTrue, length, min, take, drop};
+ghost use Rattle.snes_defs.specs.declared.region.Region.{Region};
+ghost use Rattle.clock_ratio.specs.Stamp.{least_of, most_of};
 ghost use Rattle.side_law.specs.Moves.{Moves, IsLawful, IsAtPorts, taken};
 
-use snes_defs::Act;
+use snes_defs::{Act, Region};
 
 /// A machine that goes on by steps, each at a stamp, and touches four ports that another one shares.
 ///
 /// Apart from the emitted bytes that wait in it, a machine has one plain state, which only proofs
 /// know: `State`, with the `moves` from it. The code may forget what the state keeps, as the list
 /// of an instruction's accesses, so `stands` relates a value to each state that it can be in, and
-/// the clauses hold of every one of them. A constructor says which state its value stands for.
+/// the clauses hold of every one of them. A constructor says which state its value stands for, and
+/// `stamp` that there is always one.
+///
+/// A machine is of one region, whose numbers say by how much a step raises its stamp.
 pub trait Machine: Send {
     /// How many emitted bytes can wait.
     const CAP: usize;
@@ -24,8 +28,8 @@ pub trait Machine: Send {
     // What the machine is apart from the bytes that wait.
     ghost State: { Type 0 };
 
-    // The states of which the laws speak.
-    ghost valid: { State → Type 0 };
+    // The states of a machine of a region, of which the laws speak.
+    ghost valid: { Region → State → Type 0 };
 
     // Stamp and act of a state, and the state after a step and the bytes that it emits.
     ghost moves: { Moves State };
@@ -33,15 +37,23 @@ pub trait Machine: Send {
     // The value is a machine in this state.
     ghost stands: { Self → State → Type 0 };
 
+    // The region of the value.
+    ghost region_of: { Self → Region };
+
     // The stamp of the value's next step.
     ghost stamp_of: { Self → ℕ };
 
     // The emitted bytes that wait, the first one first.
     ghost waiting: { Self → List ℕ };
 
+    /// The region, which no call changes.
+    fn region(&self) -> Region
+        ensures { result ≡ region_of self.now };
+
     /// The stamp of the next step.
     fn stamp(&self) -> u64
-        ensures { result ≡ stamp_of self.now };
+        ensures stamp { result ≡ stamp_of self.now }
+        ensures stands { ∥ ((m : State) × stands self.now m) ∥₁ };
 
     /// What the next step does at the ports.
     fn act(&self) -> Act
@@ -55,15 +67,44 @@ pub trait Machine: Send {
         requires early { stamp_of self.old ≤ 2 ^ 62 }
         ensures next { (m : State) → stands self.old m → stands self.new (moves.next m (taken (moves.act m) got)) }
         ensures emits { (m : State) → stands self.old m → waiting self.new ≡ waiting self.old ++ moves.bytes m (taken (moves.act m) got) }
-        ensures rises { stamp_of self.old + LEAST_RISE ≤ stamp_of self.new }
-        ensures rises_at_most { stamp_of self.new ≤ stamp_of self.old + MOST_RISE }
-        ensures emits_at_most { length (waiting self.new) ≤ length (waiting self.old) + MOST };
+        ensures rises { stamp_of self.old + least_of (region_of self.old) ≤ stamp_of self.new }
+        ensures rises_at_most { stamp_of self.new ≤ stamp_of self.old + most_of (region_of self.old) }
+        ensures emits_at_most { length (waiting self.new) ≤ length (waiting self.old) + MOST }
+        ensures same_region { region_of self.new ≡ region_of self.old };
+
+    /// Makes the next step where it is quiet and the machine sees so at once, and answers whether it
+    /// did. Otherwise it answers false and nothing has changed. A caller that asks this first makes
+    /// a quiet step without asking for its act; where it is false, `act` and `step` still serve.
+    #[inline(always)]
+    fn try_step(&mut self) -> bool
+        requires room { length (waiting self.old) + MOST ≤ CAP }
+        requires early { stamp_of self.old ≤ 2 ^ 62 }
+        ensures quiet { IsTrue result → (m : State) → stands self.old m → moves.act m ≡ Act.Quiet }
+        ensures next { IsTrue result → (m : State) → stands self.old m → stands self.new (moves.next m 0) }
+        ensures emits { IsTrue result → (m : State) → stands self.old m → waiting self.new ≡ waiting self.old ++ moves.bytes m 0 }
+        ensures rises { IsTrue result → stamp_of self.old + least_of (region_of self.old) ≤ stamp_of self.new }
+        ensures rises_at_most { IsTrue result → stamp_of self.new ≤ stamp_of self.old + most_of (region_of self.old) }
+        ensures emits_at_most { IsTrue result → length (waiting self.new) ≤ length (waiting self.old) + MOST }
+        ensures same_region { region_of self.new ≡ region_of self.old }
+        ensures stays { result ≡ false → self.new ≡ self.old }
+    {
+        match self.act() {
+            Act::Quiet => {
+                self.step(0);
+                true
+            }
+            Act::Read(_) => false,
+            Act::Write(_, _) => false,
+            Act::Clear(_) => false,
+        }
+    }
 
     /// How many emitted bytes wait.
     fn pending(&self) -> usize
         ensures { result ≡ length (waiting self.now) };
 
     /// Whether there is room for the bytes of two steps.
+    #[inline(always)]
     fn ready(&self) -> bool
         ensures { IsTrue result ↔ (length (waiting self.now) + 2 * MOST ≤ CAP) }
     {
@@ -79,12 +120,13 @@ pub trait Machine: Send {
         ensures moved { into.new ≡ take result (waiting self.old) ++ drop result into.old }
         ensures left { waiting self.new ≡ drop result (waiting self.old) }
         ensures same_state { (m : State) → stands self.old m → stands self.new m }
-        ensures same_stamp { stamp_of self.new ≡ stamp_of self.old };
+        ensures same_stamp { stamp_of self.new ≡ stamp_of self.old }
+        ensures same_region { region_of self.new ≡ region_of self.old };
 
-    // The state of a value is valid, and has its stamp.
-    ghost stands_valid: { (x : Self) (m : State) → stands x m → valid m };
+    // The state of a value is valid in its region, and has its stamp.
+    ghost stands_valid: { (x : Self) (m : State) → stands x m → valid (region_of x) m };
 
     ghost stands_stamp: { (x : Self) (m : State) → stands x m → moves.stamp m ≡ stamp_of x };
 
-    ghost lawful: { IsLawful valid MOST moves };
+    ghost lawful: { (region : Region) → IsLawful region (valid region) MOST moves };
 }

@@ -4,15 +4,17 @@ ghost use Rattle.side_law.specs.Tape.{AreBeats, IsBeat, tape_of, first_beat, aft
 use crate::beat::Beat;
 use crate::machine::Machine;
 use circular_buffer::HeapCircularBuffer;
-use snes_defs::{Act, LEAST_RISE, NoMemory};
+use clock_ratio::least;
+use snes_defs::{Act, NoMemory, Region};
 use std::alloc::Global;
 use std::marker::Model;
 
 /// A machine that plays a list of beats, one a step, emits the byte got at each read, and after the
-/// last beat is quiet and rises by `LEAST_RISE`. It shows that the laws of `Machine` can be met, and
+/// last beat is quiet and rises by the least of its region. It shows that the laws of `Machine` can be met, and
 /// serves tests.
 #[derive(Drop)]
 pub struct Tape {
+    region: Region,
     beats: Vec<Beat>,
     /// How many beats were played.
     played: usize,
@@ -26,21 +28,22 @@ impl Model for Tape {
 
     ghost Value = { TapeValue };
 
-    ghost view = { λ t. record { state = record { beats = drop t.played t.beats.items; stamp = t.stamp }; waiting = t.waiting.items } };
+    ghost view = { λ t. record { state = record { region = t.region; beats = drop t.played t.beats.items; stamp = t.stamp }; waiting = t.waiting.items } };
 
-    ghost invariant = { λ t. (t.played ≤ length t.beats.items) × AreBeats (drop t.played t.beats.items) × (t.waiting.capacity ≡ 4096) × (length t.waiting.items ≤ 4096) };
+    ghost invariant = { λ t. (t.played ≤ length t.beats.items) × AreBeats t.region (drop t.played t.beats.items) × (t.waiting.capacity ≡ 4096) × (length t.waiting.items ≤ 4096) };
 }
 
 impl Tape {
-    /// A tape at stamp 0 that plays these beats, with no byte waiting. It takes the room for the
-    /// bytes that wait, and refuses only for want of memory.
-    pub fn new(alloc: Global, beats: Vec<Beat>) -> Result<Tape, NoMemory>
-        requires { AreBeats beats.items }
-        ensures starts { IfOk result (λ t. t.state ≡ tape_of beats.items) }
+    /// A tape of a region at stamp 0 that plays these beats, with no byte waiting. It takes the room
+    /// for the bytes that wait, and refuses only for want of memory.
+    pub fn new(alloc: Global, region: Region, beats: Vec<Beat>) -> Result<Tape, NoMemory>
+        requires { AreBeats region beats.items }
+        ensures starts { IfOk result (λ t. t.state ≡ tape_of region beats.items) }
         ensures empty { IfOk result (λ t. t.waiting ≡ []) }
     {
         match HeapCircularBuffer::with_capacity(alloc, 4096) {
             Ok(waiting) => Ok(Tape {
+                region,
                 beats,
                 played: 0,
                 stamp: 0,
@@ -53,14 +56,14 @@ impl Tape {
     /// The beat of the next step.
     #[tactic(auto, using(crate::specs::TapeLaws::first_is_beat))]
     fn beat(&self) -> Beat
-        ensures beat { result ≡ first_beat self.now.state.beats }
-        ensures in_range { IsBeat result }
+        ensures beat { result ≡ first_beat self.now.state.region self.now.state.beats }
+        ensures in_range { IsBeat self.now.state.region result }
     {
         if self.played < self.beats.len() {
             self.beats[self.played]
         } else {
             Beat {
-                rise: LEAST_RISE,
+                rise: least(self.region),
                 act: Act::Quiet,
             }
         }
@@ -69,8 +72,8 @@ impl Tape {
     /// Goes past a beat, which is the next one.
     #[tactic(auto, using(crate::specs::TapeLaws::tape_steps))]
     fn pass(&mut self, beat: Beat)
-        requires next { beat ≡ first_beat self.old.state.beats }
-        requires in_range { IsBeat beat }
+        requires next { beat ≡ first_beat self.old.state.region self.old.state.beats }
+        requires in_range { IsBeat self.old.state.region beat }
         requires early { self.old.state.stamp ≤ 2 ^ 62 }
         ensures state { self.new.state ≡ after_beat self.old.state }
         ensures waiting { self.new.waiting ≡ self.old.waiting }
@@ -85,7 +88,7 @@ impl Tape {
 impl Machine for Tape {
     ghost use Rattle.std.proofs.Common.{rules};
     ghost use Rattle.side_law.specs.Tape.{TapeState, IsTape, tape_moves, StandsAt};
-    ghost use Rattle.side_law.specs.TapeLaws.{tape_is_lawful};
+    ghost use Rattle.side_law.specs.TapeLaws.{tape_is_lawful, state_is_tape};
 
     const CAP: usize = 4096;
 
@@ -103,9 +106,15 @@ impl Machine for Tape {
 
     ghost stands = { StandsAt };
 
+    ghost region_of = { λ t. t.state.region };
+
     ghost stamp_of = { λ t. t.state.stamp };
 
     ghost waiting = { λ t. t.waiting };
+
+    fn region(&self) -> Region {
+        self.region
+    }
 
     fn stamp(&self) -> u64 {
         self.stamp
@@ -131,7 +140,7 @@ impl Machine for Tape {
         self.waiting.read_into(into)
     }
 
-    ghost stands_valid = { λ x m h. h.1 };
+    ghost stands_valid = { λ x m h. state_is_tape x.state m h.0 h.1 };
 
     ghost stands_stamp = { λ x m h. Prim.search rules };
 

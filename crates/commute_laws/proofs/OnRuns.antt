@@ -16,30 +16,30 @@ use Rattle.side_law.proofs.Sequences.{one_heard_step, own_each}
 use Rattle.side_law.proofs.HistoryRun.{run_facts, console_turns, sound_turns}
 use Rattle.side_law.proofs.HeardRuns.{comes}
 
-module _ {C S : Type 0} (console_valid : C → Type 0) (sound_valid : S → Type 0) (console_most sound_most : ℕ)
+module _ {C S : Type 0} (region : Region) (console_valid : C → Type 0) (sound_valid : S → Type 0) (console_most sound_most : ℕ)
     (cm : Moves C) (sm : Moves S)
-    (console_lawful : IsLawful console_valid console_most cm) (sound_lawful : IsLawful sound_valid sound_most sm)
+    (console_lawful : IsLawful region console_valid console_most cm) (sound_lawful : IsLawful region sound_valid sound_most sm)
     (c0 : C) (s0 : S) (c0_valid : console_valid c0) (s0_valid : sound_valid s0) where
   pub console_each : (n : ℕ) → ((serial_run cm sm c0 s0 (suc n)).console ≡ (serial_run cm sm c0 s0 n).console)
       ⊎ Advances cm (serial_run cm sm c0 s0 n).console (serial_run cm sm c0 s0 (suc n)).console
   console_each = own_each Console cm sm (λ k. (serial_run cm sm c0 s0 k).console) (λ k. (serial_run cm sm c0 s0 k).sound)
-      (console_turns console_valid sound_valid console_most sound_most cm sm console_lawful sound_lawful c0 s0 c0_valid s0_valid)
+      (console_turns region console_valid sound_valid console_most sound_most cm sm console_lawful sound_lawful c0 s0 c0_valid s0_valid)
 
   pub sound_each : (n : ℕ) → ((serial_run cm sm c0 s0 (suc n)).sound ≡ (serial_run cm sm c0 s0 n).sound)
       ⊎ Advances sm (serial_run cm sm c0 s0 n).sound (serial_run cm sm c0 s0 (suc n)).sound
   sound_each = own_each Sound sm cm (λ k. (serial_run cm sm c0 s0 k).sound) (λ k. (serial_run cm sm c0 s0 k).console)
-      (sound_turns console_valid sound_valid console_most sound_most cm sm console_lawful sound_lawful c0 s0 c0_valid s0_valid)
+      (sound_turns region console_valid sound_valid console_most sound_most cm sm console_lawful sound_lawful c0 s0 c0_valid s0_valid)
 
   -- states on the run are valid
   pub on_run_console : (c : History C) (s : History S) → IsOnRun cm sm c0 s0 c s → console_valid c.now
   on_run_console c s on =
       subst (λ (h : History C). console_valid h.now) on.console_is
-      (run_facts console_valid sound_valid console_most sound_most cm sm console_lawful sound_lawful c0 s0 c0_valid s0_valid on.console_turns).serves.console
+      (run_facts region console_valid sound_valid console_most sound_most cm sm console_lawful sound_lawful c0 s0 c0_valid s0_valid on.console_turns).serves.console
 
   pub on_run_sound : (c : History C) (s : History S) → IsOnRun cm sm c0 s0 c s → sound_valid s.now
   on_run_sound c s on =
       subst (λ (h : History S). sound_valid h.now) on.sound_is
-      (run_facts console_valid sound_valid console_most sound_most cm sm console_lawful sound_lawful c0 s0 c0_valid s0_valid on.sound_turns).serves.sound
+      (run_facts region console_valid sound_valid console_most sound_most cm sm console_lawful sound_lawful c0 s0 c0_valid s0_valid on.sound_turns).serves.sound
 
   -- one step of the console against the beginning of a list that the sound side comes to
   pub console_heard : (c : History C) (s : History S) → IsOnRun cm sm c0 s0 c s
@@ -50,7 +50,7 @@ module _ {C S : Type 0} (console_valid : C → Type 0) (sound_valid : S → Type
       → IsOnRun cm sm c0 s0 (heard_step Console cm heard c) s × Advances cm c (heard_step Console cm heard c)
   console_heard c s on heard whole upto all_heard rest joined stamped settled_upto settled =
       let r = one_heard_step Console cm sm (λ k. (serial_run cm sm c0 s0 k).console) (λ k. (serial_run cm sm c0 s0 k).sound)
-      (console_turns console_valid sound_valid console_most sound_most cm sm console_lawful sound_lawful c0 s0 c0_valid s0_valid)
+      (console_turns region console_valid sound_valid console_most sound_most cm sm console_lawful sound_lawful c0 s0 c0_valid s0_valid)
       on.console_turns on.sound_turns c s heard whole upto on.console_is on.sound_is all_heard rest joined stamped settled_upto settled in
       (record { console_turns = r.0; console_is = r.1; sound_turns = on.sound_turns; sound_is = on.sound_is }, r.2)
 
@@ -63,7 +63,7 @@ module _ {C S : Type 0} (console_valid : C → Type 0) (sound_valid : S → Type
       → IsOnRun cm sm c0 s0 c (heard_step Sound sm heard s) × Advances sm s (heard_step Sound sm heard s)
   sound_heard c s on heard whole upto all_heard rest joined stamped settled_upto settled =
       let r = one_heard_step Sound sm cm (λ k. (serial_run cm sm c0 s0 k).sound) (λ k. (serial_run cm sm c0 s0 k).console)
-      (sound_turns console_valid sound_valid console_most sound_most cm sm console_lawful sound_lawful c0 s0 c0_valid s0_valid)
+      (sound_turns region console_valid sound_valid console_most sound_most cm sm console_lawful sound_lawful c0 s0 c0_valid s0_valid)
       on.sound_turns on.console_turns s c heard whole upto on.sound_is on.console_is all_heard rest joined stamped settled_upto settled in
       (record { console_turns = on.console_turns; console_is = on.console_is; sound_turns = r.0; sound_is = r.1 }, r.2)
 

@@ -53,9 +53,9 @@ passes z first each (suc n) i le =
     (λ (ge : z (suc n) ≤ i). (suc n, omega arith, omega arith))
     (cases_lt i (z (suc n)))
 
-module _ {C S : Type 0} (console_valid : C → Type 0) (sound_valid : S → Type 0) (console_most sound_most : ℕ)
+module _ {C S : Type 0} (region : Region) (console_valid : C → Type 0) (sound_valid : S → Type 0) (console_most sound_most : ℕ)
     (cm : Moves C) (sm : Moves S)
-    (console_lawful : IsLawful console_valid console_most cm) (sound_lawful : IsLawful sound_valid sound_most sm)
+    (console_lawful : IsLawful region console_valid console_most cm) (sound_lawful : IsLawful region sound_valid sound_most sm)
     (c0 : C) (s0 : S) (c0_valid : console_valid c0) (s0_valid : sound_valid s0)
     (c0_first : cm.stamp c0 ≡ 0) (s0_first : sm.stamp s0 ≡ 0) where
   balance_on : (n : ℕ) → TurnAt Console cm sm (λ k. (serial_run cm sm c0 s0 k).console) (λ k. (serial_run cm sm c0 s0 k).sound) n
@@ -93,11 +93,11 @@ module _ {C S : Type 0} (console_valid : C → Type 0) (sound_valid : S → Type
     behind = omega arith;
   }
   balance (suc n) =
-      balance_on n (console_turns console_valid sound_valid console_most sound_most cm sm console_lawful sound_lawful c0 s0 c0_valid s0_valid n) (balance n)
+      balance_on n (console_turns region console_valid sound_valid console_most sound_most cm sm console_lawful sound_lawful c0 s0 c0_valid s0_valid n) (balance n)
 
   console_by_one : (n : ℕ) → (serial_run cm sm c0 s0 (suc n)).console.steps ≤ suc (serial_run cm sm c0 s0 n).console.steps
   console_by_one n =
-      go (console_turns console_valid sound_valid console_most sound_most cm sm console_lawful sound_lawful c0 s0 c0_valid s0_valid n)
+      go (console_turns region console_valid sound_valid console_most sound_most cm sm console_lawful sound_lawful c0 s0 c0_valid s0_valid n)
     where
       go : TurnAt Console cm sm (λ k. (serial_run cm sm c0 s0 k).console) (λ k. (serial_run cm sm c0 s0 k).sound) n
           → (serial_run cm sm c0 s0 (suc n)).console.steps ≤ suc (serial_run cm sm c0 s0 n).console.steps
@@ -106,7 +106,7 @@ module _ {C S : Type 0} (console_valid : C → Type 0) (sound_valid : S → Type
 
   sound_by_one : (n : ℕ) → (serial_run cm sm c0 s0 (suc n)).sound.steps ≤ suc (serial_run cm sm c0 s0 n).sound.steps
   sound_by_one n =
-      go (sound_turns console_valid sound_valid console_most sound_most cm sm console_lawful sound_lawful c0 s0 c0_valid s0_valid n)
+      go (sound_turns region console_valid sound_valid console_most sound_most cm sm console_lawful sound_lawful c0 s0 c0_valid s0_valid n)
     where
       go : TurnAt Sound sm cm (λ k. (serial_run cm sm c0 s0 k).sound) (λ k. (serial_run cm sm c0 s0 k).console) n
           → (serial_run cm sm c0 s0 (suc n)).sound.steps ≤ suc (serial_run cm sm c0 s0 n).sound.steps

@@ -81,9 +81,9 @@ entry_bytes at (Read port) h = tt
 entry_bytes at (Write port byte) h = (h.1, tt)
 entry_bytes at (Clear mask) h = (tt, tt)
 
-module _ {C S : Type 0} (console_valid : C → Type 0) (sound_valid : S → Type 0) (console_most sound_most : ℕ)
+module _ {C S : Type 0} (region : Region) (console_valid : C → Type 0) (sound_valid : S → Type 0) (console_most sound_most : ℕ)
     (cm : Moves C) (sm : Moves S)
-    (console_lawful : IsLawful console_valid console_most cm) (sound_lawful : IsLawful sound_valid sound_most sm)
+    (console_lawful : IsLawful region console_valid console_most cm) (sound_lawful : IsLawful region sound_valid sound_most sm)
     (c0 : C) (s0 : S) (c0_valid : console_valid c0) (s0_valid : sound_valid s0) where
   -- a pair below the end has emitted first bytes of the output
   pub emits_first : (end : ℕ) (c : History C) (s : History S) → IsOnRun cm sm c0 s0 c s
@@ -92,12 +92,12 @@ module _ {C S : Type 0} (console_valid : C → Type 0) (sound_valid : S → Type
   emits_first end c s on below video audio out =
       let t = of_run cm sm c0 s0 out.turns in
       let v = first_bytes cm (λ k. (serial_run cm sm c0 s0 k).console)
-      (console_each console_valid sound_valid console_most sound_most cm sm console_lawful sound_lawful c0 s0 c0_valid s0_valid)
+      (console_each region console_valid sound_valid console_most sound_most cm sm console_lawful sound_lawful c0 s0 c0_valid s0_valid)
       (console_output cm sm (serial_of c0 s0)) (λ k. (of_run cm sm c0 s0 k).video) (console_output_later cm sm (serial_of c0 s0))
       end on.console_turns out.turns (subst (λ q. end ≤ cm.stamp q) (sym t.console) out.runs.past.console)
       (λ m lt. below.console m (subst (λ (q : History C). (serial_run cm sm c0 s0 m).console.steps < q.steps) on.console_is lt)) in
       let a = first_bytes sm (λ k. (serial_run cm sm c0 s0 k).sound)
-      (sound_each console_valid sound_valid console_most sound_most cm sm console_lawful sound_lawful c0 s0 c0_valid s0_valid)
+      (sound_each region console_valid sound_valid console_most sound_most cm sm console_lawful sound_lawful c0 s0 c0_valid s0_valid)
       (sound_output cm sm (serial_of c0 s0)) (λ k. (of_run cm sm c0 s0 k).audio) (sound_output_later cm sm (serial_of c0 s0))
       end on.sound_turns out.turns (subst (λ q. end ≤ sm.stamp q) (sym t.sound) out.runs.past.sound)
       (λ m lt. below.sound m (subst (λ (q : History S). (serial_run cm sm c0 s0 m).sound.steps < q.steps) on.sound_is lt)) in (
@@ -115,8 +115,8 @@ module _ {C S : Type 0} (console_valid : C → Type 0) (sound_valid : S → Type
       (entry_of (cm.stamp (serial_run cm sm c0 s0 n).console.now) (cm.act (serial_run cm sm c0 s0 n).console.now)) (console_bytes n)
       (entry_bytes (cm.stamp (serial_run cm sm c0 s0 n).console.now) (cm.act (serial_run cm sm c0 s0 n).console.now)
       (console_lawful.at_ports (serial_run cm sm c0 s0 n).console.now
-      (run_facts console_valid sound_valid console_most sound_most cm sm console_lawful sound_lawful c0 s0 c0_valid s0_valid n).serves.console))))
-      (console_each console_valid sound_valid console_most sound_most cm sm console_lawful sound_lawful c0 s0 c0_valid s0_valid n)
+      (run_facts region console_valid sound_valid console_most sound_most cm sm console_lawful sound_lawful c0 s0 c0_valid s0_valid n).serves.console))))
+      (console_each region console_valid sound_valid console_most sound_most cm sm console_lawful sound_lawful c0 s0 c0_valid s0_valid n)
 
   sound_bytes : (n : ℕ) → CarryBytes (serial_run cm sm c0 s0 n).sound.entries
   sound_bytes zero = tt
@@ -128,8 +128,8 @@ module _ {C S : Type 0} (console_valid : C → Type 0) (sound_valid : S → Type
       (entry_of (sm.stamp (serial_run cm sm c0 s0 n).sound.now) (sm.act (serial_run cm sm c0 s0 n).sound.now)) (sound_bytes n)
       (entry_bytes (sm.stamp (serial_run cm sm c0 s0 n).sound.now) (sm.act (serial_run cm sm c0 s0 n).sound.now)
       (sound_lawful.at_ports (serial_run cm sm c0 s0 n).sound.now
-      (run_facts console_valid sound_valid console_most sound_most cm sm console_lawful sound_lawful c0 s0 c0_valid s0_valid n).serves.sound))))
-      (sound_each console_valid sound_valid console_most sound_most cm sm console_lawful sound_lawful c0 s0 c0_valid s0_valid n)
+      (run_facts region console_valid sound_valid console_most sound_most cm sm console_lawful sound_lawful c0 s0 c0_valid s0_valid n).serves.sound))))
+      (sound_each region console_valid sound_valid console_most sound_most cm sm console_lawful sound_lawful c0 s0 c0_valid s0_valid n)
 
   -- the entries of a pair on the run carry bytes
   pub carry_bytes : (c : History C) (s : History S) → IsOnRun cm sm c0 s0 c s → CarryBytes c.entries × CarryBytes s.entries

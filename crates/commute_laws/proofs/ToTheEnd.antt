@@ -89,9 +89,9 @@ module _ {C S : Type 0} (cm : Moves C) (sm : Moves S) where
         turns = t.steps;
       }
 
-module _ {C S : Type 0} (console_valid : C → Type 0) (sound_valid : S → Type 0) (console_most sound_most : ℕ)
+module _ {C S : Type 0} (region : Region) (console_valid : C → Type 0) (sound_valid : S → Type 0) (console_most sound_most : ℕ)
     (cm : Moves C) (sm : Moves S)
-    (console_lawful : IsLawful console_valid console_most cm) (sound_lawful : IsLawful sound_valid sound_most sm)
+    (console_lawful : IsLawful region console_valid console_most cm) (sound_lawful : IsLawful region sound_valid sound_most sm)
     (c0 : C) (s0 : S) (c0_valid : console_valid c0) (s0_valid : sound_valid s0) where
   here : (n : ℕ) → IsOnRun cm sm c0 s0 (serial_run cm sm c0 s0 n).console (serial_run cm sm c0 s0 n).sound
   here n = record { console_turns = n; console_is = refl; sound_turns = n; sound_is = refl }
@@ -104,8 +104,8 @@ module _ {C S : Type 0} (console_valid : C → Type 0) (sound_valid : S → Type
       → StaysBelow cm sm c0 s0 end (serial_run cm sm c0 s0 n).console (serial_run cm sm c0 s0 n).sound
   run_below end zero short = below_at_first end
   run_below end (suc n) short =
-      go (console_turns console_valid sound_valid console_most sound_most cm sm console_lawful sound_lawful c0 s0 c0_valid s0_valid n)
-      (sound_turns console_valid sound_valid console_most sound_most cm sm console_lawful sound_lawful c0 s0 c0_valid s0_valid n)
+      go (console_turns region console_valid sound_valid console_most sound_most cm sm console_lawful sound_lawful c0 s0 c0_valid s0_valid n)
+      (sound_turns region console_valid sound_valid console_most sound_most cm sm console_lawful sound_lawful c0 s0 c0_valid s0_valid n)
       (run_below end n (λ k lt. short k (omega arith)))
     where
       early : (end ≤ cm.stamp (serial_run cm sm c0 s0 n).console.now) → (end ≤ sm.stamp (serial_run cm sm c0 s0 n).sound.now) → ⊥
@@ -125,7 +125,7 @@ module _ {C S : Type 0} (console_valid : C → Type 0) (sound_valid : S → Type
           let lt : cm.stamp (serial_run cm sm c0 s0 n).console.now < end =
           ⊎_elim (λ lt. lt) (λ ge. absurd (early ge (omega arith))) (cases_lt (cm.stamp (serial_run cm sm c0 s0 n).console.now) end) in
           subst (λ (q : History S). StaysBelow cm sm c0 s0 end (serial_run cm sm c0 s0 (suc n)).console q) (sym same)
-          (console_below_next console_valid sound_valid console_most sound_most cm sm console_lawful sound_lawful c0 s0 c0_valid s0_valid
+          (console_below_next region console_valid sound_valid console_most sound_most cm sm console_lawful sound_lawful c0 s0 c0_valid s0_valid
           end (serial_run cm sm c0 s0 n).console (serial_run cm sm c0 s0 n).sound (here n) below lt
           (serial_run cm sm c0 s0 (suc n)).console advances.steps)
       go (other_turn first same advances) other below =
@@ -133,7 +133,7 @@ module _ {C S : Type 0} (console_valid : C → Type 0) (sound_valid : S → Type
           let lt : sm.stamp (serial_run cm sm c0 s0 n).sound.now < end =
           ⊎_elim (λ lt. lt) (λ ge. absurd (early (omega arith) ge)) (cases_lt (sm.stamp (serial_run cm sm c0 s0 n).sound.now) end) in
           subst (λ (q : History C). StaysBelow cm sm c0 s0 end q (serial_run cm sm c0 s0 (suc n)).sound) (sym same)
-          (sound_below_next console_valid sound_valid console_most sound_most cm sm console_lawful sound_lawful c0 s0 c0_valid s0_valid
+          (sound_below_next region console_valid sound_valid console_most sound_most cm sm console_lawful sound_lawful c0 s0 c0_valid s0_valid
           end (serial_run cm sm c0 s0 n).console (serial_run cm sm c0 s0 n).sound (here n) below lt
           (serial_run cm sm c0 s0 (suc n)).sound advances.steps)
 
@@ -142,7 +142,7 @@ module _ {C S : Type 0} (console_valid : C → Type 0) (sound_valid : S → Type
       → StaysBelow cm sm c0 s0 end c s → end ≤ cm.stamp c.now → end ≤ sm.stamp s.now
       → IsOutput cm sm (serial_of c0 s0) end c.emitted s.emitted
   done_is_output end c s on below c_done s_done =
-      go (run_ends console_valid sound_valid console_most sound_most cm sm console_lawful sound_lawful (serial_of c0 s0) end
+      go (run_ends region console_valid sound_valid console_most sound_most cm sm console_lawful sound_lawful (serial_of c0 s0) end
       (serving_at_first console_valid sound_valid c0 s0 c0_valid s0_valid))
     where
       at_end : (n : ℕ) → RunsFor cm sm (serial_of c0 s0) end n → IsOutput cm sm (serial_of c0 s0) end c.emitted s.emitted
@@ -172,12 +172,12 @@ module _ {C S : Type 0} (console_valid : C → Type 0) (sound_valid : S → Type
           (cases_order w.sound.steps s.steps) in
           let console_is : w.console ≡ c =
           same_steps cm (λ k. (serial_run cm sm c0 s0 k).console)
-          (console_each console_valid sound_valid console_most sound_most cm sm console_lawful sound_lawful c0 s0 c0_valid s0_valid)
+          (console_each region console_valid sound_valid console_most sound_most cm sm console_lawful sound_lawful c0 s0 c0_valid s0_valid)
           n on.console_turns (console_steps ∙ ap (λ (q : History C). q.steps) (sym on.console_is))
           ∙ on.console_is in
           let sound_is : w.sound ≡ s =
           same_steps sm (λ k. (serial_run cm sm c0 s0 k).sound)
-          (sound_each console_valid sound_valid console_most sound_most cm sm console_lawful sound_lawful c0 s0 c0_valid s0_valid)
+          (sound_each region console_valid sound_valid console_most sound_most cm sm console_lawful sound_lawful c0 s0 c0_valid s0_valid)
           n on.sound_turns (sound_steps ∙ ap (λ (q : History S). q.steps) (sym on.sound_is))
           ∙ on.sound_is in
           record {

@@ -78,9 +78,9 @@ module _ {C S : Type 0} (cm : Moves C) (sm : Moves S) where
   sound_steps_after (Step Console clock ∷ moves) h = sound_steps_after moves (after_move cm sm (Step Console clock) h)
   sound_steps_after (Step Sound clock ∷ moves) h = omega (arith, sound_steps_after moves (after_move cm sm (Step Sound clock) h))
 
-module _ {C S : Type 0} (console_valid : C → Type 0) (sound_valid : S → Type 0) (console_most sound_most : ℕ)
+module _ {C S : Type 0} (region : Region) (console_valid : C → Type 0) (sound_valid : S → Type 0) (console_most sound_most : ℕ)
     (cm : Moves C) (sm : Moves S)
-    (console_lawful : IsLawful console_valid console_most cm) (sound_lawful : IsLawful sound_valid sound_most sm)
+    (console_lawful : IsLawful region console_valid console_most cm) (sound_lawful : IsLawful region sound_valid sound_most sm)
     (c0 : C) (s0 : S) (c0_valid : console_valid c0) (s0_valid : sound_valid s0) where
   -- what holds of two sides after each legal list
   record Stands (h : Halves C S) : Type 0 where
@@ -96,14 +96,14 @@ module _ {C S : Type 0} (console_valid : C → Type 0) (sound_valid : S → Type
       → OnLook (cm.act c.now) (IsSettled Console (cm.stamp c.now) (sm.stamp s.now))
       → IsOnRun cm sm c0 s0 (heard_step Console cm s.entries c) s × Advances cm c (heard_step Console cm s.entries c)
   console_steps c s on settled =
-      console_heard console_valid sound_valid console_most sound_most cm sm console_lawful sound_lawful c0 s0 c0_valid s0_valid
+      console_heard region console_valid sound_valid console_most sound_most cm sm console_lawful sound_lawful c0 s0 c0_valid s0_valid
       c s on s.entries s.entries (sm.stamp s.now) (whole s.entries (sm.stamp s.now)) [] (append-nil s.entries) tt settled settled
 
   sound_steps : (c : History C) (s : History S) → IsOnRun cm sm c0 s0 c s
       → OnLook (sm.act s.now) (IsSettled Sound (sm.stamp s.now) (cm.stamp c.now))
       → IsOnRun cm sm c0 s0 c (heard_step Sound sm c.entries s) × Advances sm s (heard_step Sound sm c.entries s)
   sound_steps c s on settled =
-      sound_heard console_valid sound_valid console_most sound_most cm sm console_lawful sound_lawful c0 s0 c0_valid s0_valid
+      sound_heard region console_valid sound_valid console_most sound_most cm sm console_lawful sound_lawful c0 s0 c0_valid s0_valid
       c s on c.entries c.entries (cm.stamp c.now) (whole c.entries (cm.stamp c.now)) [] (append-nil c.entries) tt settled settled
 
   move_keeps : (move : Move) (h : Halves C S) → Stands h → MayMake cm sm move h → Stands (after_move cm sm move h)
@@ -166,11 +166,11 @@ module _ {C S : Type 0} (console_valid : C → Type 0) (sound_valid : S → Type
       → c.steps ≡ d.steps → s.steps ≡ t.steps → (c ≡ d) × (s ≡ t)
   one_place c d s t on off same_c same_s = (
     sym on.console_is
-        ∙ same_steps cm (λ k. (serial_run cm sm c0 s0 k).console) (console_each console_valid sound_valid console_most sound_most cm sm console_lawful sound_lawful c0 s0 c0_valid s0_valid) on.console_turns off.console_turns
+        ∙ same_steps cm (λ k. (serial_run cm sm c0 s0 k).console) (console_each region console_valid sound_valid console_most sound_most cm sm console_lawful sound_lawful c0 s0 c0_valid s0_valid) on.console_turns off.console_turns
         (ap (λ (q : History C). q.steps) on.console_is ∙ same_c ∙ ap (λ (q : History C). q.steps) (sym off.console_is))
         ∙ off.console_is,
     sym on.sound_is
-        ∙ same_steps sm (λ k. (serial_run cm sm c0 s0 k).sound) (sound_each console_valid sound_valid console_most sound_most cm sm console_lawful sound_lawful c0 s0 c0_valid s0_valid) on.sound_turns off.sound_turns
+        ∙ same_steps sm (λ k. (serial_run cm sm c0 s0 k).sound) (sound_each region console_valid sound_valid console_most sound_most cm sm console_lawful sound_lawful c0 s0 c0_valid s0_valid) on.sound_turns off.sound_turns
         (ap (λ (q : History S). q.steps) on.sound_is ∙ same_s ∙ ap (λ (q : History S). q.steps) (sym off.sound_is))
         ∙ off.sound_is,
   )
@@ -302,8 +302,8 @@ module _ {C S : Type 0} (console_valid : C → Type 0) (sound_valid : S → Type
 
   follows_on : (n : ℕ) → Follows n → Follows (suc n)
   follows_on n f =
-      go (console_turns console_valid sound_valid console_most sound_most cm sm console_lawful sound_lawful c0 s0 c0_valid s0_valid n)
-      (sound_turns console_valid sound_valid console_most sound_most cm sm console_lawful sound_lawful c0 s0 c0_valid s0_valid n)
+      go (console_turns region console_valid sound_valid console_most sound_most cm sm console_lawful sound_lawful c0 s0 c0_valid s0_valid n)
+      (sound_turns region console_valid sound_valid console_most sound_most cm sm console_lawful sound_lawful c0 s0 c0_valid s0_valid n)
     where
       go : TurnAt Console cm sm (λ k. (serial_run cm sm c0 s0 k).console) (λ k. (serial_run cm sm c0 s0 k).sound) n
           → TurnAt Sound sm cm (λ k. (serial_run cm sm c0 s0 k).sound) (λ k. (serial_run cm sm c0 s0 k).console) n

@@ -48,9 +48,9 @@ shows_at_first side at = record { four = refl; seen = tt; values = values }
     values (suc (suc (suc zero))) lt = refl
     values (suc (suc (suc (suc port)))) lt = absurd (omega arith)
 
-module _ {C S : Type 0} (console_valid : C → Type 0) (sound_valid : S → Type 0) (console_most sound_most : ℕ)
+module _ {C S : Type 0} (region : Region) (console_valid : C → Type 0) (sound_valid : S → Type 0) (console_most sound_most : ℕ)
     (cm : Moves C) (sm : Moves S)
-    (console_lawful : IsLawful console_valid console_most cm) (sound_lawful : IsLawful sound_valid sound_most sm) where
+    (console_lawful : IsLawful region console_valid console_most cm) (sound_lawful : IsLawful region sound_valid sound_most sm) where
   -- what holds at each moment of the run
   pub record RunFacts (w : SerialState (History C) (History S)) : Type 0 where
     pub serves : IsServing (λ (h : History C). console_valid h.now) (λ (h : History S). sound_valid h.now) w

@@ -22,9 +22,9 @@ all_made [] = refl
 all_made (By Console got ∷ rest) = omega (arith, all_made rest)
 all_made (By Sound got ∷ rest) = omega (arith, all_made rest)
 
-module _ {C S : Type 0} (console_valid : C → Type 0) (sound_valid : S → Type 0) (console_most sound_most : ℕ)
+module _ {C S : Type 0} (region : Region) (console_valid : C → Type 0) (sound_valid : S → Type 0) (console_most sound_most : ℕ)
     (cm : Moves C) (sm : Moves S)
-    (console_lawful : IsLawful console_valid console_most cm) (sound_lawful : IsLawful sound_valid sound_most sm) where
+    (console_lawful : IsLawful region console_valid console_most cm) (sound_lawful : IsLawful region sound_valid sound_most sm) where
   console_fits : (end : ℕ) (steps : List Made) (c : C) (s : S) → console_valid c → AreBelow cm sm end steps c s
       → (made_by_console steps ≡ 0) ⊎ (cm.stamp c + 33792 * made_by_console steps < end + 33792)
   unfolding made_by_console
