@@ -1,5 +1,5 @@
 ghost use Rattle.std.specs.Prelude.{◌≡◌, ◌+◌, ◌/◌, ◌%◌, ◌^◌, ◌<◌, ◌≤◌, ◌==◌, ◌↔◌, ◌++◌, ℕ, IsTrue, if◌then◌else◌, length, min};
-ghost use Rattle.snes_defs.specs.declared.TheConstants.{LEAST_RISE, MOST_RISE};
+ghost use Rattle.clock_ratio.specs.Stamp.{least_of, most_of};
 ghost use Rattle.side_law.specs.Serial.{SerialState, serial_of, turn, console_emits, sound_emits, cleared_from, got_of, incoming_after, outgoing_after};
 ghost use Rattle.side_law.specs.Moves.{IsAtPorts};
 ghost use Rattle.side_law.specs.SerialRun.{IsPast};
@@ -14,10 +14,10 @@ use snes_defs::{Act, Side};
 /// the console where both stand at one stamp.
 #[derive(Drop)]
 pub struct Serial<C, S> {
-    console: C,
-    sound: S,
-    to_sound: [u8; 4],
-    to_console: [u8; 4],
+    pub(crate) console: C,
+    pub(crate) sound: S,
+    pub(crate) to_sound: [u8; 4],
+    pub(crate) to_console: [u8; 4],
 }
 
 /// The byte of a port under a clear, where `bit` is the port's bit of the mask.
@@ -72,24 +72,46 @@ fn exchange(act: Act, incoming: &mut [u8; 4], outgoing: &mut [u8; 4])
     }
 }
 
-/// One step of a machine against the bytes that come in to it and go out from it.
+/// One step of a machine against the bytes that come in to it and go out from it, by its act.
 #[inline(always)]
 #[tactic(auto, using(crate::proofs::Taken::taken_got))]
-fn step<M: Machine>(machine: &mut M, incoming: &mut [u8; 4], outgoing: &mut [u8; 4])
+fn any_step<M: Machine>(machine: &mut M, incoming: &mut [u8; 4], outgoing: &mut [u8; 4])
     requires room { length (M.waiting machine.old) + M.MOST ≤ M.CAP }
     requires early { M.stamp_of machine.old ≤ 2 ^ 62 }
     ensures next { (m : M.State) → M.stands machine.old m → M.stands machine.new (M.moves.next m (got_of (M.moves.act m) incoming.old)) }
     ensures emits { (m : M.State) → M.stands machine.old m → M.waiting machine.new ≡ M.waiting machine.old ++ M.moves.bytes m (got_of (M.moves.act m) incoming.old) }
     ensures incoming { (m : M.State) → M.stands machine.old m → incoming.new ≡ incoming_after (M.moves.act m) incoming.old }
     ensures outgoing { (m : M.State) → M.stands machine.old m → outgoing.new ≡ outgoing_after (M.moves.act m) outgoing.old }
-    ensures rises { M.stamp_of machine.old + LEAST_RISE ≤ M.stamp_of machine.new }
-    ensures rises_at_most { M.stamp_of machine.new ≤ M.stamp_of machine.old + MOST_RISE }
+    ensures rises { M.stamp_of machine.old + least_of (M.region_of machine.old) ≤ M.stamp_of machine.new }
+    ensures rises_at_most { M.stamp_of machine.new ≤ M.stamp_of machine.old + most_of (M.region_of machine.old) }
     ensures emits_at_most { length (M.waiting machine.new) ≤ length (M.waiting machine.old) + M.MOST }
+    ensures same_region { M.region_of machine.new ≡ M.region_of machine.old }
 {
     let act = machine.act();
     let byte = got(act, incoming);
     machine.step(byte);
     exchange(act, incoming, outgoing);
+}
+
+/// One step of a machine against the bytes that come in to it and go out from it: a quiet one at once
+/// where the machine sees that it is quiet.
+#[inline(always)]
+#[tactic(auto, using(crate::proofs::Taken::quiet))]
+pub(crate) fn step<M: Machine>(machine: &mut M, incoming: &mut [u8; 4], outgoing: &mut [u8; 4])
+    requires room { length (M.waiting machine.old) + M.MOST ≤ M.CAP }
+    requires early { M.stamp_of machine.old ≤ 2 ^ 62 }
+    ensures next { (m : M.State) → M.stands machine.old m → M.stands machine.new (M.moves.next m (got_of (M.moves.act m) incoming.old)) }
+    ensures emits { (m : M.State) → M.stands machine.old m → M.waiting machine.new ≡ M.waiting machine.old ++ M.moves.bytes m (got_of (M.moves.act m) incoming.old) }
+    ensures incoming { (m : M.State) → M.stands machine.old m → incoming.new ≡ incoming_after (M.moves.act m) incoming.old }
+    ensures outgoing { (m : M.State) → M.stands machine.old m → outgoing.new ≡ outgoing_after (M.moves.act m) outgoing.old }
+    ensures rises { M.stamp_of machine.old + least_of (M.region_of machine.old) ≤ M.stamp_of machine.new }
+    ensures rises_at_most { M.stamp_of machine.new ≤ M.stamp_of machine.old + most_of (M.region_of machine.old) }
+    ensures emits_at_most { length (M.waiting machine.new) ≤ length (M.waiting machine.old) + M.MOST }
+    ensures same_region { M.region_of machine.new ≡ M.region_of machine.old }
+{
+    if !machine.try_step() {
+        any_step(machine, incoming, outgoing);
+    }
 }
 
 impl<C: Machine, S: Machine> Serial<C, S> {
@@ -117,13 +139,15 @@ impl<C: Machine, S: Machine> Serial<C, S> {
         ensures turns { (w : SerialState C.State S.State) → IsAt C.stands S.stands self.old w → IsAt C.stands S.stands self.new (turn C.moves S.moves w) }
         ensures console_emits { (w : SerialState C.State S.State) → IsAt C.stands S.stands self.old w → C.waiting (console_of self.new) ≡ C.waiting (console_of self.old) ++ console_emits C.moves S.moves w }
         ensures sound_emits { (w : SerialState C.State S.State) → IsAt C.stands S.stands self.old w → S.waiting (sound_of self.new) ≡ S.waiting (sound_of self.old) ++ sound_emits C.moves S.moves w }
-        ensures console_rises { result ≡ Side.Console → C.stamp_of (console_of self.old) + LEAST_RISE ≤ C.stamp_of (console_of self.new) }
-        ensures console_rises_at_most { result ≡ Side.Console → C.stamp_of (console_of self.new) ≤ C.stamp_of (console_of self.old) + MOST_RISE }
+        ensures console_rises { result ≡ Side.Console → C.stamp_of (console_of self.old) + least_of (C.region_of (console_of self.old)) ≤ C.stamp_of (console_of self.new) }
+        ensures console_rises_at_most { result ≡ Side.Console → C.stamp_of (console_of self.new) ≤ C.stamp_of (console_of self.old) + most_of (C.region_of (console_of self.old)) }
         ensures console_emits_at_most { length (C.waiting (console_of self.new)) ≤ length (C.waiting (console_of self.old)) + C.MOST }
+        ensures console_region { C.region_of (console_of self.new) ≡ C.region_of (console_of self.old) }
         ensures console_stays { result ≡ Side.Sound → console_of self.new ≡ console_of self.old }
-        ensures sound_rises { result ≡ Side.Sound → S.stamp_of (sound_of self.old) + LEAST_RISE ≤ S.stamp_of (sound_of self.new) }
-        ensures sound_rises_at_most { result ≡ Side.Sound → S.stamp_of (sound_of self.new) ≤ S.stamp_of (sound_of self.old) + MOST_RISE }
+        ensures sound_rises { result ≡ Side.Sound → S.stamp_of (sound_of self.old) + least_of (S.region_of (sound_of self.old)) ≤ S.stamp_of (sound_of self.new) }
+        ensures sound_rises_at_most { result ≡ Side.Sound → S.stamp_of (sound_of self.new) ≤ S.stamp_of (sound_of self.old) + most_of (S.region_of (sound_of self.old)) }
         ensures sound_emits_at_most { length (S.waiting (sound_of self.new)) ≤ length (S.waiting (sound_of self.old)) + S.MOST }
+        ensures sound_region { S.region_of (sound_of self.new) ≡ S.region_of (sound_of self.old) }
         ensures sound_stays { result ≡ Side.Console → sound_of self.new ≡ sound_of self.old }
     {
         if console_first(self.console.stamp(), self.sound.stamp()) {

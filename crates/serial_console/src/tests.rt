@@ -3,25 +3,25 @@ ghost use Rattle.side_law.specs.Tape.{IsBeat};
 
 use crate::serial::Serial;
 use side_law::{Beat, Machine, Tape};
-use snes_defs::{Act, Side};
+use snes_defs::{Act, Region, Side};
 use std::alloc::Global;
 use std::test::Fail;
 
 /// A tape of one beat.
-fn tape(alloc: Global, rise: u64, act: Act) -> Result<Tape, Fail>
-    requires { IsBeat (record { rise = rise; act = act }) }
+fn tape(alloc: Global, region: Region, rise: u64, act: Act) -> Result<Tape, Fail>
+    requires { IsBeat region (record { rise = rise; act = act }) }
     ensures starts { IfOk result (λ t. t.state.stamp ≡ 0) }
     ensures empty { IfOk result (λ t. t.waiting ≡ []) }
 {
     let beats = vec![in alloc; Beat { rise, act }]?;
-    Ok(Tape::new(alloc, beats)?)
+    Ok(Tape::new(alloc, region, beats)?)
 }
 
 /// Two turns of a console's beat and a sound side's, and the bytes that each side has emitted then.
 #[test]
 fn sound_reads_what_is_written_at_its_stamp(rt: HostRuntime) -> Result<(), Fail> {
-    let console = tape(rt.alloc(), 33_792, Act::Write(0, 7))?;
-    let sound = tape(rt.alloc(), 118_125, Act::Read(0))?;
+    let console = tape(rt.alloc(), Region::Ntsc, 33_792, Act::Write(0, 7))?;
+    let sound = tape(rt.alloc(), Region::Ntsc, 118_125, Act::Read(0))?;
     let mut serial = Serial::new(console, sound);
     assert_eq!(rt; serial.turn(), Side::Console);
     assert_eq!(rt; serial.turn(), Side::Sound);
@@ -34,8 +34,8 @@ fn sound_reads_what_is_written_at_its_stamp(rt: HostRuntime) -> Result<(), Fail>
 
 #[test]
 fn console_does_not_read_what_is_written_at_its_stamp(rt: HostRuntime) -> Result<(), Fail> {
-    let console = tape(rt.alloc(), 33_792, Act::Read(0))?;
-    let sound = tape(rt.alloc(), 118_125, Act::Write(0, 7))?;
+    let console = tape(rt.alloc(), Region::Ntsc, 33_792, Act::Read(0))?;
+    let sound = tape(rt.alloc(), Region::Ntsc, 118_125, Act::Write(0, 7))?;
     let mut serial = Serial::new(console, sound);
     assert_eq!(rt; serial.turn(), Side::Console);
     assert_eq!(rt; serial.turn(), Side::Sound);
@@ -43,5 +43,18 @@ fn console_does_not_read_what_is_written_at_its_stamp(rt: HostRuntime) -> Result
     assert_eq!(rt; serial.console().drain(&mut bytes), 1);
     assert_eq!(rt; bytes[0], 0);
     assert_eq!(rt; serial.sound().pending(), 0);
+    Ok(())
+}
+
+#[test]
+fn sound_reads_what_is_written_at_its_stamp_in_pal(rt: HostRuntime) -> Result<(), Fail> {
+    let console = tape(rt.alloc(), Region::Pal, 614_400, Act::Write(0, 7))?;
+    let sound = tape(rt.alloc(), Region::Pal, 2_128_137, Act::Read(0))?;
+    let mut serial = Serial::new(console, sound);
+    assert_eq!(rt; serial.turn(), Side::Console);
+    assert_eq!(rt; serial.turn(), Side::Sound);
+    let mut bytes = [0; 4];
+    assert_eq!(rt; serial.sound().drain(&mut bytes), 1);
+    assert_eq!(rt; bytes[0], 7);
     Ok(())
 }
