@@ -35,13 +35,13 @@ pub fn run_serial<C: Machine + Drop, S: Machine + Drop, K: Sink>(
     let mut serial = Serial::new(console, sound);
     while !serial.finished(end) {
         serial.console_turns(end);
-        if pour(serial.console(), Side::Console, buffer, sink).is_err() {
+        let Ok(()) = pour(serial.console(), Side::Console, buffer, sink) else {
             return Err(Side::Console);
-        }
+        };
         serial.sound_turns(end);
-        if pour(serial.sound(), Side::Sound, buffer, sink).is_err() {
+        let Ok(()) = pour(serial.sound(), Side::Sound, buffer, sink) else {
             return Err(Side::Sound);
-        }
+        };
     }
     Ok(())
 }
