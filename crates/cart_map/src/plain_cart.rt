@@ -1,6 +1,8 @@
-ghost use Rattle.std.specs.Prelude.{◌≡◌, ◌↔◌, IsTrue, IsSome, IfSome};
-ghost use Rattle.cart_map.specs.Plain.{IsPlainFile, IsPlain};
+ghost use Rattle.std.specs.Prelude.{◌≡◌, ◌↔◌, ◌^◌, ◌<◌, IsTrue, IsSome, IfSome};
+ghost use Rattle.cart_map.specs.Plain.{IsPlainFile, IsPlain, IsInPlainMemory, plain_place_of};
 
+use crate::map::system_place;
+use crate::places::Place;
 use snes_defs::{Bytes, Cart, MapKind};
 
 /// Where a LoROM header's map byte (FFD5 as the processor sees it), chip byte and RAM size byte
@@ -36,4 +38,28 @@ fn is_plain(image: &[u8]) -> bool
         && (image[MAP_BYTE] == 0x20 || image[MAP_BYTE] == 0x30)
         && image[CHIP_BYTE] <= 2
         && image[RAM_SIZE_BYTE] == 0
+}
+
+/// What lies at this 24-bit address of a console with a plain cartridge.
+///
+/// Source: fullsnes, "SNES Memory Map".
+#[inline(always)]
+pub fn plain_place(cart: &Cart, addr: u32) -> Place
+    requires size { addr < 2 ^ 24 }
+    requires built { IsPlain cart.now }
+    ensures place { result ≡ plain_place_of addr }
+    ensures in_memory { IsInPlainMemory result }
+{
+    let bank = addr / 65536;
+    let offset = addr % 65536;
+    if bank == 0x7e || bank == 0x7f {
+        return Place::Wram(addr % 0x20000);
+    }
+    if offset >= 0x8000 {
+        return Place::Rom(offset % 0x8000);
+    }
+    if bank % 128 >= 64 {
+        return Place::Open;
+    }
+    system_place(offset as u16)
 }
