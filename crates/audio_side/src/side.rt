@@ -4,9 +4,10 @@ ghost use Rattle.audio_side.specs.Quiet.{sound_start};
 use circular_buffer::HeapCircularBuffer;
 use clock_ratio::SOUND_RATE;
 use side_law::Machine;
-use snes_defs::{Act, Job, NoMemory, Part};
+use snes_defs::{Act, Job, NoMemory};
 use std::alloc::Global;
 use std::marker::Model;
+use unbuilt_part::Part;
 
 /// One sample: left, then right, each as two bytes, all zeros.
 const SILENCE: [u8; 4] = [0; 4];

@@ -3,9 +3,9 @@ use Rattle.std.specs.Prelude.{◌≡◌, ℕ, ◌+◌, ◌*◌, ◌%◌, ◌<◌
 use Rattle.snes_defs.specs.Bytes.{AreBytes}
 use Rattle.snes_defs.specs.declared.ports.Act.{Act}
 use Rattle.snes_defs.specs.declared.ports.Act.TheVariants.{Quiet, Write as PortWrite}
-use Rattle.snes_defs.specs.declared.part.Part.{Part}
-use Rattle.snes_defs.specs.declared.part.Part.TheVariants as part
-use Rattle.snes_defs.specs.declared.part.Part.TheVariants.{Opcode as UnbuiltOpcode, Place as UnbuiltPlace}
+use Rattle.unbuilt_part.specs.declared.part.Part.{Part}
+use Rattle.unbuilt_part.specs.declared.part.Part.TheVariants as part
+use Rattle.unbuilt_part.specs.declared.part.Part.TheVariants.{Opcode as UnbuiltOpcode, Place as UnbuiltPlace}
 use Rattle.cart_map.specs.declared.places.Place.{Place}
 use Rattle.cart_map.specs.declared.places.Place.TheVariants.{Wram, Rom, Ram, BBus, Cpu, Open}
 use Rattle.cart_map.specs.Plain.{plain_place_of as place_of}

@@ -16,9 +16,10 @@ use cart_map::{Place, clocks, plain_place as place};
 use circular_buffer::HeapCircularBuffer;
 use clock_ratio::CONSOLE_RATE;
 use side_law::Machine;
-use snes_defs::{Act, Bytes, Cart, Job, NoMemory, Part};
+use snes_defs::{Act, Bytes, Cart, Job, NoMemory};
 use std::alloc::Global;
 use std::marker::Model;
+use unbuilt_part::Part;
 
 /// The line clock from which on a refresh of the work RAM is due.
 const REFRESH_PLACE: u16 = 536;

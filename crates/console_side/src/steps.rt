@@ -1,4 +1,4 @@
-use snes_defs::Part;
+use unbuilt_part::Part;
 
 /// The next step of the console: the first that is due.
 #[derive(Clone, Copy, Debug, PartialEq, Eq)]

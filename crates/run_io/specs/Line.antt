@@ -1,7 +1,7 @@
 -- The lines for the user.
 use Rattle.std.specs.Prelude.{ℕ, ◌+◌, ◌/◌, ◌%◌, List, [], ◌∷◌, ◌++◌, codes, decimal, Option, Some, None, nat_lt, if◌then◌else◌}
-use Rattle.snes_defs.specs.declared.part.Part.{Part}
-use Rattle.snes_defs.specs.declared.part.Part.TheVariants as part
+use Rattle.unbuilt_part.specs.declared.part.Part.{Part}
+use Rattle.unbuilt_part.specs.declared.part.Part.TheVariants as part
 use Rattle.file_shelf.specs.declared.shelves.Input.{Input}
 use Rattle.file_shelf.specs.declared.shelves.Input.TheVariants as input
 use Rattle.file_shelf.specs.declared.shelves.Out.{Out}

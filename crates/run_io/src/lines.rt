@@ -1,13 +1,13 @@
 ghost use Rattle.std.specs.Prelude.{◌≡◌, ◌+◌, ◌<◌, ◌≤◌, ◌++◌, length, decimal, []};
 ghost use Rattle.std.specs.Option.{option_map};
-ghost use Rattle.snes_defs.specs.declared.part.Part.{Part};
+ghost use Rattle.unbuilt_part.specs.declared.part.Part.{Part};
 ghost use Rattle.run_io.specs.Line.{line_of, hex_digit, hex_byte, frames_text, usage_text, cannot_read_text, cannot_write_text, no_memory_text, not_built_text};
 
 use arrayvec::ArrayString;
 use file_shelf::{Input, Out};
 use itoa::Buffer;
-use snes_defs::Part;
 use std::marker::Model;
+use unbuilt_part::Part;
 
 /// The most bytes that a line has.
 const ROOM: usize = 128;

@@ -5,10 +5,11 @@ use crate::{
     SureShelf, WordsEnd, cannot_read_line, cannot_write_line, frames_line, no_memory_line,
     not_built_line, read_words, usage_line,
 };
-use snes_defs::{NoMemory, Part};
+use snes_defs::NoMemory;
 use std::alloc::Global;
 use std::test::Fail;
 use std::{env, fs};
+use unbuilt_part::Part;
 
 const RUN: [&str; 15] = [
     "run",

@@ -6,7 +6,6 @@
 
 mod bytes;
 mod cart;
-mod part;
 mod ports;
 mod region;
 mod script;
@@ -15,7 +14,6 @@ mod table;
 
 pub use bytes::Bytes;
 pub use cart::{Cart, Job, MapKind};
-pub use part::Part;
 pub use ports::{Act, Side};
 pub use region::Region;
 pub use script::{Span, Spans};

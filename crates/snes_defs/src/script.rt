@@ -1,8 +1,9 @@
-ghost use Rattle.std.specs.Prelude.{◌≡◌, ◌≤◌, List, [], if◌then◌else◌};
+ghost use Rattle.std.specs.Prelude.{◌≡◌, ◌≤◌, List, [], if◌then◌else◌, IfOk};
 ghost use Rattle.snes_defs.specs.declared.region.Region.TheVariants.{Ntsc};
 ghost use Rattle.snes_defs.specs.declared.script.Span.{Span};
 ghost use Rattle.snes_defs.specs.Script.{Script, IsScript, RiseWithin, frames_of, pads_at, is_reset};
 
+use crate::NoMemory;
 use crate::region::Region;
 use std::alloc::Global;
 use std::marker::Model;
@@ -58,6 +59,23 @@ impl Spans {
             spans: v,
             resets,
         }
+    }
+
+    /// A script of its own with the same content. Refused only for want of memory.
+    pub fn copied(&self, alloc: Global) -> Result<Spans, NoMemory>
+        ensures { IfOk result (λ copy. copy ≡ self.now) }
+    {
+        let Ok(spans) = Vec::from_slice(alloc, self.spans.as_slice()) else {
+            return Err(NoMemory);
+        };
+        let Ok(resets) = Vec::from_slice(alloc, self.resets.as_slice()) else {
+            return Err(NoMemory);
+        };
+        Ok(Spans {
+            region: self.region,
+            spans,
+            resets,
+        })
     }
 
     /// The region of the machine that the script is played on.

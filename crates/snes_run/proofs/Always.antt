@@ -2,8 +2,8 @@
 use Rattle.std.proofs.Common.{◌≡◌, ℕ, List, Option, None, Some, IfSome, IsSomeAnd, refl, ap, inl, inr, ⊎_elim, arith}
 use Rattle.std.specs.Prelude.{◌⊎◌}
 use Rattle.std.proofs.lemmas.Bool.{cases_lt}
-use Rattle.snes_defs.specs.declared.part.Part.{Part}
-use Rattle.snes_defs.specs.declared.part.Part.TheVariants as part
+use Rattle.unbuilt_part.specs.declared.part.Part.{Part}
+use Rattle.unbuilt_part.specs.declared.part.Part.TheVariants as part
 use Rattle.file_shelf.specs.declared.shelves.Input.{Input}
 use Rattle.file_shelf.specs.declared.shelves.Input.TheVariants as input
 use Rattle.file_shelf.specs.declared.shelves.Out.TheVariants as out

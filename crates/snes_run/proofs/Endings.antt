@@ -1,7 +1,7 @@
 -- The clauses of `snes`, each from how the call ended.
 use Rattle.std.proofs.Common.{◌≡◌, ◌≢◌, ℕ, List, [], refl, ◌∙◌, subst, inl, inr, arith}
-use Rattle.snes_defs.specs.declared.part.Part.{Part}
-use Rattle.snes_defs.specs.declared.part.Part.TheVariants as part
+use Rattle.unbuilt_part.specs.declared.part.Part.{Part}
+use Rattle.unbuilt_part.specs.declared.part.Part.TheVariants as part
 use Rattle.file_shelf.specs.declared.shelves.Input.{Input}
 use Rattle.file_shelf.specs.declared.shelves.Out.{Out}
 use Rattle.file_shelf.specs.declared.shelves.Out.TheVariants as out

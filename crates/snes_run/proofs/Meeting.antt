@@ -3,7 +3,7 @@ use Rattle.std.proofs.Common.{◌≡◌, ℕ, zero, suc, ◌+◌, ◌-◌, ◌�
 use Rattle.std.proofs.Math.Nat.{suc-add}
 use Rattle.std.proofs.Common.{zero-add}
 use Rattle.std.proofs.lemmas.Bool.{cases_lt}
-use Rattle.snes_defs.specs.declared.part.Part.{Part}
+use Rattle.unbuilt_part.specs.declared.part.Part.{Part}
 use Rattle.side_law.specs.Serial.{SerialState, turn, console_step, sound_step, is_console_first}
 use Rattle.side_law.specs.SerialRun.{after_turns}
 use Rattle.console_side.specs.declared.steps.Due.{Due}

@@ -2,7 +2,7 @@
 use Rattle.std.proofs.Common.{◌≡◌, ℕ, suc, ◌<◌, ◌≤◌, List, [], ◌++◌, Option, None, Some, IfSome, take, drop, refl, ap, sym, ◌∙◌, subst, ⊎_elim, append_assoc, ◌*◌, arith}
 use Rattle.std.proofs.lemmas.List.{take-append-drop}
 use Rattle.clock_ratio.specs.Stamp.{end_stamp_of}
-use Rattle.snes_defs.specs.declared.part.Part.{Part}
+use Rattle.unbuilt_part.specs.declared.part.Part.{Part}
 use Rattle.file_shelf.specs.declared.shelves.Out.{Out}
 use Rattle.file_shelf.specs.declared.shelves.Out.TheVariants.{Video, Sound}
 use Rattle.file_shelf.specs.Told.{Holds, Appends, AppendsSome}

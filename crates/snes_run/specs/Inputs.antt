@@ -1,7 +1,7 @@
 -- The four inputs of a run: their names, which of them are built, and why one is not taken.
 use Rattle.std.specs.Prelude.{◌≡◌, ℕ, List, [], length, All, Option, IfSome}
-use Rattle.snes_defs.specs.declared.part.Part.{Part}
-use Rattle.snes_defs.specs.declared.part.Part.TheVariants as part
+use Rattle.unbuilt_part.specs.declared.part.Part.{Part}
+use Rattle.unbuilt_part.specs.declared.part.Part.TheVariants as part
 use Rattle.cart_map.specs.Plain.{IsPlainFile}
 use Rattle.file_shelf.specs.declared.shelves.Input.{Input}
 use Rattle.file_shelf.specs.declared.shelves.Input.TheVariants.{Cart, Boot, Table, Script}

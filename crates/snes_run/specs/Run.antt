@@ -1,7 +1,7 @@
 -- The run of a cartridge on the serial console.
 use Rattle.std.specs.Prelude.{◌≡◌, ℕ, ◌<◌, List, ◌++◌, None, Some}
 use Rattle.clock_ratio.specs.Stamp.{end_stamp_of}
-use Rattle.snes_defs.specs.declared.part.Part.{Part}
+use Rattle.unbuilt_part.specs.declared.part.Part.{Part}
 use Rattle.side_law.specs.Serial.{SerialState, serial_of}
 use Rattle.side_law.specs.SerialRun.{IsOutput, IsUnderway, after_turns}
 use Rattle.console_side.specs.Console.{ConsoleState, console_start, console_moves}

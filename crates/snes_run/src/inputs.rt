@@ -7,8 +7,9 @@ ghost use Rattle.file_shelf.specs.Shown.{OnlyLoads};
 use crate::status::Status;
 use cart_map::plain;
 use run_io::{Files, Input, LoadEnd, Shelf};
-use snes_defs::{Cart, Part};
+use snes_defs::Cart;
 use std::alloc::Global;
+use unbuilt_part::Part;
 
 /// The name that the words give an input.
 fn name(files: &Files, input: Input) -> &str

@@ -1,5 +1,5 @@
 ghost use Rattle.std.specs.Prelude.{◌≡◌, ◌≢◌, ◌⊎◌, ℕ, List, IfSome};
-ghost use Rattle.snes_defs.specs.declared.part.Part.{Part};
+ghost use Rattle.unbuilt_part.specs.declared.part.Part.{Part};
 ghost use Rattle.file_shelf.specs.declared.shelves.Input.{Input};
 ghost use Rattle.file_shelf.specs.declared.shelves.Out.{Out};
 ghost use Rattle.run_io.specs.declared.order.Order.TheVariants as Order;

@@ -2,7 +2,7 @@ ghost use Rattle.std.specs.Prelude.{◌≡◌};
 ghost use Rattle.snes_run.specs.Status.{exit_of};
 
 use run_io::{Input, Out};
-use snes_defs::Part;
+use unbuilt_part::Part;
 
 /// How a call of the program ended.
 #[derive(Clone, Copy, Debug, PartialEq, Eq)]

@@ -1,8 +1,8 @@
 // Runs of the program over shelves in memory, with values worked out by hand.
 use super::*;
 use run_io::{Input, MemShelf, Out, Shelf, ShelfCall, SureShelf};
-use snes_defs::Part;
 use std::test::Fail;
+use unbuilt_part::Part;
 
 const BOOT: [u8; 64] = [0xef; 64];
 

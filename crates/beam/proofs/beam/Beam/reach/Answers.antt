@@ -1,0 +1,65 @@
+use Rattle.std.proofs.Common.{Bool, ◌≡◌, ℕ, suc, ◌-◌, ◌+◌, ◌<◌, ◌≤◌, ap, sym, refl, ◌∙◌, arith}
+use Rattle.beam.specs.Events.{BeamValue, lines_of, next_v, next_h, happens_at, happens_next, beam_next, beam_after, passed, events_of, blank_after}
+use Rattle.beam.specs.Places.{next_place}
+use Rattle.beam.proofs.Quiet.{reached_by, further}
+use Rattle.beam.proofs.beam.Beam.reach.Goals as goal
+
+-- what contracts see of the fields
+abbrev seen : goal.After-self-4-1 → BeamValue
+seen c = record {
+  region = c.self.inside.region;
+  v = c.self.inside.v;
+  h = c.self.inside.place - c.self.inside.left;
+  blank = c.self.inside.blank;
+  timer = c.self.inside.timer;
+}
+
+-- one clock before the place
+abbrev last : goal.After-self-4-1 → BeamValue
+last c = record (seen c) { h = c.self.inside.place - 1 }
+
+at_last : (c : goal.After-self-4-1) → let left = c.self.inside.left in
+    (beam_after c.args.overscan (seen c) left ≡ beam_next c.args.overscan (last c))
+    × (passed c.args.overscan (seen c) left ≡ events_of (happens_next c.args.overscan (last c)))
+at_last c =
+    let i = c.self.invariant in
+    let i1 = i.1 in
+    let i2 = i.2 in
+    let i4 = i.4 in
+    let r = reached_by c.args.overscan (seen c) c.self.inside.left i.1 (omega arith) in
+    let same : further (seen c) (c.self.inside.left - 1) ≡ last c = ap (λ x. record (seen c) { h = x }) (omega arith) in
+    (r.0 ∙ ap (λ x. beam_next c.args.overscan x) same, r.1 ∙ ap (λ x. events_of (happens_next c.args.overscan x)) same)
+
+left_is : (c : goal.After-self-4-1) → next_place (seen c).timer (seen c).v (seen c).h - (seen c).h ≡ c.self.inside.left
+left_is c =
+    let i = c.self.invariant in
+    let i2 = i.2 in
+    let i4 = i.4 in
+    omega arith
+
+-- what is answered is what happens at the place
+answered : (c : goal.After-self-4-1) → c.happens-happens.result ≡ happens_next c.args.overscan (last c)
+unfolding happens_next
+answered c = rw (← c.place_of-v.ensures.line, ← c.place_of-v.ensures.clock) c.happens-happens.ensures
+
+-- the beam one master clock on from the last
+abbrev placed : goal.After-self-4-1 → (v h : ℕ) (blank : Bool) → BeamValue
+placed c v h blank = record { region = c.self.inside.region; v = v; h = h; blank = blank; timer = c.self.inside.timer }
+
+moved_to : (c : goal.After-self-4-1) → placed c c.place_of-v.result.0 c.place_of-v.result.1 c.blank_after-self-inside.result ≡ beam_next c.args.overscan (last c)
+unfolding beam_next
+moved_to c =
+    let a = answered c in
+    let e : c.blank_after-self-inside.result ≡ blank_after c.self.inside.blank (happens_next c.args.overscan (last c)) c.place_of-v.result.0 c.place_of-v.result.1 =
+    c.blank_after-self-inside.ensures ∙ ap (λ x. blank_after c.self.inside.blank x c.place_of-v.result.0 c.place_of-v.result.1) a in
+    rw (e, c.place_of-v.ensures.line, c.place_of-v.ensures.clock)
+
+pub returns-clause-moved : goal.returns-clause-moved
+returns-clause-moved c =
+    let later = c.next_place-place.ensures.later in
+    let h : c.next_place-place.result - (c.next_place-place.result - c.place_of-v.result.1) ≡ c.place_of-v.result.1 = omega arith in
+    rw (← c.self.view_is) (rw (left_is c) (rw h (moved_to c ∙ sym (at_last c).0)))
+
+pub returns-clause-happened : goal.returns-clause-happened
+returns-clause-happened c =
+    rw (← c.self.view_is) (rw (left_is c) ((at_last c).1 ∙ ap events_of (sym (answered c))))

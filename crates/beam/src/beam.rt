@@ -1,0 +1,227 @@
+ghost use Rattle.std.specs.Prelude.{◌≡◌, ◌-◌, ◌+◌, ◌==◌, ◌<◌, ◌≤◌, Bool, [], false, if◌then◌else◌};
+ghost use Rattle.beam.specs.Events.{BeamValue, lines_of, fires, next_v, next_h, happens_at, events_of, blank_after, beam_after, passed};
+ghost use Rattle.beam.specs.Places.{table_place, timer_place, next_place, clocks_left};
+
+use crate::events::Happens;
+use snes_defs::{IrqTime, Region, Spot};
+use std::marker::Model;
+
+/// The master clocks of a line.
+const LINE: u16 = 1364;
+
+/// The beam. It stands `left` master clocks before the next place of its line at which something may
+/// happen.
+#[derive(Drop)]
+pub struct Beam {
+    region: Region,
+    v: u16,
+    /// The line clock of the next place, 1,364 for the start of the next line.
+    place: u16,
+    left: u16,
+    blank: bool,
+    timer: IrqTime,
+}
+
+impl Model for Beam {
+    ghost use Rattle.std.specs.Prelude.{◌≡◌, ◌-◌, ◌<◌, ◌≤◌};
+    ghost use Rattle.beam.specs.Events.{BeamValue, lines_of};
+    ghost use Rattle.beam.specs.Places.{next_place};
+
+    ghost Value = { BeamValue };
+
+    ghost view = { λ b. record { region = b.region; v = b.v; h = b.place - b.left; blank = b.blank; timer = b.timer } };
+
+    ghost invariant = { λ b. (b.v < lines_of b.region) × (0 < b.left) × (b.left ≤ b.place) × (b.place ≤ 1364) × (b.place ≡ next_place b.timer b.v (b.place - b.left)) };
+}
+
+impl Beam {
+    /// The beam at line 0, line clock 0, where the events of that place are done. The timer is off.
+    pub fn new(region: Region) -> Beam
+        ensures { result ≡ record { region = region; v = 0; h = 0; blank = false; timer = record { kind = 0; h = 511; v = 511 } } }
+    {
+        let timer = IrqTime {
+            kind: 0,
+            h: 511,
+            v: 511,
+        };
+        let place = next_place(timer, 0, 0);
+        Beam {
+            region,
+            v: 0,
+            place,
+            left: place,
+            blank: false,
+            timer,
+        }
+    }
+
+    /// Where the beam stands.
+    #[inline(always)]
+    pub fn spot(&self) -> Spot
+        ensures { result ≡ record { h = self.now.h; v = self.now.v; blank = self.now.blank } }
+    {
+        Spot {
+            h: self.place - self.left,
+            v: self.v,
+            blank: self.blank,
+        }
+    }
+
+    /// The master clocks, at least 1, to the next place of the line at which something may happen.
+    #[inline(always)]
+    pub fn left(&self) -> u16
+        ensures clocks { result ≡ clocks_left self.now }
+        ensures some { 0 < result }
+    {
+        self.left
+    }
+
+    /// Gives the timer another setting, which counts from the next master clock on.
+    pub fn aim(&mut self, timer: IrqTime)
+        ensures { self.new ≡ record self.old { timer = timer } }
+    {
+        let h = self.place - self.left;
+        let place = next_place(timer, self.v, h);
+        self.place = place;
+        self.left = place - h;
+        self.timer = timer;
+    }
+
+    /// Goes on by fewer clocks than are left: nothing happens.
+    #[inline(always)]
+    pub fn go_on(&mut self, clocks: u16)
+        requires { clocks < clocks_left self.old }
+        ensures moved { (overscan : Bool) → self.new ≡ beam_after overscan self.old clocks }
+        ensures none { (overscan : Bool) → passed overscan self.old clocks ≡ [] }
+        ensures closer { clocks_left self.new ≡ clocks_left self.old - clocks }
+    {
+        self.left -= clocks;
+    }
+
+    /// Goes on to the next place at which something may happen, by just the clocks that are left, and
+    /// answers what happens there. `overscan` is bit 2 of 2133.
+    pub fn reach(&mut self, overscan: bool) -> Happens
+        ensures moved { self.new ≡ beam_after overscan self.old (clocks_left self.old) }
+        ensures happened { passed overscan self.old (clocks_left self.old) ≡ events_of result }
+    {
+        let (v, h) = place_of(self.region, self.v, self.place);
+        let happens = happens(self.timer, overscan, self.blank, v, h);
+        let place = next_place(self.timer, v, h);
+        self.blank = blank_after(self.blank, happens, v, h);
+        self.v = v;
+        self.place = place;
+        self.left = place - h;
+        happens
+    }
+}
+
+/// The line and the line clock of a place, of 1 to 1,364, on line v.
+#[tactic(auto, unfolding(crate::specs::Events::next_v, crate::specs::Events::next_h))]
+fn place_of(region: Region, v: u16, place: u16) -> (u16, u16)
+    requires line { v < lines_of region }
+    requires low { 0 < place }
+    requires high { place ≤ 1364 }
+    ensures line { result.0 ≡ next_v region v (place - 1) }
+    ensures clock { result.1 ≡ next_h (place - 1) }
+    ensures line_within { result.0 < lines_of region }
+    ensures clock_within { result.1 < 1364 }
+{
+    if place < LINE {
+        return (v, place);
+    }
+    let lines = match region {
+        Region::Ntsc => 262,
+        Region::Pal => 312,
+    };
+    if v + 1 == lines { (0, 0) } else { (v + 1, 0) }
+}
+
+/// Whether vertical blank has begun, after what happens at a place.
+#[tactic(auto, unfolding(crate::specs::Events::blank_after))]
+#[inline(always)]
+fn blank_after(blank: bool, happens: Happens, v: u16, h: u16) -> bool
+    ensures { result ≡ blank_after blank happens v h }
+{
+    !(h == 0 && v == 0) && (blank || happens.blank)
+}
+
+/// Whether the timer fires at a line and a line clock.
+#[tactic(auto, unfolding(crate::specs::Events::fires))]
+#[inline(always)]
+fn fires(timer: IrqTime, v: u16, h: u16) -> bool
+    ensures { result ≡ fires timer v h }
+{
+    (timer.kind == 1 && h as u32 == 4 * timer.h as u32)
+        || ((timer.kind == 2 && v == timer.v) && h == 0)
+        || ((timer.kind == 3 && v == timer.v) && h as u32 == 4 * timer.h as u32)
+}
+
+/// The row of the table at a line and a line clock.
+#[tactic(auto, unfolding(crate::specs::Events::happens_at, crate::specs::Events::is_blank_line))]
+#[inline(always)]
+fn happens(timer: IrqTime, overscan: bool, blank: bool, v: u16, h: u16) -> Happens
+    ensures { result ≡ happens_at timer overscan blank v h }
+{
+    Happens {
+        line: h == 0,
+        blank: h == 0 && ((v == 225 && !overscan) || (v == 240 && !blank)),
+        hdma_frame: h == 24 && v == 0,
+        refresh: h == 536,
+        draw: h == 1096 && 1 <= v && v <= 239,
+        hdma_line: h == 1104 && !blank,
+        timer: fires(timer, v, h),
+    }
+}
+
+/// The next line clock after this one at which the table has a row.
+#[tactic(auto, unfolding(crate::specs::Places::table_place))]
+#[inline(always)]
+fn table_place(h: u16) -> u16
+    requires { h < 1364 }
+    ensures place { result ≡ table_place h }
+    ensures later { h < result }
+    ensures within { result ≤ 1364 }
+{
+    if h < 24 {
+        24
+    } else if h < 536 {
+        536
+    } else if h < 1096 {
+        1096
+    } else if h < 1104 {
+        1104
+    } else {
+        LINE
+    }
+}
+
+/// The line clock inside line v at which the timer fires, or 1,364.
+#[tactic(auto, unfolding(crate::specs::Places::timer_place))]
+#[inline(always)]
+fn timer_place(timer: IrqTime, v: u16) -> u16
+    ensures place { result ≡ timer_place timer v }
+    ensures within { result ≤ 1364 }
+{
+    if (timer.kind == 1 || (timer.kind == 3 && v == timer.v)) && timer.h <= 340 {
+        4 * timer.h
+    } else {
+        LINE
+    }
+}
+
+/// The next line clock after this one at which anything may happen.
+#[tactic(auto, unfolding(crate::specs::Places::next_place))]
+fn next_place(timer: IrqTime, v: u16, h: u16) -> u16
+    requires { h < 1364 }
+    ensures place { result ≡ next_place timer v h }
+    ensures later { h < result }
+    ensures within { result ≤ 1364 }
+{
+    let table = table_place(h);
+    let fires = timer_place(timer, v);
+    if h < fires && fires < table {
+        fires
+    } else {
+        table
+    }
+}
