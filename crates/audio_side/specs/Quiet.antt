@@ -1,5 +1,7 @@
 -- The sound side while it touches no register: it counts cycles and emits silence.
 use Rattle.std.specs.Prelude.{◌≡◌, ℕ, ◌+◌, ◌*◌, ◌%◌, ◌==◌, List, [], ◌∷◌, if◌then◌else◌}
+use Rattle.snes_defs.specs.declared.region.Region.{Region}
+use Rattle.snes_defs.specs.declared.region.Region.TheVariants.{Ntsc, Pal}
 use Rattle.snes_defs.specs.declared.ports.Act.TheVariants.{Quiet}
 use Rattle.side_law.specs.Moves.{Moves}
 
@@ -27,9 +29,10 @@ sound_moves = record {
   bytes = λ s got. sample_at s.cycle;
 }
 
--- every state is one of a sound side
-abbrev pub IsSound : SoundState → Type 0
-IsSound s = Unit {0}
+-- every state is one of a sound side, of Ntsc
+abbrev pub IsSound : Region → SoundState → Type 0
+IsSound Ntsc s = Unit {0}
+IsSound Pal s = ⊥
 
 -- what contracts see of a sound side: where it stands, and the bytes that wait in it
 pub record AudioValue : Type 0 where

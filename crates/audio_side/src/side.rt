@@ -1,10 +1,11 @@
 ghost use Rattle.std.specs.Prelude.{◌≡◌, [], None, IfOk};
+ghost use Rattle.snes_defs.specs.declared.region.Region.TheVariants.{Ntsc};
 ghost use Rattle.audio_side.specs.Quiet.{sound_start};
 
 use circular_buffer::HeapCircularBuffer;
 use clock_ratio::SOUND_RATE;
 use side_law::Machine;
-use snes_defs::{Act, Job, NoMemory};
+use snes_defs::{Act, Job, NoMemory, Region};
 use std::alloc::Global;
 use std::marker::Model;
 use unbuilt_part::Part;
@@ -32,9 +33,10 @@ impl Model for AudioSide {
 }
 
 impl AudioSide {
-    /// The sound side of a job before its first cycle. It takes the room for the bytes that wait,
+    /// The sound side of a job in Ntsc before its first cycle. It takes the room for the bytes that wait,
     /// and refuses only for want of memory.
     pub fn new(alloc: Global, _job: &Job) -> Result<AudioSide, NoMemory>
+        requires { _job.now.region ≡ Ntsc }
         ensures starts { IfOk result (λ s. s.state ≡ sound_start) }
         ensures empty { IfOk result (λ s. s.waiting ≡ []) }
     {
@@ -54,6 +56,7 @@ impl AudioSide {
 
 impl Machine for AudioSide {
     ghost use Rattle.std.specs.Prelude.{◌*◌};
+    ghost use Rattle.snes_defs.specs.declared.region.Region.TheVariants.{Ntsc};
     ghost use Rattle.std.proofs.Common.{rules};
     ghost use Rattle.audio_side.specs.Quiet.{SoundState, IsSound, sound_moves, StandsAt};
     ghost use Rattle.audio_side.specs.QuietLaws.{sound_is_lawful};
@@ -74,9 +77,16 @@ impl Machine for AudioSide {
 
     ghost stands = { StandsAt };
 
+    ghost region_of = { λ s. Ntsc };
+
     ghost stamp_of = { λ s. 118125 * s.state.cycle };
 
     ghost waiting = { λ s. s.waiting };
+
+    #[inline(always)]
+    fn region(&self) -> Region {
+        Region::Ntsc
+    }
 
     #[inline(always)]
     fn stamp(&self) -> u64 {

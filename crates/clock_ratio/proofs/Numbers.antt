@@ -1,5 +1,5 @@
 -- What the laws of two machines need of a region's numbers: the one place where they are looked at.
-use Rattle.std.proofs.Common.{ℕ, ◌+◌, ◌*◌, ◌<◌, ◌≤◌, lit<, lit≤}
+use Rattle.std.proofs.Common.{◌*◌, ◌<◌, ◌≤◌, lit<, lit≤}
 use Rattle.snes_defs.specs.declared.region.Region.{Region}
 use Rattle.snes_defs.specs.declared.region.Region.TheVariants.{Ntsc, Pal}
 use Rattle.snes_defs.specs.declared.ports.Side.TheVariants.{Sound}

@@ -4,55 +4,26 @@ use Rattle.std.proofs.Common.{◌≡◌, ℕ, zero, suc, ◌+◌, ◌-◌, ◌<�
 use Rattle.std.specs.Prelude.{◌⊎◌}
 use Rattle.std.proofs.lemmas.Bool.{cases_lt}
 use Rattle.std.proofs.lemmas.List.{append-nil}
+use Rattle.snes_defs.specs.declared.region.Region.{Region}
 use Rattle.snes_defs.specs.declared.ports.Act.{Act}
 use Rattle.snes_defs.specs.declared.ports.Act.TheVariants.{Quiet, Read, Write, Clear}
 use Rattle.port_entries.specs.Entry.{CarriesByte, CarryBytes}
 use Rattle.side_law.specs.Moves.{Moves, IsLawful, IsAtPorts}
 use Rattle.side_law.specs.Serial.{SerialState, serial_of, console_emits, sound_emits}
 use Rattle.side_law.specs.SerialRun.{after_turns, console_output, sound_output, IsOutput}
-use Rattle.side_law.specs.History.{History, entry_of}
-use Rattle.side_law.specs.OnRun.{serial_run, IsOnRun, StaysBelow}
-use Rattle.side_law.proofs.Ports.{All_append}
-use Rattle.side_law.proofs.Later.{Advances, later_along, same_steps}
-use Rattle.side_law.proofs.HistoryRun.{run_facts}
-use Rattle.side_law.proofs.OnRuns.{console_each, sound_each}
-use Rattle.side_law.proofs.ToTheEnd.{of_run}
-
-longer : (a rest b c : List ℕ) → a ++ rest ≡ b → a ++ (rest ++ c) ≡ b ++ c
-longer a rest b c e = sym (append_assoc a rest c) ∙ ap (λ v. v ++ c) e
-
-module _ {C S : Type 0} (cm : Moves C) (sm : Moves S) where
-  -- what fewer turns emit is a beginning of what more turns emit
-  console_output_later : (w : SerialState C S) (n d : ℕ)
-      → (rest : List ℕ) × (console_output cm sm w n ++ rest ≡ console_output cm sm w (d + n))
-  console_output_later w n zero =
-      let e : n ≡ 0 + n = omega arith in
-      ([], append-nil _ ∙ ap (console_output cm sm w) e)
-  console_output_later w n (suc d) =
-      let p = console_output_later w n d in
-      let e : suc (d + n) ≡ suc d + n = omega arith in (
-        p.0 ++ console_emits cm sm (after_turns cm sm w (d + n)),
-        longer (console_output cm sm w n) p.0 (console_output cm sm w (d + n)) (console_emits cm sm (after_turns cm sm w (d + n))) p.1
-            ∙ ap (console_output cm sm w) e,
-      )
-
-  sound_output_later : (w : SerialState C S) (n d : ℕ)
-      → (rest : List ℕ) × (sound_output cm sm w n ++ rest ≡ sound_output cm sm w (d + n))
-  sound_output_later w n zero =
-      let e : n ≡ 0 + n = omega arith in
-      ([], append-nil _ ∙ ap (sound_output cm sm w) e)
-  sound_output_later w n (suc d) =
-      let p = sound_output_later w n d in
-      let e : suc (d + n) ≡ suc d + n = omega arith in (
-        p.0 ++ sound_emits cm sm (after_turns cm sm w (d + n)),
-        longer (sound_output cm sm w n) p.0 (sound_output cm sm w (d + n)) (sound_emits cm sm (after_turns cm sm w (d + n))) p.1
-            ∙ ap (sound_output cm sm w) e,
-      )
+use Rattle.side_law.proofs.SerialRuns.{console_output_later, sound_output_later}
+use Rattle.commute_laws.specs.History.{History, entry_of}
+use Rattle.commute_laws.specs.OnRun.{serial_run, IsOnRun, StaysBelow}
+use Rattle.commute_laws.proofs.Ports.{All_append}
+use Rattle.commute_laws.proofs.Later.{Advances, later_along, same_steps}
+use Rattle.commute_laws.proofs.HistoryRun.{run_facts}
+use Rattle.commute_laws.proofs.OnRuns.{console_each, sound_each}
+use Rattle.commute_laws.proofs.ToTheEnd.{of_run}
 
 -- along a sequence that makes no step at the end or later before place k, and is past the end at
 -- place n, place k has emitted a beginning of what place n has
-module _ {State : Type 0} (moves : Moves State) (z : ℕ → History State)
-    (each : (n : ℕ) → (z (suc n) ≡ z n) ⊎ Advances moves (z n) (z (suc n)))
+module _ {State : Type 0} (region : Region) (moves : Moves State) (z : ℕ → History State)
+    (each : (n : ℕ) → (z (suc n) ≡ z n) ⊎ Advances region moves (z n) (z (suc n)))
     (output : ℕ → List ℕ) (emitted_is : (n : ℕ) → (z n).emitted ≡ output n)
     (output_later : (n d : ℕ) → (rest : List ℕ) × (output n ++ rest ≡ output (d + n))) where
   first_bytes : (end k n : ℕ) → end ≤ moves.stamp (z n).now
@@ -69,8 +40,8 @@ module _ {State : Type 0} (moves : Moves State) (z : ℕ → History State)
       same : n < k → z n ≡ z k
       same lt =
           let e : (k - n) + n ≡ k = omega arith in
-          let later : (z n).steps ≤ (z k).steps = subst (λ i. (z n).steps ≤ (z i).steps) e (later_along moves z each n (k - n)).steps in
-          same_steps moves z each n k
+          let later : (z n).steps ≤ (z k).steps = subst (λ i. (z n).steps ≤ (z i).steps) e (later_along moves region z each n (k - n)).steps in
+          same_steps region moves z each n k
           (⊎_elim (λ fewer. absurd (omega (arith, past, below n fewer))) (λ ge. omega (arith, ge, later))
           (cases_lt (z n).steps (z k).steps))
 
@@ -91,12 +62,12 @@ module _ {C S : Type 0} (region : Region) (console_valid : C → Type 0) (sound_
       → ((rest : List ℕ) × (c.emitted ++ rest ≡ video)) × ((rest : List ℕ) × (s.emitted ++ rest ≡ audio))
   emits_first end c s on below video audio out =
       let t = of_run cm sm c0 s0 out.turns in
-      let v = first_bytes cm (λ k. (serial_run cm sm c0 s0 k).console)
+      let v = first_bytes region cm (λ k. (serial_run cm sm c0 s0 k).console)
       (console_each region console_valid sound_valid console_most sound_most cm sm console_lawful sound_lawful c0 s0 c0_valid s0_valid)
       (console_output cm sm (serial_of c0 s0)) (λ k. (of_run cm sm c0 s0 k).video) (console_output_later cm sm (serial_of c0 s0))
       end on.console_turns out.turns (subst (λ q. end ≤ cm.stamp q) (sym t.console) out.runs.past.console)
       (λ m lt. below.console m (subst (λ (q : History C). (serial_run cm sm c0 s0 m).console.steps < q.steps) on.console_is lt)) in
-      let a = first_bytes sm (λ k. (serial_run cm sm c0 s0 k).sound)
+      let a = first_bytes region sm (λ k. (serial_run cm sm c0 s0 k).sound)
       (sound_each region console_valid sound_valid console_most sound_most cm sm console_lawful sound_lawful c0 s0 c0_valid s0_valid)
       (sound_output cm sm (serial_of c0 s0)) (λ k. (of_run cm sm c0 s0 k).audio) (sound_output_later cm sm (serial_of c0 s0))
       end on.sound_turns out.turns (subst (λ q. end ≤ sm.stamp q) (sym t.sound) out.runs.past.sound)

@@ -1,13 +1,14 @@
 -- Runs against a list, as they go on and as more is heard.
 use Rattle.std.proofs.Common.{◌≡◌, ℕ, zero, suc, ◌<◌, ◌≤◌, List, refl, ap, sym, ◌∙◌, subst}
+use Rattle.snes_defs.specs.declared.region.Region.{Region}
 use Rattle.snes_defs.specs.declared.ports.Side.{Side}
 use Rattle.port_entries.specs.Entry.{Entry, CarryBytes}
 use Rattle.port_entries.specs.Window.{IsSettled}
 use Rattle.port_entries.proofs.Seen.{settled_unseen, settled_later}
 use Rattle.side_law.specs.Moves.{Moves, IsLawful}
-use Rattle.side_law.specs.History.{History}
-use Rattle.side_law.specs.Heard.{heard_got, heard_step, after_heard, LooksSettled, OnLook, IsHeard, HeardRun}
-use Rattle.side_law.proofs.Later.{IsLater, later_at_once, later_by_step, step_advances, heard_small, on_look, heard_step-unseen}
+use Rattle.commute_laws.specs.History.{History}
+use Rattle.commute_laws.specs.Heard.{heard_got, heard_step, after_heard, LooksSettled, OnLook, IsHeard, HeardRun}
+use Rattle.commute_laws.proofs.Later.{IsLater, later_at_once, later_by_step, step_advances, heard_small, on_look, heard_step-unseen}
 
 module _ {State : Type 0} (side : Side) (moves : Moves State) where
   -- one step more, at the end
@@ -16,7 +17,7 @@ module _ {State : Type 0} (side : Side) (moves : Moves State) where
   after_heard-suc heard zero h = refl
   after_heard-suc heard (suc k) h = after_heard-suc heard k (heard_step side moves heard h)
 
-  looks_settled-suc : (heard : List Entry) (upto k : ℕ) (h : History State)
+  pub looks_settled-suc : (heard : List Entry) (upto k : ℕ) (h : History State)
       → LooksSettled side moves heard upto k h
       → OnLook (moves.act (after_heard side moves heard k h).now) (IsSettled side (moves.stamp (after_heard side moves heard k h).now) upto)
       → LooksSettled side moves heard upto (suc k) h
@@ -25,7 +26,7 @@ module _ {State : Type 0} (side : Side) (moves : Moves State) where
       (settled.0, looks_settled-suc heard upto k (heard_step side moves heard h) settled.1 last)
 
   -- a longer list changes no step, where each look is settled at the stamp up to which was heard
-  longer_list : (heard more : List Entry) (upto k : ℕ) (h : History State) → IsHeard heard more upto
+  pub longer_list : (heard more : List Entry) (upto k : ℕ) (h : History State) → IsHeard heard more upto
       → LooksSettled side moves heard upto k h
       → after_heard side moves more k h ≡ after_heard side moves heard k h
   longer_list heard more upto zero h all_heard settled = refl
@@ -35,7 +36,7 @@ module _ {State : Type 0} (side : Side) (moves : Moves State) where
       (on_look (moves.act h.now) _ _ (settled_unseen side (moves.stamp h.now) upto) settled.0))
       ∙ longer_list heard more upto k (heard_step side moves heard h) all_heard settled.1
 
-  longer_settled : (heard more : List Entry) (upto later k : ℕ) (h : History State) → IsHeard heard more upto → upto ≤ later
+  pub longer_settled : (heard more : List Entry) (upto later k : ℕ) (h : History State) → IsHeard heard more upto → upto ≤ later
       → LooksSettled side moves heard upto k h → LooksSettled side moves more later k h
   longer_settled heard more upto later zero h all_heard le settled = tt
   longer_settled heard more upto later (suc k) h all_heard le settled = (
@@ -72,7 +73,7 @@ module _ {State : Type 0} (side : Side) (moves : Moves State) where
         (subst (λ (q : History State). OnLook (moves.act q.now) (IsSettled side (moves.stamp q.now) upto)) (sym run.after_is) last);
   }
 
-module _ {State : Type 0} (side : Side) (valid : State → Type 0) (most : ℕ) (moves : Moves State) (lawful : IsLawful valid most moves) where
+module _ {State : Type 0} (region : Region) (side : Side) (valid : State → Type 0) (most : ℕ) (moves : Moves State) (lawful : IsLawful region valid most moves) where
   -- what a run against a list of bytes comes to is later, and valid
   pub record Comes (before after : History State) : Type 0 where
     pub later : IsLater moves before after
@@ -88,7 +89,7 @@ module _ {State : Type 0} (side : Side) (valid : State → Type 0) (most : ℕ) 
       let small : got < 256 = heard_small side mid.entries heard (moves.stamp mid.now) (moves.act mid.now) bytes in
       subst (Comes h) (sym (after_heard-suc side moves heard k h))
       (record {
-        later = later_by_step moves h mid (heard_step side moves heard mid) before.later
-            (step_advances moves valid most lawful mid got before.valid_after small);
+        later = later_by_step moves region h mid (heard_step side moves heard mid) before.later
+            (step_advances moves region valid most lawful mid got before.valid_after small);
         valid_after = lawful.stays_valid mid.now got before.valid_after small;
       })

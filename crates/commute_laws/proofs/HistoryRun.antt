@@ -2,6 +2,7 @@
 -- each turn is a step of one side against the other's entries so far.
 use Rattle.std.proofs.Common.{◌≡◌, ℕ, zero, suc, ◌<◌, List, [], ◌∷◌, get_or, refl, ap, sym, ◌∙◌, subst, arith}
 use Rattle.std.proofs.lemmas.Bool.{le-leb, lt-ltb}
+use Rattle.snes_defs.specs.declared.region.Region.{Region}
 use Rattle.snes_defs.specs.declared.ports.Side.{Side}
 use Rattle.snes_defs.specs.declared.ports.Side.TheVariants.{Console, Sound}
 use Rattle.snes_defs.specs.declared.ports.Act.{Act}
@@ -11,18 +12,18 @@ use Rattle.port_entries.specs.LastValue.{last_value}
 use Rattle.port_entries.proofs.Seen.{seen_back}
 use Rattle.side_law.specs.Moves.{Moves, IsLawful, IsAtPorts}
 use Rattle.side_law.specs.Serial.{SerialState, got_of, console_step, sound_step, turn}
-use Rattle.side_law.specs.History.{History, history_of, history_after, recorded}
-use Rattle.side_law.specs.Heard.{heard_got}
-use Rattle.side_law.specs.OnRun.{serial_run}
-use Rattle.side_law.proofs.Ports.{Shows, incoming_step, outgoing_step, All_map}
+use Rattle.commute_laws.specs.History.{History, history_of, history_after, recorded}
+use Rattle.commute_laws.specs.Heard.{heard_got}
+use Rattle.commute_laws.specs.OnRun.{serial_run}
+use Rattle.commute_laws.proofs.Ports.{Shows, incoming_step, outgoing_step, All_map}
 use Rattle.side_law.proofs.SerialKeeps.{IsServing, serving_at_first, got_small, TurnOf, by_console, by_sound, turn_of, turn_console, turn_sound, turn_serves}
-use Rattle.side_law.proofs.Later.{Advances, step_advances}
-use Rattle.side_law.proofs.Sequences.{TurnAt, own_turn, other_turn}
+use Rattle.commute_laws.proofs.Later.{Advances, step_advances}
+use Rattle.commute_laws.proofs.Sequences.{TurnAt, own_turn, other_turn}
 
 -- the machine that records its history keeps the laws
-pub recorded_lawful : {State : Type 0} (valid : State → Type 0) (most : ℕ) (moves : Moves State)
-    → IsLawful valid most moves → IsLawful (λ (h : History State). valid h.now) most (recorded moves)
-recorded_lawful valid most moves lawful = record {
+pub recorded_lawful : {State : Type 0} (region : Region) (valid : State → Type 0) (most : ℕ) (moves : Moves State)
+    → IsLawful region valid most moves → IsLawful region (λ (h : History State). valid h.now) most (recorded moves)
+recorded_lawful region valid most moves lawful = record {
   at_ports = λ h ok. lawful.at_ports h.now ok;
   stays_valid = λ h got ok small. lawful.stays_valid h.now got ok small;
   rises = λ h got ok small. lawful.rises h.now got ok small;
@@ -58,23 +59,23 @@ module _ {C S : Type 0} (region : Region) (console_valid : C → Type 0) (sound_
     pub to_sound : Shows Sound w.sound.entries w.console.entries (sm.stamp w.sound.now) w.to_sound
 
   console_advances : (w : SerialState (History C) (History S)) → RunFacts w
-      → Advances cm w.console (console_step (recorded cm) (recorded sm) w).console
+      → Advances region cm w.console (console_step (recorded cm) (recorded sm) w).console
   console_advances w h =
-      step_advances cm console_valid console_most console_lawful w.console (got_of (cm.act w.console.now) w.to_console)
+      step_advances cm region console_valid console_most console_lawful w.console (got_of (cm.act w.console.now) w.to_console)
       h.serves.console (got_small (cm.act w.console.now) w.to_console h.serves.to_console)
 
   sound_advances : (w : SerialState (History C) (History S)) → RunFacts w
-      → Advances sm w.sound (sound_step (recorded cm) (recorded sm) w).sound
+      → Advances region sm w.sound (sound_step (recorded cm) (recorded sm) w).sound
   sound_advances w h =
-      step_advances sm sound_valid sound_most sound_lawful w.sound (got_of (sm.act w.sound.now) w.to_sound)
+      step_advances sm region sound_valid sound_most sound_lawful w.sound (got_of (sm.act w.sound.now) w.to_sound)
       h.serves.sound (got_small (sm.act w.sound.now) w.to_sound h.serves.to_sound)
 
   turn_keeps_serving : (w : SerialState (History C) (History S)) → RunFacts w
       → IsServing (λ (h : History C). console_valid h.now) (λ (h : History S). sound_valid h.now) (turn (recorded cm) (recorded sm) w)
   turn_keeps_serving w h =
-      turn_serves (λ (x : History C). console_valid x.now) (λ (x : History S). sound_valid x.now) console_most sound_most
+      turn_serves region (λ (x : History C). console_valid x.now) (λ (x : History S). sound_valid x.now) console_most sound_most
       (recorded cm) (recorded sm)
-      (recorded_lawful console_valid console_most cm console_lawful) (recorded_lawful sound_valid sound_most sm sound_lawful)
+      (recorded_lawful region console_valid console_most cm console_lawful) (recorded_lawful region sound_valid sound_most sm sound_lawful)
       w h.serves
 
   turn_keeps : (w : SerialState (History C) (History S)) → RunFacts w → RunFacts (turn (recorded cm) (recorded sm) w)
@@ -121,11 +122,11 @@ module _ {C S : Type 0} (region : Region) (console_valid : C → Type 0) (sound_
 
     -- the run, seen from the console
     pub console_turns : (n : ℕ)
-        → TurnAt Console cm sm (λ k. (serial_run cm sm c s k).console) (λ k. (serial_run cm sm c s k).sound) n
+        → TurnAt region Console cm sm (λ k. (serial_run cm sm c s k).console) (λ k. (serial_run cm sm c s k).sound) n
     console_turns n = go (turn_of (recorded cm) (recorded sm) (serial_run cm sm c s n))
       where
         go : TurnOf (recorded cm) (recorded sm) (serial_run cm sm c s n)
-            → TurnAt Console cm sm (λ k. (serial_run cm sm c s k).console) (λ k. (serial_run cm sm c s k).sound) n
+            → TurnAt region Console cm sm (λ k. (serial_run cm sm c s k).console) (λ k. (serial_run cm sm c s k).sound) n
         go (by_console le e) =
             let same = turn_console (recorded cm) (recorded sm) (serial_run cm sm c s n) e in
             own_turn
@@ -135,7 +136,7 @@ module _ {C S : Type 0} (region : Region) (console_valid : C → Type 0) (sound_
             (got_is_heard Console (serial_run cm sm c s n).console.entries (serial_run cm sm c s n).sound.entries
             (cm.stamp (serial_run cm sm c s n).console.now) (cm.act (serial_run cm sm c s n).console.now) (serial_run cm sm c s n).to_console
             (run_facts n).to_console (console_lawful.at_ports (serial_run cm sm c s n).console.now (run_facts n).serves.console)))
-            (subst (λ (v : SerialState (History C) (History S)). Advances cm (serial_run cm sm c s n).console v.console) (sym same)
+            (subst (λ (v : SerialState (History C) (History S)). Advances region cm (serial_run cm sm c s n).console v.console) (sym same)
             (console_advances (serial_run cm sm c s n) (run_facts n)))
             (ap (λ (v : SerialState (History C) (History S)). v.sound) same)
         go (by_sound lt e) =
@@ -143,16 +144,16 @@ module _ {C S : Type 0} (region : Region) (console_valid : C → Type 0) (sound_
             other_turn
             (lt-ltb (sm.stamp (serial_run cm sm c s n).sound.now) (cm.stamp (serial_run cm sm c s n).console.now) lt)
             (ap (λ (v : SerialState (History C) (History S)). v.console) same)
-            (subst (λ (v : SerialState (History C) (History S)). Advances sm (serial_run cm sm c s n).sound v.sound) (sym same)
+            (subst (λ (v : SerialState (History C) (History S)). Advances region sm (serial_run cm sm c s n).sound v.sound) (sym same)
             (sound_advances (serial_run cm sm c s n) (run_facts n)))
 
     -- the run, seen from the sound side
     pub sound_turns : (n : ℕ)
-        → TurnAt Sound sm cm (λ k. (serial_run cm sm c s k).sound) (λ k. (serial_run cm sm c s k).console) n
+        → TurnAt region Sound sm cm (λ k. (serial_run cm sm c s k).sound) (λ k. (serial_run cm sm c s k).console) n
     sound_turns n = go (turn_of (recorded cm) (recorded sm) (serial_run cm sm c s n))
       where
         go : TurnOf (recorded cm) (recorded sm) (serial_run cm sm c s n)
-            → TurnAt Sound sm cm (λ k. (serial_run cm sm c s k).sound) (λ k. (serial_run cm sm c s k).console) n
+            → TurnAt region Sound sm cm (λ k. (serial_run cm sm c s k).sound) (λ k. (serial_run cm sm c s k).console) n
         go (by_sound lt e) =
             let same = turn_sound (recorded cm) (recorded sm) (serial_run cm sm c s n) e in
             own_turn
@@ -162,7 +163,7 @@ module _ {C S : Type 0} (region : Region) (console_valid : C → Type 0) (sound_
             (got_is_heard Sound (serial_run cm sm c s n).sound.entries (serial_run cm sm c s n).console.entries
             (sm.stamp (serial_run cm sm c s n).sound.now) (sm.act (serial_run cm sm c s n).sound.now) (serial_run cm sm c s n).to_sound
             (run_facts n).to_sound (sound_lawful.at_ports (serial_run cm sm c s n).sound.now (run_facts n).serves.sound)))
-            (subst (λ (v : SerialState (History C) (History S)). Advances sm (serial_run cm sm c s n).sound v.sound) (sym same)
+            (subst (λ (v : SerialState (History C) (History S)). Advances region sm (serial_run cm sm c s n).sound v.sound) (sym same)
             (sound_advances (serial_run cm sm c s n) (run_facts n)))
             (ap (λ (v : SerialState (History C) (History S)). v.console) same)
         go (by_console le e) =
@@ -170,5 +171,5 @@ module _ {C S : Type 0} (region : Region) (console_valid : C → Type 0) (sound_
             other_turn
             (le-leb (cm.stamp (serial_run cm sm c s n).console.now) (sm.stamp (serial_run cm sm c s n).sound.now) le)
             (ap (λ (v : SerialState (History C) (History S)). v.sound) same)
-            (subst (λ (v : SerialState (History C) (History S)). Advances cm (serial_run cm sm c s n).console v.console) (sym same)
+            (subst (λ (v : SerialState (History C) (History S)). Advances region cm (serial_run cm sm c s n).console v.console) (sym same)
             (console_advances (serial_run cm sm c s n) (run_facts n)))

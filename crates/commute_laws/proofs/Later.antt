@@ -7,20 +7,22 @@ use Rattle.std.proofs.lemmas.Bool.{cases_lt}
 use Rattle.snes_defs.specs.declared.ports.Side.{Side}
 use Rattle.snes_defs.specs.declared.ports.Act.{Act}
 use Rattle.snes_defs.specs.declared.ports.Act.TheVariants.{Quiet, Read, Write, Clear}
-use Rattle.snes_defs.specs.declared.TheConstants.{LEAST_RISE, MOST_RISE}
+use Rattle.snes_defs.specs.declared.region.Region.{Region}
+use Rattle.clock_ratio.specs.Stamp.{least_of, most_of}
+use Rattle.clock_ratio.proofs.Numbers.{numbers}
 use Rattle.port_entries.specs.Entry.{Entry, entry_stamp, CarryBytes}
 use Rattle.port_entries.specs.LastValue.{sees}
 use Rattle.port_entries.proofs.Seen.{unseen_later}
 use Rattle.port_entries.proofs.LastValues.{last_value-unseen, last_value-byte}
 use Rattle.side_law.specs.Moves.{Moves, IsLawful}
-use Rattle.side_law.specs.History.{History, history_after, entry_of}
-use Rattle.side_law.specs.Heard.{heard_got, heard_step, OnLook}
-use Rattle.side_law.proofs.Ports.{All_append, All_map}
+use Rattle.commute_laws.specs.History.{History, history_after, entry_of}
+use Rattle.commute_laws.specs.Heard.{heard_got, heard_step, OnLook}
+use Rattle.commute_laws.proofs.Ports.{All_append, All_map}
 
 -- one step on
-pub record Advances {State : Type 0} (moves : Moves State) (h later : History State) : Type 0 where
-  pub rises : moves.stamp h.now + LEAST_RISE ≤ moves.stamp later.now
-  pub rises_at_most : moves.stamp later.now ≤ moves.stamp h.now + MOST_RISE
+pub record Advances {State : Type 0} (region : Region) (moves : Moves State) (h later : History State) : Type 0 where
+  pub rises : moves.stamp h.now + least_of region ≤ moves.stamp later.now
+  pub rises_at_most : moves.stamp later.now ≤ moves.stamp h.now + most_of region
   pub entries : later.entries ≡ h.entries ++ entry_of (moves.stamp h.now) (moves.act h.now)
   pub steps : later.steps ≡ suc h.steps
 
@@ -42,8 +44,8 @@ module _ {State : Type 0} (moves : Moves State) where
   pub later_at_once : (h : History State) → IsLater moves h h
   later_at_once h = record { rest = []; entries = append-nil h.entries; stamped = tt; stamp = omega arith; steps = omega arith }
 
-  pub later_by_step : (h mid later : History State) → IsLater moves h mid → Advances moves mid later → IsLater moves h later
-  later_by_step h mid later before step = record {
+  pub later_by_step : (region : Region) (h mid later : History State) → IsLater moves h mid → Advances region moves mid later → IsLater moves h later
+  later_by_step region h mid later before step = record {
     rest = before.rest ++ entry_of (moves.stamp mid.now) (moves.act mid.now);
     entries = sym (append_assoc h.entries before.rest (entry_of (moves.stamp mid.now) (moves.act mid.now)))
         ∙ ap (λ l. l ++ entry_of (moves.stamp mid.now) (moves.act mid.now)) before.entries ∙ sym step.entries;
@@ -54,23 +56,23 @@ module _ {State : Type 0} (moves : Moves State) where
   }
 
   -- a sequence in which at each place one step is made or nothing is
-  pub later_along : (z : ℕ → History State)
-      → ((n : ℕ) → (z (suc n) ≡ z n) ⊎ Advances moves (z n) (z (suc n)))
+  pub later_along : (region : Region) (z : ℕ → History State)
+      → ((n : ℕ) → (z (suc n) ≡ z n) ⊎ Advances region moves (z n) (z (suc n)))
       → (n d : ℕ) → IsLater moves (z n) (z (d + n))
-  later_along z each n zero =
+  later_along region z each n zero =
       let e : n ≡ 0 + n = omega arith in
       subst (λ k. IsLater moves (z n) (z k)) e (later_at_once (z n))
-  later_along z each n (suc d) =
+  later_along region z each n (suc d) =
       let e : suc (d + n) ≡ suc d + n = omega arith in
       subst (λ k. IsLater moves (z n) (z k)) e
-      (⊎_elim (λ same. subst (IsLater moves (z n)) (sym same) (later_along z each n d))
-      (λ step. later_by_step (z n) (z (d + n)) (z (suc (d + n))) (later_along z each n d) step)
+      (⊎_elim (λ same. subst (IsLater moves (z n)) (sym same) (later_along region z each n d))
+      (λ step. later_by_step region (z n) (z (d + n)) (z (suc (d + n))) (later_along region z each n d) step)
       (each (d + n)))
 
   -- a step by a byte from a valid state
-  pub step_advances : (valid : State → Type 0) (most : ℕ) → IsLawful valid most moves
-      → (h : History State) (got : ℕ) → valid h.now → got < 256 → Advances moves h (history_after moves h got)
-  step_advances valid most lawful h got ok small = record {
+  pub step_advances : (region : Region) (valid : State → Type 0) (most : ℕ) → IsLawful region valid most moves
+      → (h : History State) (got : ℕ) → valid h.now → got < 256 → Advances region moves h (history_after moves h got)
+  step_advances region valid most lawful h got ok small = record {
     rises = lawful.rises h.now got ok small;
     rises_at_most = lawful.rises_at_most h.now got ok small;
     entries = refl;
@@ -121,15 +123,15 @@ module _ {State : Type 0} (side : Side) (moves : Moves State) where
       (λ u. All_map _ _ (λ e le. unseen_later side low (entry_stamp e) (moves.stamp h.now) u le) rest stamped) unseen))
 
 -- along a sequence, as many steps are the same steps
-module _ {State : Type 0} (moves : Moves State) (z : ℕ → History State)
-    (each : (n : ℕ) → (z (suc n) ≡ z n) ⊎ Advances moves (z n) (z (suc n))) where
+module _ {State : Type 0} (region : Region) (moves : Moves State) (z : ℕ → History State)
+    (each : (n : ℕ) → (z (suc n) ≡ z n) ⊎ Advances region moves (z n) (z (suc n))) where
   same_along : (n d : ℕ) → (z (d + n)).steps ≡ (z n).steps → z (d + n) ≡ z n
   same_along n zero same = let e : 0 + n ≡ n = omega arith in ap z e
   same_along n (suc d) same =
       let e : suc d + n ≡ suc (d + n) = omega arith in
       let there : (z (suc (d + n))).steps ≡ (z n).steps = ap (λ i. (z i).steps) (sym e) ∙ same in
       ap z e ∙ ⊎_elim (λ stays. stays ∙ same_along n d (ap (λ (q : History State). q.steps) (sym stays) ∙ there))
-      (λ step. absurd (omega (arith, step.steps, (later_along moves z each n d).steps, there)))
+      (λ step. absurd (omega (arith, step.steps, (later_along moves region z each n d).steps, there)))
       (each (d + n))
 
   pub same_steps : (n m : ℕ) → (z n).steps ≡ (z m).steps → z n ≡ z m

@@ -3,23 +3,15 @@ use Rattle.std.proofs.Common.{◌≡◌, ℕ, zero, suc, ◌<◌, ◌≤◌, Lis
 use Rattle.snes_defs.specs.declared.ports.Side.{Side}
 use Rattle.port_entries.specs.Entry.{Entry}
 use Rattle.port_entries.specs.Window.{IsSettled}
-use Rattle.port_entries.proofs.Seen.{settled_unseen, settled_later}
+use Rattle.port_entries.proofs.Seen.{settled_unseen}
 use Rattle.side_law.specs.Moves.{Moves}
-use Rattle.side_law.specs.History.{History}
-use Rattle.side_law.specs.Heard.{heard_step, after_heard, LooksSettled, StepsBelow, OnLook, IsHeard}
-use Rattle.side_law.proofs.Later.{on_look, heard_step-unseen}
-use Rattle.side_law.proofs.HeardRuns.{after_heard-suc}
-use Rattle.run_laws.specs.Leg.{IsLeg}
+use Rattle.commute_laws.specs.History.{History}
+use Rattle.commute_laws.specs.Heard.{heard_step, after_heard, LooksSettled, StepsBelow, OnLook, IsHeard}
+use Rattle.commute_laws.proofs.Later.{on_look, heard_step-unseen}
+use Rattle.commute_laws.proofs.HeardRuns.{after_heard-suc, looks_settled-suc, longer_list, longer_settled}
+use Rattle.commute_laws.specs.Leg.{IsLeg}
 
 module _ {State : Type 0} (side : Side) (moves : Moves State) where
-  looks_settled-suc : (heard : List Entry) (upto k : ℕ) (h : History State)
-      → LooksSettled side moves heard upto k h
-      → OnLook (moves.act (after_heard side moves heard k h).now) (IsSettled side (moves.stamp (after_heard side moves heard k h).now) upto)
-      → LooksSettled side moves heard upto (suc k) h
-  looks_settled-suc heard upto zero h settled last = (last, tt)
-  looks_settled-suc heard upto (suc k) h settled last =
-      (settled.0, looks_settled-suc heard upto k (heard_step side moves heard h) settled.1 last)
-
   steps_below-suc : (heard : List Entry) (end k : ℕ) (h : History State)
       → StepsBelow side moves heard end k h
       → moves.stamp (after_heard side moves heard k h).now < end
@@ -28,29 +20,18 @@ module _ {State : Type 0} (side : Side) (moves : Moves State) where
   steps_below-suc heard end (suc k) h below last =
       (below.0, steps_below-suc heard end k (heard_step side moves heard h) below.1 last)
 
-  -- what a longer list leaves as it was
-  record Same (heard more : List Entry) (upto later end k : ℕ) (h : History State) : Type 0 where
-    after : after_heard side moves more k h ≡ after_heard side moves heard k h
-    settled : LooksSettled side moves more later k h
-    below : StepsBelow side moves more end k h
-
-  same : (heard more : List Entry) (upto later end k : ℕ) (h : History State) → IsHeard heard more upto → upto ≤ later
-      → LooksSettled side moves heard upto k h → StepsBelow side moves heard end k h
-      → Same heard more upto later end k h
-  same heard more upto later end zero h all_heard le settled below = record { after = refl; settled = tt; below = tt }
-  same heard more upto later end (suc k) h all_heard le settled below =
-      let e : heard_step side moves more h ≡ heard_step side moves heard h =
-      heard_step-unseen side moves h heard all_heard.rest more upto all_heard.whole_is all_heard.later
-      (on_look (moves.act h.now) _ _ (settled_unseen side (moves.stamp h.now) upto) settled.0) in
-      let next = same heard more upto later end k (heard_step side moves heard h) all_heard le settled.1 below.1 in
-      record {
-        after = ap (after_heard side moves more k) e ∙ next.after;
-        settled = (
-          on_look (moves.act h.now) _ _ (λ s. settled_later side (moves.stamp h.now) upto later s le) settled.0,
-          subst (λ (q : History State). LooksSettled side moves more later k q) (sym e) next.settled,
-        );
-        below = (below.0, subst (λ (q : History State). StepsBelow side moves more end k q) (sym e) next.below);
-      }
+  -- a longer list leaves each step below the end, where each look is settled at the stamp up to which
+  -- was heard
+  longer_below : (heard more : List Entry) (upto end k : ℕ) (h : History State) → IsHeard heard more upto
+      → LooksSettled side moves heard upto k h → StepsBelow side moves heard end k h → StepsBelow side moves more end k h
+  longer_below heard more upto end zero h all_heard settled below = tt
+  longer_below heard more upto end (suc k) h all_heard settled below = (
+    below.0,
+    subst (λ (q : History State). StepsBelow side moves more end k q)
+        (sym (heard_step-unseen side moves h heard all_heard.rest more upto all_heard.whole_is all_heard.later
+        (on_look (moves.act h.now) _ _ (settled_unseen side (moves.stamp h.now) upto) settled.0)))
+        (longer_below heard more upto end k (heard_step side moves heard h) all_heard settled.1 below.1),
+  )
 
   pub leg_at_once : (heard : List Entry) (upto end : ℕ) (h : History State) → IsLeg side moves heard upto end h h
   leg_at_once heard upto end h = record { ran = record { steps = 0; after_is = refl; settled = tt }; below = tt }
@@ -64,7 +45,7 @@ module _ {State : Type 0} (side : Side) (moves : Moves State) where
     ran = record {
       steps = suc leg.ran.steps;
       after_is = after_heard-suc side moves heard leg.ran.steps before ∙ ap (heard_step side moves heard) leg.ran.after_is;
-      settled = looks_settled-suc heard upto leg.ran.steps before leg.ran.settled
+      settled = looks_settled-suc side moves heard upto leg.ran.steps before leg.ran.settled
           (subst (λ (q : History State). OnLook (moves.act q.now) (IsSettled side (moves.stamp q.now) upto)) (sym leg.ran.after_is) last);
     };
     below = steps_below-suc heard end leg.ran.steps before leg.below
@@ -74,9 +55,11 @@ module _ {State : Type 0} (side : Side) (moves : Moves State) where
   pub leg_longer : (heard more : List Entry) (upto later end : ℕ) (before after : History State)
       → IsLeg side moves heard upto end before after → IsHeard heard more upto → upto ≤ later
       → IsLeg side moves more later end before after
-  leg_longer heard more upto later end before after leg all_heard le =
-      let s = same heard more upto later end leg.ran.steps before all_heard le leg.ran.settled leg.below in
-      record {
-        ran = record { steps = leg.ran.steps; after_is = s.after ∙ leg.ran.after_is; settled = s.settled };
-        below = s.below;
-      }
+  leg_longer heard more upto later end before after leg all_heard le = record {
+    ran = record {
+      steps = leg.ran.steps;
+      after_is = longer_list side moves heard more upto leg.ran.steps before all_heard leg.ran.settled ∙ leg.ran.after_is;
+      settled = longer_settled side moves heard more upto later leg.ran.steps before all_heard le leg.ran.settled;
+    };
+    below = longer_below heard more upto end leg.ran.steps before all_heard leg.ran.settled leg.below;
+  }

@@ -1,33 +1,34 @@
 -- The two theorems on steps that commute: what two sides do by themselves, they do in the serial run.
-use Rattle.std.proofs.Common.{◌≡◌, ℕ, zero, suc, ◌+◌, ◌<◌, ◌≤◌, List, ◌++◌, refl, ap, sym, subst, ⊎_elim, arith}
+use Rattle.std.proofs.Common.{◌≡◌, ℕ, zero, suc, ◌+◌, ◌<◌, ◌≤◌, List, ◌++◌, refl, ap, sym, ◌∙◌, subst, ⊎_elim, arith}
 use Rattle.std.specs.Prelude.{◌⊎◌}
 use Rattle.std.specs.List.{AllByRecursion}
 use Rattle.std.proofs.lemmas.Bool.{cases_lt}
+use Rattle.snes_defs.specs.declared.region.Region.{Region}
 use Rattle.snes_defs.specs.declared.ports.Side.TheVariants.{Console, Sound}
 use Rattle.port_entries.specs.Entry.{Entry, entry_stamp, CarryBytes}
 use Rattle.port_entries.specs.Window.{IsSettled}
 use Rattle.port_entries.proofs.Seen.{settled_later}
 use Rattle.side_law.specs.Moves.{Moves, IsLawful}
-use Rattle.side_law.specs.History.{History}
-use Rattle.side_law.specs.Heard.{heard_step, after_heard, LooksSettled, StepsBelow, OnLook, IsHeard, RanAlone}
-use Rattle.side_law.specs.OnRun.{serial_run, IsOnRun, StaysBelow}
-use Rattle.side_law.proofs.Later.{Advances, on_look, always_on_look, before_next}
-use Rattle.side_law.proofs.Sequences.{one_heard_step, own_each}
-use Rattle.side_law.proofs.HistoryRun.{run_facts, console_turns, sound_turns}
-use Rattle.side_law.proofs.HeardRuns.{comes}
+use Rattle.commute_laws.specs.History.{History}
+use Rattle.commute_laws.specs.Heard.{heard_step, after_heard, LooksSettled, StepsBelow, OnLook, IsHeard, RanAlone}
+use Rattle.commute_laws.specs.OnRun.{serial_run, IsOnRun, StaysBelow}
+use Rattle.commute_laws.proofs.Later.{Advances, on_look, always_on_look, before_next, same_steps}
+use Rattle.commute_laws.proofs.Sequences.{one_heard_step, own_each}
+use Rattle.commute_laws.proofs.HistoryRun.{run_facts, console_turns, sound_turns}
+use Rattle.commute_laws.proofs.HeardRuns.{comes}
 
 module _ {C S : Type 0} (region : Region) (console_valid : C → Type 0) (sound_valid : S → Type 0) (console_most sound_most : ℕ)
     (cm : Moves C) (sm : Moves S)
     (console_lawful : IsLawful region console_valid console_most cm) (sound_lawful : IsLawful region sound_valid sound_most sm)
     (c0 : C) (s0 : S) (c0_valid : console_valid c0) (s0_valid : sound_valid s0) where
   pub console_each : (n : ℕ) → ((serial_run cm sm c0 s0 (suc n)).console ≡ (serial_run cm sm c0 s0 n).console)
-      ⊎ Advances cm (serial_run cm sm c0 s0 n).console (serial_run cm sm c0 s0 (suc n)).console
-  console_each = own_each Console cm sm (λ k. (serial_run cm sm c0 s0 k).console) (λ k. (serial_run cm sm c0 s0 k).sound)
+      ⊎ Advances region cm (serial_run cm sm c0 s0 n).console (serial_run cm sm c0 s0 (suc n)).console
+  console_each = own_each region Console cm sm (λ k. (serial_run cm sm c0 s0 k).console) (λ k. (serial_run cm sm c0 s0 k).sound)
       (console_turns region console_valid sound_valid console_most sound_most cm sm console_lawful sound_lawful c0 s0 c0_valid s0_valid)
 
   pub sound_each : (n : ℕ) → ((serial_run cm sm c0 s0 (suc n)).sound ≡ (serial_run cm sm c0 s0 n).sound)
-      ⊎ Advances sm (serial_run cm sm c0 s0 n).sound (serial_run cm sm c0 s0 (suc n)).sound
-  sound_each = own_each Sound sm cm (λ k. (serial_run cm sm c0 s0 k).sound) (λ k. (serial_run cm sm c0 s0 k).console)
+      ⊎ Advances region sm (serial_run cm sm c0 s0 n).sound (serial_run cm sm c0 s0 (suc n)).sound
+  sound_each = own_each region Sound sm cm (λ k. (serial_run cm sm c0 s0 k).sound) (λ k. (serial_run cm sm c0 s0 k).console)
       (sound_turns region console_valid sound_valid console_most sound_most cm sm console_lawful sound_lawful c0 s0 c0_valid s0_valid)
 
   -- states on the run are valid
@@ -41,15 +42,29 @@ module _ {C S : Type 0} (region : Region) (console_valid : C → Type 0) (sound_
       subst (λ (h : History S). sound_valid h.now) on.sound_is
       (run_facts region console_valid sound_valid console_most sound_most cm sm console_lawful sound_lawful c0 s0 c0_valid s0_valid on.sound_turns).serves.sound
 
+  -- two pairs on the run after as many steps are one pair
+  pub one_place : (c d : History C) (s t : History S) → IsOnRun cm sm c0 s0 c s → IsOnRun cm sm c0 s0 d t
+      → c.steps ≡ d.steps → s.steps ≡ t.steps → (c ≡ d) × (s ≡ t)
+  one_place c d s t on off same_c same_s = (
+    sym on.console_is
+        ∙ same_steps region cm (λ k. (serial_run cm sm c0 s0 k).console) console_each on.console_turns off.console_turns
+        (ap (λ (q : History C). q.steps) on.console_is ∙ same_c ∙ ap (λ (q : History C). q.steps) (sym off.console_is))
+        ∙ off.console_is,
+    sym on.sound_is
+        ∙ same_steps region sm (λ k. (serial_run cm sm c0 s0 k).sound) sound_each on.sound_turns off.sound_turns
+        (ap (λ (q : History S). q.steps) on.sound_is ∙ same_s ∙ ap (λ (q : History S). q.steps) (sym off.sound_is))
+        ∙ off.sound_is,
+  )
+
   -- one step of the console against the beginning of a list that the sound side comes to
   pub console_heard : (c : History C) (s : History S) → IsOnRun cm sm c0 s0 c s
       → (heard whole : List Entry) (upto : ℕ) → IsHeard heard whole upto
       → (rest : List Entry) → s.entries ++ rest ≡ whole → AllByRecursion (λ e. sm.stamp s.now ≤ entry_stamp e) rest
       → OnLook (cm.act c.now) (IsSettled Console (cm.stamp c.now) upto)
       → OnLook (cm.act c.now) (IsSettled Console (cm.stamp c.now) (sm.stamp s.now))
-      → IsOnRun cm sm c0 s0 (heard_step Console cm heard c) s × Advances cm c (heard_step Console cm heard c)
+      → IsOnRun cm sm c0 s0 (heard_step Console cm heard c) s × Advances region cm c (heard_step Console cm heard c)
   console_heard c s on heard whole upto all_heard rest joined stamped settled_upto settled =
-      let r = one_heard_step Console cm sm (λ k. (serial_run cm sm c0 s0 k).console) (λ k. (serial_run cm sm c0 s0 k).sound)
+      let r = one_heard_step region Console cm sm (λ k. (serial_run cm sm c0 s0 k).console) (λ k. (serial_run cm sm c0 s0 k).sound)
       (console_turns region console_valid sound_valid console_most sound_most cm sm console_lawful sound_lawful c0 s0 c0_valid s0_valid)
       on.console_turns on.sound_turns c s heard whole upto on.console_is on.sound_is all_heard rest joined stamped settled_upto settled in
       (record { console_turns = r.0; console_is = r.1; sound_turns = on.sound_turns; sound_is = on.sound_is }, r.2)
@@ -60,9 +75,9 @@ module _ {C S : Type 0} (region : Region) (console_valid : C → Type 0) (sound_
       → (rest : List Entry) → c.entries ++ rest ≡ whole → AllByRecursion (λ e. cm.stamp c.now ≤ entry_stamp e) rest
       → OnLook (sm.act s.now) (IsSettled Sound (sm.stamp s.now) upto)
       → OnLook (sm.act s.now) (IsSettled Sound (sm.stamp s.now) (cm.stamp c.now))
-      → IsOnRun cm sm c0 s0 c (heard_step Sound sm heard s) × Advances sm s (heard_step Sound sm heard s)
+      → IsOnRun cm sm c0 s0 c (heard_step Sound sm heard s) × Advances region sm s (heard_step Sound sm heard s)
   sound_heard c s on heard whole upto all_heard rest joined stamped settled_upto settled =
-      let r = one_heard_step Sound sm cm (λ k. (serial_run cm sm c0 s0 k).sound) (λ k. (serial_run cm sm c0 s0 k).console)
+      let r = one_heard_step region Sound sm cm (λ k. (serial_run cm sm c0 s0 k).sound) (λ k. (serial_run cm sm c0 s0 k).console)
       (sound_turns region console_valid sound_valid console_most sound_most cm sm console_lawful sound_lawful c0 s0 c0_valid s0_valid)
       on.sound_turns on.console_turns s c heard whole upto on.sound_is on.console_is all_heard rest joined stamped settled_upto settled in
       (record { console_turns = on.console_turns; console_is = on.console_is; sound_turns = r.0; sound_is = r.1 }, r.2)
@@ -73,7 +88,7 @@ module _ {C S : Type 0} (region : Region) (console_valid : C → Type 0) (sound_
       → (next : History C) → next.steps ≡ suc c.steps → StaysBelow cm sm c0 s0 end next s
   console_below_next end c s on below lt next steps = record {
     console = λ n fewer.
-        before_next cm (λ k. (serial_run cm sm c0 s0 k).console) console_each end c.steps on.console_turns below.console
+        before_next region cm (λ k. (serial_run cm sm c0 s0 k).console) console_each end c.steps on.console_turns below.console
         (ap (λ (q : History C). q.steps) on.console_is)
         (subst (λ (q : History C). cm.stamp q.now < end) (sym on.console_is) lt) n (omega (arith, fewer, steps));
     sound = below.sound;
@@ -85,7 +100,7 @@ module _ {C S : Type 0} (region : Region) (console_valid : C → Type 0) (sound_
   sound_below_next end c s on below lt next steps = record {
     console = below.console;
     sound = λ n fewer.
-        before_next sm (λ k. (serial_run cm sm c0 s0 k).sound) sound_each end s.steps on.sound_turns below.sound
+        before_next region sm (λ k. (serial_run cm sm c0 s0 k).sound) sound_each end s.steps on.sound_turns below.sound
         (ap (λ (q : History S). q.steps) on.sound_is)
         (subst (λ (q : History S). sm.stamp q.now < end) (sym on.sound_is) lt) n (omega (arith, fewer, steps));
   }
@@ -106,7 +121,7 @@ module _ {C S : Type 0} (region : Region) (console_valid : C → Type 0) (sound_
         → OnLook (cm.act c.now) (IsSettled Console (cm.stamp c.now) (sm.stamp s.now))
         → Left k l (heard_step Console cm console_heard_list c) s
     console_next k l c s h settled =
-        let m = comes Sound sound_valid sound_most sm sound_lawful sound_heard_list l s sound_bytes (on_run_sound c s h.on) in
+        let m = comes region Sound sound_valid sound_most sm sound_lawful sound_heard_list l s sound_bytes (on_run_sound c s h.on) in
         let r = console_heard c s h.on console_heard_list (after_heard Sound sm sound_heard_list l s).entries console_upto
         h.console_all m.later.rest m.later.entries m.later.stamped h.console_settled.0 settled in
         record {
@@ -123,7 +138,7 @@ module _ {C S : Type 0} (region : Region) (console_valid : C → Type 0) (sound_
         → OnLook (sm.act s.now) (IsSettled Sound (sm.stamp s.now) (cm.stamp c.now))
         → Left k l c (heard_step Sound sm sound_heard_list s)
     sound_next k l c s h settled =
-        let m = comes Console console_valid console_most cm console_lawful console_heard_list k c console_bytes (on_run_console c s h.on) in
+        let m = comes region Console console_valid console_most cm console_lawful console_heard_list k c console_bytes (on_run_console c s h.on) in
         let r = sound_heard c s h.on sound_heard_list (after_heard Console cm console_heard_list k c).entries sound_upto
         h.sound_all m.later.rest m.later.entries m.later.stamped h.sound_settled.0 settled in
         record {

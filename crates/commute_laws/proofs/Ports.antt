@@ -14,8 +14,9 @@ use Rattle.port_entries.specs.LastValue.{sees, leaves, counts, byte_after, last_
 use Rattle.port_entries.proofs.Seen.{seen_later}
 use Rattle.port_entries.proofs.LastValues.{byte_after_all-append, uncounted, counted_alike}
 use Rattle.side_law.specs.Moves.{IsAtPorts}
-use Rattle.side_law.specs.Serial.{cleared_from, incoming_after, outgoing_after}
-use Rattle.side_law.specs.History.{entry_of}
+use Rattle.side_law.specs.Serial.{incoming_after, outgoing_after}
+use Rattle.side_law.proofs.Cleared.{cleared-at, length-cleared_from}
+use Rattle.commute_laws.specs.History.{entry_of}
 
 -- what is true of each element of two lists is true of each of both joined, and back
 pub All_append : {X : Type 0} (P : X → Type 0) (xs ys : List X) → AllByRecursion P xs → AllByRecursion P ys → AllByRecursion P (xs ++ ys)
@@ -25,23 +26,6 @@ All_append P (x ∷ xs) ys h k = (h.0, All_append P xs ys h.1 k)
 pub All_map : {X : Type 0} (P Q : X → Type 0) → ((x : X) → P x → Q x) → (xs : List X) → AllByRecursion P xs → AllByRecursion Q xs
 All_map P Q f [] h = h
 All_map P Q f (x ∷ xs) h = (f x h.0, All_map P Q f xs h.1)
-
--- a port of bytes of which some were zeroed
-pub cleared-at : (first mask : ℕ) (bytes : List ℕ) (port : ℕ)
-    → get_or (cleared_from first mask bytes) port 0 ≡ cond (covers mask (first + port)) 0 (get_or bytes port 0)
-cleared-at first mask [] port = sym (same (covers mask (first + port)))
-  where
-    same : (t : Bool) → ◌≡◌ {A = ℕ} (cond t 0 0) 0
-    same true = refl
-    same false = refl
-cleared-at first mask (b ∷ bytes) zero = ap (λ k. cond (covers mask k) 0 b) (sym (add-zero first))
-cleared-at first mask (b ∷ bytes) (suc port) =
-    cleared-at (first + 1) mask bytes port
-    ∙ ap (λ k. cond (covers mask k) 0 (get_or bytes port 0)) (omega arith)
-
-pub length-cleared_from : (first mask : ℕ) (bytes : List ℕ) → length (cleared_from first mask bytes) ≡ length bytes
-length-cleared_from first mask [] = refl
-length-cleared_from first mask (b ∷ bytes) = ap suc (length-cleared_from (first + 1) mask bytes)
 
 -- at `at`, where the side sees all of the other's entries, the four incoming bytes are the last values
 pub record Shows (side : Side) (own others : List Entry) (at : ℕ) (bytes : List ℕ) : Type 0 where

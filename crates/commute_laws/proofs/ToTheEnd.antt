@@ -3,19 +3,20 @@ use Rattle.std.proofs.Common.{◌≡◌, ℕ, zero, suc, ◌+◌, ◌<◌, ◌�
 use Rattle.std.specs.Prelude.{if◌then◌else◌}
 use Rattle.std.proofs.lemmas.Bool.{cases_lt, cases_order}
 use Rattle.std.proofs.lemmas.List.{append-nil}
+use Rattle.snes_defs.specs.declared.region.Region.{Region}
 use Rattle.snes_defs.specs.declared.ports.Side.TheVariants.{Console, Sound}
 use Rattle.port_entries.proofs.Seen.{seen_le}
 use Rattle.side_law.specs.Moves.{Moves, IsLawful}
 use Rattle.side_law.specs.Serial.{SerialState, serial_of, turn, console_emits, sound_emits, console_got, sound_got}
 use Rattle.side_law.specs.SerialRun.{after_turns, console_output, sound_output, IsPast, RunsFor, IsOutput}
-use Rattle.side_law.specs.History.{History, history_of, recorded}
-use Rattle.side_law.specs.OnRun.{serial_run, IsOnRun, IsOfRun, StaysBelow}
+use Rattle.commute_laws.specs.History.{History, history_of, recorded}
+use Rattle.commute_laws.specs.OnRun.{serial_run, IsOnRun, IsOfRun, StaysBelow}
 use Rattle.side_law.proofs.SerialKeeps.{TurnOf, by_console, by_sound, turn_of, turn_console, turn_sound, serving_at_first}
 use Rattle.side_law.proofs.SerialRuns.{run_ends}
-use Rattle.side_law.proofs.Later.{same_steps}
-use Rattle.side_law.proofs.Sequences.{TurnAt, own_turn, other_turn}
-use Rattle.side_law.proofs.HistoryRun.{console_turns, sound_turns}
-use Rattle.side_law.proofs.OnRuns.{console_each, sound_each, console_below_next, sound_below_next}
+use Rattle.commute_laws.proofs.Later.{same_steps}
+use Rattle.commute_laws.proofs.Sequences.{TurnAt, own_turn, other_turn}
+use Rattle.commute_laws.proofs.HistoryRun.{console_turns, sound_turns}
+use Rattle.commute_laws.proofs.OnRuns.{console_each, sound_each, console_below_next, sound_below_next}
 
 module _ {C S : Type 0} (cm : Moves C) (sm : Moves S) where
   -- the serial machine without its histories
@@ -116,8 +117,8 @@ module _ {C S : Type 0} (region : Region) (console_valid : C → Type 0) (sound_
             sound = subst (λ q. end ≤ sm.stamp q) t.sound s;
           })
 
-      go : TurnAt Console cm sm (λ k. (serial_run cm sm c0 s0 k).console) (λ k. (serial_run cm sm c0 s0 k).sound) n
-          → TurnAt Sound sm cm (λ k. (serial_run cm sm c0 s0 k).sound) (λ k. (serial_run cm sm c0 s0 k).console) n
+      go : TurnAt region Console cm sm (λ k. (serial_run cm sm c0 s0 k).console) (λ k. (serial_run cm sm c0 s0 k).sound) n
+          → TurnAt region Sound sm cm (λ k. (serial_run cm sm c0 s0 k).sound) (λ k. (serial_run cm sm c0 s0 k).console) n
           → StaysBelow cm sm c0 s0 end (serial_run cm sm c0 s0 n).console (serial_run cm sm c0 s0 n).sound
           → StaysBelow cm sm c0 s0 end (serial_run cm sm c0 s0 (suc n)).console (serial_run cm sm c0 s0 (suc n)).sound
       go (own_turn first step advances same) other below =
@@ -171,12 +172,12 @@ module _ {C S : Type 0} (region : Region) (console_valid : C → Type 0) (sound_
           ))))
           (cases_order w.sound.steps s.steps) in
           let console_is : w.console ≡ c =
-          same_steps cm (λ k. (serial_run cm sm c0 s0 k).console)
+          same_steps region cm (λ k. (serial_run cm sm c0 s0 k).console)
           (console_each region console_valid sound_valid console_most sound_most cm sm console_lawful sound_lawful c0 s0 c0_valid s0_valid)
           n on.console_turns (console_steps ∙ ap (λ (q : History C). q.steps) (sym on.console_is))
           ∙ on.console_is in
           let sound_is : w.sound ≡ s =
-          same_steps sm (λ k. (serial_run cm sm c0 s0 k).sound)
+          same_steps region sm (λ k. (serial_run cm sm c0 s0 k).sound)
           (sound_each region console_valid sound_valid console_most sound_most cm sm console_lawful sound_lawful c0 s0 c0_valid s0_valid)
           n on.sound_turns (sound_steps ∙ ap (λ (q : History S). q.steps) (sym on.sound_is))
           ∙ on.sound_is in

@@ -8,7 +8,7 @@ use Rattle.port_entries.specs.Entry.{Entry, entry_stamp, CarryBytes}
 use Rattle.port_entries.specs.LastValue.{last_value}
 use Rattle.port_entries.specs.Window.{IsSettled}
 use Rattle.side_law.specs.Moves.{Moves}
-use Rattle.side_law.specs.History.{History, history_after}
+use Rattle.commute_laws.specs.History.{History, history_after}
 
 -- what a step gets: a read gets the last value over the side's own entries and the list
 abbrev pub heard_got : Side → List Entry → List Entry → ℕ → Act → ℕ

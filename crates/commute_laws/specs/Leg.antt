@@ -3,8 +3,8 @@ use Rattle.std.specs.Prelude.{ℕ, List}
 use Rattle.snes_defs.specs.declared.ports.Side.{Side}
 use Rattle.port_entries.specs.Entry.{Entry}
 use Rattle.side_law.specs.Moves.{Moves}
-use Rattle.side_law.specs.History.{History}
-use Rattle.side_law.specs.Heard.{HeardRun, StepsBelow}
+use Rattle.commute_laws.specs.History.{History}
+use Rattle.commute_laws.specs.Heard.{HeardRun, StepsBelow}
 
 -- a run against the list `heard`, with no look at a stamp that isn't settled at `upto`, of which no
 -- step was made at `end` or later

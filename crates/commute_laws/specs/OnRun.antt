@@ -3,8 +3,7 @@ use Rattle.std.specs.Prelude.{◌≡◌, ℕ, ◌+◌, ◌<◌, ◌≤◌}
 use Rattle.side_law.specs.Moves.{Moves}
 use Rattle.side_law.specs.Serial.{SerialState, serial_of}
 use Rattle.side_law.specs.SerialRun.{after_turns, console_output, sound_output}
-use Rattle.side_law.specs.History.{History, history_of, recorded}
-use Rattle.side_law.specs.Legal.{Halves}
+use Rattle.commute_laws.specs.History.{History, history_of, recorded}
 
 module _ {C S : Type 0} (console_moves : Moves C) (sound_moves : Moves S) (console_start : C) (sound_start : S) where
   -- the serial run from the two starting states, with its history, after so many turns
@@ -35,12 +34,3 @@ module _ {C S : Type 0} (console_moves : Moves C) (sound_moves : Moves S) (conso
   pub record StaysBelow (end : ℕ) (c : History C) (s : History S) : Type 0 where
     pub console : (n : ℕ) → (serial_run n).console.steps < c.steps → console_moves.stamp (serial_run n).console.now < end
     pub sound : (n : ℕ) → (serial_run n).sound.steps < s.steps → sound_moves.stamp (serial_run n).sound.now < end
-
-  -- a state of two sides that run by themselves is on the serial run, after so many steps of each,
-  -- and neither clock is above its machine's stamp
-  pub record IsSerialAt (i j : ℕ) (h : Halves C S) : Type 0 where
-    pub on_run : IsOnRun h.console.history h.sound.history
-    pub console_steps : h.console.history.steps ≡ i
-    pub sound_steps : h.sound.history.steps ≡ j
-    pub console_clock : h.console.clock ≤ console_moves.stamp h.console.history.now
-    pub sound_clock : h.sound.clock ≤ sound_moves.stamp h.sound.history.now

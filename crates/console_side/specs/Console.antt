@@ -1,6 +1,8 @@
 -- The console as a machine: its state, the step that is due, and what that step does.
 use Rattle.std.specs.Prelude.{◌≡◌, ℕ, ◌+◌, ◌*◌, ◌%◌, ◌<◌, Bool, true, false, not, ◌||◌, ◌&&◌, List, [], Option, None, Some, is_some, IfSome, if◌then◌else◌}
 use Rattle.snes_defs.specs.Bytes.{AreBytes}
+use Rattle.snes_defs.specs.declared.region.Region.{Region}
+use Rattle.snes_defs.specs.declared.region.Region.TheVariants.{Ntsc, Pal}
 use Rattle.snes_defs.specs.declared.ports.Act.{Act}
 use Rattle.snes_defs.specs.declared.ports.Act.TheVariants.{Quiet, Write as PortWrite}
 use Rattle.unbuilt_part.specs.declared.part.Part.{Part}
@@ -171,6 +173,15 @@ IsMet part.Script = ⊥
 IsMet part.Picture = ⊥
 IsMet part.Dsp = ⊥
 
+-- the part that a step meets is one of these
+abbrev pub MeetsMet : Due → Type 0
+MeetsMet Stopped = Unit {0}
+MeetsMet (Meets met) = IsMet met
+MeetsMet Refresh = Unit {0}
+MeetsMet (Reads addr byte) = Unit {0}
+MeetsMet (Writes addr v) = Unit {0}
+MeetsMet Inner = Unit {0}
+
 -- the states of which the laws speak: memories of bytes, an accumulator of one, and no part met but
 -- an opcode or an address
 pub record IsConsole (s : ConsoleState) : Type 0 where
@@ -178,6 +189,11 @@ pub record IsConsole (s : ConsoleState) : Type 0 where
   pub ram : AreBytes s.ram
   pub accumulator : s.core.a < 256
   pub part : IfSome s.part IsMet
+
+-- so far a console is one of Ntsc
+abbrev pub IsConsoleOf : Region → ConsoleState → Type 0
+IsConsoleOf Ntsc s = IsConsole s
+IsConsoleOf Pal s = ⊥
 
 -- what contracts see of a console side: where it stands, and the bytes that wait in it
 pub record ConsoleValue : Type 0 where

@@ -2,6 +2,8 @@
 use Rattle.std.proofs.Common.{◌≡◌, ℕ, ◌*◌, ◌≤◌, ◌<◌, suc, zero, Bool, true, false, not, ◌&&◌, List, [], length, slice_index, is_some, refl, arith, if◌then◌else◌}
 use Rattle.std.proofs.Math.ListN.{set, length-set}
 use Rattle.std.proofs.lemmas.List.{get_or_past, get_or-set_same, get_or-set_other}
+use Rattle.snes_defs.specs.declared.region.Region.{Region}
+use Rattle.snes_defs.specs.declared.region.Region.TheVariants.{Ntsc, Pal}
 use Rattle.snes_defs.specs.Bytes.{AreBytes}
 use Rattle.cart_map.specs.declared.places.Place.{Place}
 use Rattle.cart_map.specs.declared.places.Place.TheVariants.{Wram, Rom, Ram, BBus, Cpu, Open}
@@ -18,7 +20,7 @@ use Rattle.console_side.specs.Core.{access_of, core_after}
 use Rattle.console_side.specs.Opcodes.{is_built_opcode}
 use Rattle.console_side.specs.Picture.{dots_of}
 use Rattle.console_side.specs.Memory.{byte_at, is_port, ram_after, is_built_write}
-use Rattle.console_side.specs.Console.{ConsoleState, IsConsole, IsMet, console_moves, due_of, due_access, due_read, due_write, is_opcode_fetch, act_at, act_of, step_clocks, passed, row_at, emitted, effect, console_after}
+use Rattle.console_side.specs.Console.{ConsoleState, IsConsole, IsConsoleOf, IsMet, console_moves, due_of, due_access, due_read, due_write, is_opcode_fetch, act_at, act_of, step_clocks, passed, row_at, emitted, effect, console_after}
 
 -- the byte of a step is one, and the part that it meets an opcode or an address
 abbrev CarriesByte : Due → Type 0
@@ -169,11 +171,27 @@ length-emitted (Reads addr byte) s = length-row_at (effect s (Reads addr byte)).
 length-emitted (Writes addr v) s = length-row_at (effect s (Writes addr v)).picture s.clock (clocks_of addr false)
 length-emitted Inner s = length-row_at (effect s Inner).picture s.clock 6
 
-pub console_is_lawful : IsLawful IsConsole 1024 console_moves
-console_is_lawful = record {
+ntsc_is_lawful : IsLawful Ntsc IsConsole 1024 console_moves
+ntsc_is_lawful = record {
   at_ports = λ m valid. act_at_ports (due_of m) (due_carries m valid);
   stays_valid = λ m got valid byte. stays_console m valid;
   rises = λ m got valid byte. omega (arith, step_lasts (due_of m));
   rises_at_most = λ m got valid byte. omega (arith, step_lasts (due_of m));
   emits_at_most = λ m got valid byte. length-emitted (due_of m) m;
+}
+
+pub console_is_lawful : (region : Region) → IsLawful region (IsConsoleOf region) 1024 console_moves
+console_is_lawful Ntsc = record {
+  at_ports = ntsc_is_lawful.at_ports;
+  stays_valid = ntsc_is_lawful.stays_valid;
+  rises = ntsc_is_lawful.rises;
+  rises_at_most = ntsc_is_lawful.rises_at_most;
+  emits_at_most = ntsc_is_lawful.emits_at_most;
+}
+console_is_lawful Pal = record {
+  at_ports = λ m valid. absurd valid;
+  stays_valid = λ m got valid byte. valid;
+  rises = λ m got valid byte. absurd valid;
+  rises_at_most = λ m got valid byte. absurd valid;
+  emits_at_most = λ m got valid byte. absurd valid;
 }

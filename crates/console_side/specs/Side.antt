@@ -1,8 +1,8 @@
 -- What a console side keeps, and what contracts see of it.
-use Rattle.std.specs.Prelude.{◌≡◌, ◌+◌, ◌*◌, ◌^◌, ◌≤◌, length}
+use Rattle.std.specs.Prelude.{◌≡◌, ◌+◌, ◌*◌, ◌^◌, ◌≤◌, length, IfSome}
 use Rattle.cart_map.specs.Plain.{IsPlain}
 use Rattle.console_side.specs.declared.side.ConsoleSide.TheInside.{Inside}
-use Rattle.console_side.specs.Console.{ConsoleState, ConsoleValue}
+use Rattle.console_side.specs.Console.{ConsoleState, ConsoleValue, IsMet}
 
 -- the state of its machine, without the place of the beam, which the clock gives
 abbrev pub state_of : Inside → ConsoleState
@@ -26,3 +26,4 @@ pub record IsSide (c : Inside) : Type 0 where
   pub early : 5632 * c.beam.clock ≤ 2 ^ 62 + 225280
   pub capacity : c.waiting.capacity ≡ 65536
   pub room : length c.waiting.items ≤ 65536
+  pub part : ∥ IfSome c.part IsMet ∥₁

@@ -1,11 +1,13 @@
 ghost use Rattle.std.specs.Prelude.{◌≡◌, ◌+◌, ◌*◌, ◌^◌, ◌≤◌, ◌++◌, [], IfOk, length};
+ghost use Rattle.snes_defs.specs.Bytes.{AreBytes};
+ghost use Rattle.snes_defs.specs.declared.region.Region.TheVariants.{Ntsc};
 ghost use Rattle.cart_map.specs.Plain.{IsPlain};
 ghost use Rattle.cart_map.specs.Plain.{plain_place_of as place_of};
 ghost use Rattle.console_side.specs.Beam.{line_of};
 ghost use Rattle.console_side.specs.Core.{core_after};
 ghost use Rattle.console_side.specs.Picture.{dots_of, dot_of};
 ghost use Rattle.console_side.specs.Memory.{picture_after, ram_after};
-ghost use Rattle.console_side.specs.Console.{console_start, IsConsole, due_of, due_read, due_write, act_at, row_at, passed};
+ghost use Rattle.console_side.specs.Console.{console_start, IsConsole, MeetsMet, due_of, due_read, due_write, act_at, row_at, passed};
 
 use crate::beam::Beam;
 use crate::memory::{byte, takes, work_ram};
@@ -16,7 +18,7 @@ use cart_map::{Place, clocks, plain_place as place};
 use circular_buffer::HeapCircularBuffer;
 use clock_ratio::CONSOLE_RATE;
 use side_law::Machine;
-use snes_defs::{Act, Bytes, Cart, Job, NoMemory};
+use snes_defs::{Act, Bytes, Cart, Job, NoMemory, Region};
 use std::alloc::Global;
 use std::marker::Model;
 use unbuilt_part::Part;
@@ -56,11 +58,12 @@ impl Model for ConsoleSide {
 }
 
 impl ConsoleSide {
-    /// The console side of a job before its first step. It takes the room for the ROM, the work RAM
+    /// The console side of a job in Ntsc before its first step. It takes the room for the ROM, the work RAM
     /// and the bytes that wait, and refuses only for want of memory.
     #[tactic(auto, using(crate::proofs::Zeros::start_is_console))]
     pub fn new(alloc: Global, job: &Job) -> Result<ConsoleSide, NoMemory>
-        requires { IsPlain job.now.cart }
+        requires plain { IsPlain job.now.cart }
+        requires ntsc { job.now.region ≡ Ntsc }
         ensures starts { IfOk result (λ c. c.state ≡ console_start job.now.cart.rom) }
         ensures valid { IsConsole (console_start job.now.cart.rom) }
         ensures empty { IfOk result (λ c. c.waiting ≡ []) }
@@ -97,10 +100,21 @@ impl ConsoleSide {
         self.part
     }
 
+    /// The memories and the accumulator are bytes, and the part is one that can be met.
+    #[inline(always)]
+    fn is_console(&self)
+        ensures { ∥ IsConsole self.now.state ∥₁ }
+    {
+        let _rom = self.cart.rom.get();
+        are_bytes(self.ram.as_slice());
+        let _accumulator = self.core.a;
+    }
+
     /// The next step: the first that is due.
     #[inline(always)]
     fn due(&self) -> Due
-        ensures { result ≡ due_of self.now.state }
+        ensures due { result ≡ due_of self.now.state }
+        ensures met { MeetsMet result }
     {
         if self.part.is_some() {
             return Due::Stopped;
@@ -187,8 +201,9 @@ impl ConsoleSide {
 
 impl Machine for ConsoleSide {
     ghost use Rattle.std.specs.Prelude.{◌*◌};
+    ghost use Rattle.snes_defs.specs.declared.region.Region.TheVariants.{Ntsc};
     ghost use Rattle.std.proofs.Common.{rules};
-    ghost use Rattle.console_side.specs.Console.{ConsoleState, console_moves, StandsAt};
+    ghost use Rattle.console_side.specs.Console.{ConsoleState, IsConsoleOf, console_moves, StandsAt};
     ghost use Rattle.console_side.specs.ConsoleLaws.{console_is_lawful};
 
     const CAP: usize = 65_536;
@@ -201,18 +216,26 @@ impl Machine for ConsoleSide {
 
     ghost State = { ConsoleState };
 
-    ghost valid = { IsConsole };
+    ghost valid = { IsConsoleOf };
 
     ghost moves = { console_moves };
 
     ghost stands = { StandsAt };
+
+    ghost region_of = { λ c. Ntsc };
 
     ghost stamp_of = { λ c. 5632 * c.state.clock };
 
     ghost waiting = { λ c. c.waiting };
 
     #[inline(always)]
+    fn region(&self) -> Region {
+        Region::Ntsc
+    }
+
+    #[inline(always)]
     fn stamp(&self) -> u64 {
+        self.is_console();
         CONSOLE_RATE * self.beam.clock
     }
 
@@ -273,10 +296,19 @@ impl Machine for ConsoleSide {
     ghost lawful = { console_is_lawful };
 }
 
+/// The numbers of a list of bytes are bytes.
+#[inline(always)]
+fn are_bytes(all: &[u8])
+    ensures { AreBytes all.now }
+{
+    let _all = all;
+}
+
 /// The step that reads what was found at an address.
 #[inline(always)]
 fn due_for_read(stage: Stage, addr: u16, found: Option<u8>) -> Due
-    ensures { result ≡ due_read stage addr found }
+    ensures due { result ≡ due_read stage addr found }
+    ensures met { MeetsMet result }
 {
     match found {
         None => Due::Meets(Part::Place(addr as u32)),
@@ -294,7 +326,8 @@ fn due_for_read(stage: Stage, addr: u16, found: Option<u8>) -> Due
 #[inline(always)]
 fn due_for_write(cart: &Cart, addr: u16, v: u8) -> Due
     requires { IsPlain cart.now }
-    ensures { result ≡ due_write addr v }
+    ensures due { result ≡ due_write addr v }
+    ensures met { MeetsMet result }
 {
     if takes(place(cart, addr as u32)) {
         Due::Writes(addr, v)

@@ -1,65 +1,67 @@
--- Legal lists of moves: where they lead, that they can go on, and that the serial order is one.
+-- Legal lists of moves: where they lead, and that they can go on.
 use Rattle.std.proofs.Common.{◌≡◌, ℕ, zero, suc, ◌+◌, ◌<◌, ◌≤◌, List, [], ◌∷◌, ◌++◌, refl, ap, sym, ◌∙◌, subst, ⊎_elim, arith}
 use Rattle.std.proofs.lemmas.Bool.{cases_lt, both_ways, ltb-true}
 use Rattle.std.proofs.lemmas.List.{append-nil}
+use Rattle.snes_defs.specs.declared.region.Region.{Region}
 use Rattle.snes_defs.specs.declared.ports.Side.{Side}
 use Rattle.snes_defs.specs.declared.ports.Side.TheVariants.{Console, Sound}
 use Rattle.snes_defs.specs.declared.ports.Act.{Act}
 use Rattle.snes_defs.specs.declared.ports.Act.TheVariants.{Quiet, Read, Write, Clear}
-use Rattle.snes_defs.specs.declared.TheConstants.{LEAST_RISE}
+use Rattle.clock_ratio.specs.Stamp.{least_of}
 use Rattle.port_entries.specs.Entry.{Entry}
 use Rattle.port_entries.specs.LastValue.{sees}
 use Rattle.port_entries.specs.Window.{IsSettled}
 use Rattle.port_entries.proofs.Seen.{settled_later, seen_le, seen_back}
 use Rattle.side_law.specs.Moves.{Moves, IsLawful}
-use Rattle.side_law.specs.History.{History}
-use Rattle.side_law.specs.Heard.{heard_step, OnLook, IsHeard}
-use Rattle.side_law.specs.Legal.{Halves, halves_of, Move, Publish, Step, MayStep, clock_after, MayPublish, MayMake, after_move, after_moves, IsLegal, steps_of}
-use Rattle.side_law.specs.OnRun.{serial_run, IsOnRun, IsSerialAt}
-use Rattle.side_law.proofs.Later.{Advances, on_look, always_on_look, same_steps}
-use Rattle.side_law.proofs.Sequences.{TurnAt, own_turn, other_turn}
-use Rattle.side_law.proofs.HistoryRun.{console_turns, sound_turns}
-use Rattle.side_law.proofs.OnRuns.{console_heard, sound_heard, console_each, sound_each}
+use Rattle.commute_laws.specs.History.{History}
+use Rattle.commute_laws.specs.Heard.{heard_step, OnLook, IsHeard}
+use Rattle.run_laws.specs.Legal.{Halves, halves_of, Move, Publish, Step, MayStep, clock_after, MayPublish, MayMake, after_move, after_moves, IsLegal, steps_of}
+use Rattle.commute_laws.specs.OnRun.{serial_run, IsOnRun}
+use Rattle.run_laws.specs.Place.{IsSerialAt}
+use Rattle.commute_laws.proofs.Later.{Advances, on_look, always_on_look, same_steps}
+use Rattle.commute_laws.proofs.Sequences.{TurnAt, own_turn, other_turn}
+use Rattle.commute_laws.proofs.HistoryRun.{console_turns, sound_turns}
+use Rattle.commute_laws.proofs.OnRuns.{console_heard, sound_heard, console_each, sound_each}
 
 -- what may be looked at is settled
-may_look : (side : Side) (at other : ℕ) (act : Act) → MayStep side at other act → OnLook act (IsSettled side at other)
-may_look side at other Quiet h = tt
-may_look side at other (Read port) h = h
-may_look side at other (Write port byte) h = tt
-may_look side at other (Clear mask) h = h
+may_look : (region : Region) (side : Side) (at other : ℕ) (act : Act) → MayStep region side at other act → OnLook act (IsSettled side at other)
+may_look region side at other Quiet h = tt
+may_look region side at other (Read port) h = h
+may_look region side at other (Write port byte) h = tt
+may_look region side at other (Clear mask) h = h
 
-new_clock : (act : Act) (own published at new : ℕ) → MayPublish act at published new → own ≤ new → clock_after act own published ≤ new
-new_clock Quiet own published at new h le = le
-new_clock (Read port) own published at new h le = le
-new_clock (Write port byte) own published at new h le = h.1
-new_clock (Clear mask) own published at new h le = le
+new_clock : (region : Region) (act : Act) (own published at new : ℕ) → MayPublish region act at published new → own ≤ new → clock_after act own published ≤ new
+new_clock region Quiet own published at new h le = le
+new_clock region (Read port) own published at new h le = le
+new_clock region (Write port byte) own published at new h le = h.1
+new_clock region (Clear mask) own published at new h le = le
 
 -- the earlier side may make its step, whatever it does, where the other's clock is its stamp
-pub earlier_may : (side : Side) (at other : ℕ) (act : Act) → IsSettled side at other → MayStep side at other act
-earlier_may Console at other Quiet h = omega arith
-earlier_may Console at other (Read port) h = h
-earlier_may Console at other (Write port byte) h = omega arith
-earlier_may Console at other (Clear mask) h = h
-earlier_may Sound at other Quiet h = omega arith
-earlier_may Sound at other (Read port) h = h
-earlier_may Sound at other (Write port byte) h = omega arith
-earlier_may Sound at other (Clear mask) h = h
+pub earlier_may : (region : Region) (side : Side) (at other : ℕ) (act : Act) → IsSettled side at other → MayStep region side at other act
+earlier_may region Console at other Quiet h = omega arith
+earlier_may region Console at other (Read port) h = h
+earlier_may region Console at other (Write port byte) h = omega arith
+earlier_may region Console at other (Clear mask) h = h
+earlier_may region Sound at other Quiet h = omega arith
+earlier_may region Sound at other (Read port) h = h
+earlier_may region Sound at other (Write port byte) h = omega arith
+earlier_may region Sound at other (Clear mask) h = h
 
--- a step that rises can publish its new stamp
-may_publish_new : (act : Act) (at new : ℕ) → at + LEAST_RISE ≤ new → MayPublish act at new new
-may_publish_new Quiet at new h = tt
-may_publish_new (Read port) at new h = tt
-may_publish_new (Write port byte) at new h = (h, omega arith)
-may_publish_new (Clear mask) at new h = tt
+-- a step that rises can publish a stamp from the least rise on up to its new one
+pub may_publish : (region : Region) (act : Act) (at published new : ℕ) → at + least_of region ≤ published → published ≤ new → MayPublish region act at published new
+may_publish region Quiet at published new low high = tt
+may_publish region (Read port) at published new low high = tt
+may_publish region (Write port byte) at published new low high = (low, high)
+may_publish region (Clear mask) at published new low high = tt
 
 module _ {C S : Type 0} (cm : Moves C) (sm : Moves S) where
-  after_moves-append : (xs ys : List Move) (h : Halves C S) → after_moves cm sm (xs ++ ys) h ≡ after_moves cm sm ys (after_moves cm sm xs h)
+  pub after_moves-append : (xs ys : List Move) (h : Halves C S) → after_moves cm sm (xs ++ ys) h ≡ after_moves cm sm ys (after_moves cm sm xs h)
   after_moves-append [] ys h = refl
   after_moves-append (x ∷ xs) ys h = after_moves-append xs ys (after_move cm sm x h)
 
-  IsLegal-append : (xs ys : List Move) (h : Halves C S) → IsLegal cm sm xs h → IsLegal cm sm ys (after_moves cm sm xs h) → IsLegal cm sm (xs ++ ys) h
-  IsLegal-append [] ys h first rest = rest
-  IsLegal-append (x ∷ xs) ys h first rest = (first.0, IsLegal-append xs ys (after_move cm sm x h) first.1 rest)
+  pub IsLegal-append : (region : Region) (xs ys : List Move) (h : Halves C S) → IsLegal region cm sm xs h → IsLegal region cm sm ys (after_moves cm sm xs h) → IsLegal region cm sm (xs ++ ys) h
+  IsLegal-append region [] ys h first rest = rest
+  IsLegal-append region (x ∷ xs) ys h first rest = (first.0, IsLegal-append region xs ys (after_move cm sm x h) first.1 rest)
 
   -- a list makes the steps that are in it
   pub console_steps_after : (moves : List Move) (h : Halves C S)
@@ -94,19 +96,19 @@ module _ {C S : Type 0} (region : Region) (console_valid : C → Type 0) (sound_
   -- a step of the console against the sound side's entries as they are
   console_steps : (c : History C) (s : History S) → IsOnRun cm sm c0 s0 c s
       → OnLook (cm.act c.now) (IsSettled Console (cm.stamp c.now) (sm.stamp s.now))
-      → IsOnRun cm sm c0 s0 (heard_step Console cm s.entries c) s × Advances cm c (heard_step Console cm s.entries c)
+      → IsOnRun cm sm c0 s0 (heard_step Console cm s.entries c) s × Advances region cm c (heard_step Console cm s.entries c)
   console_steps c s on settled =
       console_heard region console_valid sound_valid console_most sound_most cm sm console_lawful sound_lawful c0 s0 c0_valid s0_valid
       c s on s.entries s.entries (sm.stamp s.now) (whole s.entries (sm.stamp s.now)) [] (append-nil s.entries) tt settled settled
 
   sound_steps : (c : History C) (s : History S) → IsOnRun cm sm c0 s0 c s
       → OnLook (sm.act s.now) (IsSettled Sound (sm.stamp s.now) (cm.stamp c.now))
-      → IsOnRun cm sm c0 s0 c (heard_step Sound sm c.entries s) × Advances sm s (heard_step Sound sm c.entries s)
+      → IsOnRun cm sm c0 s0 c (heard_step Sound sm c.entries s) × Advances region sm s (heard_step Sound sm c.entries s)
   sound_steps c s on settled =
       sound_heard region console_valid sound_valid console_most sound_most cm sm console_lawful sound_lawful c0 s0 c0_valid s0_valid
       c s on c.entries c.entries (cm.stamp c.now) (whole c.entries (cm.stamp c.now)) [] (append-nil c.entries) tt settled settled
 
-  move_keeps : (move : Move) (h : Halves C S) → Stands h → MayMake cm sm move h → Stands (after_move cm sm move h)
+  move_keeps : (move : Move) (h : Halves C S) → Stands h → MayMake region cm sm move h → Stands (after_move cm sm move h)
   move_keeps (Publish Console clock) h stands may =
       record { on = stands.on; console_clock = may.1; sound_clock = stands.sound_clock }
   move_keeps (Publish Sound clock) h stands may =
@@ -116,10 +118,10 @@ module _ {C S : Type 0} (region : Region) (console_valid : C → Type 0) (sound_
       let s = h.sound.history in
       let r = console_steps c s stands.on
       (on_look (cm.act c.now) _ _ (λ q. settled_later Console (cm.stamp c.now) h.sound.clock (sm.stamp s.now) q stands.sound_clock)
-      (may_look Console (cm.stamp c.now) h.sound.clock (cm.act c.now) may.0)) in
+      (may_look region Console (cm.stamp c.now) h.sound.clock (cm.act c.now) may.0)) in
       record {
         on = r.0;
-        console_clock = new_clock (cm.act c.now) h.console.clock clock (cm.stamp c.now) (cm.stamp (heard_step Console cm s.entries c).now) may.1
+        console_clock = new_clock region (cm.act c.now) h.console.clock clock (cm.stamp c.now) (cm.stamp (heard_step Console cm s.entries c).now) may.1
             (omega (arith, r.1.rises, stands.console_clock));
         sound_clock = stands.sound_clock;
       }
@@ -128,15 +130,15 @@ module _ {C S : Type 0} (region : Region) (console_valid : C → Type 0) (sound_
       let s = h.sound.history in
       let r = sound_steps c s stands.on
       (on_look (sm.act s.now) _ _ (λ q. settled_later Sound (sm.stamp s.now) h.console.clock (cm.stamp c.now) q stands.console_clock)
-      (may_look Sound (sm.stamp s.now) h.console.clock (sm.act s.now) may.0)) in
+      (may_look region Sound (sm.stamp s.now) h.console.clock (sm.act s.now) may.0)) in
       record {
         on = r.0;
         console_clock = stands.console_clock;
-        sound_clock = new_clock (sm.act s.now) h.sound.clock clock (sm.stamp s.now) (sm.stamp (heard_step Sound sm c.entries s).now) may.1
+        sound_clock = new_clock region (sm.act s.now) h.sound.clock clock (sm.stamp s.now) (sm.stamp (heard_step Sound sm c.entries s).now) may.1
             (omega (arith, r.1.rises, stands.sound_clock));
       }
 
-  moves_keep : (moves : List Move) (h : Halves C S) → Stands h → IsLegal cm sm moves h → Stands (after_moves cm sm moves h)
+  moves_keep : (moves : List Move) (h : Halves C S) → Stands h → IsLegal region cm sm moves h → Stands (after_moves cm sm moves h)
   moves_keep [] h stands legal = stands
   moves_keep (m ∷ ms) h stands legal =
       moves_keep ms (after_move cm sm m h) (move_keeps m h stands legal.0) legal.1
@@ -149,7 +151,7 @@ module _ {C S : Type 0} (region : Region) (console_valid : C → Type 0) (sound_
   }
 
   -- a legal list leads along the serial run
-  pub legal_on_run : (moves : List Move) → IsLegal cm sm moves (halves_of c0 s0)
+  pub legal_on_run : (moves : List Move) → IsLegal region cm sm moves (halves_of c0 s0)
       → IsSerialAt cm sm c0 s0 (steps_of Console moves) (steps_of Sound moves) (after_moves cm sm moves (halves_of c0 s0))
   legal_on_run moves legal =
       let stands = moves_keep moves (halves_of c0 s0) stands_at_first legal in
@@ -161,20 +163,6 @@ module _ {C S : Type 0} (region : Region) (console_valid : C → Type 0) (sound_
         sound_clock = stands.sound_clock;
       }
 
-  -- two pairs on the run after as many steps are one pair
-  pub one_place : (c d : History C) (s t : History S) → IsOnRun cm sm c0 s0 c s → IsOnRun cm sm c0 s0 d t
-      → c.steps ≡ d.steps → s.steps ≡ t.steps → (c ≡ d) × (s ≡ t)
-  one_place c d s t on off same_c same_s = (
-    sym on.console_is
-        ∙ same_steps cm (λ k. (serial_run cm sm c0 s0 k).console) (console_each region console_valid sound_valid console_most sound_most cm sm console_lawful sound_lawful c0 s0 c0_valid s0_valid) on.console_turns off.console_turns
-        (ap (λ (q : History C). q.steps) on.console_is ∙ same_c ∙ ap (λ (q : History C). q.steps) (sym off.console_is))
-        ∙ off.console_is,
-    sym on.sound_is
-        ∙ same_steps sm (λ k. (serial_run cm sm c0 s0 k).sound) (sound_each region console_valid sound_valid console_most sound_most cm sm console_lawful sound_lawful c0 s0 c0_valid s0_valid) on.sound_turns off.sound_turns
-        (ap (λ (q : History S). q.steps) on.sound_is ∙ same_s ∙ ap (λ (q : History S). q.steps) (sym off.sound_is))
-        ∙ off.sound_is,
-  )
-
   -- both sides publish their stamps, and the console steps, which is not later
   console_moves : (c : History C) (s : History S) → List Move
   console_moves c s =
@@ -182,7 +170,7 @@ module _ {C S : Type 0} (region : Region) (console_valid : C → Type 0) (sound_
       ∷ Step Console (cm.stamp (heard_step Console cm s.entries c).now) ∷ []
 
   console_may : (h : Halves C S) → Stands h → cm.stamp h.console.history.now ≤ sm.stamp h.sound.history.now
-      → IsLegal cm sm (console_moves h.console.history h.sound.history) h
+      → IsLegal region cm sm (console_moves h.console.history h.sound.history) h
   unfolding console_moves
   console_may h stands le =
       let c = h.console.history in
@@ -193,8 +181,9 @@ module _ {C S : Type 0} (region : Region) (console_valid : C → Type 0) (sound_
           (stands.sound_clock, omega arith),
           (
             (
-              earlier_may Console (cm.stamp c.now) (sm.stamp s.now) (cm.act c.now) le,
-              may_publish_new (cm.act c.now) (cm.stamp c.now) (cm.stamp (heard_step Console cm s.entries c).now) r.1.rises,
+              earlier_may region Console (cm.stamp c.now) (sm.stamp s.now) (cm.act c.now) le,
+              may_publish region (cm.act c.now) (cm.stamp c.now) (cm.stamp (heard_step Console cm s.entries c).now)
+                  (cm.stamp (heard_step Console cm s.entries c).now) r.1.rises (omega arith),
             ),
             tt,
           ),
@@ -208,7 +197,7 @@ module _ {C S : Type 0} (region : Region) (console_valid : C → Type 0) (sound_
       ∷ Step Sound (sm.stamp (heard_step Sound sm c.entries s).now) ∷ []
 
   sound_may : (h : Halves C S) → Stands h → sm.stamp h.sound.history.now < cm.stamp h.console.history.now
-      → IsLegal cm sm (sound_moves h.console.history h.sound.history) h
+      → IsLegal region cm sm (sound_moves h.console.history h.sound.history) h
   unfolding sound_moves
   sound_may h stands lt =
       let c = h.console.history in
@@ -219,8 +208,9 @@ module _ {C S : Type 0} (region : Region) (console_valid : C → Type 0) (sound_
           (stands.sound_clock, omega arith),
           (
             (
-              earlier_may Sound (sm.stamp s.now) (cm.stamp c.now) (sm.act s.now) lt,
-              may_publish_new (sm.act s.now) (sm.stamp s.now) (sm.stamp (heard_step Sound sm c.entries s).now) r.1.rises,
+              earlier_may region Sound (sm.stamp s.now) (cm.stamp c.now) (sm.act s.now) lt,
+              may_publish region (sm.act s.now) (sm.stamp s.now) (sm.stamp (heard_step Sound sm c.entries s).now)
+                  (sm.stamp (heard_step Sound sm c.entries s).now) r.1.rises (omega arith),
             ),
             tt,
           ),
@@ -229,7 +219,7 @@ module _ {C S : Type 0} (region : Region) (console_valid : C → Type 0) (sound_
 
   -- so a legal list can always go on, by a step
   goes_on_from : (h : Halves C S) → Stands h
-      → (more : List Move) × IsLegal cm sm more h × (steps_of Console more + steps_of Sound more ≡ 1)
+      → (more : List Move) × IsLegal region cm sm more h × (steps_of Console more + steps_of Sound more ≡ 1)
   unfolding console_moves sound_moves
   goes_on_from h stands =
       ⊎_elim
@@ -237,91 +227,8 @@ module _ {C S : Type 0} (region : Region) (console_valid : C → Type 0) (sound_
       (λ le. (console_moves h.console.history h.sound.history, console_may h stands le, refl))
       (cases_lt (sm.stamp h.sound.history.now) (cm.stamp h.console.history.now))
 
-  pub goes_on : (moves : List Move) → IsLegal cm sm moves (halves_of c0 s0)
-      → (more : List Move) × IsLegal cm sm (moves ++ more) (halves_of c0 s0) × (steps_of Console more + steps_of Sound more ≡ 1)
+  pub goes_on : (moves : List Move) → IsLegal region cm sm moves (halves_of c0 s0)
+      → (more : List Move) × IsLegal region cm sm (moves ++ more) (halves_of c0 s0) × (steps_of Console more + steps_of Sound more ≡ 1)
   goes_on moves legal =
       let r = goes_on_from (after_moves cm sm moves (halves_of c0 s0)) (moves_keep moves (halves_of c0 s0) stands_at_first legal) in
-      (r.0, IsLegal-append cm sm moves r.0 (halves_of c0 s0) legal r.1, r.2)
-
-  -- the serial order itself is a legal list
-  record Follows (n : ℕ) : Type 0 where
-    moves : List Move
-    legal : IsLegal cm sm moves (halves_of c0 s0)
-    console_is : (after_moves cm sm moves (halves_of c0 s0)).console.history ≡ (serial_run cm sm c0 s0 n).console
-    sound_is : (after_moves cm sm moves (halves_of c0 s0)).sound.history ≡ (serial_run cm sm c0 s0 n).sound
-
-  follows_by_console : (n : ℕ) (f : Follows n)
-      → cm.stamp (serial_run cm sm c0 s0 n).console.now ≤ sm.stamp (serial_run cm sm c0 s0 n).sound.now
-      → (serial_run cm sm c0 s0 (suc n)).console ≡ heard_step Console cm (serial_run cm sm c0 s0 n).sound.entries (serial_run cm sm c0 s0 n).console
-      → (serial_run cm sm c0 s0 (suc n)).sound ≡ (serial_run cm sm c0 s0 n).sound
-      → Follows (suc n)
-  unfolding console_moves
-  follows_by_console n f le step same =
-      let h : Halves C S = after_moves cm sm f.moves (halves_of c0 s0) in
-      let c : History C = h.console.history in
-      let s : History S = h.sound.history in
-      let stands : Stands h = moves_keep f.moves (halves_of c0 s0) stands_at_first f.legal in
-      let here : cm.stamp c.now ≤ sm.stamp s.now =
-      subst (λ (q : History C). cm.stamp q.now ≤ sm.stamp s.now) (sym f.console_is)
-      (subst (λ (q : History S). cm.stamp (serial_run cm sm c0 s0 n).console.now ≤ sm.stamp q.now) (sym f.sound_is) le) in
-      let more : List Move = console_moves c s in
-      let joined = after_moves-append cm sm f.moves more (halves_of c0 s0) in
-      record {
-        moves = f.moves ++ more;
-        legal = IsLegal-append cm sm f.moves more (halves_of c0 s0) f.legal (console_may h stands here);
-        console_is = ap (λ (q : Halves C S). q.console.history) joined
-            ∙ ap (λ (q : History S). heard_step Console cm q.entries c) f.sound_is
-            ∙ ap (heard_step Console cm (serial_run cm sm c0 s0 n).sound.entries) f.console_is ∙ sym step;
-        sound_is = ap (λ (q : Halves C S). q.sound.history) joined ∙ f.sound_is ∙ sym same;
-      }
-
-  follows_by_sound : (n : ℕ) (f : Follows n)
-      → sm.stamp (serial_run cm sm c0 s0 n).sound.now < cm.stamp (serial_run cm sm c0 s0 n).console.now
-      → (serial_run cm sm c0 s0 (suc n)).sound ≡ heard_step Sound sm (serial_run cm sm c0 s0 n).console.entries (serial_run cm sm c0 s0 n).sound
-      → (serial_run cm sm c0 s0 (suc n)).console ≡ (serial_run cm sm c0 s0 n).console
-      → Follows (suc n)
-  unfolding sound_moves
-  follows_by_sound n f lt step same =
-      let h : Halves C S = after_moves cm sm f.moves (halves_of c0 s0) in
-      let c : History C = h.console.history in
-      let s : History S = h.sound.history in
-      let stands : Stands h = moves_keep f.moves (halves_of c0 s0) stands_at_first f.legal in
-      let here : sm.stamp s.now < cm.stamp c.now =
-      subst (λ (q : History C). sm.stamp s.now < cm.stamp q.now) (sym f.console_is)
-      (subst (λ (q : History S). sm.stamp q.now < cm.stamp (serial_run cm sm c0 s0 n).console.now) (sym f.sound_is) lt) in
-      let more : List Move = sound_moves c s in
-      let joined = after_moves-append cm sm f.moves more (halves_of c0 s0) in
-      record {
-        moves = f.moves ++ more;
-        legal = IsLegal-append cm sm f.moves more (halves_of c0 s0) f.legal (sound_may h stands here);
-        console_is = ap (λ (q : Halves C S). q.console.history) joined ∙ f.console_is ∙ sym same;
-        sound_is = ap (λ (q : Halves C S). q.sound.history) joined
-            ∙ ap (λ (q : History C). heard_step Sound sm q.entries s) f.console_is
-            ∙ ap (heard_step Sound sm (serial_run cm sm c0 s0 n).console.entries) f.sound_is ∙ sym step;
-      }
-
-  follows_on : (n : ℕ) → Follows n → Follows (suc n)
-  follows_on n f =
-      go (console_turns region console_valid sound_valid console_most sound_most cm sm console_lawful sound_lawful c0 s0 c0_valid s0_valid n)
-      (sound_turns region console_valid sound_valid console_most sound_most cm sm console_lawful sound_lawful c0 s0 c0_valid s0_valid n)
-    where
-      go : TurnAt Console cm sm (λ k. (serial_run cm sm c0 s0 k).console) (λ k. (serial_run cm sm c0 s0 k).sound) n
-          → TurnAt Sound sm cm (λ k. (serial_run cm sm c0 s0 k).sound) (λ k. (serial_run cm sm c0 s0 k).console) n
-          → Follows (suc n)
-      go (own_turn first step advances same) other =
-          follows_by_console n f (seen_le Sound (cm.stamp (serial_run cm sm c0 s0 n).console.now) (sm.stamp (serial_run cm sm c0 s0 n).sound.now) first) step same
-      go (other_turn first same advances) (own_turn earlier step later still) =
-          follows_by_sound n f (ltb-true (sm.stamp (serial_run cm sm c0 s0 n).sound.now) (cm.stamp (serial_run cm sm c0 s0 n).console.now) first) step same
-      go (other_turn first same advances) (other_turn earlier still later) =
-          absurd (both_ways (sees Sound (cm.stamp (serial_run cm sm c0 s0 n).console.now) (sm.stamp (serial_run cm sm c0 s0 n).sound.now))
-          (seen_back Console (sm.stamp (serial_run cm sm c0 s0 n).sound.now) (cm.stamp (serial_run cm sm c0 s0 n).console.now) first) earlier)
-
-  follows : (n : ℕ) → Follows n
-  follows zero = record { moves = []; legal = tt; console_is = refl; sound_is = refl }
-  follows (suc n) = follows_on n (follows n)
-
-  pub serial_order : (n : ℕ)
-      → (moves : List Move) × IsLegal cm sm moves (halves_of c0 s0)
-      × ((after_moves cm sm moves (halves_of c0 s0)).console.history ≡ (serial_run cm sm c0 s0 n).console)
-      × ((after_moves cm sm moves (halves_of c0 s0)).sound.history ≡ (serial_run cm sm c0 s0 n).sound)
-  serial_order n = let f = follows n in (f.moves, f.legal, f.console_is, f.sound_is)
+      (r.0, IsLegal-append cm sm region moves r.0 (halves_of c0 s0) legal r.1, r.2)

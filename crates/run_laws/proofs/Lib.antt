@@ -1,4 +1,6 @@
-pub mod FirstBytes
-pub mod Legs
+pub mod Counts
+pub mod LegalRuns
 pub mod RunBound
 pub mod SerialOrder
+pub mod StepsInTime
+pub mod TurnsEnd

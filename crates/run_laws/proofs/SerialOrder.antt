@@ -2,39 +2,25 @@
 use Rattle.std.proofs.Common.{◌≡◌, ℕ, zero, suc, ◌+◌, ◌<◌, ◌≤◌, List, [], ◌∷◌, ◌++◌, refl, ap, sym, ◌∙◌, subst, arith}
 use Rattle.std.specs.Prelude.{if◌then◌else◌}
 use Rattle.std.proofs.lemmas.Bool.{ltb-true}
+use Rattle.snes_defs.specs.declared.region.Region.{Region}
 use Rattle.snes_defs.specs.declared.ports.Side.TheVariants.{Console, Sound}
 use Rattle.snes_defs.specs.declared.ports.Act.{Act}
 use Rattle.snes_defs.specs.declared.ports.Act.TheVariants.{Quiet, Read, Write, Clear}
-use Rattle.snes_defs.specs.declared.TheConstants.{LEAST_RISE}
 use Rattle.port_entries.proofs.Seen.{seen_le}
 use Rattle.side_law.specs.Moves.{Moves, IsLawful}
 use Rattle.side_law.specs.Serial.{SerialState}
-use Rattle.side_law.specs.History.{History, recorded}
-use Rattle.side_law.specs.Heard.{heard_step}
-use Rattle.side_law.specs.Legal.{Halves, halves_of, Move, Publish, Step, MayPublish, after_move, after_moves, IsLegal}
-use Rattle.side_law.specs.OnRun.{serial_run}
+use Rattle.commute_laws.specs.History.{History, recorded}
+use Rattle.commute_laws.specs.Heard.{heard_step}
+use Rattle.run_laws.specs.Legal.{Halves, halves_of, Move, Publish, Step, MayPublish, after_move, after_moves, IsLegal}
+use Rattle.commute_laws.specs.OnRun.{serial_run}
 use Rattle.side_law.proofs.SerialKeeps.{TurnOf, by_console, by_sound, turn_of}
-use Rattle.side_law.proofs.Later.{Advances}
-use Rattle.side_law.proofs.Sequences.{TurnAt, own_turn, other_turn}
-use Rattle.side_law.proofs.HistoryRun.{console_turns, sound_turns}
-use Rattle.side_law.proofs.LegalRuns.{earlier_may, legal_on_run}
+use Rattle.commute_laws.proofs.Later.{Advances}
+use Rattle.commute_laws.proofs.Sequences.{TurnAt, own_turn, other_turn}
+use Rattle.commute_laws.proofs.HistoryRun.{console_turns, sound_turns}
+use Rattle.run_laws.proofs.LegalRuns.{earlier_may, may_publish, after_moves-append, IsLegal-append, legal_on_run}
 use Rattle.run_laws.specs.SerialMoves.{moves_of_turn, serial_moves}
 
-may_publish : (act : Act) (at published new : ℕ) → at + LEAST_RISE ≤ published → published ≤ new → MayPublish act at published new
-may_publish Quiet at published new low high = tt
-may_publish (Read port) at published new low high = tt
-may_publish (Write port byte) at published new low high = (low, high)
-may_publish (Clear mask) at published new low high = tt
-
 module _ {C S : Type 0} (cm : Moves C) (sm : Moves S) where
-  after_moves-append : (xs ys : List Move) (h : Halves C S) → after_moves cm sm (xs ++ ys) h ≡ after_moves cm sm ys (after_moves cm sm xs h)
-  after_moves-append [] ys h = refl
-  after_moves-append (x ∷ xs) ys h = after_moves-append xs ys (after_move cm sm x h)
-
-  IsLegal-append : (xs ys : List Move) (h : Halves C S) → IsLegal cm sm xs h → IsLegal cm sm ys (after_moves cm sm xs h) → IsLegal cm sm (xs ++ ys) h
-  IsLegal-append [] ys h first rest = rest
-  IsLegal-append (x ∷ xs) ys h first rest = (first.0, IsLegal-append xs ys (after_move cm sm x h) first.1 rest)
-
   -- the moves of a turn, by the side that steps
   turn_moves : SerialState (History C) (History S) → Move → List Move
   turn_moves w step = Publish Console (cm.stamp w.console.now) ∷ Publish Sound (sm.stamp w.sound.now) ∷ step ∷ []
@@ -45,13 +31,13 @@ module _ {C S : Type 0} (region : Region) (console_valid : C → Type 0) (sound_
     (c0 : C) (s0 : S) (c0_valid : console_valid c0) (s0_valid : sound_valid s0) where
   -- the moves of so many turns are legal, and lead to the run after as many turns
   pub record Follows (n : ℕ) : Type 0 where
-    pub legal : IsLegal cm sm (serial_moves cm sm c0 s0 n) (halves_of c0 s0)
+    pub legal : IsLegal region cm sm (serial_moves cm sm c0 s0 n) (halves_of c0 s0)
     pub console_is : (after_moves cm sm (serial_moves cm sm c0 s0 n) (halves_of c0 s0)).console.history ≡ (serial_run cm sm c0 s0 n).console
     pub sound_is : (after_moves cm sm (serial_moves cm sm c0 s0 n) (halves_of c0 s0)).sound.history ≡ (serial_run cm sm c0 s0 n).sound
 
   -- after the moves of so many turns, one move of a side and two publications more
   record Turns (n : ℕ) (step : Move) (h : Halves C S) : Type 0 where
-    may : IsLegal cm sm (turn_moves cm sm (serial_run cm sm c0 s0 n) step) h
+    may : IsLegal region cm sm (turn_moves cm sm (serial_run cm sm c0 s0 n) step) h
     console_is : (after_moves cm sm (turn_moves cm sm (serial_run cm sm c0 s0 n) step) h).console.history ≡ (serial_run cm sm c0 s0 (suc n)).console
     sound_is : (after_moves cm sm (turn_moves cm sm (serial_run cm sm c0 s0 n) step) h).sound.history ≡ (serial_run cm sm c0 s0 (suc n)).sound
 
@@ -64,8 +50,8 @@ module _ {C S : Type 0} (region : Region) (console_valid : C → Type 0) (sound_
       let more : List Move = turn_moves cm sm (serial_run cm sm c0 s0 n) step in
       let e = after_moves-append cm sm before more (halves_of c0 s0) in
       record {
-        legal = subst (λ l. IsLegal cm sm (before ++ l) (halves_of c0 s0)) (sym same)
-            (IsLegal-append cm sm before more (halves_of c0 s0) f.legal t.may);
+        legal = subst (λ l. IsLegal region cm sm (before ++ l) (halves_of c0 s0)) (sym same)
+            (IsLegal-append cm sm region before more (halves_of c0 s0) f.legal t.may);
         console_is = ap (λ l. (after_moves cm sm (before ++ l) (halves_of c0 s0)).console.history) same
             ∙ ap (λ (q : Halves C S). q.console.history) e ∙ t.console_is;
         sound_is = ap (λ l. (after_moves cm sm (before ++ l) (halves_of c0 s0)).sound.history) same
@@ -75,7 +61,7 @@ module _ {C S : Type 0} (region : Region) (console_valid : C → Type 0) (sound_
   console_turns_on : (n : ℕ) → Follows n
       → cm.stamp (serial_run cm sm c0 s0 n).console.now ≤ sm.stamp (serial_run cm sm c0 s0 n).sound.now
       → (serial_run cm sm c0 s0 (suc n)).console ≡ heard_step Console cm (serial_run cm sm c0 s0 n).sound.entries (serial_run cm sm c0 s0 n).console
-      → Advances cm (serial_run cm sm c0 s0 n).console (serial_run cm sm c0 s0 (suc n)).console
+      → Advances region cm (serial_run cm sm c0 s0 n).console (serial_run cm sm c0 s0 (suc n)).console
       → (serial_run cm sm c0 s0 (suc n)).sound ≡ (serial_run cm sm c0 s0 n).sound
       → Turns n (Step Console (cm.stamp (serial_run cm sm c0 s0 (suc n)).console.now)) (after_moves cm sm (serial_moves cm sm c0 s0 n) (halves_of c0 s0))
   unfolding turn_moves
@@ -98,8 +84,8 @@ module _ {C S : Type 0} (region : Region) (console_valid : C → Type 0) (sound_
             (omega (arith, b, at.sound_clock), omega (arith, b)),
             (
               (
-                earlier_may Console (cm.stamp h.console.history.now) (sm.stamp w.sound.now) (cm.act h.console.history.now) (omega (arith, a, le)),
-                may_publish (cm.act h.console.history.now) (cm.stamp h.console.history.now) (cm.stamp (serial_run cm sm c0 s0 (suc n)).console.now)
+                earlier_may region Console (cm.stamp h.console.history.now) (sm.stamp w.sound.now) (cm.act h.console.history.now) (omega (arith, a, le)),
+                may_publish region (cm.act h.console.history.now) (cm.stamp h.console.history.now) (cm.stamp (serial_run cm sm c0 s0 (suc n)).console.now)
                     (cm.stamp (heard_step Console cm h.sound.history.entries h.console.history).now)
                     (omega (arith, a, advances.rises)) (omega (arith, d)),
               ),
@@ -114,7 +100,7 @@ module _ {C S : Type 0} (region : Region) (console_valid : C → Type 0) (sound_
   sound_turns_on : (n : ℕ) → Follows n
       → sm.stamp (serial_run cm sm c0 s0 n).sound.now < cm.stamp (serial_run cm sm c0 s0 n).console.now
       → (serial_run cm sm c0 s0 (suc n)).sound ≡ heard_step Sound sm (serial_run cm sm c0 s0 n).console.entries (serial_run cm sm c0 s0 n).sound
-      → Advances sm (serial_run cm sm c0 s0 n).sound (serial_run cm sm c0 s0 (suc n)).sound
+      → Advances region sm (serial_run cm sm c0 s0 n).sound (serial_run cm sm c0 s0 (suc n)).sound
       → (serial_run cm sm c0 s0 (suc n)).console ≡ (serial_run cm sm c0 s0 n).console
       → Turns n (Step Sound (sm.stamp (serial_run cm sm c0 s0 (suc n)).sound.now)) (after_moves cm sm (serial_moves cm sm c0 s0 n) (halves_of c0 s0))
   unfolding turn_moves
@@ -137,8 +123,8 @@ module _ {C S : Type 0} (region : Region) (console_valid : C → Type 0) (sound_
             (omega (arith, b, at.sound_clock), omega (arith, b)),
             (
               (
-                earlier_may Sound (sm.stamp h.sound.history.now) (cm.stamp w.console.now) (sm.act h.sound.history.now) (omega (arith, b, lt)),
-                may_publish (sm.act h.sound.history.now) (sm.stamp h.sound.history.now) (sm.stamp (serial_run cm sm c0 s0 (suc n)).sound.now)
+                earlier_may region Sound (sm.stamp h.sound.history.now) (cm.stamp w.console.now) (sm.act h.sound.history.now) (omega (arith, b, lt)),
+                may_publish region (sm.act h.sound.history.now) (sm.stamp h.sound.history.now) (sm.stamp (serial_run cm sm c0 s0 (suc n)).sound.now)
                     (sm.stamp (heard_step Sound sm h.console.history.entries h.sound.history).now)
                     (omega (arith, b, advances.rises)) (omega (arith, d)),
               ),
@@ -155,14 +141,14 @@ module _ {C S : Type 0} (region : Region) (console_valid : C → Type 0) (sound_
   follows_on n f = go (turn_of (recorded cm) (recorded sm) (serial_run cm sm c0 s0 n))
     where
       console_goes : cm.stamp (serial_run cm sm c0 s0 n).console.now ≤ sm.stamp (serial_run cm sm c0 s0 n).sound.now
-          → TurnAt Console cm sm (λ k. (serial_run cm sm c0 s0 k).console) (λ k. (serial_run cm sm c0 s0 k).sound) n
+          → TurnAt region Console cm sm (λ k. (serial_run cm sm c0 s0 k).console) (λ k. (serial_run cm sm c0 s0 k).sound) n
           → Turns n (Step Console (cm.stamp (serial_run cm sm c0 s0 (suc n)).console.now)) (after_moves cm sm (serial_moves cm sm c0 s0 n) (halves_of c0 s0))
       console_goes le (own_turn first step advances same) = console_turns_on n f le step advances same
       console_goes le (other_turn first same advances) =
           absurd (omega (arith, le, ltb-true (sm.stamp (serial_run cm sm c0 s0 n).sound.now) (cm.stamp (serial_run cm sm c0 s0 n).console.now) first))
 
       sound_goes : sm.stamp (serial_run cm sm c0 s0 n).sound.now < cm.stamp (serial_run cm sm c0 s0 n).console.now
-          → TurnAt Sound sm cm (λ k. (serial_run cm sm c0 s0 k).sound) (λ k. (serial_run cm sm c0 s0 k).console) n
+          → TurnAt region Sound sm cm (λ k. (serial_run cm sm c0 s0 k).sound) (λ k. (serial_run cm sm c0 s0 k).console) n
           → Turns n (Step Sound (sm.stamp (serial_run cm sm c0 s0 (suc n)).sound.now)) (after_moves cm sm (serial_moves cm sm c0 s0 n) (halves_of c0 s0))
       sound_goes lt (own_turn first step advances same) = sound_turns_on n f lt step advances same
       sound_goes lt (other_turn first same advances) =

@@ -1,16 +1,17 @@
 -- Two machines that run by themselves, as the log of the ports lets them: lists of moves in any
--- order in which no side is refused.
+-- order in which no side is refused. This project's own profile.
 use Rattle.std.specs.Prelude.{ℕ, suc, ◌+◌, ◌≤◌, List, [], ◌∷◌}
+use Rattle.snes_defs.specs.declared.region.Region.{Region}
 use Rattle.snes_defs.specs.declared.ports.Side.{Side}
 use Rattle.snes_defs.specs.declared.ports.Side.TheVariants.{Console, Sound}
 use Rattle.snes_defs.specs.declared.ports.Act.{Act}
 use Rattle.snes_defs.specs.declared.ports.Act.TheVariants.{Quiet, Read, Write, Clear}
-use Rattle.snes_defs.specs.declared.TheConstants.{LEAST_RISE}
+use Rattle.clock_ratio.specs.Stamp.{least_of, window_of}
 use Rattle.port_entries.specs.Entry.{Entry}
 use Rattle.port_entries.specs.Window.{IsSettled, IsWithinWindow}
 use Rattle.side_law.specs.Moves.{Moves}
-use Rattle.side_law.specs.History.{History, history_of}
-use Rattle.side_law.specs.Heard.{heard_step}
+use Rattle.commute_laws.specs.History.{History, history_of}
+use Rattle.commute_laws.specs.Heard.{heard_step}
 
 -- one side: its machine with its history, and the clock that it has published
 pub record Half (State : Type 0) : Type 0 where
@@ -36,11 +37,11 @@ pub data Move : Type 0 where
 
 -- whether a side may make its next step at a stamp, by the other's clock. Where this fails, the
 -- side is refused
-abbrev pub MayStep : Side → ℕ → ℕ → Act → Type 0
-MayStep side at other Quiet = IsWithinWindow at other
-MayStep side at other (Read port) = IsSettled side at other
-MayStep side at other (Write port byte) = IsWithinWindow at other
-MayStep side at other (Clear mask) = IsSettled side at other
+abbrev pub MayStep : Region → Side → ℕ → ℕ → Act → Type 0
+MayStep region side at other Quiet = IsWithinWindow (window_of region) at other
+MayStep region side at other (Read port) = IsSettled side at other
+MayStep region side at other (Write port byte) = IsWithinWindow (window_of region) at other
+MayStep region side at other (Clear mask) = IsSettled side at other
 
 -- the clock that stands after a step
 abbrev pub clock_after : Act → ℕ → ℕ → ℕ
@@ -49,12 +50,12 @@ clock_after Quiet own published = own
 clock_after (Read port) own published = own
 clock_after (Clear mask) own published = own
 
--- a write at this stamp publishes a clock from LEAST_RISE later up to the new stamp
-abbrev pub MayPublish : Act → ℕ → ℕ → ℕ → Type 0
-MayPublish (Write port byte) at published new = (at + LEAST_RISE ≤ published) × (published ≤ new)
-MayPublish Quiet at published new = Unit {0}
-MayPublish (Read port) at published new = Unit {0}
-MayPublish (Clear mask) at published new = Unit {0}
+-- a write at this stamp publishes a clock from the least rise later up to the new stamp
+abbrev pub MayPublish : Region → Act → ℕ → ℕ → ℕ → Type 0
+MayPublish region (Write port byte) at published new = (at + least_of region ≤ published) × (published ≤ new)
+MayPublish region Quiet at published new = Unit {0}
+MayPublish region (Read port) at published new = Unit {0}
+MayPublish region (Clear mask) at published new = Unit {0}
 
 module _ {State : Type 0} (side : Side) (moves : Moves State) (others : List Entry) where
   -- a side after a step, over the other side's entries
@@ -65,10 +66,10 @@ module _ {State : Type 0} (side : Side) (moves : Moves State) (others : List Ent
   }
 
   -- whether it may make that step, by the other side's clock
-  abbrev pub IsStep : ℕ → Half State → ℕ → Type 0
-  IsStep other half published =
-      MayStep side (moves.stamp half.history.now) other (moves.act half.history.now)
-      × MayPublish (moves.act half.history.now) (moves.stamp half.history.now) published
+  abbrev pub IsStep : Region → ℕ → Half State → ℕ → Type 0
+  IsStep region other half published =
+      MayStep region side (moves.stamp half.history.now) other (moves.act half.history.now)
+      × MayPublish region (moves.act half.history.now) (moves.stamp half.history.now) published
       (moves.stamp (heard_step side moves others half.history).now)
 
 -- whether a side may publish a clock: not below its own, and not above its stamp
@@ -76,16 +77,7 @@ abbrev pub IsPublication : {State : Type 0} → Moves State → Half State → �
 IsPublication moves half clock = (half.clock ≤ clock) × (clock ≤ moves.stamp half.history.now)
 
 module _ {C S : Type 0} (console_moves : Moves C) (sound_moves : Moves S) where
-  -- whether a move may be made
-  abbrev pub MayMake : Move → Halves C S → Type 0
-  MayMake (Publish Console clock) h = IsPublication console_moves h.console clock
-  MayMake (Publish Sound clock) h = IsPublication sound_moves h.sound clock
-  MayMake (Step Console clock) h =
-      IsStep Console console_moves h.sound.history.entries h.sound.clock h.console clock
-  MayMake (Step Sound clock) h =
-      IsStep Sound sound_moves h.console.history.entries h.console.clock h.sound clock
-
-  -- what it leaves
+  -- what a move leaves
   abbrev pub after_move : Move → Halves C S → Halves C S
   after_move (Publish Console clock) h = record {
     console = record { history = h.console.history; clock = clock };
@@ -109,10 +101,20 @@ module _ {C S : Type 0} (console_moves : Moves C) (sound_moves : Moves S) where
   after_moves [] h = h
   after_moves (m ∷ ms) h = after_moves ms (after_move m h)
 
+module _ {C S : Type 0} (region : Region) (console_moves : Moves C) (sound_moves : Moves S) where
+  -- whether two machines of a region may make a move
+  abbrev pub MayMake : Move → Halves C S → Type 0
+  MayMake (Publish Console clock) h = IsPublication console_moves h.console clock
+  MayMake (Publish Sound clock) h = IsPublication sound_moves h.sound clock
+  MayMake (Step Console clock) h =
+      IsStep Console console_moves h.sound.history.entries region h.sound.clock h.console clock
+  MayMake (Step Sound clock) h =
+      IsStep Sound sound_moves h.console.history.entries region h.console.clock h.sound clock
+
   -- a legal list: each of its moves may be made
   abbrev pub IsLegal : List Move → Halves C S → Type 0
   IsLegal [] h = Unit {0}
-  IsLegal (m ∷ ms) h = MayMake m h × IsLegal ms (after_move m h)
+  IsLegal (m ∷ ms) h = MayMake m h × IsLegal ms (after_move console_moves sound_moves m h)
 
 -- how many steps of a side are in a list of moves
 abbrev pub steps_of : Side → List Move → ℕ

@@ -1,2 +1,4 @@
-pub mod Leg
+pub mod Legal
+pub mod Place
 pub mod SerialMoves
+pub mod TurnBound

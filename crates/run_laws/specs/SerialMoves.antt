@@ -3,9 +3,9 @@ use Rattle.std.specs.Prelude.{ℕ, zero, suc, List, [], ◌∷◌, ◌++◌, if�
 use Rattle.snes_defs.specs.declared.ports.Side.TheVariants.{Console, Sound}
 use Rattle.side_law.specs.Moves.{Moves}
 use Rattle.side_law.specs.Serial.{SerialState, turn, is_console_first}
-use Rattle.side_law.specs.History.{History, recorded}
-use Rattle.side_law.specs.Legal.{Move, Publish, Step}
-use Rattle.side_law.specs.OnRun.{serial_run}
+use Rattle.commute_laws.specs.History.{History, recorded}
+use Rattle.run_laws.specs.Legal.{Move, Publish, Step}
+use Rattle.commute_laws.specs.OnRun.{serial_run}
 
 module _ {C S : Type 0} (console_moves : Moves C) (sound_moves : Moves S) where
   -- the moves of a turn: both sides publish their stamps, and the earlier one steps. What it

@@ -1,80 +1,118 @@
-// What follows from the laws of two machines, for any two machines. Each law is the contract of a
-// function that does nothing.
-ghost use Rattle.std.specs.Prelude.{◌≡◌, ◌+◌, ◌<◌, ◌≤◌, ℕ, List, ◌++◌};
-ghost use Rattle.snes_defs.specs.declared.ports.Side.{Side};
-ghost use Rattle.snes_defs.specs.declared.ports.Side.TheVariants.{Sound};
+// Which orders of the steps of two machines are as good as the serial one, and how many turns a run has,
+// for any two machines of one region.
+//
+// Each law is the contract of a function that does nothing: its clause speaks of every region, every start
+// and every list of moves, by the definitions in `specs/` alone.
+ghost use Rattle.std.specs.Prelude.{◌≡◌, ◌+◌, ◌*◌, ◌<◌, ◌≤◌, ℕ, List, ◌++◌, length};
+ghost use Rattle.snes_defs.specs.declared.region.Region.{Region};
+ghost use Rattle.snes_defs.specs.declared.ports.Side.TheVariants.{Console, Sound};
 ghost use Rattle.clock_ratio.specs.Stamp.{stamp_of, end_stamp_of};
-ghost use Rattle.port_entries.specs.Entry.{Entry, CarryBytes};
-ghost use Rattle.port_entries.specs.Window.{IsSettled};
 ghost use Rattle.side_law.specs.Serial.{serial_of};
-ghost use Rattle.side_law.specs.SerialRun.{IsOutput, RunsFor};
-ghost use Rattle.side_law.specs.History.{History};
-ghost use Rattle.side_law.specs.Heard.{IsHeard, OnLook, heard_step};
-ghost use Rattle.side_law.specs.Legal.{halves_of, IsLegal, after_moves};
-ghost use Rattle.side_law.specs.OnRun.{serial_run, IsOnRun, StaysBelow};
-ghost use Rattle.side_law.specs.TurnBound.{most_turns};
-ghost use Rattle.run_laws.specs.Leg.{IsLeg};
+ghost use Rattle.side_law.specs.SerialRun.{RunsFor};
+ghost use Rattle.commute_laws.specs.OnRun.{serial_run};
+ghost use Rattle.run_laws.specs.Legal.{Halves, halves_of, Move, MayStep, IsLegal, after_moves, steps_of};
+ghost use Rattle.run_laws.specs.Place.{IsSerialAt};
 ghost use Rattle.run_laws.specs.SerialMoves.{serial_moves};
+ghost use Rattle.run_laws.specs.TurnBound.{Made, AreBelow, EachSteps, steps_in, most_turns};
 
 use side_law::Machine;
+
+/// Every legal list of moves leads along the serial run: after it each side's state, entries and
+/// emitted bytes are those that it has in the run after as many steps, and no published clock is
+/// above its machine's stamp.
+#[tactic(none)]
+pub fn legal_is_serial<C: Machine, S: Machine>()
+    ensures { (region : Region) (console : C.State) (sound : S.State) → C.valid region console → S.valid region sound
+        → (moves : List Move) → IsLegal region C.moves S.moves moves (halves_of console sound)
+        → IsSerialAt C.moves S.moves console sound (steps_of Console moves) (steps_of Sound moves)
+        (after_moves C.moves S.moves moves (halves_of console sound)) }
+{}
+
+/// Where both published clocks are the machines' stamps, the earlier side isn't refused, whatever
+/// its step does. It needs no state that a legal list reaches.
+#[tactic(none)]
+pub fn earlier_is_free<C: Machine, S: Machine>()
+    ensures { (region : Region) (h : Halves C.State S.State)
+        → h.console.clock ≡ C.moves.stamp h.console.history.now
+        → h.sound.clock ≡ S.moves.stamp h.sound.history.now
+        → (C.moves.stamp h.console.history.now ≤ S.moves.stamp h.sound.history.now
+        → MayStep region Console (C.moves.stamp h.console.history.now) h.sound.clock (C.moves.act h.console.history.now))
+        × (S.moves.stamp h.sound.history.now < C.moves.stamp h.console.history.now
+        → MayStep region Sound (S.moves.stamp h.sound.history.now) h.console.clock (S.moves.act h.sound.history.now)) }
+{}
+
+/// A legal list can always go on, and by a step: both sides publish their stamps, and the earlier
+/// one steps.
+#[tactic(none)]
+pub fn legal_goes_on<C: Machine, S: Machine>()
+    ensures { (region : Region) (console : C.State) (sound : S.State) → C.valid region console → S.valid region sound
+        → (moves : List Move) → IsLegal region C.moves S.moves moves (halves_of console sound)
+        → (more : List Move) × IsLegal region C.moves S.moves (moves ++ more) (halves_of console sound)
+        × (steps_of Console more + steps_of Sound more ≡ 1) }
+{}
 
 /// The serial run's own order is a legal list, however long: in each turn both sides publish their
 /// stamps, and the earlier one steps. After the moves of the first turns both histories are those of
 /// the serial run after as many turns.
 #[tactic(none)]
 pub fn serial_order_is_legal<C: Machine, S: Machine>()
-    ensures legal { (console : C.State) (sound : S.State) → C.valid console → S.valid sound → (turns : ℕ)
-        → IsLegal C.moves S.moves (serial_moves C.moves S.moves console sound turns) (halves_of console sound) }
-    ensures leads { (console : C.State) (sound : S.State) → C.valid console → S.valid sound → (turns : ℕ)
+    ensures legal { (region : Region) (console : C.State) (sound : S.State) → C.valid region console → S.valid region sound → (turns : ℕ)
+        → IsLegal region C.moves S.moves (serial_moves C.moves S.moves console sound turns) (halves_of console sound) }
+    ensures leads { (region : Region) (console : C.State) (sound : S.State) → C.valid region console → S.valid region sound → (turns : ℕ)
         → ((after_moves C.moves S.moves (serial_moves C.moves S.moves console sound turns) (halves_of console sound)).console.history
         ≡ (serial_run C.moves S.moves console sound turns).console)
         × ((after_moves C.moves S.moves (serial_moves C.moves S.moves console sound turns) (halves_of console sound)).sound.history
         ≡ (serial_run C.moves S.moves console sound turns).sound) }
 {}
 
-/// A pair on the serial run of which no step was made at `end` or later has emitted first bytes of
-/// the output of the run to `end`.
+/// Two legal lists that make as many steps of each side end in the same states, entries and emitted
+/// bytes.
 #[tactic(none)]
-pub fn pairs_emit_first_bytes<C: Machine, S: Machine>()
-    ensures { (console : C.State) (sound : S.State) → C.valid console → S.valid sound
-        → (end : ℕ) (c : History C.State) (s : History S.State)
-        → IsOnRun C.moves S.moves console sound c s → StaysBelow C.moves S.moves console sound end c s
-        → (video audio : List ℕ) → IsOutput C.moves S.moves (serial_of console sound) end video audio
-        → ((rest : List ℕ) × (c.emitted ++ rest ≡ video)) × ((rest : List ℕ) × (s.emitted ++ rest ≡ audio)) }
+pub fn as_many_steps_end_alike<C: Machine, S: Machine>()
+    ensures { (region : Region) (console : C.State) (sound : S.State) → C.valid region console → S.valid region sound
+        → (moves others : List Move)
+        → IsLegal region C.moves S.moves moves (halves_of console sound)
+        → IsLegal region C.moves S.moves others (halves_of console sound)
+        → steps_of Console moves ≡ steps_of Console others → steps_of Sound moves ≡ steps_of Sound others
+        → ((after_moves C.moves S.moves moves (halves_of console sound)).console.history
+        ≡ (after_moves C.moves S.moves others (halves_of console sound)).console.history)
+        × ((after_moves C.moves S.moves moves (halves_of console sound)).sound.history
+        ≡ (after_moves C.moves S.moves others (halves_of console sound)).sound.history) }
 {}
 
-/// The entries of a pair on the serial run carry bytes.
+/// In the serial run from stamp 0 no side waits long: each has made `i` steps after at most
+/// `8 * (i + 1)` turns. So "after its first `i` steps in the run" is always some state.
 #[tactic(none)]
-pub fn entries_carry_bytes<C: Machine, S: Machine>()
-    ensures { (console : C.State) (sound : S.State) → C.valid console → S.valid sound
-        → (c : History C.State) (s : History S.State) → IsOnRun C.moves S.moves console sound c s
-        → CarryBytes c.entries × CarryBytes s.entries }
+pub fn steps_come_in_time<C: Machine, S: Machine>()
+    ensures console { (region : Region) (console : C.State) (sound : S.State) → C.valid region console → S.valid region sound
+        → C.moves.stamp console ≡ 0 → S.moves.stamp sound ≡ 0
+        → (i : ℕ) → (n : ℕ) × (n ≤ 8 * (i + 1)) × ((serial_run C.moves S.moves console sound n).console.steps ≡ i) }
+    ensures sound { (region : Region) (console : C.State) (sound : S.State) → C.valid region console → S.valid region sound
+        → C.moves.stamp console ≡ 0 → S.moves.stamp sound ≡ 0
+        → (i : ℕ) → (n : ℕ) × (n ≤ 8 * (i + 1)) × ((serial_run C.moves S.moves console sound n).sound.steps ≡ i) }
 {}
 
-/// The serial run from stamp 0 to the end of so many frames has at most `76602 * frames + 2` turns,
-/// where each step of the sound side from a valid state raises its stamp by one sound cycle.
+/// A run of turns that each make at least one step, none of them at or above the end of so many
+/// frames, has at most `76602 * frames + 2` turns in Ntsc and `91406 * frames + 2` in Pal, where each step of the sound side raises its
+/// stamp by one sound cycle.
+#[tactic(none)]
+pub fn turns_end<C: Machine, S: Machine>()
+    ensures { (region : Region) (console : C.State) (sound : S.State) → C.valid region console
+        → C.moves.stamp console ≡ 0 → S.moves.stamp sound ≡ 0
+        → (frames : ℕ) (turns : List (List Made)) → EachSteps turns
+        → AreBelow region C.moves S.moves (end_stamp_of region frames) (steps_in turns) console sound
+        → length turns ≤ most_turns region frames }
+{}
+
+/// The serial run from stamp 0 to the end of so many frames has at most `76602 * frames + 2` turns in
+/// Ntsc and `91406 * frames + 2` in Pal, where each step of the sound side from a valid state raises its
+/// stamp by one sound cycle.
 #[tactic(none)]
 pub fn runs_are_bounded<C: Machine, S: Machine>()
-    ensures { (console : C.State) (sound : S.State) → C.valid console → S.valid sound
+    ensures { (region : Region) (console : C.State) (sound : S.State) → C.valid region console → S.valid region sound
         → C.moves.stamp console ≡ 0 → S.moves.stamp sound ≡ 0
-        → ((m : S.State) (got : ℕ) → S.valid m → got < 256
-        → S.moves.stamp (S.moves.next m got) ≡ S.moves.stamp m + stamp_of Sound 1)
-        → (frames turns : ℕ) → RunsFor C.moves S.moves (serial_of console sound) (end_stamp_of frames) turns
-        → turns ≤ most_turns frames }
-{}
-
-/// A leg goes on: by a step below the end whose look is settled, and with a longer list, where all
-/// that is added to the list is stamped at or after the stamp up to which was heard.
-#[tactic(none)]
-pub fn legs_go_on<M: Machine>()
-    ensures begins { (side : Side) (heard : List Entry) (upto end : ℕ) (h : History M.State)
-        → IsLeg side M.moves heard upto end h h }
-    ensures steps { (side : Side) (heard : List Entry) (upto end : ℕ) (before after : History M.State)
-        → IsLeg side M.moves heard upto end before after
-        → M.moves.stamp after.now < end
-        → OnLook (M.moves.act after.now) (IsSettled side (M.moves.stamp after.now) upto)
-        → IsLeg side M.moves heard upto end before (heard_step side M.moves heard after) }
-    ensures longer { (side : Side) (heard more : List Entry) (upto later end : ℕ) (before after : History M.State)
-        → IsLeg side M.moves heard upto end before after → IsHeard heard more upto → upto ≤ later
-        → IsLeg side M.moves more later end before after }
+        → ((m : S.State) (got : ℕ) → S.valid region m → got < 256
+        → S.moves.stamp (S.moves.next m got) ≡ S.moves.stamp m + stamp_of region Sound 1)
+        → (frames turns : ℕ) → RunsFor C.moves S.moves (serial_of console sound) (end_stamp_of region frames) turns
+        → turns ≤ most_turns region frames }
 {}

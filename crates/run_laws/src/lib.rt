@@ -1,8 +1,10 @@
-// What follows from the laws of two machines, for whoever lets them run and stops them at an end stamp.
+// What else follows from the laws of two machines: which orders of steps are legal, and how many turns a
+// run has.
 //
-// Stands on `side_law`, and has no code. `laws` says that the serial order is itself a legal list, what
-// a pair on the serial run has emitted and written, how many turns a run has, and how a leg goes on.
-// `specs/` defines the list of the serial order and a leg. `docs/COMMUTING.md` has them in plain words.
+// Stands on `commute_laws`, and has no code. `specs/` defines the moves of two sides and their legal lists,
+// the list of the serial order, and the bound on turns of each region. `laws` says that every legal list
+// leads along the serial run, that the serial order is one, that the earlier side is never refused, and
+// how many turns a run to the end of so many frames has. No program needs these to be proved.
 #![tactic(auto)]
 
 pub mod laws;

@@ -76,7 +76,7 @@ module _ {C S : Type 0} (console_moves : Moves C) (sound_moves : Moves S) where
   longer : (a rest b c : List ℕ) → a ++ rest ≡ b → a ++ (rest ++ c) ≡ b ++ c
   longer a rest b c e = sym (append_assoc a rest c) ∙ ap (λ v. v ++ c) e
 
-  console_output_later : (w : SerialState C S) (n d : ℕ)
+  pub console_output_later : (w : SerialState C S) (n d : ℕ)
       → (rest : List ℕ) × (console_output console_moves sound_moves w n ++ rest ≡ console_output console_moves sound_moves w (d + n))
   console_output_later w n zero =
       let e : n ≡ 0 + n = omega arith in
@@ -89,7 +89,7 @@ module _ {C S : Type 0} (console_moves : Moves C) (sound_moves : Moves S) where
             ∙ ap (console_output console_moves sound_moves w) e,
       )
 
-  sound_output_later : (w : SerialState C S) (n d : ℕ)
+  pub sound_output_later : (w : SerialState C S) (n d : ℕ)
       → (rest : List ℕ) × (sound_output console_moves sound_moves w n ++ rest ≡ sound_output console_moves sound_moves w (d + n))
   sound_output_later w n zero =
       let e : n ≡ 0 + n = omega arith in

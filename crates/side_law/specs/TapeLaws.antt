@@ -3,7 +3,6 @@ use Rattle.std.proofs.Common.{◌≡◌, ℕ, ◌+◌, ◌≤◌, List, [], ◌�
 use Rattle.snes_defs.specs.declared.ports.Act.{Act}
 use Rattle.snes_defs.specs.declared.ports.Act.TheVariants.{Quiet, Read, Write, Clear}
 use Rattle.snes_defs.specs.declared.region.Region.{Region}
-use Rattle.clock_ratio.specs.Stamp.{least_of, most_of}
 use Rattle.clock_ratio.proofs.Numbers.{numbers}
 use Rattle.side_law.specs.declared.beat.Beat.{Beat}
 use Rattle.side_law.specs.Moves.{IsLawful}

@@ -1,6 +1,7 @@
 -- A run that is under way, and what a turn does to it.
 use Rattle.std.proofs.Common.{◌≡◌, ℕ, suc, ◌<◌, ◌≤◌, List, [], ◌++◌, Option, None, Some, IfSome, take, drop, refl, ap, sym, ◌∙◌, subst, ⊎_elim, append_assoc, ◌*◌, arith}
 use Rattle.std.proofs.lemmas.List.{take-append-drop}
+use Rattle.snes_defs.specs.declared.region.Region.TheVariants.{Ntsc}
 use Rattle.clock_ratio.specs.Stamp.{end_stamp_of}
 use Rattle.unbuilt_part.specs.declared.part.Part.{Part}
 use Rattle.file_shelf.specs.declared.shelves.Out.{Out}
@@ -61,15 +62,15 @@ begins_after had more count bytes is =
 
 module _ (rom : List ℕ) (frames : ℕ) (serial : Serial ConsoleValue AudioValue) (written : Out → Option (List ℕ)) (h : IsRunning rom frames serial written) where
   -- the run isn't past its end where the stamps of the machines aren't
-  pub not_past : ¬ ((end_stamp_of frames ≤ 5632 * serial.console.state.clock) × (end_stamp_of frames ≤ 118125 * serial.sound.state.cycle))
-      → ¬ IsPast console_moves sound_moves (end_stamp_of frames) h.now
+  pub not_past : ¬ ((end_stamp_of Ntsc frames ≤ 5632 * serial.console.state.clock) × (end_stamp_of Ntsc frames ≤ 118125 * serial.sound.state.cycle))
+      → ¬ IsPast console_moves sound_moves (end_stamp_of Ntsc frames) h.now
   not_past short past = short (
-    subst (λ (s : ConsoleState). end_stamp_of frames ≤ 5632 * s.clock) (sym h.stands.console.0) past.console,
-    subst (λ (s : SoundState). end_stamp_of frames ≤ 118125 * s.cycle) (sym h.stands.sound) past.sound,
+    subst (λ (s : ConsoleState). end_stamp_of Ntsc frames ≤ 5632 * s.clock) (sym h.stands.console.0) past.console,
+    subst (λ (s : SoundState). end_stamp_of Ntsc frames ≤ 118125 * s.cycle) (sym h.stands.sound) past.sound,
   )
 
   -- the run after a turn
-  abbrev after_turn : ¬ IsPast console_moves sound_moves (end_stamp_of frames) h.now
+  abbrev after_turn : ¬ IsPast console_moves sound_moves (end_stamp_of Ntsc frames) h.now
       → Underway rom frames (turn console_moves sound_moves h.now)
       (h.video ++ console_emits console_moves sound_moves h.now) (h.audio ++ sound_emits console_moves sound_moves h.now)
   after_turn short = record {
@@ -82,10 +83,10 @@ module _ (rom : List ℕ) (frames : ℕ) (serial : Serial ConsoleValue AudioValu
         ∙ ap (λ (n : SerialState ConsoleState SoundState). h.audio ++ sound_emits console_moves sound_moves n) h.underway.now_is;
   }
     where
-      still_short : (k : ℕ) → k < suc h.underway.turns → h.underway.turns ≤ k → ¬ IsPast console_moves sound_moves (end_stamp_of frames) (after_turns console_moves sound_moves (start_of rom) k)
+      still_short : (k : ℕ) → k < suc h.underway.turns → h.underway.turns ≤ k → ¬ IsPast console_moves sound_moves (end_stamp_of Ntsc frames) (after_turns console_moves sound_moves (start_of rom) k)
       still_short k lt le past =
           let e : k ≡ h.underway.turns = omega arith in
-          short (subst (IsPast console_moves sound_moves (end_stamp_of frames)) (ap (after_turns console_moves sound_moves (start_of rom)) e ∙ h.underway.now_is) past)
+          short (subst (IsPast console_moves sound_moves (end_stamp_of Ntsc frames)) (ap (after_turns console_moves sound_moves (start_of rom)) e ∙ h.underway.now_is) past)
 
   -- no part was met before the turn, nor after the turns so far
   unmet_after : IsUnmetBefore rom (suc h.underway.turns)
@@ -97,7 +98,7 @@ module _ (rom : List ℕ) (frames : ℕ) (serial : Serial ConsoleValue AudioValu
           ap (λ (w : SerialState ConsoleState SoundState). w.console.part) (ap (after_turns console_moves sound_moves (start_of rom)) e ∙ h.underway.now_is) ∙ h.built
 
   -- what a turn wrote, in part or whole, are first bytes of the run
-  pub written_so_far : (after : Shown) → ¬ IsPast console_moves sound_moves (end_stamp_of frames) h.now
+  pub written_so_far : (after : Shown) → ¬ IsPast console_moves sound_moves (end_stamp_of Ntsc frames) h.now
       → AppendsSome (written Video) (after.written Video) (console_emits console_moves sound_moves h.now)
       → AppendsSome (written Sound) (after.written Sound) (sound_emits console_moves sound_moves h.now)
       → HoldsSoFar rom frames after
@@ -123,12 +124,12 @@ module _ (rom : List ℕ) (frames : ℕ) (serial : Serial ConsoleValue AudioValu
 
   -- the whole run is written where both machines have come to the end
   pub whole_run : (after : Shown) → after.written ≡ written
-      → end_stamp_of frames ≤ 5632 * serial.console.state.clock → end_stamp_of frames ≤ 118125 * serial.sound.state.cycle
+      → end_stamp_of Ntsc frames ≤ 5632 * serial.console.state.clock → end_stamp_of Ntsc frames ≤ 118125 * serial.sound.state.cycle
       → HoldsRun rom frames after
   whole_run after same console sound =
-      let past : IsPast console_moves sound_moves (end_stamp_of frames) h.now = record {
-        console = subst (λ (s : ConsoleState). end_stamp_of frames ≤ 5632 * s.clock) h.stands.console.0 console;
-        sound = subst (λ (s : SoundState). end_stamp_of frames ≤ 118125 * s.cycle) h.stands.sound sound;
+      let past : IsPast console_moves sound_moves (end_stamp_of Ntsc frames) h.now = record {
+        console = subst (λ (s : ConsoleState). end_stamp_of Ntsc frames ≤ 5632 * s.clock) h.stands.console.0 console;
+        sound = subst (λ (s : SoundState). end_stamp_of Ntsc frames ≤ 118125 * s.cycle) h.stands.sound sound;
       } in
       record {
         video = h.video;
@@ -136,7 +137,7 @@ module _ (rom : List ℕ) (frames : ℕ) (serial : Serial ConsoleValue AudioValu
         run = record {
           output = record {
             turns = h.underway.turns;
-            runs = record { past = subst (IsPast console_moves sound_moves (end_stamp_of frames)) (sym h.underway.now_is) past; first = h.underway.not_past };
+            runs = record { past = subst (IsPast console_moves sound_moves (end_stamp_of Ntsc frames)) (sym h.underway.now_is) past; first = h.underway.not_past };
             video_is = h.underway.video_is;
             audio_is = h.underway.audio_is;
           };
@@ -146,7 +147,7 @@ module _ (rom : List ℕ) (frames : ℕ) (serial : Serial ConsoleValue AudioValu
         audio_bytes = subst (λ (w : Out → Option (List ℕ)). Holds (w Sound) h.audio) (sym same) h.audio_bytes;
       }
 
-  module _ (turned : Serial ConsoleValue AudioValue) (lent : ConsoleValue) (short : ¬ IsPast console_moves sound_moves (end_stamp_of frames) h.now)
+  module _ (turned : Serial ConsoleValue AudioValue) (lent : ConsoleValue) (short : ¬ IsPast console_moves sound_moves (end_stamp_of Ntsc frames) h.now)
       (turns : (w : SerialState ConsoleState SoundState) → IsAt ConsoleStands SoundStands serial w → IsAt ConsoleStands SoundStands turned (turn console_moves sound_moves w))
       (is_lent : lent ≡ turned.console) where
     -- the run stops at a part that isn't built

@@ -1,5 +1,6 @@
 -- What one call of the program has done, by its answer.
 use Rattle.std.specs.Prelude.{◌≡◌, ◌≢◌, ℕ, List}
+use Rattle.snes_defs.specs.declared.region.Region.TheVariants.{Ntsc}
 use Rattle.clock_ratio.specs.Stamp.{end_stamp_of, samples_before_of}
 use Rattle.file_shelf.specs.declared.shelves.Out.TheVariants as out
 use Rattle.file_shelf.specs.Told.{Appends, AppendsSome, HasRisen}
@@ -19,7 +20,7 @@ AreFormless words = (order : Order) → ¬ IsForm words order
 
 -- the line of a run that was made
 abbrev pub made_line : ℕ → List ℕ
-made_line frames = line_of (frames_text frames (samples_before_of (end_stamp_of frames)))
+made_line frames = line_of (frames_text frames (samples_before_of Ntsc (end_stamp_of Ntsc frames)))
 
 -- the first bytes of a line were said, and the whole of it where no fault of saying was counted
 pub record IsSaid (before after : Shown) (line : List ℕ) : Type 0 where

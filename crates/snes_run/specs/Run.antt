@@ -1,5 +1,6 @@
 -- The run of a cartridge on the serial console.
 use Rattle.std.specs.Prelude.{◌≡◌, ℕ, ◌<◌, List, ◌++◌, None, Some}
+use Rattle.snes_defs.specs.declared.region.Region.TheVariants.{Ntsc}
 use Rattle.clock_ratio.specs.Stamp.{end_stamp_of}
 use Rattle.unbuilt_part.specs.declared.part.Part.{Part}
 use Rattle.side_law.specs.Serial.{SerialState, serial_of}
@@ -14,7 +15,7 @@ start_of rom = serial_of (console_start rom) sound_start
 -- the run of so many frames has come to `now` without having passed its end before, and has emitted
 -- these bytes
 abbrev pub Underway : List ℕ → ℕ → SerialState ConsoleState SoundState → List ℕ → List ℕ → Type 0
-Underway rom frames now video audio = IsUnderway console_moves sound_moves (start_of rom) (end_stamp_of frames) now video audio
+Underway rom frames now video audio = IsUnderway console_moves sound_moves (start_of rom) (end_stamp_of Ntsc frames) now video audio
 
 -- before a turn of the run no part was met that isn't built
 abbrev pub IsUnmetBefore : List ℕ → ℕ → Type 0
@@ -37,7 +38,7 @@ pub record Meets (rom : List ℕ) (frames : ℕ) (part : Part) : Type 0 where
 -- the whole run: what the serial console emits until both machines have come to the end stamp, and no
 -- part is met that isn't built
 pub record IsRunOf (rom : List ℕ) (frames : ℕ) (video audio : List ℕ) : Type 0 where
-  pub output : IsOutput console_moves sound_moves (start_of rom) (end_stamp_of frames) video audio
+  pub output : IsOutput console_moves sound_moves (start_of rom) (end_stamp_of Ntsc frames) video audio
   pub built : (after_turns console_moves sound_moves (start_of rom) output.turns).console.part ≡ None
 
 -- a list begins another

@@ -1,4 +1,5 @@
 ghost use Rattle.std.specs.Prelude.{◌≡◌, ◌≤◌, IfOk, OnOk, IfErr};
+ghost use Rattle.snes_defs.specs.declared.region.Region.TheVariants.{Ntsc};
 ghost use Rattle.cart_map.specs.Plain.{IsPlain};
 ghost use Rattle.file_shelf.specs.Told.{Holds};
 ghost use Rattle.file_shelf.specs.Shown.{OnlyLoads, OnlyRunsOrLoads};
@@ -14,6 +15,7 @@ use std::alloc::Global;
 /// Loads the four inputs, in their order, and makes a job of them.
 fn load_job<H: Shelf>(alloc: Global, files: &Files, shelf: &mut H) -> Result<Job, Status>
     ensures plain { IfOk result (λ job. IsPlain job.cart) }
+    ensures ntsc { IfOk result (λ job. job.region ≡ Ntsc) }
     ensures frames { IfOk result (λ job. job.frames ≡ files.now.frames) }
     ensures rom { IfOk result (λ job. Holds ((H.shown shelf.old).held files.now.cart) job.cart.rom) }
     ensures built { OnOk result (AreBuilt (H.shown shelf.old) files.now) }

@@ -1,4 +1,5 @@
 ghost use Rattle.std.specs.Prelude.{◌≡◌, ◌<◌, ◌≤◌, [], length, OnOk, OnErr};
+ghost use Rattle.snes_defs.specs.declared.region.Region.TheVariants.{Ntsc};
 ghost use Rattle.cart_map.specs.Plain.{IsPlain};
 ghost use Rattle.file_shelf.specs.Told.{Holds, HasRisen};
 ghost use Rattle.file_shelf.specs.Shown.{IsCreated, IsUntouched, OnlyCreates, OnlyRuns};
@@ -28,6 +29,7 @@ fn create<H: Shelf>(shelf: &mut H, out: Out, name: &Name) -> Result<(), Failed>
 /// Takes the memory of a run, creates its two outputs and runs it.
 pub(crate) fn play<H: Shelf>(alloc: Global, job: &Job, files: &Files, shelf: &mut H) -> Status
     requires plain { IsPlain job.now.cart }
+    requires ntsc { job.now.region ≡ Ntsc }
     requires frames { job.now.frames ≤ 36000 }
     requires same_frames { job.now.frames ≡ files.now.frames }
     ensures ends { EndsPlay job.now.cart.rom files.now (H.shown shelf.old) (H.shown shelf.new) result }

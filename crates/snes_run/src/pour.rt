@@ -16,6 +16,7 @@ pub(crate) fn pour<M: Machine, H: Shelf>(
     requires { length (M.waiting machine.old) ≤ length buffer.old }
     ensures state { (m : M.State) → M.stands machine.old m → M.stands machine.new m }
     ensures stamp { M.stamp_of machine.new ≡ M.stamp_of machine.old }
+    ensures region { M.region_of machine.new ≡ M.region_of machine.old }
     ensures empty { M.waiting machine.new ≡ [] }
     ensures ok { OnOk result (Appends ((H.shown shelf.old).written out) ((H.shown shelf.new).written out) (M.waiting machine.old)) }
     ensures some { AppendsSome ((H.shown shelf.old).written out) ((H.shown shelf.new).written out) (M.waiting machine.old) }

@@ -1,5 +1,5 @@
 ghost use Rattle.std.specs.Prelude.{◌≡◌, ◌+◌, ◌^◌, ◌<◌, ◌≤◌, ◌⊎◌, [], length, min, OnOk, IfErr};
-ghost use Rattle.snes_defs.specs.declared.TheConstants.{LEAST_RISE};
+ghost use Rattle.clock_ratio.specs.Stamp.{least_of};
 ghost use Rattle.file_shelf.specs.Told.{Appends, AppendsSome, HasRisen};
 ghost use Rattle.side_law.specs.Serial.{SerialState, turn as turned, console_emits, sound_emits};
 ghost use Rattle.serial_console.specs.Serial.{IsAt, console_of, sound_of, earlier_side};
@@ -36,8 +36,10 @@ pub(crate) fn turn_out<C: Machine, S: Machine, H: Shelf>(
     ensures fault_of_run { IfErr result (λ out. (out ≡ Out.Video) ⊎ (out ≡ Out.Sound)) }
     ensures named { (H.shown shelf.new).named ≡ (H.shown shelf.old).named }
     ensures only { OnlyRuns (H.shown shelf.old) (H.shown shelf.new) }
-    ensures console_rises { C.stamp_of (console_of serial.old) ≤ S.stamp_of (sound_of serial.old) → C.stamp_of (console_of serial.old) + LEAST_RISE ≤ C.stamp_of (console_of serial.new) }
-    ensures sound_rises { S.stamp_of (sound_of serial.old) < C.stamp_of (console_of serial.old) → S.stamp_of (sound_of serial.old) + LEAST_RISE ≤ S.stamp_of (sound_of serial.new) }
+    ensures console_rises { C.stamp_of (console_of serial.old) ≤ S.stamp_of (sound_of serial.old) → C.stamp_of (console_of serial.old) + least_of (C.region_of (console_of serial.old)) ≤ C.stamp_of (console_of serial.new) }
+    ensures sound_rises { S.stamp_of (sound_of serial.old) < C.stamp_of (console_of serial.old) → S.stamp_of (sound_of serial.old) + least_of (S.region_of (sound_of serial.old)) ≤ S.stamp_of (sound_of serial.new) }
+    ensures console_region { C.region_of (console_of serial.new) ≡ C.region_of (console_of serial.old) }
+    ensures sound_region { S.region_of (sound_of serial.new) ≡ S.region_of (sound_of serial.old) }
     ensures none_falls { (C.stamp_of (console_of serial.old) ≤ C.stamp_of (console_of serial.new)) × (S.stamp_of (sound_of serial.old) ≤ S.stamp_of (sound_of serial.new)) }
 {
     serial.turn();

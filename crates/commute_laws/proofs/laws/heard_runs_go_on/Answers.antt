@@ -1,5 +1,5 @@
-use Rattle.side_law.proofs.laws.heard_runs_go_on.Goals as goal
-use Rattle.side_law.proofs.HeardRuns.{heard_run_at_once, heard_run_on, heard_run_longer}
+use Rattle.commute_laws.proofs.laws.heard_runs_go_on.Goals as goal
+use Rattle.commute_laws.proofs.HeardRuns.{heard_run_at_once, heard_run_on, heard_run_longer}
 
 pub returns-clause-begins : goal.returns-clause-begins
 returns-clause-begins g c = λ side. heard_run_at_once side g.M.Machine.moves

@@ -1,5 +1,5 @@
-use Rattle.run_laws.proofs.Legs.{leg_at_once, leg_on, leg_longer}
-use Rattle.run_laws.proofs.laws.legs_go_on.Goals as goal
+use Rattle.commute_laws.proofs.Legs.{leg_at_once, leg_on, leg_longer}
+use Rattle.commute_laws.proofs.laws.legs_go_on.Goals as goal
 
 pub returns-clause-begins : goal.returns-clause-begins
 returns-clause-begins g c = λ side. leg_at_once side g.M.Machine.moves

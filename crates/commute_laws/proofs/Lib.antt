@@ -1,0 +1,9 @@
+pub mod FirstBytes
+pub mod HeardRuns
+pub mod HistoryRun
+pub mod Later
+pub mod Legs
+pub mod OnRuns
+pub mod Ports
+pub mod Sequences
+pub mod ToTheEnd

@@ -1,0 +1,4 @@
+pub mod Heard
+pub mod History
+pub mod Leg
+pub mod OnRun
