@@ -1,11 +1,15 @@
 -- Lemmas on the inputs of a run.
-use Rattle.std.proofs.Common.{◌≡◌, ℕ, ◌<◌, ◌≤◌, ◌+◌, ◌%◌, true, false, nat_lt, nat_eq, if◌then◌else◌, List, length, drop, refl, length-drop, Option, IfSome, Some, None, sym, ap, subst, ◌∙◌, arith}
+use Rattle.std.proofs.Common.{◌≡◌, ℕ, ◌<◌, ◌≤◌, ◌+◌, ◌%◌, true, false, nat_lt, nat_eq, if◌then◌else◌, List, length, drop, refl, length-drop, Option, IfSome, Some, None, Err, MatchBool, sym, ap, subst, ◌∙◌, arith}
 use Rattle.std.proofs.lemmas.Bool.{lt-ltb, le-ltb}
 use Rattle.file_shelf.specs.declared.shelves.Input.{Input}
 use Rattle.file_shelf.specs.declared.shelves.Input.TheVariants.{Cart, Boot, Table, Script}
 use Rattle.file_shelf.specs.Told.{Holds}
 use Rattle.cart_map.specs.Accept.{image_of}
-use Rattle.snes_call.specs.Readers.{refusal_in}
+use Rattle.cart_map.specs.Accept.{verdict}
+use Rattle.cart_map.specs.declared.refused.CartRefused.TheVariants.{TooLong}
+use Rattle.input_files.specs.Table.{IsFirstLarge}
+use Rattle.input_files.specs.Script.{script_of}
+use Rattle.snes_call.specs.Readers.{AreRefused}
 use Rattle.file_shelf.specs.Shown.{Shown, OnlyLoads}
 use Rattle.run_drive.specs.OutputLaws.{risen_since}
 use Rattle.run_io.specs.declared.order.Files.{Files}
@@ -28,18 +32,21 @@ image_long file =
     ]
 
 -- what is longer than the limit of an input is refused
-too_long : (input : Input) (bytes : List ℕ) → limit_of input < length bytes → refusal_in input bytes ≡ Some (too_long_of input)
-unfolding refusal_in
+too_long : (input : Input) (bytes : List ℕ) → limit_of input < length bytes → AreRefused bytes (too_long_of input)
 too_long Cart bytes long =
     let image = image_of bytes in
     let enough : nat_lt (length image) 32768 ≡ false = le-ltb (length image) 32768 (omega (arith, image_long bytes)) in
     let much : nat_lt 4194304 (length image) ≡ true = lt-ltb 4194304 (length image) (omega (arith, image_long bytes)) in
     rw (enough, much) refl
-too_long Boot bytes long = let other : nat_eq (length bytes) 64 ≡ false = differs (length bytes) 64 long in rw other refl
-too_long Table bytes long = let other : nat_eq (length bytes) 1024 ≡ false = differs (length bytes) 1024 long in rw other refl
-too_long Script bytes long = let more : nat_lt 1048576 (length bytes) ≡ true = lt-ltb 1048576 (length bytes) long in rw more refl
+too_long Boot bytes long = λ size. absurd (omega arith)
+too_long Table bytes long =
+    let other : nat_eq (length bytes) 1024 ≡ false = differs (length bytes) 1024 long in
+    subst (λ b. MatchBool b (IsFirstLarge bytes 512) (512 ≡ 512)) (sym other) refl
+too_long Script bytes long =
+    let more : nat_lt 1048576 (length bytes) ≡ true = lt-ltb 1048576 (length bytes) long in
+    subst (λ b. MatchBool b (0 ≡ 0) (script_of bytes ≡ Err 0)) (sym more) refl
 
-pub longer_is_refused : (input : Input) (told : Option (List ℕ)) → IfSome told (λ bytes. limit_of input < length bytes) → IfSome told (λ bytes. refusal_in input bytes ≡ Some (too_long_of input))
+pub longer_is_refused : (input : Input) (told : Option (List ℕ)) → IfSome told (λ bytes. limit_of input < length bytes) → IfSome told (λ bytes. AreRefused bytes (too_long_of input))
 longer_is_refused input None long = tt
 longer_is_refused input (Some bytes) long = too_long input bytes long
 
@@ -92,8 +99,8 @@ pub one_ends : (a b c : Shown) (files : Files) (any : Input) (end : InputEnd) �
     → EndsInputs files a c end
 one_ends a b c files any (LoadFault failed) only earlier (is, risen) =
     subst (λ (i : Input). IsLoadFault files a c i) (sym is) (record { risen = risen_since _ _ _ (only.load_faults (name_of files any)) risen; earlier = earlier })
-one_ends a b c files any (Refused why) only earlier (is, refused) = record {
-  refused = subst (λ (i : Input). IfSome (told_of a files i) (λ bytes. refusal_in i bytes ≡ Some why)) (sym is) (shows_still a b files any (λ bytes. refusal_in any bytes ≡ Some why) only refused);
+one_ends a b c files any (Refused cause) only earlier (is, refused) = record {
+  refused = subst (λ (i : Input). IfSome (told_of a files i) (λ bytes. AreRefused bytes cause)) (sym is) (shows_still a b files any (λ bytes. AreRefused bytes cause) only refused);
   earlier = subst (λ (i : Input). ShowsAcceptedBefore a files i) (sym is) earlier;
 }
 one_ends a b c files any NoMemory only earlier h = tt

@@ -1,2 +1,4 @@
+pub mod Files
 pub mod InputLemmas
+pub mod Reading
 pub mod Writes

@@ -1,4 +1,7 @@
+pub mod Changes
+pub mod Ends
 pub mod Inputs
+pub mod Orders
 pub mod Outputs
 pub mod Played
 pub mod Readers

@@ -1,7 +1,8 @@
-ghost use Rattle.std.specs.Prelude.{◌≡◌, ◌≤◌, None, IfOk, IfErr, OnOk, IfSome};
+ghost use Rattle.std.specs.Prelude.{◌≡◌, ◌≤◌, length, IfOk, IfErr, OnOk, IfSome};
 ghost use Rattle.file_shelf.specs.Told.{Holds};
 ghost use Rattle.file_shelf.specs.Shown.{OnlyLoads};
-ghost use Rattle.snes_call.specs.Readers.{IsCartIn, IsTableIn, IsScriptIn};
+ghost use Rattle.input_files.specs.Table.{IsTableFile};
+ghost use Rattle.snes_call.specs.Readers.{IsCartIn, IsScriptIn};
 ghost use Rattle.snes_call.specs.Inputs.{name_of, limit_of, too_long_of, told_of, ShowsAccepted, ShowsJob, EndsInput, EndsInputs};
 
 use crate::readers::{boot_in, cart_in, script_in, table_in};
@@ -68,6 +69,7 @@ fn fetch<H: Shelf>(
     input: Input,
 ) -> Result<Vec<u8>, InputEnd>
     ensures whole { IfOk result (λ bytes. Holds (told_of (H.shown shelf.old) files.now input) bytes.items) }
+    ensures within { IfOk result (λ bytes. length bytes.items ≤ limit_of input) }
     ensures ends { IfErr result (EndsInput input (told_of (H.shown shelf.old) files.now input) ((H.shown shelf.old).load_faults (name_of files.now input)) ((H.shown shelf.new).load_faults (name_of files.now input))) }
     ensures only { OnlyLoads (H.shown shelf.old) (H.shown shelf.new) }
 {
@@ -108,7 +110,7 @@ fn load_boot<H: Shelf>(alloc: Global, shelf: &mut H, files: &Files) -> Result<[u
 #[tactic(auto, using(crate::proofs::InputLemmas::told))]
 fn load_table<H: Shelf>(alloc: Global, shelf: &mut H, files: &Files) -> Result<Table, InputEnd>
     ensures accepted { OnOk result (ShowsAccepted (H.shown shelf.old) files.now Input.Table) }
-    ensures read { IfOk result (λ table. IfSome (told_of (H.shown shelf.old) files.now Input.Table) (λ bytes. IsTableIn bytes table)) }
+    ensures read { IfOk result (λ table. IfSome (told_of (H.shown shelf.old) files.now Input.Table) (λ bytes. IsTableFile bytes table)) }
     ensures ends { IfErr result (EndsInput Input.Table (told_of (H.shown shelf.old) files.now Input.Table) ((H.shown shelf.old).load_faults files.now.table) ((H.shown shelf.new).load_faults files.now.table)) }
     ensures only { OnlyLoads (H.shown shelf.old) (H.shown shelf.new) }
 {

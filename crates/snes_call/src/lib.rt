@@ -8,10 +8,12 @@
 mod inputs;
 mod player;
 mod readers;
+mod run_files;
 mod status;
 mod writing;
 
 pub use inputs::{InputEnd, load_job};
 pub use player::Player;
+pub use run_files::OrderEnd;
 pub use status::{Status, Why};
 pub use writing::{RunEnd, Way, write_run};

@@ -1,4 +1,5 @@
 pub mod Call
+pub mod Changes
 pub mod Inputs
 pub mod Outcome
 pub mod Outputs

@@ -1,5 +1,6 @@
 ghost use Rattle.std.specs.Prelude.{◌≡◌, ◌≤◌, IfSome};
-ghost use Rattle.file_shelf.specs.Shown.{OnlyPuts, OnlyRunsOrLoads};
+ghost use Rattle.file_shelf.specs.Shown.{OnlyPuts};
+ghost use Rattle.snes_run.specs.Changes.{OnlyRunsOrLoads};
 ghost use Rattle.snes_run.specs.Status.{refusal_of};
 ghost use Rattle.snes_run.specs.Call.{EndsWords, IsSaid};
 

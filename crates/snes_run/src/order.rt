@@ -2,7 +2,8 @@ ghost use Rattle.std.specs.Prelude.{◌≡◌, ◌≤◌, IfOk, OnOk, IfErr};
 ghost use Rattle.snes_defs.specs.declared.region.Region.TheVariants.{Ntsc};
 ghost use Rattle.cart_map.specs.Plain.{IsPlain};
 ghost use Rattle.file_shelf.specs.Told.{Holds};
-ghost use Rattle.file_shelf.specs.Shown.{OnlyLoads, OnlyRunsOrLoads};
+ghost use Rattle.file_shelf.specs.Shown.{OnlyLoads};
+ghost use Rattle.snes_run.specs.Changes.{OnlyRunsOrLoads};
 ghost use Rattle.snes_run.specs.Outcome.{AreBuilt, EndsOrder};
 
 use crate::inputs::{load_built, load_cart};
