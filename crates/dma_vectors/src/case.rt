@@ -7,6 +7,8 @@ use std::str::SplitWhitespace;
 pub struct Case {
     dma: Dma,
     number: u32,
+    /// The bytes are those that the moves name.
+    given: bool,
 }
 
 impl Case {
@@ -14,6 +16,7 @@ impl Case {
         Case {
             dma: Dma::new(),
             number: 0,
+            given: false,
         }
     }
 
@@ -35,8 +38,13 @@ impl Case {
         if kind == "q" {
             return self.reads(words);
         }
+        if kind == "count" {
+            let most = words.next()?.parse::<u32>().ok()?;
+            return Some(self.runs_for(most));
+        }
         if kind == "dma" {
             self.dma = Dma::new();
+            self.given = false;
             return Some(true);
         }
         self.called(kind, words)
@@ -46,6 +54,8 @@ impl Case {
     fn called(&mut self, kind: &str, mut words: SplitWhitespace<'_>) -> Option<bool> {
         if kind == "bytes" {
             self.number = hexadecimal(words.next()?.as_bytes())?;
+        } else if kind == "given" {
+            self.given = true;
         } else if kind == "start" {
             self.dma.start(byte(words.next()?)?);
         } else if kind == "enable" {
@@ -87,7 +97,11 @@ impl Case {
     /// Whether the next bytes are moved as the words say, and no more are due where all were asked for.
     fn goes(&mut self, mut words: SplitWhitespace<'_>) -> Option<bool> {
         let count = words.next()?;
-        let most = if count == "all" { None } else { Some(count.parse::<u32>().ok()?) };
+        let most = if count == "all" {
+            None
+        } else {
+            Some(count.parse::<u32>().ok()?)
+        };
         let mut moved = 0u32;
         for word in words {
             if !self.moves(word.as_bytes())? {
@@ -102,14 +116,24 @@ impl Case {
         }
     }
 
+    /// Whether so many bytes are due one after another, and no more.
+    fn runs_for(&mut self, count: u32) -> bool {
+        for _ in 0..count {
+            if self.dma.next().is_none() {
+                return false;
+            }
+            self.dma.done(0);
+        }
+        self.dma.next().is_none()
+    }
+
     /// Whether the next byte is moved as a word says; it is moved then.
     fn moves(&mut self, word: &[u8]) -> Option<bool> {
         let kind = *word.first()?;
         let Some(due) = self.dma.next() else {
             return Some(false);
         };
-        self.number = self.number.wrapping_mul(1_664_525).wrapping_add(1_013_904_223);
-        let moved = (self.number >> 24) as u8;
+        let moved = self.byte_for(word)?;
         self.dma.done(moved);
         let place = part(word, 1, 7)?;
         match due {
@@ -125,6 +149,19 @@ impl Case {
                 Some(kind == b'A' && same && part(word, 9, 11)? == u32::from(moved))
             }
         }
+    }
+
+    /// The byte of a move: the one at the word's end, or the next of the generator.
+    fn byte_for(&mut self, word: &[u8]) -> Option<u8> {
+        if self.given {
+            let from = word.len().checked_sub(2)?;
+            return u8::try_from(part(word, from, word.len())?).ok();
+        }
+        self.number = self
+            .number
+            .wrapping_mul(1_664_525)
+            .wrapping_add(1_013_904_223);
+        Some((self.number >> 24) as u8)
     }
 }
 

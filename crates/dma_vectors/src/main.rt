@@ -7,8 +7,8 @@
 //!
 //! A case is a block of lines from `dma` to `end`, with new channels. `w AAAAVV ..` writes registers
 //! 4300 to 437F; `bytes SEED` makes the bytes that are moved those of the generator x = 1664525 x +
-//! 1013904223 modulo 2^32, upper byte, one a move; `start MASK`, `enable MASK`, `frame` and `line` are
-//! the calls. `go N MOVES` moves N bytes, or with `all` as long as one is due: `L` + from + byte for a
+//! 1013904223 modulo 2^32, upper byte, one a move, and `given` those that the moves name; `start MASK`,
+//! `enable MASK`, `frame` and `line` are the calls; `count N` moves N bytes, after which none is due. `go N MOVES` moves N bytes, or with `all` as long as one is due: `L` + from + byte for a
 //! load, `B` + from + port + byte to the B side, `A` + to + port + byte to the A side. `q AAAA BUS GOT`
 //! is a read. N is decimal, all other numbers are hexadecimal.
 #![tactic(auto)]
