@@ -6,11 +6,13 @@
 // told too.
 #![tactic(auto)]
 
+mod command;
 mod lines;
 mod order;
 mod read;
 mod words;
 
+pub use command::Command;
 pub use file_shelf::{
     Failed, FileShelf, Input, LoadEnd, MemShelf, Out, Shelf, ShelfCall, SureShelf,
 };

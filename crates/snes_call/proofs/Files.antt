@@ -1,4 +1,4 @@
--- How an order to run files ends, from how its inputs and its run ended.
+-- How a command to run files ends, from how its inputs and its run ended.
 use Rattle.std.proofs.Common.{◌≡◌, ◌≢◌, ℕ, ◌≤◌, List, Option, refl, sym, ap, ◌∙◌, subst, inl, inr, ⊎_elim, arith}
 use Rattle.std.specs.Prelude.{◌⊎◌}
 use Rattle.snes_defs.specs.declared.cart.Job.{Job}
@@ -15,7 +15,7 @@ use Rattle.snes_call.specs.Ends.{of_inputs, of_run}
 use Rattle.snes_call.specs.Changes.{OnlyRunsFiles}
 use Rattle.snes_call.specs.Inputs.{ShowsJob, EndsInputs}
 use Rattle.snes_call.specs.Outputs.{HoldsRun, IsVideoBegun, IsSoundBegun, IsVideoLeft, IsSoundLeft, EndsRun}
-use Rattle.snes_call.specs.Orders.{OnlySays, IsRun, EndsFiles, run_line}
+use Rattle.snes_call.specs.RunFiles.{OnlySays, IsRun, EndsFiles, run_line}
 
 -- loads change no output
 pub loads_say : (a b : Shown) → OnlyLoads a b → OnlySays a b
@@ -77,7 +77,7 @@ module _ (emits : Job → List ℕ → List ℕ → Type 0) (files : Files) (bef
     run_ends (run.WriteFault Video) h = record {
       job = job;
       shows = shows;
-      fault = record {
+      holds = record {
         risen = risen Video h.risen;
         video = ⊎_elim (λ u. inl (untouched Video u)) (λ b. inr b) h.video;
         sound = ⊎_elim (λ u. inl (untouched Sound u)) (λ b. inr b) h.sound;
@@ -86,7 +86,7 @@ module _ (emits : Job → List ℕ → List ℕ → Type 0) (files : Files) (bef
     run_ends (run.WriteFault Sound) h = record {
       job = job;
       shows = shows;
-      fault = record {
+      holds = record {
         risen = risen Sound h.risen;
         video = h.video;
         sound = ⊎_elim (λ u. inl (untouched Sound u)) (λ b. inr b) h.sound;

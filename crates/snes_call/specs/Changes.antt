@@ -1,4 +1,4 @@
--- What an order changes of a shelf.
+-- What a command changes of a shelf.
 use Rattle.std.specs.Prelude.{◌≡◌, ◌≢◌, ℕ, ◌≤◌, List}
 use Rattle.file_shelf.specs.declared.shelves.Out.{Out}
 use Rattle.file_shelf.specs.declared.shelves.Out.TheVariants.{Video, Sound}

@@ -1,9 +1,13 @@
 pub mod Changes
+pub mod Commands
 pub mod Ends
 pub mod Inputs
-pub mod Orders
+pub mod Made
 pub mod Outputs
 pub mod Played
 pub mod Readers
+pub mod RunFiles
+pub mod Said
 pub mod Stage
 pub mod Status
+pub mod Sums

@@ -5,15 +5,23 @@
 // words, files and lines are.
 #![tactic(auto)]
 
+mod commands;
+mod demo;
 mod inputs;
+mod make_image;
 mod player;
 mod readers;
 mod run_files;
+mod say;
 mod status;
+mod sums;
 mod writing;
 
 pub use inputs::{InputEnd, load_job};
 pub use player::Player;
-pub use run_files::OrderEnd;
+pub use run_files::CommandEnd;
 pub use status::{Status, Why};
 pub use writing::{RunEnd, Way, write_run};
+
+#[cfg(test)]
+mod tests;

@@ -1,7 +1,7 @@
 ghost use Rattle.std.specs.Prelude.{◌≡◌, ◌≤◌, IfOk, IfErr};
 ghost use Rattle.snes_call.specs.Changes.{OnlyRunsFiles};
 ghost use Rattle.snes_call.specs.Ends.{of_inputs, of_run};
-ghost use Rattle.snes_call.specs.Orders.{IsRun, EndsFiles, run_line};
+ghost use Rattle.snes_call.specs.RunFiles.{IsRun, EndsFiles, run_line};
 
 use crate::inputs::{InputEnd, load_job};
 use crate::player::Player;
@@ -13,9 +13,9 @@ use run_io::{Files, Line, frames_line};
 use snes_defs::Job;
 use std::alloc::Global;
 
-/// Why an order was not done.
+/// Why a command was not done.
 #[derive(Clone, Copy, Debug, PartialEq, Eq)]
-pub enum OrderEnd {
+pub enum CommandEnd {
     /// This input was not loaded, and a fault of its name was counted.
     LoadFault(Input),
     /// An input was loaded and not accepted.
@@ -26,24 +26,24 @@ pub enum OrderEnd {
     NoMemory,
 }
 
-/// The end of an order whose inputs made no job.
-fn unloaded(end: InputEnd) -> OrderEnd
+/// The end of a command whose inputs made no job.
+fn unloaded(end: InputEnd) -> CommandEnd
     ensures { result ≡ of_inputs end }
 {
     match end {
-        InputEnd::LoadFault(input) => OrderEnd::LoadFault(input),
-        InputEnd::Refused(cause) => OrderEnd::Refused(cause),
-        InputEnd::NoMemory => OrderEnd::NoMemory,
+        InputEnd::LoadFault(input) => CommandEnd::LoadFault(input),
+        InputEnd::Refused(cause) => CommandEnd::Refused(cause),
+        InputEnd::NoMemory => CommandEnd::NoMemory,
     }
 }
 
-/// The end of an order whose job was not written.
-fn unwritten(end: RunEnd) -> OrderEnd
+/// The end of a command whose job was not written.
+fn unwritten(end: RunEnd) -> CommandEnd
     ensures { result ≡ of_run end }
 {
     match end {
-        RunEnd::WriteFault(out) => OrderEnd::WriteFault(out),
-        RunEnd::NoMemory => OrderEnd::NoMemory,
+        RunEnd::WriteFault(out) => CommandEnd::WriteFault(out),
+        RunEnd::NoMemory => CommandEnd::NoMemory,
     }
 }
 
@@ -62,7 +62,7 @@ pub(crate) fn run_files<P: Player, H: Shelf>(
     files: &Files,
     way: Way,
     shelf: &mut H,
-) -> Result<Line, OrderEnd>
+) -> Result<Line, CommandEnd>
     requires { files.now.frames ≤ 36000 }
     ensures made { IfOk result (IsRun P.emits files.now (H.shown shelf.old) (H.shown shelf.new)) }
     ensures ends { IfErr result (EndsFiles P.emits files.now (H.shown shelf.old) (H.shown shelf.new)) }

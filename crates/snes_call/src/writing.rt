@@ -32,7 +32,7 @@ pub enum RunEnd {
 }
 
 /// Creates an output under its name.
-fn create<H: Shelf>(shelf: &mut H, out: Out, name: &Name) -> Result<(), Failed>
+pub(crate) fn create<H: Shelf>(shelf: &mut H, out: Out, name: &Name) -> Result<(), Failed>
     ensures created { OnOk result (IsCreated (H.shown shelf.new) out name.now) }
     ensures failed { OnErr result (HasRisen ((H.shown shelf.old).write_faults out) ((H.shown shelf.new).write_faults out)) }
     ensures untouched { OnErr result (IsUntouched (H.shown shelf.old) (H.shown shelf.new) out) }

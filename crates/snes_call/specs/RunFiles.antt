@@ -1,4 +1,4 @@
--- What an order to run files has done, by its answer.
+-- What a command to run files has done, by its answer.
 use Rattle.std.specs.Prelude.{◌≡◌, ◌≢◌, ℕ, List}
 use Rattle.snes_defs.specs.declared.cart.Job.{Job}
 use Rattle.clock_ratio.specs.Stamp.{end_stamp_of, samples_before_of}
@@ -7,8 +7,8 @@ use Rattle.file_shelf.specs.declared.shelves.Out.TheVariants.{Video, Sound, Imag
 use Rattle.file_shelf.specs.Shown.{Shown, IsUntouched}
 use Rattle.run_io.specs.declared.order.Files.{Files}
 use Rattle.run_io.specs.Line.{line_of, frames_text}
-use Rattle.snes_call.specs.declared.run_files.OrderEnd.{OrderEnd}
-use Rattle.snes_call.specs.declared.run_files.OrderEnd.TheVariants.{LoadFault, Refused, WriteFault, NoMemory}
+use Rattle.snes_call.specs.declared.run_files.CommandEnd.{CommandEnd}
+use Rattle.snes_call.specs.declared.run_files.CommandEnd.TheVariants.{LoadFault, Refused, WriteFault, NoMemory}
 use Rattle.snes_call.specs.Inputs.{ShowsJob, IsLoadFault, IsRefused}
 use Rattle.snes_call.specs.Outputs.{HoldsRun, IsVideoFault, IsSoundFault}
 
@@ -28,18 +28,18 @@ module _ (emits : Job → List ℕ → List ℕ → Type 0) (files : Files) (bef
     pub holds : HoldsRun emits job files after
     pub says : line ≡ run_line job
 
-  -- the files make a job, and one of its outputs was not written
-  pub record IsUnwritten (Fault : Job → Type 0) : Type 0 where
+  -- the files make a job of which this holds
+  pub record MakesJob (Holds : Job → Type 0) : Type 0 where
     pub job : Job
     pub shows : ShowsJob before files job
-    pub fault : Fault job
+    pub holds : Holds job
 
   -- why files were not run
-  abbrev pub EndsFiles : OrderEnd → Type 0
+  abbrev pub EndsFiles : CommandEnd → Type 0
   EndsFiles (LoadFault input) = IsLoadFault files before after input × OnlySays before after
   EndsFiles (Refused cause) = IsRefused files before cause × OnlySays before after
-  EndsFiles (WriteFault Video) = IsUnwritten (λ job. IsVideoFault emits job files before after)
-  EndsFiles (WriteFault Sound) = IsUnwritten (λ job. IsSoundFault emits job files before after)
+  EndsFiles (WriteFault Video) = MakesJob (λ job. IsVideoFault emits job files before after)
+  EndsFiles (WriteFault Sound) = MakesJob (λ job. IsSoundFault emits job files before after)
   EndsFiles (WriteFault Image) = ⊥
   EndsFiles (WriteFault Say) = ⊥
   EndsFiles NoMemory = OnlySays before after
