@@ -6,6 +6,7 @@ use Rattle.file_shelf.specs.Shown.{Shown, IsPassedOver, IsKept, OnlyCreates}
 use Rattle.run_io.specs.declared.order.Files.{Files}
 use Rattle.run_io.specs.declared.command.Command.{Command}
 use Rattle.run_io.specs.declared.command.Command.TheVariants.{Run, Serial, Make, Demo}
+use Rattle.snes_call.specs.RunFiles.{OnlySays}
 use Rattle.snes_call.specs.Changes.{OnlyRunsFiles}
 use Rattle.snes_call.specs.Commands.{creates, OnlyCommanded}
 
@@ -52,4 +53,8 @@ changes_demo number frames a = record {
   others = λ other is. record { written = refl; named = refl; write_faults = refl };
 }
 
-pub ruleset changing = (changes_run, changes_serial, changes_make, changes_demo)
+-- a demo changes no output
+pub says_none : (a : Shown) → OnlySays a a
+says_none a any differ = record { written = refl; named = refl }
+
+pub ruleset changing = (says_none, changes_run, changes_serial, changes_make, changes_demo)

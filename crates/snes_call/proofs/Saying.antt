@@ -109,4 +109,4 @@ module _ (before mid after : Shown) (puts : OnlyPuts mid after out.Say) where
     ends_after (Run files) end h = files_after files end h
     ends_after (Serial files) end h = files_after files end h
     ends_after (Make number name) end h = make_after number name end h
-    ends_after (Demo number frames) end h = h
+    ends_after (Demo number frames) end h = (h.0, says_after h.1)

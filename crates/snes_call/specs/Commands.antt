@@ -10,7 +10,7 @@ use Rattle.run_io.specs.declared.command.Command.TheVariants.{Run, Serial, Make,
 use Rattle.snes_call.specs.declared.run_files.CommandEnd.{CommandEnd}
 use Rattle.snes_call.specs.declared.run_files.CommandEnd.TheVariants.{NoMemory}
 use Rattle.snes_call.specs.Outputs.{IsVideoBegun, IsSoundBegun}
-use Rattle.snes_call.specs.RunFiles.{MakesJob, IsRun, EndsFiles}
+use Rattle.snes_call.specs.RunFiles.{OnlySays, MakesJob, IsRun, EndsFiles}
 use Rattle.snes_call.specs.Made.{IsMade, IsImageBegun, EndsMake, IsDemo}
 
 -- the files of a command that runs them, by whichever command
@@ -69,7 +69,7 @@ abbrev pub EndsCommand : (Job → List ℕ → List ℕ → Type 0) → Command 
 EndsCommand emits (Run files) before after end = EndsFiles emits files before after end
 EndsCommand emits (Serial files) before after end = EndsFiles emits files before after end
 EndsCommand emits (Make number out) before after end = EndsMake number out before after end
-EndsCommand emits (Demo number frames) before after end = end ≡ NoMemory
+EndsCommand emits (Demo number frames) before after end = (end ≡ NoMemory) × OnlySays before after
 
 -- a command changes no output but those that it creates, nor what is held, and no count falls
 pub record OnlyCommanded (command : Command) (before after : Shown) : Type 0 where

@@ -1,3 +1,4 @@
+pub mod Call
 pub mod Changes
 pub mod Commands
 pub mod Ends
@@ -8,6 +9,7 @@ pub mod Played
 pub mod Readers
 pub mod RunFiles
 pub mod Said
+pub mod Snes
 pub mod Stage
 pub mod Status
 pub mod Sums

@@ -5,6 +5,7 @@
 // words, files and lines are.
 #![tactic(auto)]
 
+mod called;
 mod commands;
 mod demo;
 mod inputs;
