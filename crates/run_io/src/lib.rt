@@ -6,10 +6,12 @@
 // told too.
 #![tactic(auto)]
 
+mod asked;
 mod command;
 mod lines;
 mod order;
 mod read;
+mod read_command;
 mod words;
 
 pub use command::Command;
@@ -23,6 +25,7 @@ pub use lines::{
 };
 pub use order::{Files, Name, Order, WordsEnd};
 pub use read::read_words;
+pub use read_command::read_command;
 pub use words::Argv;
 
 #[cfg(test)]
