@@ -8,4 +8,5 @@ pub mod InputLemmas
 pub mod Making
 pub mod Reading
 pub mod Saying
+pub mod Words
 pub mod Writes

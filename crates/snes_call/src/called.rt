@@ -1,6 +1,7 @@
-ghost use Rattle.std.specs.Prelude.{◌≡◌, IfOk, IfErr, IfSome, IsErrOf};
-ghost use Rattle.file_shelf.specs.Shown.{IsKept};
-ghost use Rattle.snes_call.specs.Commands.{HasFewFrames, OnlyCommanded};
+ghost use Rattle.std.specs.Prelude.{◌≡◌, ◌⊎◌, false, IfOk, IfErr, IfSome, IsErrOf};
+ghost use Rattle.file_shelf.specs.declared.shelves.Out.{Out};
+ghost use Rattle.file_shelf.specs.Shown.{IsPassedOver, IsKept};
+ghost use Rattle.snes_call.specs.Commands.{HasFewFrames, creates};
 ghost use Rattle.snes_call.specs.RunFiles.{OnlySays};
 ghost use Rattle.snes_call.specs.Status.{refusal_of};
 ghost use Rattle.snes_call.specs.Said.{IsSaid};
@@ -26,6 +27,7 @@ pub(crate) fn called<P: Player, H: Shelf>(
     ensures no_memory { IsErrOf read WordsEnd.NoMemory → result ≡ Status.NoMemory }
     ensures unread { IfErr read (λ end. OnlySays (H.shown shelf.old) (H.shown shelf.new)) }
     ensures said { IfSome (refusal_of result) (IsSaid (H.shown shelf.old) (H.shown shelf.new)) }
+    ensures others { IfOk read (λ command. (out : Out) → creates command out ≡ false → (out ≡ Out.Say) ⊎ IsPassedOver (H.shown shelf.old) (H.shown shelf.new) out) }
     ensures kept { IsKept (H.shown shelf.old) (H.shown shelf.new) }
 {
     match read {

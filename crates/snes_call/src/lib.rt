@@ -16,12 +16,14 @@ mod run_files;
 mod say;
 mod status;
 mod sums;
+mod top;
 mod writing;
 
 pub use inputs::{InputEnd, load_job};
 pub use player::Player;
 pub use run_files::CommandEnd;
 pub use status::{Status, Why};
+pub use top::snes;
 pub use writing::{RunEnd, Way, write_run};
 
 #[cfg(test)]
