@@ -113,3 +113,6 @@ loads_then a b c first then = record {
   write_faults = then.write_faults ∙ first.write_faults;
   load_faults = λ name. omega (arith, first.load_faults name, then.load_faults name);
 }
+
+pub loads_none : (a : Shown) → OnlyLoads a a
+loads_none a = record { held = refl; written = refl; named = refl; write_faults = refl; load_faults = λ name. omega arith }

@@ -132,6 +132,7 @@ fn load_script<H: Shelf>(alloc: Global, shelf: &mut H, files: &Files) -> Result<
 
 /// Loads and accepts the four inputs, in their order, and makes a job of them. Its region is that of
 /// the script.
+#[tactic(auto, using(crate::proofs::InputLemmas::loads_then))]
 pub fn load_job<H: Shelf>(alloc: Global, files: &Files, shelf: &mut H) -> Result<Job, InputEnd>
     ensures job { IfOk result (ShowsJob (H.shown shelf.old) files.now) }
     ensures ends { IfErr result (EndsInputs files.now (H.shown shelf.old) (H.shown shelf.new)) }

@@ -25,6 +25,7 @@ pub trait Player: Drop {
 
     /// Runs the job by the serial console.
     fn play_serial<K: Sink>(self, sink: &mut K) -> Result<(), Side>
+        requires at_start { (job : Job) × plays self job }
         requires no_video { K.holds sink.old Side.Console [] }
         requires no_sound { K.holds sink.old Side.Sound [] }
         ensures whole { OnOk result ((job : Job) → plays self job → PlayedWhole (emits job) (K.holds sink.new)) }
@@ -34,6 +35,7 @@ pub trait Player: Drop {
 
     /// Runs the job by two workers.
     fn play_turns<K: Sink>(self, sink: &mut K) -> Result<(), Side>
+        requires at_start { (job : Job) × plays self job }
         requires no_video { K.holds sink.old Side.Console [] }
         requires no_sound { K.holds sink.old Side.Sound [] }
         ensures whole { OnOk result ((job : Job) → plays self job → PlayedWhole (emits job) (K.holds sink.new)) }

@@ -43,6 +43,7 @@ pub(crate) fn create<H: Shelf>(shelf: &mut H, out: Out, name: &Name) -> Result<(
 
 /// Plays into two outputs that were created. Err names the one that was not written.
 fn play<P: Player, H: Shelf>(player: P, way: Way, shelf: &mut H) -> Result<(), Out>
+    requires at_start { (job : Job) × P.plays player job }
     requires video_created { Holds ((H.shown shelf.old).written Out.Video) [] }
     requires sound_created { Holds ((H.shown shelf.old).written Out.Sound) [] }
     ensures whole { OnOk result ((job : Job) → P.plays player job → PlayedWhole (P.emits job) (taken_by (H.shown shelf.new))) }
