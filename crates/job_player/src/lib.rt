@@ -10,6 +10,3 @@ mod two_machines;
 
 pub use from_job::FromJob;
 pub use two_machines::TwoMachines;
-
-#[cfg(test)]
-mod tests;

@@ -25,6 +25,3 @@ pub use run_files::CommandEnd;
 pub use status::{Status, Why};
 pub use top::snes;
 pub use writing::{RunEnd, Way, write_run};
-
-#[cfg(test)]
-mod tests;
