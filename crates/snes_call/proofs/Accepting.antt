@@ -1,5 +1,5 @@
 -- The first input that isn't accepted decides the answer.
-use Rattle.std.proofs.Common.{◌≡◌, ℕ, ◌<◌, ◌≤◌, List, Option, None, Some, IfSome, IsSomeAnd, true, false, nat_lt, nat_eq, length, Ok, Err, MatchBool, refl, sym, ap, ◌∙◌, subst, inl, inr, ⊎_elim, arith}
+use Rattle.std.proofs.Common.{◌≡◌, ℕ, ◌<◌, ◌≤◌, List, Option, None, Some, IfSome, IsSomeAnd, true, false, nat_lt, nat_eq, length, Result, Err, MatchBool, refl, sym, ap, ◌∙◌, subst, inl, inr, ⊎_elim, arith}
 use Rattle.std.specs.Prelude.{◌⊎◌}
 use Rattle.std.proofs.lemmas.Bool.{cases_order, lt-ltb}
 use Rattle.cart_map.specs.Accept.{verdict}
@@ -16,6 +16,10 @@ use Rattle.snes_call.specs.Stage.{order_of, input_of}
 use Rattle.snes_call.specs.Readers.{AreRefused, AreAccepted}
 use Rattle.snes_call.specs.Inputs.{told_of, ShowsAccepted, ShowsRefused, TellsAccepted, TellsRefused, IsRefused, IsLoadFault}
 
+-- an answer refuses for one cause
+one_refusal : {A B : Type 0} (r : Result A B) (a b : B) → r ≡ Err a → r ≡ Err b → a ≡ b
+one_refusal r a b p q = cc
+
 -- a table file is refused at one place
 one_entry : (bytes : List ℕ) (a b : ℕ) → IsRefusedAt bytes a → IsRefusedAt bytes b → a ≡ b
 one_entry bytes a b =
@@ -29,12 +33,12 @@ one_line : (bytes : List ℕ) (a b : ℕ) → AreRefused bytes (why.Script a) �
 one_line bytes a b =
     elim (nat_lt 1048576 (length bytes)) as (λ long. MatchBool long (a ≡ 0) (script_of bytes ≡ Err a) → MatchBool long (b ≡ 0) (script_of bytes ≡ Err b) → a ≡ b) [
       true ↦ λ h k. h ∙ sym k
-    | false ↦ λ h k. let e : Err a ≡ Err b = sym h ∙ k in cc
+    | false ↦ λ h k. one_refusal (script_of bytes) a b h k
     ]
 
 -- the bytes of an input are refused for one cause
 pub one_cause : (bytes : List ℕ) (a b : Why) → input_of a ≡ input_of b → AreRefused bytes a → AreRefused bytes b → a ≡ b
-one_cause bytes (why.Cart a) (why.Cart b) same h k = let e : Err a ≡ Err b = sym h ∙ k in cc
+one_cause bytes (why.Cart a) (why.Cart b) same h k = ap why.Cart (one_refusal (verdict bytes) a b h k)
 one_cause bytes why.Boot why.Boot same h k = refl
 one_cause bytes (why.Table a) (why.Table b) same h k = ap why.Table (one_entry bytes a b h k)
 one_cause bytes (why.Script a) (why.Script b) same h k = ap why.Script (one_line bytes a b h k)

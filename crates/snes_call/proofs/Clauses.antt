@@ -46,6 +46,12 @@ after_inputs out.Sound i lt = few_inputs i (omega arith)
 after_inputs out.Image i lt = few_inputs i (omega arith)
 after_inputs out.Say i lt = few_inputs i (omega arith)
 
+-- what is created no earlier isn't created before
+too_early : (first any failed : Out) → any ≡ first → place_of (Create failed) ≤ place_of (Create first) → place_of (Create any) < place_of (Create failed) → ⊥
+too_early first any failed is le lt =
+    let early : place_of (Create first) < place_of (Create failed) = subst (λ (o : Out). place_of (Create o) < place_of (Create failed)) is lt in
+    omega arith
+
 -- all bytes are the first ones
 whole_filled : (after : Shown) (any : Out) (name bytes : List ℕ) → IsFilled after any name bytes → IsFilled after any name (take (length bytes) bytes)
 whole_filled after any name bytes h = subst (IsFilled after any name) (sym (take_all (length bytes) bytes (omega arith))) h
@@ -124,49 +130,86 @@ module _ (emits : Job → List ℕ → List ℕ → Type 0) (before after : Show
   write_risen (Make number name) out.Say h = absurd h
   write_risen (Demo number frames) failed h = absurd (let e : end.WriteFault failed ≡ end.NoMemory = h.0 in cc)
 
-  -- what is left where one was not written
-  write_left : (command : Command) (failed any : Out) → creates command any ≡ true → EndsCommand emits command before after (end.WriteFault failed) → IsLeft emits command before after any
-  write_left (Run files) failed any made h = files_left files failed any made h
-    where
-      files_left : (files : Files) (failed any : Out) → creates (Run files) any ≡ true → EndsFiles emits files before after (end.WriteFault failed) → IsLeft emits (Run files) before after any
-      files_left files out.Video out.Video made h = ⊎_elim inl (λ b. inr (record { job = h.job; shows = h.shows; holds = b })) h.holds.video
-      files_left files out.Video out.Sound made h = ⊎_elim inl (λ b. inr (record { job = h.job; shows = h.shows; holds = b })) h.holds.sound
-      files_left files out.Sound out.Video made h = inr (record { job = h.job; shows = h.shows; holds = h.holds.video })
-      files_left files out.Sound out.Sound made h = ⊎_elim inl (λ b. inr (record { job = h.job; shows = h.shows; holds = b })) h.holds.sound
-      files_left files out.Image any made h = absurd h
-      files_left files out.Say any made h = absurd h
-      files_left files failed out.Image made h = absurd cc
-      files_left files failed out.Say made h = absurd cc
-  write_left (Serial files) failed any made h = write_left (Run files) failed any made h
-  write_left (Make number name) out.Image out.Image made h = h.left
-  write_left (Make number name) failed out.Video made h = absurd cc
-  write_left (Make number name) failed out.Sound made h = absurd cc
-  write_left (Make number name) failed out.Say made h = absurd cc
-  write_left (Make number name) out.Video any made h = absurd h
-  write_left (Make number name) out.Sound any made h = absurd h
-  write_left (Make number name) out.Say any made h = absurd h
-  write_left (Demo number frames) failed any made h = absurd (let e : end.WriteFault failed ≡ end.NoMemory = h.0 in cc)
+  -- what is left of files where one output was not written
+  abbrev FilesLeft : Files → Out → Type 0
+  FilesLeft files any = IsUntouched before after any ⊎ IsRunBegun emits files before after any
+
+  files_left : (files : Files) (failed any : Out) → (any ≡ out.Video) ⊎ (any ≡ out.Sound) → EndsFiles emits files before after (end.WriteFault failed) → FilesLeft files any
+  files_left files out.Video any which h =
+      ⊎_elim
+      (λ e. subst (FilesLeft files) (sym e) (⊎_elim (λ u. inl u) (λ b. inr (record { job = h.job; shows = h.shows; holds = b })) h.holds.video))
+      (λ e. subst (FilesLeft files) (sym e) (⊎_elim (λ u. inl u) (λ b. inr (record { job = h.job; shows = h.shows; holds = b })) h.holds.sound))
+      which
+  files_left files out.Sound any which h =
+      ⊎_elim
+      (λ e. subst (FilesLeft files) (sym e) (inr (record { job = h.job; shows = h.shows; holds = h.holds.video })))
+      (λ e. subst (FilesLeft files) (sym e) (⊎_elim (λ u. inl u) (λ b. inr (record { job = h.job; shows = h.shows; holds = b })) h.holds.sound))
+      which
+  files_left files out.Image any which h = absurd h
+  files_left files out.Say any which h = absurd h
 
   -- sound is created after video: where it was not written, video was begun
+  files_begun : (files : Files) (failed any : Out) → (any ≡ out.Video) ⊎ (any ≡ out.Sound) → place_of (Create any) < place_of (Create failed)
+      → EndsFiles emits files before after (end.WriteFault failed) → IsRunBegun emits files before after any
+  files_begun files out.Video any which lt h = absurd (⊎_elim (λ e. too_early out.Video any out.Video e (omega arith) lt) (λ e. too_early out.Sound any out.Video e (omega arith) lt) which)
+  files_begun files out.Sound any which lt h =
+      ⊎_elim
+      (λ e. subst (IsRunBegun emits files before after) (sym e) (record { job = h.job; shows = h.shows; holds = h.holds.video }))
+      (λ e. absurd (too_early out.Sound any out.Sound e (omega arith) lt))
+      which
+  files_begun files out.Image any which lt h = absurd h
+  files_begun files out.Say any which lt h = absurd h
+
+  run_creates : (files : Files) (any : Out) → creates (Run files) any ≡ true → (any ≡ out.Video) ⊎ (any ≡ out.Sound)
+  run_creates files out.Video made = inl refl
+  run_creates files out.Sound made = inr refl
+  run_creates files out.Image made = absurd cc
+  run_creates files out.Say made = absurd cc
+
+  serial_creates : (files : Files) (any : Out) → creates (Serial files) any ≡ true → (any ≡ out.Video) ⊎ (any ≡ out.Sound)
+  serial_creates files out.Video made = inl refl
+  serial_creates files out.Sound made = inr refl
+  serial_creates files out.Image made = absurd cc
+  serial_creates files out.Say made = absurd cc
+
+  make_creates : (number : ℕ) (name : List ℕ) (any : Out) → creates (Make number name) any ≡ true → any ≡ out.Image
+  make_creates number name out.Image made = refl
+  make_creates number name out.Video made = absurd cc
+  make_creates number name out.Sound made = absurd cc
+  make_creates number name out.Say made = absurd cc
+
+  demo_creates : (number frames : ℕ) (any : Out) → creates (Demo number frames) any ≡ true → ⊥
+  demo_creates number frames out.Video made = cc
+  demo_creates number frames out.Sound made = cc
+  demo_creates number frames out.Image made = cc
+  demo_creates number frames out.Say made = cc
+
+  make_left : (number : ℕ) (name : List ℕ) (failed : Out) → EndsMake number name before after (end.WriteFault failed) → IsLeft emits (Make number name) before after out.Image
+  make_left number name out.Image h = h.left
+  make_left number name out.Video h = absurd h
+  make_left number name out.Sound h = absurd h
+  make_left number name out.Say h = absurd h
+
+  make_begun : (number : ℕ) (name : List ℕ) (failed : Out) → place_of (Create out.Image) < place_of (Create failed) → EndsMake number name before after (end.WriteFault failed) → ⊥
+  make_begun number name out.Image lt h = omega arith
+  make_begun number name out.Video lt h = h
+  make_begun number name out.Sound lt h = h
+  make_begun number name out.Say lt h = h
+
+  -- what is left where one output was not written
+  write_left : (command : Command) (failed any : Out) → creates command any ≡ true → EndsCommand emits command before after (end.WriteFault failed) → IsLeft emits command before after any
+  write_left (Run files) failed any made h = files_left files failed any (run_creates files any made) h
+  write_left (Serial files) failed any made h = files_left files failed any (serial_creates files any made) h
+  write_left (Make number name) failed any made h = subst (λ (o : Out). IsLeft emits (Make number name) before after o) (sym (make_creates number name any made)) (make_left number name failed h)
+  write_left (Demo number frames) failed any made h = absurd (demo_creates number frames any made)
+
   begun_before : (command : Command) (failed any : Out) → creates command any ≡ true → place_of (Create any) < place_of (Create failed)
       → EndsCommand emits command before after (end.WriteFault failed) → IsBegun emits command before after any
-  begun_before (Run files) out.Sound out.Video made lt h = record { job = h.job; shows = h.shows; holds = h.holds.video }
-  begun_before (Run files) out.Sound out.Sound made lt h = absurd (omega arith)
-  begun_before (Run files) out.Video out.Video made lt h = absurd (omega arith)
-  begun_before (Run files) out.Video out.Sound made lt h = absurd (omega arith)
-  begun_before (Run files) failed out.Image made lt h = absurd cc
-  begun_before (Run files) failed out.Say made lt h = absurd cc
-  begun_before (Run files) out.Image any made lt h = absurd h
-  begun_before (Run files) out.Say any made lt h = absurd h
-  begun_before (Serial files) failed any made lt h = begun_before (Run files) failed any made lt h
-  begun_before (Make number name) out.Image out.Image made lt h = absurd (omega arith)
-  begun_before (Make number name) failed out.Video made lt h = absurd cc
-  begun_before (Make number name) failed out.Sound made lt h = absurd cc
-  begun_before (Make number name) failed out.Say made lt h = absurd cc
-  begun_before (Make number name) out.Video any made lt h = absurd h
-  begun_before (Make number name) out.Sound any made lt h = absurd h
-  begun_before (Make number name) out.Say any made lt h = absurd h
-  begun_before (Demo number frames) failed any made lt h = absurd (let e : end.WriteFault failed ≡ end.NoMemory = h.0 in cc)
+  begun_before (Run files) failed any made lt h = files_begun files failed any (run_creates files any made) lt h
+  begun_before (Serial files) failed any made lt h = files_begun files failed any (serial_creates files any made) lt h
+  begun_before (Make number name) failed any made lt h =
+      absurd (make_begun number name failed (subst (λ (o : Out). place_of (Create o) < place_of (Create failed)) (make_creates number name any made) lt) h)
+  begun_before (Demo number frames) failed any made lt h = absurd (demo_creates number frames any made)
 
   module _ (command : Command) where
     pub load_fault : (status : Status) → EndsCall emits command before after status → (input : Input) → status ≡ LoadFault input
@@ -254,23 +297,31 @@ module _ (emits : Job → List ℕ → List ℕ → Type 0) (before after : Show
     of_files end.NoMemory status h is = subst Due (sym is) (inr tt)
 
     -- how such a command ends
-    pub of_run : (command : Command) → (command ≡ Run files) ⊎ (command ≡ Serial files) → (status : Status) → EndsCall emits command before after status → Due status
-    of_run command which status h = go status (⊎_elim (λ e. inl (subst (λ (c : Command). EndsCall emits c before after status) e h)) (λ e. inr (subst (λ (c : Command). EndsCall emits c before after status) e h)) which)
-      where
-        go : (status : Status) → EndsCall emits (Run files) before after status ⊎ EndsCall emits (Serial files) before after status → Due status
-        go Ok k = absurd (⊎_elim (λ h. no_run h.line h.done) (λ h. no_run h.line h.done) k)
-        go (WriteFault out.Say) k = absurd (⊎_elim (λ h. no_run h.line h.done) (λ h. no_run h.line h.done) k)
-        go (WriteFault out.Video) k = ⊎_elim (λ h. of_files (end.WriteFault out.Video) (WriteFault out.Video) h refl) (λ h. of_files (end.WriteFault out.Video) (WriteFault out.Video) h refl) k
-        go (WriteFault out.Sound) k = ⊎_elim (λ h. of_files (end.WriteFault out.Sound) (WriteFault out.Sound) h refl) (λ h. of_files (end.WriteFault out.Sound) (WriteFault out.Sound) h refl) k
-        go (WriteFault out.Image) k = absurd (⊎_elim (λ h. h) (λ h. h) k)
-        go (LoadFault i) k = ⊎_elim (λ h. of_files (end.LoadFault i) (LoadFault i) h refl) (λ h. of_files (end.LoadFault i) (LoadFault i) h refl) k
-        go (Refused other) k = ⊎_elim (λ h. of_files (end.Refused other) (Refused other) h refl) (λ h. of_files (end.Refused other) (Refused other) h refl) k
-        go NoMemory k = inr tt
-        go Usage k = absurd (⊎_elim (λ h. h) (λ h. h) k)
+    run_due : (status : Status) → EndsCall emits (Run files) before after status → Due status
+    run_due Ok h = absurd (no_run h.line h.done)
+    run_due (WriteFault out.Say) h = absurd (no_run h.line h.done)
+    run_due (WriteFault out.Video) h = of_files (end.WriteFault out.Video) (WriteFault out.Video) h refl
+    run_due (WriteFault out.Sound) h = of_files (end.WriteFault out.Sound) (WriteFault out.Sound) h refl
+    run_due (WriteFault out.Image) h = absurd h
+    run_due (LoadFault i) h = of_files (end.LoadFault i) (LoadFault i) h refl
+    run_due (Refused other) h = of_files (end.Refused other) (Refused other) h refl
+    run_due NoMemory h = inr tt
+    run_due Usage h = absurd h
+
+    serial_due : (status : Status) → EndsCall emits (Serial files) before after status → Due status
+    serial_due Ok h = absurd (no_run h.line h.done)
+    serial_due (WriteFault out.Say) h = absurd (no_run h.line h.done)
+    serial_due (WriteFault out.Video) h = of_files (end.WriteFault out.Video) (WriteFault out.Video) h refl
+    serial_due (WriteFault out.Sound) h = of_files (end.WriteFault out.Sound) (WriteFault out.Sound) h refl
+    serial_due (WriteFault out.Image) h = absurd h
+    serial_due (LoadFault i) h = of_files (end.LoadFault i) (LoadFault i) h refl
+    serial_due (Refused other) h = of_files (end.Refused other) (Refused other) h refl
+    serial_due NoMemory h = inr tt
+    serial_due Usage h = absurd h
 
     pub refused_always : (command : Command) → files_of command ≡ Some files → (status : Status) → EndsCall emits command before after status → Due status
-    refused_always (Run own) is status h = of_run (Run own) (inl (ap Run (some_is own files is))) status h
-    refused_always (Serial own) is status h = of_run (Serial own) (inr (ap Serial (some_is own files is))) status h
+    refused_always (Run own) is status h = run_due status (subst (λ (f : Files). EndsCall emits (Run f) before after status) (some_is own files is) h)
+    refused_always (Serial own) is status h = serial_due status (subst (λ (f : Files). EndsCall emits (Serial f) before after status) (some_is own files is) h)
     refused_always (Make number name) is status h = absurd cc
     refused_always (Demo number frames) is status h = absurd cc
 

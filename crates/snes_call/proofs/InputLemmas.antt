@@ -1,6 +1,6 @@
 -- Lemmas on the inputs of a run.
 use Rattle.std.proofs.Common.{◌≡◌, ℕ, ◌<◌, ◌≤◌, ◌+◌, ◌%◌, true, false, nat_lt, nat_eq, if◌then◌else◌, List, length, drop, refl, length-drop, Option, IfSome, Some, None, Err, MatchBool, sym, ap, subst, ◌∙◌, arith}
-use Rattle.std.proofs.lemmas.Bool.{lt-ltb, le-ltb}
+use Rattle.std.proofs.lemmas.Bool.{lt-ltb, le-ltb, ne_eqb}
 use Rattle.file_shelf.specs.declared.shelves.Input.{Input}
 use Rattle.file_shelf.specs.declared.shelves.Input.TheVariants.{Cart, Boot, Table, Script}
 use Rattle.file_shelf.specs.Told.{Holds}
@@ -20,7 +20,7 @@ use Rattle.snes_call.specs.Inputs.{name_of, told_of, limit_of, too_long_of, Show
 
 -- a greater number is another
 differs : (a b : ℕ) → b < a → nat_eq a b ≡ false
-differs a b lt = grind arith
+differs a b lt = ne_eqb a b (λ e. absurd (omega arith))
 
 -- a front of 512 bytes is all that an image can lack of its file
 image_long : (file : List ℕ) → length file ≤ length (image_of file) + 512

@@ -1,5 +1,5 @@
 -- What is read is accepted, and what is refused is refused for one cause.
-use Rattle.std.proofs.Common.{◌≡◌, ℕ, ◌<◌, ◌≤◌, true, false, nat_lt, nat_eq, List, length, Ok, Err, MatchBool, refl, sym, ap, ◌∙◌, subst, ⊎_elim, arith}
+use Rattle.std.proofs.Common.{◌≡◌, ℕ, ◌<◌, ◌≤◌, true, false, nat_lt, nat_eq, List, length, Result, Ok, Err, MatchBool, refl, sym, ap, ◌∙◌, subst, ⊎_elim, arith}
 use Rattle.std.proofs.lemmas.Bool.{lt-ltb, le-ltb, cases_order}
 use Rattle.snes_defs.specs.declared.cart.Cart.{Cart}
 use Rattle.snes_defs.specs.Script.{Script}
@@ -13,6 +13,10 @@ use Rattle.snes_call.specs.declared.status.Why.{Why}
 use Rattle.snes_call.specs.declared.status.Why.TheVariants as why
 use Rattle.snes_call.specs.Stage.{input_of}
 use Rattle.snes_call.specs.Readers.{AreRefused, AreAccepted, IsCartIn, IsScriptIn}
+
+-- an answer is not both
+not_both : {A B : Type 0} (r : Result A B) (a : A) (b : B) → r ≡ Ok a → r ≡ Err b → ⊥
+not_both r a b p q = cc
 
 -- a table file of the right length, refused at an entry, is refused at its first large one
 large_entry : (bytes : List ℕ) (entry : ℕ) → length bytes ≡ 1024 → IsRefusedAt bytes entry → IsFirstLarge bytes entry
@@ -36,7 +40,7 @@ pub cart_accepted : (bytes : List ℕ) (cart : Cart) → IsCartIn bytes cart →
 cart_accepted bytes cart h = record { unrefused = go }
   where
     go : (cause : Why) → input_of cause ≡ input.Cart → ¬ AreRefused bytes cause
-    go (why.Cart cause) is refused = let e : Ok (record { map = cart.map; ram = cart.ram }) ≡ Err cause = sym h.header ∙ refused in cc
+    go (why.Cart cause) is refused = not_both (verdict bytes) _ cause h.header refused
     go why.Boot is refused = cc
     go (why.Table entry) is refused = cc
     go (why.Script line) is refused = cc
@@ -68,6 +72,6 @@ script_accepted bytes script few h = record { unrefused = go }
     go (why.Cart cause) is refused = cc
     go why.Boot is refused = cc
     go (why.Table entry) is refused = cc
-    go (why.Script line) is refused = let e : Ok script ≡ Err line = sym h ∙ bad_line bytes line few refused in cc
+    go (why.Script line) is refused = not_both (script_of bytes) script line h (bad_line bytes line few refused)
 
 pub ruleset accepted = (cart_accepted, boot_accepted, table_accepted, script_accepted)
