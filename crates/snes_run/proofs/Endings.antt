@@ -11,7 +11,7 @@ use Rattle.run_io.specs.declared.order.Order.TheVariants.{Run}
 use Rattle.run_io.specs.Form.{IsForm}
 use Rattle.snes_run.specs.declared.status.Status.{Status}
 use Rattle.snes_run.specs.declared.status.Status.TheVariants.{Ok, Usage, LoadFault, WriteFault, Unbuilt, NoMemory}
-use Rattle.snes_run.specs.Shown.{Shown}
+use Rattle.file_shelf.specs.Shown.{Shown}
 use Rattle.snes_run.specs.Inputs.{name_of}
 use Rattle.std.proofs.lemmas.List.{append-nil}
 use Rattle.side_law.specs.SerialRun.{after_turns}
