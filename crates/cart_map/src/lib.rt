@@ -16,7 +16,7 @@ mod refused;
 mod speed;
 
 pub use acceptance::accept;
-pub use map::place;
+pub use map::{place, place_in};
 pub use places::Place;
 pub use plain_cart::{plain, plain_place};
 pub use refused::{CartEnd, CartRefused};

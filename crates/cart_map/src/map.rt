@@ -1,18 +1,30 @@
-ghost use Rattle.std.specs.Prelude.{◌≡◌, ◌^◌, ◌<◌, ◌≤◌, length};
-ghost use Rattle.cart_map.specs.Place.{place_of, system_place_of, lorom_place_of, hirom_place_of, ram_place_of, IsInside};
+ghost use Rattle.std.specs.Prelude.{◌≡◌, ◌^◌, ◌/◌, ◌%◌, ◌<◌, ◌≤◌, length};
+ghost use Rattle.cart_map.specs.Place.{place_of, bank_place_of, system_place_of, lorom_place_of, hirom_place_of, ram_place_of, IsInside};
 
 use crate::fold::folded;
 use crate::places::Place;
 use snes_defs::{Cart, MapKind};
 
 /// What lies at this 24-bit address of a console with this cartridge.
-///
-/// Source: fullsnes, "SNES Memory Map".
 #[inline(always)]
 pub fn place(cart: &Cart, addr: u32) -> Place
     requires { addr < 2 ^ 24 }
     ensures place { result ≡ place_of cart.now addr }
     ensures inside { IsInside (length cart.now.rom) cart.now.ram result }
+{
+    place_in(cart.map, cart.rom.get().len(), cart.ram, addr)
+}
+
+/// What lies at this 24-bit address of a console whose cartridge has this map, with so many bytes of ROM,
+/// at least one, and of RAM.
+///
+/// Source: fullsnes, "SNES Memory Map".
+#[inline(always)]
+pub fn place_in(map: MapKind, rom: usize, ram: u32, addr: u32) -> Place
+    requires addr { addr < 2 ^ 24 }
+    requires some { 0 < rom }
+    ensures place { result ≡ bank_place_of map rom ram (addr / 65536) (addr % 65536) }
+    ensures inside { IsInside rom ram result }
 {
     let bank = addr / 65536;
     let offset = addr % 65536;
@@ -22,10 +34,9 @@ pub fn place(cart: &Cart, addr: u32) -> Place
     if bank % 128 < 64 && offset < 0x6000 {
         return system_place(offset as u16);
     }
-    let size = cart.rom.get().len();
-    match cart.map {
-        MapKind::LoRom => lorom_place(size, cart.ram, bank, offset),
-        MapKind::HiRom => hirom_place(size, cart.ram, bank, offset),
+    match map {
+        MapKind::LoRom => lorom_place(rom, ram, bank, offset),
+        MapKind::HiRom => hirom_place(rom, ram, bank, offset),
     }
 }
 
