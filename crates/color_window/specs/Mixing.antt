@@ -1,5 +1,5 @@
 -- The main screen's colour at a pixel before brightness (2130 to 2132; nocash fullsnes, "SNES PPU Color-Math").
-use Rattle.std.specs.Prelude.{ℕ, ◌==◌, Bool, true, false, not, ◌&&◌, ◌||◌, List, slice_index, Option, None, Some, is_some, if◌then◌else◌}
+use Rattle.std.specs.Prelude.{ℕ, Bool, true, false, not, ◌&&◌, ◌||◌, List, slice_index, Option, None, Some, is_some, if◌then◌else◌}
 use Rattle.ppu_regs.specs.declared.registers.Registers.{Registers}
 use Rattle.ppu_regs.specs.declared.dots.Dot.{Dot}
 use Rattle.ppu_regs.specs.Picture.{Picture, screens_of}

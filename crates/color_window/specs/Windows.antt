@@ -1,11 +1,11 @@
 -- When a pixel lies in a layer's windows (2123 to 212B; nocash fullsnes, "SNES PPU Window").
-use Rattle.std.specs.Prelude.{ℕ, Bool, true, false, not, ◌&&◌, ◌||◌, nat_le, if◌then◌else◌}
+use Rattle.std.specs.Prelude.{ℕ, Bool, not, ◌&&◌, ◌||◌, nat_le, if◌then◌else◌}
 use Rattle.ppu_regs.specs.declared.registers.Registers.{Registers}
 use Rattle.ppu_regs.specs.declared.registers.Window.{Window}
 use Rattle.ppu_regs.specs.declared.registers.LayerWindows.{LayerWindows}
 use Rattle.ppu_regs.specs.declared.registers.Combine.{Combine}
 use Rattle.ppu_regs.specs.declared.registers.Combine.TheVariants.{Or, And, Xor, Xnor}
-use Rattle.ppu_regs.specs.Picture.{Picture, windows_of}
+use Rattle.ppu_regs.specs.Picture.{windows_of}
 
 -- whether two truths differ
 abbrev pub differs : Bool → Bool → Bool
