@@ -1,5 +1,5 @@
 -- Five layers laid one after another.
-use Rattle.std.proofs.Common.{◌≡◌, ℕ, refl, ap, ◌∙◌}
+use Rattle.std.proofs.Common.{◌≡◌, ℕ, ap, ◌∙◌}
 use Rattle.row_passes.specs.Inks.{Ink, nearest}
 use Rattle.ppu_line.specs.Line.{front}
 

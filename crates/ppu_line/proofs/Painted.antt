@@ -1,5 +1,5 @@
 -- Painted layers as inks.
-use Rattle.std.proofs.Common.{◌≡◌, ◌≢◌, ℕ, zero, suc, ◌+◌, ◌*◌, ◌/◌, ◌%◌, ◌<◌, ◌≤◌, ◌==◌, ◌&&◌, not, nat_lt, Bool, true, false, List, [], ◌∷◌, get_or, refl, sym, ap, ◌∙◌, if◌then◌else◌, ⊎_elim, arith}
+use Rattle.std.proofs.Common.{◌≡◌, ◌≢◌, ℕ, zero, suc, ◌+◌, ◌*◌, ◌/◌, ◌<◌, ◌≤◌, ◌==◌, ◌&&◌, not, nat_lt, Bool, true, false, [], ◌∷◌, get_or, refl, sym, ap, ◌∙◌, if◌then◌else◌, ⊎_elim, arith}
 use Rattle.std.proofs.lemmas.Bool.{le-ltb}
 use Rattle.std.proofs.lemmas.Bool.Decides.{eqb_tells}
 use Rattle.ppu_regs.specs.declared.dots.Candidate.{Candidate}
@@ -190,6 +190,9 @@ base_at rank a b c d (suc (suc (suc (suc n)))) ea eb ec ed h = absurd (omega ari
 on_same : (b : Bool) (u v : ℕ) → u ≡ v → (if b then u else 0) ≡ (if b then v else 0)
 on_same b u v h = ap (λ (w : ℕ). if b then w else 0) h
 
+bit_same : (one other math : Bool) (bit : ℕ) → one ≡ other → (if one && math then bit else 0) ≡ (if other && math then bit else 0)
+bit_same one other math bit h = ap (λ (t : Bool). if t && math then bit else 0) h
+
 -- an object's two bytes at a pixel are its ink
 pub object_ink : (p : Picture) (o : Candidate) (key number a b c d : ℕ) (named : Bool) → IsOfObjects o →
     a ≡ rank_base (layer_rank p.registers 5 0) false → b ≡ rank_base (layer_rank p.registers 5 1) false →
@@ -200,6 +203,5 @@ unfolding ink_of object_rank rank_byte rank_of rank_base
 object_ink p o key number a b c d named of ea eb ec ed en k n =
     let at : get_or (a ∷ b ∷ c ∷ d ∷ []) o.priority 0 ≡ 16 * layer_rank p.registers 5 o.priority =
     base_at (layer_rank p.registers 5) a b c d o.priority ea eb ec ed of.priority in
-    let bit : (if named && o.math then 8 else 0) ≡ (if (screens_of p.registers 5).arithmetic && o.math then 8 else 0) =
-    ap (λ (t : Bool). if t && o.math then 8 else 0) en in
+    let bit = bit_same named (screens_of p.registers 5).arithmetic o.math 8 en in
     ink_is key number _ (k ∙ on_same o.on _ _ (omega (arith, at, bit, of.palette))) n

@@ -1,4 +1,4 @@
-use Rattle.std.proofs.Common.{◌≡◌, ℕ, ◌+◌, ◌*◌, ◌/◌, ap, sym, ◌∙◌, arith}
+use Rattle.std.proofs.Common.{◌≡◌, ◌+◌, ◌*◌, ◌/◌, ap, sym, ◌∙◌, arith}
 use Rattle.row_passes.specs.Inks.{Ink, nearest}
 use Rattle.ppu_screens.specs.Screens.{ink_at, on_main, on_sub}
 use Rattle.ppu_line.specs.Line.{ink_of, main_ink, sub_ink}

@@ -1,4 +1,4 @@
-use Rattle.std.proofs.Common.{◌≡◌, ℕ, ◌≤◌, Bool, false, arith}
+use Rattle.std.proofs.Common.{◌≡◌, false, arith}
 use Rattle.ppu_regs.specs.Picture.{screens_of}
 use Rattle.ppu_objects.specs.Pieces.{object_candidate}
 use Rattle.ppu_objects.proofs.Seen.{object_candidate_is}

@@ -1,4 +1,4 @@
-use Rattle.std.proofs.Common.{◌≡◌, ℕ, ◌-◌, ◌<◌, ap, ◌∙◌}
+use Rattle.std.proofs.Common.{ℕ, ◌-◌, ap, ◌∙◌}
 use Rattle.row_passes.specs.Inks.{Ink}
 use Rattle.ppu_screens.specs.Screens.{ink_at, even_dot, odd_dot}
 use Rattle.ppu_line.specs.Line.{main_front, sub_front, pixel}
