@@ -103,6 +103,15 @@ impl CycleClock {
         }
     }
 
+    /// The number of the next cycle, from 0.
+    #[inline(always)]
+    pub fn number(&self) -> u64
+        ensures value { result ≡ self.now.cycle }
+        ensures small { result ≤ 2 ^ 46 }
+    {
+        self.cycle
+    }
+
     /// A cycle has ended.
     #[inline(always)]
     pub fn go_on(&mut self)

@@ -47,8 +47,9 @@ impl Parts {
         ensures few { length self.new.waiting.items ≤ length self.old.waiting.items + 4 }
         ensures runs { IsRunning self.old.spc → IsRunning self.new.spc }
     {
+        let cycle = self.clock.number();
         begin(&mut self.spc, &mut self.board, &self.clock, got);
-        finish(&mut self.board, self.clock.cycle, &mut self.waiting);
+        finish(&mut self.board, cycle, &mut self.waiting);
         self.clock.go_on();
     }
 }
