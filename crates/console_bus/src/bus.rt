@@ -1,0 +1,226 @@
+ghost use Rattle.std.specs.Prelude.{◌≡◌, ◌<◌, ◌≤◌, ◌+◌, ◌++◌, length, IfOk, List};
+ghost use Rattle.snes_defs.specs.declared.cart.Cart.{Cart};
+ghost use Rattle.cart_map.specs.Place.{IsInside};
+ghost use Rattle.io_math.specs.Registers.{written as io_written};
+ghost use Rattle.ppu_regs.specs.Writes.{after_write};
+ghost use Rattle.console_bus.specs.Rest.{Rest, rest_start, with_pads, with_io};
+ghost use Rattle.console_bus.specs.Places.{place_at, a_side, taken_from, register_byte, register_read, register_written, chip_byte, chip_read, chip_written, place_byte, place_read, place_written, on_bus};
+
+use crate::board::Board;
+use beam::Beam;
+use cart_map::{Place, place_in};
+use dma_hdma::Dma;
+use io_math::Io;
+use ppu_regs::Ppu;
+use snes_defs::{NoMemory, Spans, Spot};
+use std::marker::Model;
+use tile_cache::TileCache;
+
+/// The bytes of work RAM.
+const WORK_RAM: usize = 131_072;
+
+/// The console without its processor, seen in contracts as a `Rest`.
+#[derive(Drop)]
+pub struct Bus {
+    pub(crate) board: Board,
+    pub(crate) script: Spans,
+    pub(crate) memory: Vec<u8>,
+    pub(crate) port: u32,
+    pub(crate) io: Io,
+    pub(crate) dma: Dma,
+    pub(crate) ppu: Ppu,
+    pub(crate) tiles: TileCache,
+    pub(crate) beam: Beam,
+    pub(crate) frame: u16,
+    pub(crate) last: u8,
+    pub(crate) refresh: bool,
+    pub(crate) reset: bool,
+}
+
+impl Model for Bus {
+    ghost use Rattle.std.specs.Prelude.{◌≡◌, ◌<◌, ◌+◌, length};
+    ghost use Rattle.tile_cache.specs.Planes.{IsInStep};
+    ghost use Rattle.console_bus.specs.Rest.{Rest, timer_of};
+
+    ghost Value = { Rest };
+
+    ghost view = { λ b. record { board = b.board; script = b.script; memory = b.memory.items; port = b.port; io = b.io; channels = b.dma; picture = b.ppu; beam = b.beam; frame = b.frame; last = b.last; refresh = b.refresh; reset = b.reset } };
+
+    ghost invariant = { λ b. (length b.memory.items ≡ 131072 + b.board.ram + b.board.rom) × (0 < b.board.rom) × (b.port < 131072) × (b.beam.timer ≡ timer_of b.io) × IsInStep b.tiles b.ppu.vram };
+}
+
+impl Bus {
+    /// What lies at a 24-bit address.
+    #[inline(always)]
+    #[tactic(auto, using(crate::proofs::Addresses::same_bank, crate::proofs::Addresses::same_offset))]
+    pub fn place(&self, addr: u32) -> Place
+        ensures place { result ≡ place_at self.now.board addr }
+        ensures inside { IsInside self.now.board.rom self.now.board.ram result }
+    {
+        place_in(
+            self.board.map,
+            self.board.rom,
+            self.board.ram,
+            addr % 0x100_0000,
+        )
+    }
+
+    /// The byte that a transfer takes from the A side, at a 24-bit address.
+    #[inline(always)]
+    pub fn take(&self, addr: u32) -> u8
+        ensures { result ≡ taken_from self.now addr }
+    {
+        match self.place(addr) {
+            Place::Wram(i) => self.memory[i as usize],
+            Place::Ram(i) => self.memory[WORK_RAM + i as usize],
+            Place::Rom(i) => self.memory[WORK_RAM + self.board.ram as usize + i as usize],
+            Place::BBus(_) => self.last,
+            Place::Cpu(_) => self.last,
+            Place::Open => self.last,
+        }
+    }
+
+    /// A transfer writes a byte at a 24-bit address of the A side.
+    #[inline(always)]
+    pub fn give(&mut self, addr: u32, v: u8)
+        ensures given { self.new ≡ place_written self.old (a_side (place_at self.old.board addr)) v }
+        ensures channels { self.new.channels ≡ self.old.channels }
+    {
+        match self.place(addr) {
+            Place::Wram(i) => self.memory[i as usize] = v,
+            Place::Ram(i) => self.memory[WORK_RAM + i as usize] = v,
+            Place::Rom(_) => {}
+            Place::BBus(_) => {}
+            Place::Cpu(_) => {}
+            Place::Open => {}
+        }
+    }
+
+    /// Reads a byte at a place. `got` is what a port to the sound side gives.
+    #[inline(always)]
+    pub fn read(&mut self, place: Place, got: u8) -> u8
+        requires { IsInside self.old.board.rom self.old.board.ram place }
+        ensures byte { result ≡ place_byte self.old place got }
+        ensures after { self.new ≡ place_read self.old place }
+    {
+        match place {
+            Place::Wram(i) => self.memory[i as usize],
+            Place::Ram(i) => self.memory[WORK_RAM + i as usize],
+            Place::Rom(i) => self.memory[WORK_RAM + self.board.ram as usize + i as usize],
+            Place::BBus(register) => self.read_register(register, got),
+            Place::Cpu(register) => self.read_chip(register),
+            Place::Open => self.last,
+        }
+    }
+
+    /// Writes a byte at a place. What it does at a port to the sound side is the caller's.
+    #[inline(always)]
+    pub fn write(&mut self, place: Place, v: u8)
+        requires { IsInside self.old.board.rom self.old.board.ram place }
+        ensures { self.new ≡ place_written self.old place v }
+    {
+        match place {
+            Place::Wram(i) => self.memory[i as usize] = v,
+            Place::Ram(i) => self.memory[WORK_RAM + i as usize] = v,
+            Place::Rom(_) => {}
+            Place::BBus(register) => self.write_register(register, v),
+            Place::Cpu(register) => self.write_chip(register, v),
+            Place::Open => {}
+        }
+    }
+
+    /// Reads a register of the B bus, 2100 plus `register`. `got` is what a port gives.
+    #[tactic(auto, unfolding(crate::specs::Places::register_byte, crate::specs::Places::register_read))]
+    pub fn read_register(&mut self, register: u8, got: u8) -> u8
+        ensures byte { result ≡ register_byte self.old register got }
+        ensures after { self.new ≡ register_read self.old register }
+        ensures same { self.new.channels ≡ self.old.channels }
+    {
+        if register < 0x40 {
+            let spot = self.beam.spot();
+            return self.ppu.read(register, self.last, spot);
+        }
+        if register < 0x80 {
+            return got;
+        }
+        if register == 0x80 {
+            let byte = self.memory[self.port as usize];
+            self.port = (self.port + 1) % 0x20000;
+            return byte;
+        }
+        self.last
+    }
+
+    /// Writes a register of the B bus, 2100 plus `register`; not what a port does on the other side.
+    #[tactic(auto, unfolding(crate::specs::Places::register_written))]
+    pub fn write_register(&mut self, register: u8, v: u8)
+        ensures written { self.new ≡ register_written self.old register v }
+        ensures same { self.new.channels ≡ self.old.channels }
+    {
+        if register < 0x40 {
+            self.write_picture(register, v);
+            return;
+        }
+        match register {
+            0x80 => {
+                self.memory[self.port as usize] = v;
+                self.port = (self.port + 1) % 0x20000;
+            }
+            0x81 => {
+                self.port = self.port / 0x100 * 0x100 + v as u32;
+            }
+            0x82 => {
+                self.port = self.port / 0x10000 * 0x10000 + 0x100 * v as u32 + self.port % 0x100;
+            }
+            0x83 => {
+                self.port = 0x10000 * (v % 2) as u32 + self.port % 0x10000;
+            }
+            _ => {}
+        }
+    }
+
+    /// Writes a register of the picture unit, and keeps the decoded tiles in step.
+    fn write_picture(&mut self, register: u8, v: u8)
+        requires { register < 0x40 }
+        ensures { self.new ≡ (let p = after_write self.old.picture register v in record self.old { picture = p }) }
+    {
+        let _word = tile_cache::write(&mut self.ppu, &mut self.tiles, register, v);
+    }
+
+    /// Reads a register of the processor's chip.
+    #[tactic(auto, unfolding(crate::specs::Places::chip_byte, crate::specs::Places::chip_read), using(crate::proofs::Timers::timer_read))]
+    pub fn read_chip(&mut self, register: u16) -> u8
+        ensures byte { result ≡ chip_byte self.old register }
+        ensures after { self.new ≡ chip_read self.old register }
+    {
+        if 0x4300 <= register && register <= 0x437f {
+            return self.dma.read(register, self.last);
+        }
+        let spot = self.beam.spot();
+        self.io.read(register, self.last, spot)
+    }
+
+    /// Writes a register of the processor's chip.
+    #[tactic(auto, unfolding(crate::specs::Places::chip_written))]
+    pub fn write_chip(&mut self, register: u16, v: u8)
+        ensures { self.new ≡ chip_written self.old register v }
+    {
+        if 0x4300 <= register && register <= 0x437f {
+            self.dma.write(register, v);
+            return;
+        }
+        match register {
+            0x420b => self.dma.start(v),
+            0x420c => self.dma.enable(v),
+            _ => self.write_io(register, v),
+        }
+    }
+
+    /// Writes a register of `Io`, whose timer the beam then follows.
+    fn write_io(&mut self, register: u16, v: u8)
+        ensures { self.new ≡ with_io self.old (io_written self.old.io register v) }
+    {
+        self.io.write(register, v);
+        self.beam.aim(self.io.irq_time());
+    }
+}

@@ -1,0 +1,246 @@
+ghost use Rattle.std.specs.Prelude.{◌≡◌, ℕ, ◌+◌, ◌==◌, if◌then◌else◌, ◌<◌, ◌≤◌, ◌-◌, Bool, true, false, [], IsSome, map, slice_index};
+ghost use Rattle.beam.specs.Events.{happens_next, beam_next, beam_after, passed};
+ghost use Rattle.beam.specs.Places.{clocks_left};
+ghost use Rattle.dma_hdma.specs.Channel.{framed as channel_framed, lined};
+ghost use Rattle.dma_hdma.specs.Channels.{due_of, after_byte};
+ghost use Rattle.io_math.specs.Registers.{registers_start, timed, nmi_level, irq_level};
+ghost use Rattle.ppu_regs.specs.Writes.{after_write};
+ghost use Rattle.console_bus.specs.Rest.{Rest, with_io, with_pads, channels_start};
+ghost use Rattle.console_bus.specs.Happenings.{frame_begun, blank_begun, shown_dot, row_drawn, was_reset};
+
+use crate::bus::Bus;
+use beam::Happens;
+use dma_hdma::{Dma, Move};
+use io_math::Io;
+use ppu_line::draw;
+
+impl Bus {
+    /// The levels of the processor's NMI and IRQ lines.
+    #[inline(always)]
+    pub fn lines(&self) -> (bool, bool)
+        ensures nmi { result.0 ≡ nmi_level self.now.io }
+        ensures irq { result.1 ≡ irq_level self.now.io }
+    {
+        self.io.lines()
+    }
+
+    /// The next byte of a transfer, if one is due.
+    #[inline(always)]
+    pub fn transfer(&self) -> Option<Move>
+        ensures { result ≡ due_of self.now.channels }
+    {
+        self.dma.next()
+    }
+
+    /// The byte of a transfer that was due has been moved.
+    pub fn transferred(&mut self, byte: u8)
+        requires { IsSome (due_of self.old.channels) }
+        ensures { self.new ≡ record self.old { channels = after_byte self.old.channels byte } }
+    {
+        self.dma.done(byte);
+    }
+
+    /// A byte has gone over the data bus.
+    #[inline(always)]
+    pub fn put(&mut self, byte: u8)
+        ensures { self.new ≡ record self.old { last = byte } }
+    {
+        self.last = byte;
+    }
+
+    /// Whether a reset is due, and whether a refresh is.
+    #[inline(always)]
+    pub fn resets(&self) -> bool
+        ensures { result ≡ self.now.reset }
+    {
+        self.reset
+    }
+
+    #[inline(always)]
+    pub fn refreshes(&self) -> bool
+        ensures { result ≡ self.now.refresh }
+    {
+        self.refresh
+    }
+
+    /// The refresh is made.
+    pub fn refreshed(&mut self)
+        ensures { self.new ≡ record self.old { refresh = false } }
+    {
+        self.refresh = false;
+    }
+
+    /// Bit 0 of MEMSEL.
+    #[inline(always)]
+    pub fn fast(&self) -> bool
+        ensures { result ≡ self.now.io.fast }
+    {
+        self.io.fast()
+    }
+
+    /// The clocks, at least 1, until something may happen.
+    #[inline(always)]
+    pub fn left(&self) -> u16
+        ensures clocks { result ≡ clocks_left self.now.beam }
+        ensures some { 0 < result }
+        ensures on_line { self.now.beam.h + result ≤ 1364 }
+    {
+        self.beam.left()
+    }
+
+    /// The beam goes on by fewer clocks than are left: nothing happens.
+    #[inline(always)]
+    pub fn go_on(&mut self, clocks: u16)
+        requires { clocks < clocks_left self.old.beam }
+        ensures moved { self.new ≡ record self.old { beam = beam_after self.old.picture.registers.settings.overscan self.old.beam clocks } }
+        ensures none { (overscan : Bool) → passed overscan self.old.beam clocks ≡ [] }
+        ensures closer { clocks_left self.new.beam ≡ clocks_left self.old.beam - clocks }
+        ensures clock { self.new.beam.h ≡ self.old.beam.h + clocks }
+        ensures same_region { self.new.beam.region ≡ self.old.beam.region }
+    {
+        self.beam.go_on(clocks);
+    }
+
+    /// The beam goes on by the clocks that are left, and answers what happens there; before the last of
+    /// them nothing does.
+    pub fn reach(&mut self) -> Happens
+        ensures none_before { passed self.old.picture.registers.settings.overscan self.old.beam (clocks_left self.old.beam - 1) ≡ [] }
+        ensures last { let overscan = self.old.picture.registers.settings.overscan in result ≡ happens_next overscan (beam_after overscan self.old.beam (clocks_left self.old.beam - 1)) }
+        ensures moved { let overscan = self.old.picture.registers.settings.overscan in let there = beam_next overscan (beam_after overscan self.old.beam (clocks_left self.old.beam - 1)) in self.new ≡ record self.old { beam = there } }
+        ensures clock { self.new.beam.h ≡ (if self.old.beam.h + clocks_left self.old.beam == 1364 then 0 else self.old.beam.h + clocks_left self.old.beam) }
+        ensures same_region { self.new.beam.region ≡ self.old.beam.region }
+    {
+        let overscan = self.ppu.registers().settings.overscan;
+        self.beam.reach(overscan)
+    }
+
+    /// The line where the beam stands.
+    #[inline(always)]
+    pub fn line(&self) -> u16
+        ensures { result ≡ self.now.beam.v }
+    {
+        self.beam.spot().v
+    }
+
+    /// A frame begins.
+    #[tactic(auto, unfolding(crate::specs::Happenings::frame_begun), using(crate::proofs::Timers::timer_framed))]
+    pub fn begin_frame(&mut self)
+        ensures { self.new ≡ frame_begun self.old }
+    {
+        let frame = if self.frame == 65_535 {
+            65_535
+        } else {
+            self.frame + 1
+        };
+        let (pad1, pad2) = self.script.pads(frame as u32);
+        let resets = self.script.resets(frame as u32);
+        self.frame = frame;
+        self.io.frame(pad1, pad2);
+        self.ppu.frame();
+        self.reset = self.reset || resets;
+    }
+
+    /// Vertical blank begins.
+    #[tactic(auto, unfolding(crate::specs::Happenings::blank_begun), using(crate::proofs::Timers::timer_blanked))]
+    pub fn begin_blank(&mut self)
+        ensures { self.new ≡ blank_begun self.old }
+    {
+        let (pad1, pad2) = self.script.pads(self.frame as u32);
+        self.io.blank(pad1, pad2);
+        self.ppu.blank();
+    }
+
+    /// The HDMA channels begin a frame.
+    pub fn begin_hdma(&mut self)
+        ensures { self.new ≡ record self.old { channels = map channel_framed self.old.channels } }
+    {
+        self.dma.frame();
+    }
+
+    /// The HDMA channels begin a line.
+    pub fn begin_hdma_line(&mut self)
+        ensures { self.new ≡ record self.old { channels = map lined self.old.channels } }
+    {
+        self.dma.line();
+    }
+
+    /// A refresh is due.
+    pub fn begin_refresh(&mut self)
+        ensures { self.new ≡ record self.old { refresh = true } }
+    {
+        self.refresh = true;
+    }
+
+    /// The timer fires.
+    #[tactic(auto, using(crate::proofs::Timers::timer_timed))]
+    pub fn fire(&mut self)
+        ensures { self.new ≡ record self.old { io = timed self.old.io } }
+    {
+        self.io.timer();
+    }
+
+    /// Draws the row above the line where the beam stands, 1 to 239: 512 dots of 15 bits.
+    #[tactic(auto, unfolding(crate::specs::Happenings::row_drawn, crate::specs::Happenings::is_shown, crate::specs::Happenings::shown_dot))]
+    pub fn draw(&mut self, dots: &mut [u16; 512])
+        requires first { 1 ≤ self.old.beam.v }
+        requires last { self.old.beam.v ≤ 239 }
+        ensures after { self.new ≡ row_drawn self.old }
+        ensures dots { (e : ℕ) → e < 512 → slice_index dots.new e ≡ shown_dot self.old e }
+    {
+        let spot = self.beam.spot();
+        if spot.v <= 224 || (self.ppu.registers().settings.overscan && !spot.blank) {
+            let over = draw(&self.ppu, &self.tiles, spot.v, dots);
+            self.ppu.over(over);
+        } else {
+            darken(dots);
+        }
+    }
+
+    /// A reset is made.
+    #[tactic(auto, unfolding(crate::specs::Happenings::was_reset))]
+    pub fn reset(&mut self)
+        ensures { self.new ≡ was_reset self.old }
+    {
+        self.blank_picture();
+        self.stop_transfers();
+        self.last = 0;
+        self.reset = false;
+        self.restart_io();
+    }
+
+    /// 2100 is 80, as by a write.
+    #[tactic(auto, unfolding(crate::specs::Places::register_written))]
+    fn blank_picture(&mut self)
+        ensures { self.new ≡ (let p = after_write self.old.picture 0 0x80 in record self.old { picture = p }) }
+    {
+        self.write_register(0, 0x80);
+    }
+
+    /// No channel has anything to do.
+    #[tactic(auto, unfolding(crate::specs::Rest::channels_start))]
+    fn stop_transfers(&mut self)
+        ensures { self.new ≡ record self.old { channels = channels_start } }
+    {
+        self.dma = Dma::new();
+    }
+
+    /// The registers of the processor's chip are as at the start, with the pads of the frame.
+    fn restart_io(&mut self)
+        ensures { self.new ≡ with_io self.old (with_pads self.old.script self.old.frame registers_start) }
+    {
+        let (pad1, pad2) = self.script.pads(self.frame as u32);
+        let mut io = Io::new();
+        io.frame(pad1, pad2);
+        self.beam.aim(io.irq_time());
+        self.io = io;
+    }
+}
+
+/// A row of black dots.
+fn darken(dots: &mut [u16; 512])
+    ensures { (e : ℕ) → e < 512 → slice_index dots.new e ≡ 0 }
+{
+    for e in 0..512 {
+        dots[e] = 0;
+    }
+}

@@ -1,0 +1,5 @@
+pub mod RowBytes
+pub mod Beams
+pub mod EventLists
+pub mod Clocks
+pub mod PassSteps

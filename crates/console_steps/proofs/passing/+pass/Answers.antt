@@ -1,0 +1,101 @@
+use Rattle.std.proofs.Common.{◌≡◌, ℕ, ◌+◌, ◌-◌, ◌<◌, ◌≤◌, ◌++◌, IsTrue, List, [], length, if◌then◌else◌, sym, ap, subst, ◌∙◌, arith, append-nil, append_assoc}
+use Rattle.beam.specs.Events.{BeamValue, events_of, happens_next, beam_next, beam_after}
+use Rattle.beam.specs.Places.{clocks_left}
+use Rattle.console_steps.specs.World.{World, after_events, bytes_of_events, after_clocks, bytes_in}
+use Rattle.console_steps.specs.Draws.{room_for}
+use Rattle.console_steps.specs.Stands.{IsAt}
+use Rattle.console_steps.proofs.Clocks.{arrived, arrival, DrawsAt, draws_at, room_left}
+use Rattle.console_steps.proofs.PassSteps.{overscan, went_on, arrives, happens_there, passes_place, drawn, room_after, room_of_row}
+use Rattle.beam.specs.declared.events.Event.{Event}
+use Rattle.console_steps.proofs.passing.+pass.Goals as goal
+
+pub returns-then-clocks-left-clause-at : goal.returns-then-clocks-left-clause-at
+returns-then-clocks-left-clause-at t c = λ w at.
+    (went_on c.args.cpu.now c.args.bus.now c.go_on.new.self w c.args.clocks at (c.go_on.ensures.none (overscan c.args.bus.now)) c.go_on.ensures.moved).0
+
+pub returns-then-clocks-left-clause-bytes : goal.returns-then-clocks-left-clause-bytes
+returns-then-clocks-left-clause-bytes t c = λ w at.
+    let q = went_on c.args.cpu.now c.args.bus.now c.go_on.new.self w c.args.clocks at (c.go_on.ensures.none (overscan c.args.bus.now)) c.go_on.ensures.moved in
+    rw q.1 (sym (append-nil c.args.waiting.now.items))
+
+pub pass_place-requires-clause-first : goal.pass_place-requires-clause-first
+pass_place-requires-clause-first t c = λ d.
+    (drawn c.args.bus.now c.reach-happens.new.self c.reach-happens.result (clocks_left c.args.bus.now.beam) c.reach-happens.ensures.last c.reach-happens.ensures.moved d).first
+
+pub pass_place-requires-clause-last : goal.pass_place-requires-clause-last
+pass_place-requires-clause-last t c = λ d.
+    (drawn c.args.bus.now c.reach-happens.new.self c.reach-happens.result (clocks_left c.args.bus.now.beam) c.reach-happens.ensures.last c.reach-happens.ensures.moved d).last
+
+pub pass_place-requires-clause-room : goal.pass_place-requires-clause-room
+pass_place-requires-clause-room t c = λ d.
+    let e = c.left-left.ensures.clocks in
+    let some = c.left-left.ensures.some in
+    let line = c.left-left.ensures.on_line in
+    let enough = c.if-clocks-left.false in
+    let left = clocks_left c.args.bus.now.beam in
+    let room = room_after c.args.bus.now c.reach-happens.new.self c.reach-happens.result left c.args.clocks
+    c.reach-happens.ensures.last c.reach-happens.ensures.moved (omega arith) (omega arith) c.requires.step (omega arith) c.reach-happens.ensures.clock in
+    room_of_row c.reach-happens.result.draw (length c.args.waiting.now.items) _ (room_for c.args.bus.now.beam.h c.args.clocks) c.args.waiting.now.capacity room c.requires.room d
+
+pub pass-requires : goal.pass-requires
+pass-requires t c =
+    let e = c.left-left.ensures.clocks in
+    let some = c.left-left.ensures.some in
+    let line = c.left-left.ensures.on_line in
+    let enough = c.if-clocks-left.false in
+    let left = clocks_left c.args.bus.now.beam in
+    let step = c.requires.step in
+    let here = c.requires.room in
+    let room = room_after c.args.bus.now c.reach-happens.new.self c.reach-happens.result left c.args.clocks
+    c.reach-happens.ensures.last c.reach-happens.ensures.moved (omega arith) (omega arith) c.requires.step (omega arith) c.reach-happens.ensures.clock in
+    let size = c.pass_place.ensures.size in
+    let capacity = c.pass_place.ensures.capacity in
+    (omega arith, (omega arith, rw (c.pass_place.ensures.beam, e) (omega arith)))
+
+-- the events of the place, told of the world that has arrived there
+pub returns-clause-at : goal.returns-clause-at
+returns-clause-at t c = λ w at.
+    let e = c.left-left.ensures.clocks in
+    let some = c.left-left.ensures.some in
+    let enough = c.if-clocks-left.false in
+    let left = clocks_left c.args.bus.now.beam in
+    let there = arrives c.args.cpu.now c.args.bus.now c.reach-happens.new.self w left at c.reach-happens.ensures.moved in
+    let events = happens_there c.args.bus.now w left c.reach-happens.result at.rest c.reach-happens.ensures.last in
+    let next = after_events (arrived w left) (arrival w left) in
+    let P : List Event → Type 0 = λ es. IsAt c.pass_place.new.cpu c.pass_place.new.bus (after_events (arrived w left) es) in
+    let after = subst P events (c.pass_place.ensures.at (arrived w left) there) in
+    let parts = passes_place c.args.bus.now w left c.args.clocks at.rest (omega arith) (omega arith) c.reach-happens.ensures.none_before in
+    let end = rw e at (c.pass.ensures.at next after) in
+    rw parts.0 end
+
+pub returns-clause-bytes : goal.returns-clause-bytes
+returns-clause-bytes t c = λ w at.
+    let e = c.left-left.ensures.clocks in
+    let some = c.left-left.ensures.some in
+    let enough = c.if-clocks-left.false in
+    let left = clocks_left c.args.bus.now.beam in
+    let there = arrives c.args.cpu.now c.args.bus.now c.reach-happens.new.self w left at c.reach-happens.ensures.moved in
+    let events = happens_there c.args.bus.now w left c.reach-happens.result at.rest c.reach-happens.ensures.last in
+    let next = after_events (arrived w left) (arrival w left) in
+    let P : List Event → Type 0 = λ es. IsAt c.pass_place.new.cpu c.pass_place.new.bus (after_events (arrived w left) es) in
+    let Q : List Event → Type 0 = λ es. c.pass_place.new.waiting.items ≡ c.args.waiting.now.items ++ bytes_of_events (arrived w left) es in
+    let after = subst P events (c.pass_place.ensures.at (arrived w left) there) in
+    let emitted = subst Q events (c.pass_place.ensures.bytes (arrived w left) there) in
+    let parts = passes_place c.args.bus.now w left c.args.clocks at.rest (omega arith) (omega arith) c.reach-happens.ensures.none_before in
+    let rest = rw e at (c.pass.ensures.bytes next after) in
+    let old = c.args.waiting.now.items in
+    let more = bytes_in next (c.args.clocks - left) in
+    rest ∙ ap (λ x. x ++ more) emitted ∙ append_assoc old (bytes_of_events (arrived w left) (arrival w left)) more ∙ ap (λ x. old ++ x) (sym parts.1)
+
+pub returns-clause-size : goal.returns-clause-size
+returns-clause-size t c =
+    let e = c.left-left.ensures.clocks in
+    let some = c.left-left.ensures.some in
+    let line = c.left-left.ensures.on_line in
+    let enough = c.if-clocks-left.false in
+    let left = clocks_left c.args.bus.now.beam in
+    let room = room_after c.args.bus.now c.reach-happens.new.self c.reach-happens.result left c.args.clocks
+    c.reach-happens.ensures.last c.reach-happens.ensures.moved (omega arith) (omega arith) c.requires.step (omega arith) c.reach-happens.ensures.clock in
+    let size = c.pass_place.ensures.size in
+    let rest = rw (c.pass_place.ensures.beam, e) at c.pass.ensures.size in
+    omega arith

@@ -1,0 +1,4 @@
+pub mod World
+pub mod Stands
+pub mod Parts
+pub mod Draws

@@ -1,0 +1,41 @@
+ghost use Rattle.std.specs.Prelude.{◌≡◌, ◌+◌, ◌≤◌, ◌++◌, length};
+ghost use Rattle.beam.specs.declared.events.Event.TheVariants as events;
+ghost use Rattle.cpu65816.specs.Instruction.{Standing};
+ghost use Rattle.cpu65816.specs.Stands.{Stands};
+ghost use Rattle.console_bus.specs.Happenings.{happened, row_bytes};
+ghost use Rattle.console_steps.specs.World.{with_lines};
+
+use crate::effects::give_lines;
+use crate::rows::emit_row;
+use circular_buffer::HeapCircularBuffer;
+use console_bus::Bus;
+use cpu65816::Cpu;
+
+/// Draws the row above the line where the beam stands, and appends it to the bytes that wait.
+#[inline(never)]
+fn draw_row(bus: &mut Bus, waiting: &mut HeapCircularBuffer<u8>)
+    requires first { 1 ≤ bus.old.beam.v }
+    requires last { bus.old.beam.v ≤ 239 }
+    requires room { length waiting.old.items + 1024 ≤ waiting.old.capacity }
+    ensures rest { bus.new ≡ happened bus.old events.Draw }
+    ensures row { waiting.new.items ≡ waiting.old.items ++ row_bytes bus.old }
+    ensures capacity { waiting.new.capacity ≡ waiting.old.capacity }
+{
+    let mut dots = [0u16; 512];
+    bus.draw(&mut dots);
+    emit_row(waiting, &dots);
+}
+
+/// A row is drawn, and the processor is given the levels again.
+pub fn draw(cpu: &mut Cpu, bus: &mut Bus, waiting: &mut HeapCircularBuffer<u8>)
+    requires first { 1 ≤ bus.old.beam.v }
+    requires last { bus.old.beam.v ≤ 239 }
+    requires room { length waiting.old.items + 1024 ≤ waiting.old.capacity }
+    ensures rest { bus.new ≡ happened bus.old events.Draw }
+    ensures row { waiting.new.items ≡ waiting.old.items ++ row_bytes bus.old }
+    ensures capacity { waiting.new.capacity ≡ waiting.old.capacity }
+    ensures processor { (s : Standing) → Stands cpu.old s → Stands cpu.new (with_lines s bus.new) }
+{
+    draw_row(bus, waiting);
+    give_lines(cpu, bus);
+}

@@ -1,0 +1,133 @@
+ghost use Rattle.std.specs.Prelude.{◌≡◌, ℕ, ◌<◌, ◌^◌, Option, Some, IsTrue, IsSome};
+ghost use Rattle.cpu_modes.specs.Plan.{gets_byte, is_write, is_inner};
+ghost use Rattle.cpu65816.specs.Instruction.{Standing, at_reset, moved_on};
+ghost use Rattle.cpu65816.specs.Stands.{Stands, access_of};
+ghost use Rattle.dma_hdma.specs.Channels.{due_of as transfer_of};
+ghost use Rattle.dma_hdma.specs.declared.moves.Move.{Move};
+ghost use Rattle.console_bus.specs.Places.{place_at, place_byte};
+ghost use Rattle.console_bus.specs.Happenings.{was_reset};
+ghost use Rattle.console_steps.specs.World.{with_lines, after_move, after_read, after_write};
+
+use console_bus::Bus;
+use cpu65816::Cpu;
+use dma_hdma::Move;
+
+/// The processor is given the levels of its lines.
+#[inline(always)]
+pub fn give_lines(cpu: &mut Cpu, bus: &Bus)
+    ensures { (s : Standing) → Stands cpu.old s → Stands cpu.new (with_lines s bus.now) }
+{
+    let (nmi, irq) = bus.lines();
+    cpu.signal(nmi, irq);
+}
+
+/// A byte is read at an address, and goes over the data bus.
+#[inline(always)]
+fn take_byte(bus: &mut Bus, addr: u32, got: u8) -> u8
+    ensures byte { result ≡ place_byte bus.old (place_at bus.old.board addr) got }
+    ensures rest { bus.new ≡ after_read bus.old (place_at bus.old.board addr) result }
+{
+    let place = bus.place(addr);
+    let byte = bus.read(place, got);
+    bus.put(byte);
+    byte
+}
+
+/// A byte is written at an address, and goes over the data bus.
+#[inline(always)]
+fn put_byte(bus: &mut Bus, addr: u32, v: u8)
+    ensures { bus.new ≡ after_write bus.old (place_at bus.old.board addr) v }
+{
+    let place = bus.place(addr);
+    bus.write(place, v);
+    bus.put(v);
+}
+
+/// The processor reads a byte, as an opcode or not.
+#[inline(always)]
+pub fn make_read(cpu: &mut Cpu, bus: &mut Bus, addr: u32, got: u8)
+    requires { IsTrue (gets_byte (access_of cpu.old)) }
+    ensures rest { let place = place_at bus.old.board addr in bus.new ≡ after_read bus.old place (place_byte bus.old place got) }
+    ensures processor { let place = place_at bus.old.board addr in (s : Standing) → Stands cpu.old s → Stands cpu.new (with_lines (moved_on s (place_byte bus.old place got)) bus.new) }
+{
+    let byte = take_byte(bus, addr, got);
+    cpu.took(byte);
+    give_lines(cpu, bus);
+}
+
+/// The processor writes a byte.
+#[inline(always)]
+pub fn make_write(cpu: &mut Cpu, bus: &mut Bus, addr: u32, v: u8)
+    requires { IsTrue (is_write (access_of cpu.old)) }
+    ensures rest { bus.new ≡ after_write bus.old (place_at bus.old.board addr) v }
+    ensures processor { (s : Standing) → Stands cpu.old s → Stands cpu.new (with_lines (moved_on s 0) bus.new) }
+{
+    put_byte(bus, addr, v);
+    cpu.wrote();
+    give_lines(cpu, bus);
+}
+
+/// The processor makes an internal cycle.
+#[inline(always)]
+pub fn make_inner(cpu: &mut Cpu, bus: &Bus)
+    requires { IsTrue (is_inner (access_of cpu.old)) }
+    ensures { (s : Standing) → Stands cpu.old s → Stands cpu.new (with_lines (moved_on s 0) bus.now) }
+{
+    cpu.idle();
+    give_lines(cpu, bus);
+}
+
+/// A byte of a transfer goes from the A side to a register of the B bus.
+fn move_to_b(bus: &mut Bus, from: u32, port: u8)
+    requires { IsSome (transfer_of bus.old.channels) }
+    ensures { (got : ℕ) → bus.new ≡ after_move bus.old (Move.ToB from port) got }
+{
+    let byte = bus.take(from);
+    bus.put(byte);
+    bus.write_register(port, byte);
+    bus.transferred(byte);
+}
+
+/// A byte of a transfer goes from a register of the B bus to the A side.
+fn move_to_a(bus: &mut Bus, port: u8, to: u32, got: u8)
+    requires { IsSome (transfer_of bus.old.channels) }
+    ensures { bus.new ≡ after_move bus.old (Move.ToA port to) got }
+{
+    let byte = bus.read_register(port, got);
+    bus.put(byte);
+    bus.give(to, byte);
+    bus.transferred(byte);
+}
+
+/// A byte of a table is taken from the A side.
+fn move_load(bus: &mut Bus, from: u32)
+    requires { IsSome (transfer_of bus.old.channels) }
+    ensures { (got : ℕ) → bus.new ≡ after_move bus.old (Move.Load from) got }
+{
+    let byte = bus.take(from);
+    bus.put(byte);
+    bus.transferred(byte);
+}
+
+/// The byte of a transfer that is due is moved.
+#[inline(always)]
+pub fn make_move(bus: &mut Bus, due: Move, got: u8)
+    requires { transfer_of bus.old.channels ≡ Some due }
+    ensures { bus.new ≡ after_move bus.old due got }
+{
+    match due {
+        Move::ToB { from, port } => move_to_b(bus, from, port),
+        Move::ToA { port, to } => move_to_a(bus, port, to, got),
+        Move::Load { from } => move_load(bus, from),
+    }
+}
+
+/// The reset that was due is made.
+pub fn make_reset(cpu: &mut Cpu, bus: &mut Bus)
+    ensures rest { bus.new ≡ was_reset bus.old }
+    ensures processor { Stands cpu.new (with_lines at_reset bus.new) }
+{
+    bus.reset();
+    *cpu = Cpu::new();
+    give_lines(cpu, bus);
+}

@@ -1,0 +1,48 @@
+ghost use Rattle.std.specs.Prelude.{◌≡◌, ◌≢◌};
+ghost use Rattle.beam.specs.declared.events.Event.{Event};
+ghost use Rattle.beam.specs.declared.events.Event.TheVariants as events;
+ghost use Rattle.cpu65816.specs.Instruction.{Standing};
+ghost use Rattle.cpu65816.specs.Stands.{Stands};
+ghost use Rattle.console_bus.specs.Happenings.{happened};
+ghost use Rattle.console_steps.specs.World.{with_lines};
+
+use crate::effects::give_lines;
+use beam::Event;
+use console_bus::Bus;
+use cpu65816::Cpu;
+
+/// A line begins, and with line 0 a frame.
+#[inline(always)]
+fn begin_line(bus: &mut Bus)
+    ensures { bus.new ≡ happened bus.old events.Line }
+{
+    if bus.line() == 0 {
+        bus.begin_frame();
+    }
+}
+
+/// What an event does, but for a row that is drawn.
+fn happen_on_bus(bus: &mut Bus, event: Event)
+    requires { event ≢ events.Draw }
+    ensures { bus.new ≡ happened bus.old event }
+{
+    match event {
+        Event::Line => begin_line(bus),
+        Event::Blank => bus.begin_blank(),
+        Event::HdmaFrame => bus.begin_hdma(),
+        Event::Refresh => bus.begin_refresh(),
+        Event::Draw => unreachable!(),
+        Event::HdmaLine => bus.begin_hdma_line(),
+        Event::Timer => bus.fire(),
+    }
+}
+
+/// An event has happened, and the processor is given the levels again.
+pub fn happen(cpu: &mut Cpu, bus: &mut Bus, event: Event)
+    requires { event ≢ events.Draw }
+    ensures rest { bus.new ≡ happened bus.old event }
+    ensures processor { (s : Standing) → Stands cpu.old s → Stands cpu.new (with_lines s bus.new) }
+{
+    happen_on_bus(bus, event);
+    give_lines(cpu, bus);
+}

@@ -1,0 +1,101 @@
+ghost use Rattle.std.specs.Prelude.{◌≡◌, ◌≢◌, ◌+◌, ◌*◌, ◌-◌, ◌<◌, ◌≤◌, ◌++◌, ◌==◌, ◌&&◌, ◌||◌, nat_lt, nat_le, ℕ, Bool, IsTrue, List, [], length, if◌then◌else◌};
+ghost use Rattle.beam.specs.Events.{one_if, events_of};
+ghost use Rattle.beam.specs.declared.events.Event.{Event};
+ghost use Rattle.beam.specs.declared.events.Event.TheVariants as events;
+ghost use Rattle.console_steps.specs.World.{World, after_events, bytes_of_events, after_clocks, bytes_in};
+ghost use Rattle.console_steps.specs.Draws.{room_for};
+ghost use Rattle.console_steps.specs.Parts.{first_of, last_of};
+ghost use Rattle.console_steps.specs.Stands.{IsAt};
+
+use crate::drawing::draw;
+use crate::happening::happen;
+use beam::{Event, Happens};
+use circular_buffer::HeapCircularBuffer;
+use console_bus::Bus;
+use cpu65816::Cpu;
+
+/// An event that comes or not, but for a row that is drawn.
+fn pass_event(cpu: &mut Cpu, bus: &mut Bus, comes: bool, event: Event)
+    requires { event ≢ events.Draw }
+    ensures at { (w : World) → IsAt cpu.old bus.old w → IsAt cpu.new bus.new (after_events w (one_if comes event)) }
+    ensures none { (w : World) → bytes_of_events w (one_if comes event) ≡ [] }
+    ensures beam { bus.new.beam ≡ bus.old.beam }
+{
+    if comes {
+        happen(cpu, bus, event);
+    }
+}
+
+/// A row that is drawn or not.
+fn pass_row(cpu: &mut Cpu, bus: &mut Bus, waiting: &mut HeapCircularBuffer<u8>, comes: bool)
+    requires first { IsTrue comes → 1 ≤ bus.old.beam.v }
+    requires last { IsTrue comes → bus.old.beam.v ≤ 239 }
+    requires room { IsTrue comes → length waiting.old.items + 1024 ≤ waiting.old.capacity }
+    ensures at { (w : World) → IsAt cpu.old bus.old w → IsAt cpu.new bus.new (after_events w (one_if comes events.Draw)) }
+    ensures row { (w : World) → IsAt cpu.old bus.old w → waiting.new.items ≡ waiting.old.items ++ bytes_of_events w (one_if comes events.Draw) }
+    ensures size { length waiting.new.items ≡ length waiting.old.items + (if comes then 1024 else 0) }
+    ensures capacity { waiting.new.capacity ≡ waiting.old.capacity }
+    ensures beam { bus.new.beam ≡ bus.old.beam }
+{
+    if comes {
+        draw(cpu, bus, waiting);
+    }
+}
+
+/// The events of a place before a row is drawn: line, blank, HDMA of a frame, refresh.
+fn pass_first(cpu: &mut Cpu, bus: &mut Bus, happens: Happens)
+    ensures at { (w : World) → IsAt cpu.old bus.old w → IsAt cpu.new bus.new (after_events w (first_of happens)) }
+    ensures none { (w : World) → bytes_of_events w (first_of happens) ≡ [] }
+    ensures beam { bus.new.beam ≡ bus.old.beam }
+{
+    pass_event(cpu, bus, happens.line, Event::Line);
+    pass_event(cpu, bus, happens.blank, Event::Blank);
+    pass_event(cpu, bus, happens.hdma_frame, Event::HdmaFrame);
+    pass_event(cpu, bus, happens.refresh, Event::Refresh);
+}
+
+/// The events of a place after a row is drawn: HDMA of a line, the timer.
+fn pass_last(cpu: &mut Cpu, bus: &mut Bus, happens: Happens)
+    ensures at { (w : World) → IsAt cpu.old bus.old w → IsAt cpu.new bus.new (after_events w (last_of happens)) }
+    ensures none { (w : World) → bytes_of_events w (last_of happens) ≡ [] }
+    ensures beam { bus.new.beam ≡ bus.old.beam }
+{
+    pass_event(cpu, bus, happens.hdma_line, Event::HdmaLine);
+    pass_event(cpu, bus, happens.timer, Event::Timer);
+}
+
+/// The events of the place where the beam stands, in their order.
+fn pass_place(cpu: &mut Cpu, bus: &mut Bus, waiting: &mut HeapCircularBuffer<u8>, happens: Happens)
+    requires first { IsTrue happens.draw → 1 ≤ bus.old.beam.v }
+    requires last { IsTrue happens.draw → bus.old.beam.v ≤ 239 }
+    requires room { IsTrue happens.draw → length waiting.old.items + 1024 ≤ waiting.old.capacity }
+    ensures at { (w : World) → IsAt cpu.old bus.old w → IsAt cpu.new bus.new (after_events w (events_of happens)) }
+    ensures bytes { (w : World) → IsAt cpu.old bus.old w → waiting.new.items ≡ waiting.old.items ++ bytes_of_events w (events_of happens) }
+    ensures size { length waiting.new.items ≡ length waiting.old.items + (if happens.draw then 1024 else 0) }
+    ensures capacity { waiting.new.capacity ≡ waiting.old.capacity }
+    ensures beam { bus.new.beam ≡ bus.old.beam }
+{
+    pass_first(cpu, bus, happens);
+    pass_row(cpu, bus, waiting, happens.draw);
+    pass_last(cpu, bus, happens);
+}
+
+/// Lets so many clocks pass, with the events of the beam that they bring and the rows that these emit.
+pub fn pass(cpu: &mut Cpu, bus: &mut Bus, waiting: &mut HeapCircularBuffer<u8>, clocks: u16)
+    requires step { clocks ≤ 40 }
+    requires room { length waiting.old.items + room_for bus.old.beam.h clocks ≤ waiting.old.capacity }
+    ensures at { (w : World) → IsAt cpu.old bus.old w → IsAt cpu.new bus.new (after_clocks w clocks) }
+    ensures bytes { (w : World) → IsAt cpu.old bus.old w → waiting.new.items ≡ waiting.old.items ++ bytes_in w clocks }
+    ensures size { length waiting.new.items ≤ length waiting.old.items + room_for bus.old.beam.h clocks }
+    ensures capacity { waiting.new.capacity ≡ waiting.old.capacity }
+    ensures region { bus.new.beam.region ≡ bus.old.beam.region }
+{
+    let left = bus.left();
+    if clocks < left {
+        bus.go_on(clocks);
+        return;
+    }
+    let happens = bus.reach();
+    pass_place(cpu, bus, waiting, happens);
+    pass(cpu, bus, waiting, clocks - left);
+}
