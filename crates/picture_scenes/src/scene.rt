@@ -73,15 +73,15 @@ pub fn read_holds(ppu: &mut Ppu, line: &str) -> bool {
 }
 
 /// The parts of a line `r ROW OVER DOTS`.
-fn row_parts(line: &str) -> (u32, u32, &str) {
+fn row_parts(line: &str) -> (u32, u32, &[u8]) {
     let mut row = 0u32;
     let mut flags = 0u32;
-    let mut dots = "";
+    let mut dots = "".as_bytes();
     for (k, word) in line.split(' ').skip(1).take(3).enumerate() {
         match k {
             0 => row = decimal(word.as_bytes()),
             1 => flags = hexadecimal(word.as_bytes()),
-            _ => dots = word,
+            _ => dots = word.as_bytes(),
         }
     }
     (row, flags, dots)
@@ -98,13 +98,12 @@ pub fn row_number(line: &str) -> Option<u16>
 /// Whether these are the flags and the dots of a line `r ROW OVER DOTS`.
 pub fn row_holds(line: &str, over: Over, drawn: &[u16; 512]) -> bool {
     let (_row, flags, dots) = row_parts(line);
-    let bytes = dots.as_bytes();
-    if bytes.len() != 2048 {
+    if dots.len() != 2048 {
         return false;
     }
     let mut so = over.range == (flags / 16 % 2 == 1) && over.time == (flags % 2 == 1);
     for e in 0..512usize {
-        if drawn[e] as u32 != hexadecimal(&bytes[4 * e..4 * e + 4]) {
+        if drawn[e] as u32 != hexadecimal(&dots[4 * e..4 * e + 4]) {
             so = false;
         }
     }

@@ -101,27 +101,37 @@ fn offsets(p: &Ppu, layer: u8, x: u32) -> (u32, u32)
     }
 }
 
+fn bit(word: u32, n: u32) -> u32
+    requires { n < 16 }
+    ensures { result < 2 }
+{
+    (word >> n) % 2
+}
+
+/// The two bits of a word at the pixel `x` from the left.
+fn pair(word: u32, x: u32) -> u32
+    requires { x < 8 }
+    ensures { result < 4 }
+{
+    bit(word, 7 - x) + 2 * bit(word, 15 - x)
+}
+
 /// The value of a tile's pixel, its planes two by two.
 fn value(p: &Ppu, address: u32, depth: u8, x: u32) -> u8
     requires address { address < 1000000 }
     requires x { x < 8 }
 {
-    let mut value = 0u32;
-    if depth >= 2 {
-        let pair = word(p, address);
-        value += pair / (128 >> x) % 2 + 2 * (pair / (32768 >> x) % 2);
-    }
-    if depth >= 4 {
-        let pair = word(p, address + 8);
-        value += 4 * (pair / (128 >> x) % 2) + 8 * (pair / (32768 >> x) % 2);
-    }
-    if depth >= 8 {
-        let third = word(p, address + 16);
-        let fourth = word(p, address + 24);
-        value += 16 * (third / (128 >> x) % 2) + 32 * (third / (32768 >> x) % 2);
-        value += 64 * (fourth / (128 >> x) % 2) + 128 * (fourth / (32768 >> x) % 2);
-    }
-    (value % 256) as u8
+    let first = pair(word(p, address), x);
+    let second = pair(word(p, address + 8), x);
+    let third = pair(word(p, address + 16), x);
+    let fourth = pair(word(p, address + 24), x);
+    let value = match depth {
+        2 => first,
+        4 => first + 4 * second,
+        8 => first + 4 * second + 16 * third + 64 * fourth,
+        _ => 0,
+    };
+    value as u8
 }
 
 /// What a background has at the dot `e` (0 to 511) of a row.

@@ -2,7 +2,7 @@
 //!
 //! The scenes come from outside: two other programs agreed on every read and every dot. Each row is drawn
 //! twice, by `ppu_line` and slowly by `picture_slow`, and both have to be so. The program prints the scene of
-//! each line that differs, and last how many there were.
+//! each line that differs, counted from 1 in its file, and last how many there were.
 #![tactic(auto)]
 
 use picture_scenes::{acts, read_holds, renew, row_holds, row_number};
@@ -77,14 +77,14 @@ fn main(rt: HostRuntime) -> io::Result<()> {
     for name in env::args(&rt)?.skip(1) {
         let text = fs::read_to_string(&rt, name.as_str())?;
         let mut unit = new_unit(&rt);
-        let mut title = "";
+        let mut scene = 0u64;
         for line in text.lines() {
             if line.starts_with("scene ") {
-                title = line;
+                scene = scene.saturating_add(1);
                 unit = new_unit(&rt);
             } else if let Some((ppu, tiles)) = &mut unit {
                 if !does(ppu, tiles, &mut tally, line) {
-                    println!(rt; "differs: {title}")?;
+                    println!(rt; "differs: scene {scene}")?;
                 }
             }
         }
