@@ -1,2 +1,3 @@
 pub mod LegGoesOn
+pub mod Refusals
 pub mod Tries
