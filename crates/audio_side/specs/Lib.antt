@@ -1,2 +1,7 @@
-pub mod Quiet
-pub mod QuietLaws
+pub mod Timer
+pub mod Clock
+pub mod Board
+pub mod Effect
+pub mod Sound
+pub mod Parts
+pub mod SoundLaws

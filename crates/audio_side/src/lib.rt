@@ -1,9 +1,17 @@
-// The sound side as a machine: the SPC700 with its timers, ports and the S-DSP.
-//
-// Built so far is the machine of a boot ROM of 64 bytes EF (SLEEP): it takes its cycles, touches no
-// port, and emits a silent sample every 32 cycles. Stands on `side_law`, whose trait it implements.
+//! The sound side as a machine: the SPC700 with its memory, boot ROM, timers, ports and the S-DSP.
+//!
+//! Stands on `spc700`, `sdsp_voice` and `sdsp_echo`, and implements `side_law`'s trait `Machine`. One
+//! step is one cycle of the processor, or a reset that takes one cycle; each step is exactly that of
+//! `specs/Sound.antt`. After the access of a cycle the timers tick, and the last of each 32 cycles
+//! makes a sample and emits its four bytes. A caller answers a step whose act is a read of a port
+//! with the incoming byte; the other side's bytes are no part of this machine.
 #![tactic(auto)]
 
+mod board;
+mod clock;
+mod parts;
 mod side;
+mod step;
+mod timer;
 
 pub use side::AudioSide;

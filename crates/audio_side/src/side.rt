@@ -1,65 +1,155 @@
-ghost use Rattle.std.specs.Prelude.{◌≡◌, [], None, IfOk};
-ghost use Rattle.snes_defs.specs.declared.region.Region.TheVariants.{Ntsc};
-ghost use Rattle.audio_side.specs.Quiet.{sound_start};
+ghost use Rattle.std.specs.Prelude.{◌≡◌, ◌++◌, [], ◌∷◌, All, IfOk, OnOk, length, if◌then◌else◌};
+ghost use Rattle.audio_side.specs.Board.{table_of, zeros};
+ghost use Rattle.audio_side.specs.Clock.{reset_frames};
+ghost use Rattle.audio_side.specs.Sound.{IsRunning, StandsAt, sound_start};
 
+use crate::board::Hardware;
+use crate::clock::CycleClock;
+use crate::parts::Parts;
+use crate::step::fresh;
+use crate::timer::stopped_timer;
 use circular_buffer::HeapCircularBuffer;
-use clock_ratio::SOUND_RATE;
+use sdsp_echo::Echo;
+use sdsp_voice::Voices;
 use side_law::Machine;
-use snes_defs::{Act, Job, NoMemory, Region};
+use snes_defs::{Act, Job, NoMemory, Region, Spans, Table};
 use std::alloc::Global;
 use std::marker::Model;
-use unbuilt_part::Part;
-
-/// One sample: left, then right, each as two bytes, all zeros.
-const SILENCE: [u8; 4] = [0; 4];
 
 /// The sound side of a console.
 #[derive(Drop)]
 pub struct AudioSide {
-    /// The number of the next cycle, from 0.
-    cycle: u64,
-    waiting: HeapCircularBuffer<u8>,
+    parts: Parts,
 }
 
 impl Model for AudioSide {
-    ghost use Rattle.std.specs.Prelude.{◌≡◌, ◌≤◌, ◌+◌, ◌*◌, ◌^◌, length};
-    ghost use Rattle.audio_side.specs.Quiet.{AudioValue};
+    ghost use Rattle.std.specs.Prelude.{◌≡◌, ◌≤◌, length};
+    ghost use Rattle.audio_side.specs.Sound.{AudioValue, IsRunning};
 
     ghost Value = { AudioValue };
 
-    ghost view = { λ s. record { state = record { cycle = s.cycle }; waiting = s.waiting.items } };
+    ghost view = { λ s. record { processor = s.parts.spc; board = s.parts.board; clock = s.parts.clock; waiting = s.parts.waiting.items } };
 
-    ghost invariant = { λ s. (118125 * s.cycle ≤ 2 ^ 62 + 118125) × (s.waiting.capacity ≡ 4096) × (length s.waiting.items ≤ 4096) };
+    ghost invariant = { λ s. IsRunning s.parts.spc × (s.parts.waiting.capacity ≡ 4096) × (length s.parts.waiting.items ≤ 4096) };
+}
+
+/// A frame put at the end of a list, if it has a reset.
+fn add_frame(frames: &mut Vec<u32>, frame: u32, has_reset: bool) -> Result<(), NoMemory>
+    ensures { OnOk result (frames.new.items ≡ frames.old.items ++ (if has_reset then frame ∷ [] else [])) }
+{
+    if has_reset {
+        match frames.push(frame) {
+            Ok(()) => Ok(()),
+            Err(_) => Err(NoMemory),
+        }
+    } else {
+        Ok(())
+    }
+}
+
+/// The frames, from 0 to 36,000, that a script begins with a reset, in order.
+#[tactic(auto, using(crate::proofs::Frames::no_frame, crate::proofs::Frames::one_more_frame))]
+fn frames_with_reset(alloc: Global, script: &Spans) -> Result<Vec<u32>, NoMemory>
+    ensures { IfOk result (λ v. v.items ≡ reset_frames script.now.resets 36001) }
+{
+    let mut frames = Vec::new(alloc);
+    'frames: for frame in 0..36001 {
+        add_frame(&mut frames, frame, script.resets(frame))?;
+    }
+    Ok(frames)
+}
+
+/// The bytes of RAM.
+const RAM: usize = 65_536;
+
+/// RAM of zeros.
+#[tactic(auto, using(crate::proofs::Zeros::zeros_is))]
+fn empty_ram(alloc: Global) -> Result<Vec<u8>, NoMemory>
+    ensures zeros { IfOk result (λ ram. ram.items ≡ zeros) }
+    ensures size { IfOk result (λ ram. length ram.items ≡ 65536) }
+{
+    zeroed(alloc, RAM)
+}
+
+/// So many zeros.
+fn zeroed(alloc: Global, size: usize) -> Result<Vec<u8>, NoMemory>
+    ensures size { IfOk result (λ bytes. length bytes.items ≡ size) }
+    ensures zeros { IfOk result (λ bytes. All (λ b. b ≡ 0) bytes.items) }
+{
+    match vec![in alloc; 0u8; size] {
+        Ok(bytes) => Ok(bytes),
+        Err(_) => Err(NoMemory),
+    }
+}
+
+/// A table of its own with the same numbers.
+fn copied(table: &Table) -> Table
+    ensures { result ≡ table_of table.now }
+{
+    let mut numbers = [0u16; 512];
+    'numbers: for i in 0..512 {
+        numbers[i] = table.at(i);
+    }
+    Table::of(numbers)
 }
 
 impl AudioSide {
-    /// The sound side of a job in Ntsc before its first cycle. It takes the room for the bytes that wait,
-    /// and refuses only for want of memory.
-    pub fn new(alloc: Global, _job: &Job) -> Result<AudioSide, NoMemory>
-        requires { _job.now.region ≡ Ntsc }
-        ensures starts { IfOk result (λ s. s.state ≡ sound_start) }
+    /// The sound side of a job before its first cycle. It takes the room for RAM and for the bytes
+    /// that wait, and refuses only for want of memory.
+    #[tactic(auto, unfolding(crate::specs::Board::board_at_start))]
+    pub fn new(alloc: Global, job: &Job) -> Result<AudioSide, NoMemory>
+        ensures starts { IfOk result (λ s. StandsAt s (sound_start job.now.region job.now.script.resets job.now.boot job.now.table)) }
         ensures empty { IfOk result (λ s. s.waiting ≡ []) }
     {
-        match HeapCircularBuffer::with_capacity(alloc, 4096) {
-            Ok(waiting) => Ok(AudioSide { cycle: 0, waiting }),
-            Err(_) => Err(NoMemory),
-        }
+        let resets = frames_with_reset(alloc, &job.script)?;
+        let ram = empty_ram(alloc)?;
+        let waiting = match HeapCircularBuffer::with_capacity(alloc, 4096) {
+            Ok(waiting) => waiting,
+            Err(_) => return Err(NoMemory),
+        };
+        let board = Hardware {
+            boot: job.boot,
+            table: copied(&job.table),
+            ram,
+            voices: Voices::new(),
+            echo: Echo::new(),
+            timer0: stopped_timer(),
+            timer1: stopped_timer(),
+            timer2: stopped_timer(),
+            boot_seen: true,
+            address: 0,
+        };
+        let clock = CycleClock {
+            region: job.region,
+            resets,
+            cycle: 0,
+        };
+        let spc = fresh(board.entry());
+        Ok(AudioSide {
+            parts: Parts {
+                spc,
+                board,
+                clock,
+                waiting,
+            },
+        })
     }
 
-    /// The first part that isn't built and that a step has met: there is none.
-    pub fn unbuilt(&self) -> Option<Part>
-        ensures { result ≡ None }
+    /// The processor stands for some instruction.
+    #[inline(always)]
+    fn running(&self)
+        ensures { IsRunning self.now.processor }
     {
-        None
+        let _spc = self.parts.spc;
     }
 }
 
 impl Machine for AudioSide {
     ghost use Rattle.std.specs.Prelude.{◌*◌};
-    ghost use Rattle.snes_defs.specs.declared.region.Region.TheVariants.{Ntsc};
     ghost use Rattle.std.proofs.Common.{rules};
-    ghost use Rattle.audio_side.specs.Quiet.{SoundState, IsSound, sound_moves, StandsAt};
-    ghost use Rattle.audio_side.specs.QuietLaws.{sound_is_lawful};
+    ghost use Rattle.audio_side.specs.Clock.{stamp_now};
+    ghost use Rattle.audio_side.specs.Sound.{SoundState, IsSound, sound_moves, StandsAt};
+    ghost use Rattle.audio_side.specs.SoundLaws.{sound_is_lawful, region_stands, stamp_stands};
 
     const CAP: usize = 4096;
 
@@ -77,47 +167,45 @@ impl Machine for AudioSide {
 
     ghost stands = { StandsAt };
 
-    ghost region_of = { λ s. Ntsc };
+    ghost region_of = { λ s. s.clock.region };
 
-    ghost stamp_of = { λ s. 118125 * s.state.cycle };
+    ghost stamp_of = { λ s. stamp_now s.clock };
 
     ghost waiting = { λ s. s.waiting };
 
     #[inline(always)]
     fn region(&self) -> Region {
-        Region::Ntsc
+        self.parts.clock.region
     }
 
     #[inline(always)]
     fn stamp(&self) -> u64 {
-        SOUND_RATE * self.cycle
+        self.running();
+        self.parts.clock.stamp()
     }
 
     #[inline(always)]
     fn act(&self) -> Act {
-        Act::Quiet
+        self.parts.act()
     }
 
     #[inline(always)]
-    fn step(&mut self, _got: u8) {
-        if self.cycle % 32 == 31 {
-            self.waiting.fill_from_slice(&SILENCE);
-        }
-        self.cycle += 1;
+    fn step(&mut self, got: u8) {
+        self.parts.step(got);
     }
 
     #[inline(always)]
     fn pending(&self) -> usize {
-        self.waiting.len()
+        self.parts.waiting.len()
     }
 
     fn drain(&mut self, into: &mut [u8]) -> usize {
-        self.waiting.read_into(into)
+        self.parts.waiting.read_into(into)
     }
 
-    ghost stands_valid = { λ x m h. tt };
+    ghost stands_valid = { region_stands };
 
-    ghost stands_stamp = { λ x m h. Prim.search rules };
+    ghost stands_stamp = { stamp_stands };
 
     ghost lawful = { sound_is_lawful };
 }

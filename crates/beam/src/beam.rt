@@ -72,6 +72,7 @@ impl Beam {
     pub fn left(&self) -> u16
         ensures clocks { result ≡ clocks_left self.now }
         ensures some { 0 < result }
+        ensures on_line { self.now.h + result ≤ 1364 }
     {
         self.left
     }
@@ -94,7 +95,9 @@ impl Beam {
         ensures moved { (overscan : Bool) → self.new ≡ beam_after overscan self.old clocks }
         ensures none { (overscan : Bool) → passed overscan self.old clocks ≡ [] }
         ensures closer { clocks_left self.new ≡ clocks_left self.old - clocks }
+        ensures clock { self.new.h ≡ self.old.h + clocks }
         ensures same_timer { self.new.timer ≡ self.old.timer }
+        ensures same_region { self.new.region ≡ self.old.region }
     {
         self.left -= clocks;
     }
@@ -107,7 +110,9 @@ impl Beam {
         ensures none_before { passed overscan self.old (clocks_left self.old - 1) ≡ [] }
         ensures last { result ≡ happens_next overscan (beam_after overscan self.old (clocks_left self.old - 1)) }
         ensures last_moved { self.new ≡ beam_next overscan (beam_after overscan self.old (clocks_left self.old - 1)) }
+        ensures clock { self.new.h ≡ (if self.old.h + clocks_left self.old == 1364 then 0 else self.old.h + clocks_left self.old) }
         ensures same_timer { self.new.timer ≡ self.old.timer }
+        ensures same_region { self.new.region ≡ self.old.region }
     {
         let (v, h) = place_of(self.region, self.v, self.place);
         let happens = happens(self.timer, overscan, self.blank, v, h);

@@ -1,3 +1,4 @@
+-- How long an access lasts. Source: fullsnes, "SNES Memory Speed".
 use Rattle.std.specs.Prelude.{ℕ, ◌/◌, ◌%◌, Bool, nat_lt, ◌&&◌, if◌then◌else◌}
 
 -- whether MEMSEL makes the ROM of this bank fast: banks 80 to FF

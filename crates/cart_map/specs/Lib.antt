@@ -1,3 +1,5 @@
+pub mod Accept
 pub mod Clocks
+pub mod Fold
 pub mod Place
 pub mod Plain

@@ -1,15 +1,23 @@
-// The cartridge as the processor sees it: which files are taken, what lies at each of the 2^24
+// The cartridge as the processor sees it: which files are cartridges, what lies at each of the 2^24
 // addresses, and how many master clocks an access there lasts.
 //
-// Taken so far are plain cartridges: LoROM, 32 KiB, no RAM and no coprocessor.
+// Stands on the plain types. `accept` takes LoROM and HiROM cartridges with up to 128 KiB of RAM, and
+// refuses every other file by the first rule that fails. `place` and `clocks` are the tables of the
+// address map. `plain` and `plain_place` know the smallest cartridges alone, LoROM of 32 KiB.
 #![tactic(auto)]
 
-mod accept;
+mod acceptance;
+mod fold;
+mod header;
 mod map;
 mod places;
+mod plain_cart;
+mod refused;
 mod speed;
 
-pub use accept::plain;
-pub use map::place;
+pub use acceptance::accept;
+pub use map::{place, place_in};
 pub use places::Place;
+pub use plain_cart::{plain, plain_place};
+pub use refused::{CartEnd, CartRefused};
 pub use speed::clocks;

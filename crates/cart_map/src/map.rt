@@ -1,40 +1,51 @@
-ghost use Rattle.std.specs.Prelude.{◌≡◌, ◌^◌, ◌<◌};
-ghost use Rattle.cart_map.specs.Place.{place_of, system_place_of, IsInMemory};
-ghost use Rattle.cart_map.specs.Plain.{IsPlain};
+ghost use Rattle.std.specs.Prelude.{◌≡◌, ◌^◌, ◌/◌, ◌%◌, ◌<◌, ◌≤◌, length};
+ghost use Rattle.cart_map.specs.Place.{place_of, bank_place_of, system_place_of, lorom_place_of, hirom_place_of, ram_place_of, IsInside};
 
+use crate::fold::folded;
 use crate::places::Place;
-use snes_defs::Cart;
+use snes_defs::{Cart, MapKind};
 
-/// What lies at this 24-bit address of a console with a plain cartridge.
+/// What lies at this 24-bit address of a console with this cartridge.
+#[inline(always)]
+pub fn place(cart: &Cart, addr: u32) -> Place
+    requires { addr < 2 ^ 24 }
+    ensures place { result ≡ place_of cart.now addr }
+    ensures inside { IsInside (length cart.now.rom) cart.now.ram result }
+{
+    place_in(cart.map, cart.rom.get().len(), cart.ram, addr)
+}
+
+/// What lies at this 24-bit address of a console whose cartridge has this map, with so many bytes of ROM,
+/// at least one, and of RAM.
 ///
 /// Source: fullsnes, "SNES Memory Map".
 #[inline(always)]
-pub fn place(cart: &Cart, addr: u32) -> Place
-    requires size { addr < 2 ^ 24 }
-    requires built { IsPlain cart.now }
-    ensures place { result ≡ place_of addr }
-    ensures in_memory { IsInMemory result }
+pub fn place_in(map: MapKind, rom: usize, ram: u32, addr: u32) -> Place
+    requires addr { addr < 2 ^ 24 }
+    requires some { 0 < rom }
+    ensures place { result ≡ bank_place_of map rom ram (addr / 65536) (addr % 65536) }
+    ensures inside { IsInside rom ram result }
 {
     let bank = addr / 65536;
     let offset = addr % 65536;
     if bank == 0x7e || bank == 0x7f {
         return Place::Wram(addr % 0x20000);
     }
-    if offset >= 0x8000 {
-        return Place::Rom(offset % 0x8000);
+    if bank % 128 < 64 && offset < 0x6000 {
+        return system_place(offset as u16);
     }
-    if bank % 128 >= 64 {
-        return Place::Open;
+    match map {
+        MapKind::LoRom => lorom_place(rom, ram, bank, offset),
+        MapKind::HiRom => hirom_place(rom, ram, bank, offset),
     }
-    system_place(offset as u16)
 }
 
-/// The lower half of banks 00 to 3F and 80 to BF.
+/// The console's own places, at 0000 to 5FFF of banks 00 to 3F and 80 to BF.
 #[inline(always)]
-fn system_place(offset: u16) -> Place
+pub(crate) fn system_place(offset: u16) -> Place
     requires { offset < 32768 }
     ensures place { result ≡ system_place_of offset }
-    ensures in_memory { IsInMemory result }
+    ensures inside { IsInside 0 0 result }
 {
     match offset / 256 {
         0..0x20 => Place::Wram(offset as u32),
@@ -43,5 +54,58 @@ fn system_place(offset: u16) -> Place
         0x42 if offset < 0x4220 => Place::Cpu(offset),
         0x43 if offset < 0x4380 => Place::Cpu(offset),
         _ => Place::Open,
+    }
+}
+
+/// What a LoROM cartridge shows.
+fn lorom_place(rom: usize, ram: u32, bank: u32, offset: u32) -> Place
+    requires some { 0 < rom }
+    requires bank { bank < 256 }
+    requires offset { offset < 65536 }
+    ensures place { result ≡ lorom_place_of rom ram bank offset }
+    ensures inside { IsInside rom ram result }
+{
+    if offset >= 0x8000 {
+        return Place::Rom(folded(rom, bank % 128 * 0x8000 + offset % 0x8000));
+    }
+    match bank {
+        0x70..=0x7d | 0xf0..=0xff => ram_place(ram, bank % 16 * 0x8000 + offset),
+        _ => Place::Open,
+    }
+}
+
+/// What a HiROM cartridge shows.
+fn hirom_place(rom: usize, ram: u32, bank: u32, offset: u32) -> Place
+    requires some { 0 < rom }
+    requires bank { bank < 256 }
+    requires offset { offset < 65536 }
+    ensures place { result ≡ hirom_place_of rom ram bank offset }
+    ensures inside { IsInside rom ram result }
+{
+    match bank {
+        0x40..=0x7d | 0xc0..=0xff => return Place::Rom(folded(rom, bank % 64 * 0x1_0000 + offset)),
+        _ => {}
+    }
+    if offset >= 0x8000 {
+        return Place::Rom(folded(rom, bank % 64 * 0x1_0000 + offset));
+    }
+    match bank {
+        0x20..=0x3f | 0xa0..=0xbf if offset >= 0x6000 => ram_place(
+            ram,
+            bank % 32 * 0x2000 + offset % 0x2000,
+        ),
+        _ => Place::Open,
+    }
+}
+
+/// A byte of the cartridge's RAM, if it has any.
+fn ram_place(ram: u32, index: u32) -> Place
+    ensures place { result ≡ ram_place_of ram index }
+    ensures inside { IsInside 0 ram result }
+{
+    if ram == 0 {
+        Place::Open
+    } else {
+        Place::Ram(index % ram)
     }
 }

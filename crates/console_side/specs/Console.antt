@@ -10,7 +10,7 @@ use Rattle.unbuilt_part.specs.declared.part.Part.TheVariants as part
 use Rattle.unbuilt_part.specs.declared.part.Part.TheVariants.{Opcode as UnbuiltOpcode, Place as UnbuiltPlace}
 use Rattle.cart_map.specs.declared.places.Place.{Place}
 use Rattle.cart_map.specs.declared.places.Place.TheVariants.{Wram, Rom, Ram, BBus, Cpu, Open}
-use Rattle.cart_map.specs.Place.{place_of}
+use Rattle.cart_map.specs.Plain.{plain_place_of as place_of}
 use Rattle.cart_map.specs.Clocks.{clocks_of}
 use Rattle.side_law.specs.Moves.{Moves}
 use Rattle.console_side.specs.declared.processor.Core.{Core}

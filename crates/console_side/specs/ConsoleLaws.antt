@@ -7,7 +7,7 @@ use Rattle.snes_defs.specs.declared.region.Region.TheVariants.{Ntsc, Pal}
 use Rattle.snes_defs.specs.Bytes.{AreBytes}
 use Rattle.cart_map.specs.declared.places.Place.{Place}
 use Rattle.cart_map.specs.declared.places.Place.TheVariants.{Wram, Rom, Ram, BBus, Cpu, Open}
-use Rattle.cart_map.specs.Place.{place_of}
+use Rattle.cart_map.specs.Plain.{plain_place_of as place_of}
 use Rattle.cart_map.specs.Clocks.{clocks_of}
 use Rattle.side_law.specs.Moves.{IsLawful, IsAtPorts}
 use Rattle.console_side.specs.declared.processor.Core.{Core}

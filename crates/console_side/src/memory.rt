@@ -1,9 +1,9 @@
 ghost use Rattle.std.specs.Prelude.{◌≡◌, length, All, IfOk};
 ghost use Rattle.cart_map.specs.Plain.{IsPlain};
-ghost use Rattle.cart_map.specs.Place.{place_of};
+ghost use Rattle.cart_map.specs.Plain.{plain_place_of as place_of};
 ghost use Rattle.console_side.specs.Memory.{zeros, byte_at, is_built_write};
 
-use cart_map::{Place, place};
+use cart_map::{Place, plain_place as place};
 use snes_defs::{Cart, NoMemory};
 use std::alloc::Global;
 

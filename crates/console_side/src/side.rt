@@ -2,7 +2,7 @@ ghost use Rattle.std.specs.Prelude.{◌≡◌, ◌+◌, ◌*◌, ◌^◌, ◌≤
 ghost use Rattle.snes_defs.specs.Bytes.{AreBytes};
 ghost use Rattle.snes_defs.specs.declared.region.Region.TheVariants.{Ntsc};
 ghost use Rattle.cart_map.specs.Plain.{IsPlain};
-ghost use Rattle.cart_map.specs.Place.{place_of};
+ghost use Rattle.cart_map.specs.Plain.{plain_place_of as place_of};
 ghost use Rattle.console_side.specs.Beam.{line_of};
 ghost use Rattle.console_side.specs.Core.{core_after};
 ghost use Rattle.console_side.specs.Picture.{dots_of, dot_of};
@@ -14,7 +14,7 @@ use crate::memory::{byte, takes, work_ram};
 use crate::picture::Picture;
 use crate::processor::{Access, Core, Stage, is_built};
 use crate::steps::Due;
-use cart_map::{Place, clocks, place};
+use cart_map::{Place, clocks, plain_place as place};
 use circular_buffer::HeapCircularBuffer;
 use clock_ratio::CONSOLE_RATE;
 use side_law::Machine;

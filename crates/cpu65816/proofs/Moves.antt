@@ -1,10 +1,14 @@
-use Rattle.std.proofs.Common.{◌≡◌, ℕ, List, [], ◌∷◌, ◌++◌, Option, Some, None, refl, sym, ap, ◌∙◌, subst}
+use Rattle.std.proofs.Common.{◌≡◌, ℕ, Bool, true, false, not, if◌then◌else◌, List, [], ◌∷◌, ◌++◌, Option, Some, None, unwrap_or, refl, sym, ap, ◌∙◌, subst}
+use Rattle.status_bits.specs.StatusBits.{flag}
+use Rattle.cpu_tables.specs.declared.access.Access.{Access}
+use Rattle.cpu_tables.specs.declared.access.Access.TheVariants.{Fetch, Read, Write, Inner}
+use Rattle.cpu_tables.specs.declared.flags.TheConstants.{IRQ_DISABLE}
 use Rattle.cpu_tables.specs.declared.regs.Regs.{Regs}
-use Rattle.cpu_modes.specs.Plan.{Plan, after, follow}
-use Rattle.cpu_modes.specs.Rest.{rest}
-use Rattle.cpu65816.specs.Instruction.{Beginning, Standing, plan_of, left_by, left_of, end_of, ahead_by, registers_by, moved_by, moved_on, chosen, kept_after}
-use Rattle.cpu_modes.specs.declared.micro.Micro.{Micro}
-use Rattle.cpu65816.specs.Stands.{Stands, TakesUp, kept_by}
+use Rattle.cpu_modes.specs.Plan.{Plan, fetches, reads, writes, idles, waits, stops, ends, after, comes, finished, first_access, follow, gets_byte, is_inner, is_write}
+use Rattle.cpu_modes.specs.Rest.{onward, rest}
+use Rattle.cpu_modes.specs.Uses.{use_of}
+use Rattle.cpu65816.specs.Instruction.{Beginning, opcode, irq, Standing, plan_of, left_by, left_of, end_of, ahead, ahead_by, registers_by, moved_by, moved_on, chosen, kept_after}
+use Rattle.cpu65816.specs.Stands.{Stands, TakesUp, access_of, kept_by}
 use Rattle.cpu65816.specs.declared.processor.Cpu.{Cpu}
 
 -- one more access, after all those so far
@@ -18,28 +22,137 @@ left_by-append (Some b) r got byte = follow-append got (plan_of b r) byte
 
 -- one access further, whether the instruction has ended before it or not
 pub Stands-moved_by : (f : Option Regs) (old new : Cpu) (s : Standing) (byte : ℕ) → Stands old s → rest new.micro ≡ after (ahead_by f old.kept old.irq_level (rest old.micro)) byte → new.micro.start ≡ registers_by f old.micro.start → new.kept ≡ kept_by f old.kept old.irq_level → new.nmi_level ≡ old.nmi_level → new.irq_level ≡ old.irq_level → Stands new (moved_by f byte s)
-Stands-moved_by None old new s byte h left start kept nmi irq =
+Stands-moved_by None old new s byte h left start kept nmi_level irq_level =
     record {
       left = left ∙ (ap (λ p. after p byte) h.left ∙ sym (left_by-append s.begun s.start s.got byte));
       start = start ∙ h.start;
       kept = kept ∙ h.kept;
-      nmi_level = nmi ∙ h.nmi_level;
-      irq_level = irq ∙ h.irq_level;
+      nmi_level = nmi_level ∙ h.nmi_level;
+      irq_level = irq_level ∙ h.irq_level;
     }
-Stands-moved_by (Some r) old new s byte h left start kept nmi irq =
+Stands-moved_by (Some r) old new s byte h left start kept nmi_level irq_level =
     let same : chosen old.kept old.irq_level r ≡ chosen s.kept s.irq_level r = ap (λ k. chosen k old.irq_level r) h.kept ∙ ap (λ i. chosen s.kept i r) h.irq_level in
     record {
       left = left ∙ ap (λ b. after (plan_of b r) byte) same;
       start = start;
       kept = kept ∙ (ap (λ b. kept_after b old.kept) same ∙ ap (λ k. kept_after (chosen s.kept s.irq_level r) k) h.kept);
-      nmi_level = nmi ∙ h.nmi_level;
-      irq_level = irq ∙ h.irq_level;
+      nmi_level = nmi_level ∙ h.nmi_level;
+      irq_level = irq_level ∙ h.irq_level;
     }
 
--- what a processor stands for moves on with it: an instruction is taken up, and then an access made
-pub Stands-moved_on : (old mid : Cpu) (micro : Micro) (s : Standing) (byte : ℕ) → Stands old s → TakesUp old mid → rest micro ≡ after (rest mid.micro) byte → micro.start ≡ mid.micro.start → Stands (record mid { micro = micro }) (moved_on s byte)
-Stands-moved_on old mid micro s byte h a left start =
+-- WHERE THE NEXT ACCESS IS NO INTERNAL CYCLE, no interrupt begins: the instruction in hand goes on, or the next opcode is fetched.
+
+-- what a choice between an interrupt and the next opcode comes to
+pub opcode_by_flag : (is_disabled : Bool) (r : Regs) → is_inner (first_access (plan_of (if not is_disabled then irq else opcode) r)) ≡ false → (if not is_disabled then irq else opcode) ≡ opcode
+unfolding use_of
+opcode_by_flag true r h = refl
+opcode_by_flag false r h = let e : true ≡ false = h in cc
+
+pub chosen_opcode : (kept irq_level : Bool) (r : Regs) → is_inner (first_access (plan_of (chosen kept irq_level r) r)) ≡ false → chosen kept irq_level r ≡ opcode
+unfolding use_of
+chosen_opcode true irq_level r h = let e : true ≡ false = h in cc
+chosen_opcode false false r h = refl
+chosen_opcode false true r h = opcode_by_flag (flag r.p IRQ_DISABLE) r h
+
+-- what is next is what the code goes on with, and the lines stay as they are
+pub record GoesOn (kept irq_level : Bool) (p : Plan) : Type 0 where
+  pub left : onward p ≡ ahead kept irq_level p
+  pub start : (r : Regs) → unwrap_or (finished true p) r ≡ registers_by (end_of kept irq_level p) r
+  pub edge : kept_by (end_of kept irq_level p) kept irq_level ≡ kept
+
+pub GoesOn-at_end : (kept irq_level : Bool) (r : Regs) → is_inner (first_access (plan_of (chosen kept irq_level r) r)) ≡ false → GoesOn kept irq_level (ends r)
+GoesOn-at_end kept irq_level r h =
+    let e : chosen kept irq_level r ≡ opcode = chosen_opcode kept irq_level r h in
+    record {
+      left = ap (λ b. plan_of b r) (sym e);
+      start = λ _. refl;
+      edge = ap (λ b. kept_after b kept) e;
+    }
+
+pub GoesOn-woken : (kept irq_level : Bool) (r : Regs) → is_inner (first_access (ahead kept irq_level (waits r))) ≡ false → GoesOn kept irq_level (waits r)
+GoesOn-woken true irq_level r h =
+    let e : chosen true irq_level r ≡ opcode = chosen_opcode true irq_level r h in
+    record {
+      left = ap (λ b. plan_of b r) (sym e);
+      start = λ _. refl;
+      edge = ap (λ b. kept_after b true) e;
+    }
+GoesOn-woken false true r h =
+    let e : chosen false true r ≡ opcode = chosen_opcode false true r h in
+    record {
+      left = ap (λ b. plan_of b r) (sym e);
+      start = λ _. refl;
+      edge = ap (λ b. kept_after b false) e;
+    }
+GoesOn-woken false false r h = let e : true ≡ false = h in cc
+
+pub goes_on : (kept irq_level : Bool) (p : Plan) → is_inner (first_access (ahead kept irq_level p)) ≡ false → GoesOn kept irq_level p
+goes_on kept irq_level (fetches at more) h = record { left = refl; start = λ _. refl; edge = refl }
+goes_on kept irq_level (reads at more) h = record { left = refl; start = λ _. refl; edge = refl }
+goes_on kept irq_level (writes at byte more) h = record { left = refl; start = λ _. refl; edge = refl }
+goes_on kept irq_level (idles more) h = record { left = refl; start = λ _. refl; edge = refl }
+goes_on kept irq_level (waits r) h = GoesOn-woken kept irq_level r h
+goes_on kept irq_level stops h = record { left = refl; start = λ _. refl; edge = refl }
+goes_on kept irq_level (ends r) h = GoesOn-at_end kept irq_level r h
+
+-- an access that gets a byte or is a write is no internal cycle
+pub gets_byte-inner : (a : Access) → gets_byte a ≡ true → is_inner a ≡ false
+gets_byte-inner (Fetch at) h = refl
+gets_byte-inner (Read at) h = refl
+gets_byte-inner (Write at byte) h = refl
+gets_byte-inner Inner h = let e : false ≡ true = h in cc
+
+pub is_write-inner : (a : Access) → is_write a ≡ true → is_inner a ≡ false
+is_write-inner (Fetch at) h = refl
+is_write-inner (Read at) h = refl
+is_write-inner (Write at byte) h = refl
+is_write-inner Inner h = let e : false ≡ true = h in cc
+
+-- what the code goes on with makes the same access
+pub onward-gets_byte : (kept irq_level : Bool) (p : Plan) → gets_byte (first_access (ahead kept irq_level p)) ≡ true → gets_byte (first_access (onward p)) ≡ true
+onward-gets_byte kept irq_level p h =
+    ap (λ q. gets_byte (first_access q)) (goes_on kept irq_level p (gets_byte-inner (first_access (ahead kept irq_level p)) h)).left ∙ h
+
+pub onward-is_write : (kept irq_level : Bool) (p : Plan) → is_write (first_access (ahead kept irq_level p)) ≡ true → is_write (first_access (onward p)) ≡ true
+onward-is_write kept irq_level p h =
+    ap (λ q. is_write (first_access q)) (goes_on kept irq_level p (is_write-inner (first_access (ahead kept irq_level p)) h)).left ∙ h
+
+-- what a processor stands for moves on with it, at any step that is known by what the last instruction came to
+pub Stands-by_end : (old new : Cpu) (s : Standing) (byte : ℕ) → Stands old s → rest new.micro ≡ after (ahead old.kept old.irq_level (rest old.micro)) byte → new.micro.start ≡ registers_by (end_of old.kept old.irq_level (rest old.micro)) old.micro.start → new.kept ≡ kept_by (end_of old.kept old.irq_level (rest old.micro)) old.kept old.irq_level → new.nmi_level ≡ old.nmi_level → new.irq_level ≡ old.irq_level → Stands new (moved_on s byte)
+Stands-by_end old new s byte h left start kept nmi_level irq_level =
     let same : end_of old.kept old.irq_level (rest old.micro) ≡ end_of s.kept s.irq_level (left_of s) =
     ap (λ k. end_of k old.irq_level (rest old.micro)) h.kept ∙ (ap (λ i. end_of s.kept i (rest old.micro)) h.irq_level ∙ ap (λ p. end_of s.kept s.irq_level p) h.left) in
-    subst (λ (f : Option Regs). Stands (record mid { micro = micro }) (moved_by f byte s)) same
-    (Stands-moved_by (end_of old.kept old.irq_level (rest old.micro)) old (record mid { micro = micro }) s byte h (left ∙ ap (λ p. after p byte) a.left) (start ∙ a.start) a.kept a.nmi_level a.irq_level)
+    subst (λ (f : Option Regs). Stands new (moved_by f byte s)) same
+    (Stands-moved_by (end_of old.kept old.irq_level (rest old.micro)) old new s byte h left start kept nmi_level irq_level)
+
+-- a fetch, a read or a write
+pub Stands-after_access : (old new : Cpu) (s : Standing) (byte : ℕ) → is_inner (access_of old) ≡ false → rest new.micro ≡ after (onward (rest old.micro)) byte → new.micro.start ≡ unwrap_or (finished true (rest old.micro)) old.micro.start → new.kept ≡ old.kept → new.nmi_level ≡ old.nmi_level → new.irq_level ≡ old.irq_level → Stands old s → Stands new (moved_on s byte)
+Stands-after_access old new s byte n left start kept nmi_level irq_level h =
+    let g : GoesOn old.kept old.irq_level (rest old.micro) = goes_on old.kept old.irq_level (rest old.micro) n in
+    Stands-by_end old new s byte h (left ∙ ap (λ p. after p byte) g.left) (start ∙ g.start old.micro.start) (kept ∙ sym g.edge) nmi_level irq_level
+
+-- an internal cycle: an interrupt may have been taken up before it
+pub Stands-after_cycle : (old mid new : Cpu) (s : Standing) → TakesUp old mid → rest new.micro ≡ after (rest mid.micro) 0 → new.micro.start ≡ mid.micro.start → new.kept ≡ mid.kept → new.nmi_level ≡ mid.nmi_level → new.irq_level ≡ mid.irq_level → Stands old s → Stands new (moved_on s 0)
+Stands-after_cycle old mid new s a left start kept nmi_level irq_level h =
+    Stands-by_end old new s 0 h (left ∙ ap (λ p. after p 0) a.left) (start ∙ a.start) (kept ∙ a.kept) (nmi_level ∙ a.nmi_level) (irq_level ∙ a.irq_level)
+
+-- THE NEXT ACCESS IS KEPT
+
+-- in the middle of an instruction the lines decide nothing
+pub comes-ahead : (kept irq_level : Bool) (p : Plan) (a : Access) → comes p ≡ Some a → a ≡ first_access (ahead kept irq_level p)
+comes-ahead kept irq_level (fetches at more) a h = cc
+comes-ahead kept irq_level (reads at more) a h = cc
+comes-ahead kept irq_level (writes at byte more) a h = cc
+comes-ahead kept irq_level (idles more) a h = cc
+comes-ahead kept irq_level (waits r) a h = cc
+comes-ahead kept irq_level stops a h = cc
+comes-ahead kept irq_level (ends r) a h = cc
+
+pub ahead-comes : (kept irq_level : Bool) (p : Plan) (a : Access) → finished true p ≡ None → a ≡ first_access (ahead kept irq_level p) → comes p ≡ Some a
+ahead-comes kept irq_level (fetches at more) a n h = ap (λ x. Some x) (sym h)
+ahead-comes kept irq_level (reads at more) a n h = ap (λ x. Some x) (sym h)
+ahead-comes kept irq_level (writes at byte more) a n h = ap (λ x. Some x) (sym h)
+ahead-comes kept irq_level (idles more) a n h = ap (λ x. Some x) (sym h)
+ahead-comes kept irq_level (waits r) a n h = cc
+ahead-comes kept irq_level stops a n h = ap (λ x. Some x) (sym h)
+ahead-comes kept irq_level (ends r) a n h = cc

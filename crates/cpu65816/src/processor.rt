@@ -1,8 +1,11 @@
-ghost use Rattle.std.specs.Prelude.{◌≡◌, ◌<◌, ◌^◌, ◌&&◌, ◌||◌, not, IsTrue, false};
+ghost use Rattle.std.specs.Prelude.{◌≡◌, ◌<◌, ◌^◌, ◌||◌, IsTrue, false, true};
+ghost use Rattle.cpu_modes.specs.Plan.{address_of, first_access};
+ghost use Rattle.cpu_modes.specs.Rest.{rest};
+ghost use Rattle.cpu65816.specs.Instruction.{ahead};
 
-use cpu_modes::{Micro, Place, code_address, next};
-use cpu_tables::{Access, IRQ_DISABLE, Mode, Op, Regs, Row};
-use status_bits::is_set;
+use crate::settling::settle;
+use cpu_modes::Micro;
+use cpu_tables::{Access, Mode, Op, Regs, Row};
 
 /// A 65C816 between two accesses.
 #[derive(Clone, Copy, PartialEq, Eq, Debug)]
@@ -11,12 +14,13 @@ pub struct Cpu {
     kept: bool,
     nmi_level: bool,
     irq_level: bool,
+    ghost ready: { micro.access ≡ first_access (ahead kept irq_level (rest micro)) },
+    ghost within: { address_of micro.access < 16777216 },
 }
 
 impl Cpu {
-    ghost use Rattle.status_bits.specs.StatusBits.{flag};
-    ghost use Rattle.cpu_modes.specs.Plan.{address_of, after, ends, first_access, gets_byte, is_inner, is_write};
-    ghost use Rattle.cpu_modes.specs.Rest.{rest};
+    ghost use Rattle.cpu_modes.specs.Plan.{finished, gets_byte, is_inner, is_write};
+    ghost use Rattle.cpu_modes.specs.Rest.{Keeps};
     ghost use Rattle.cpu65816.specs.Instruction.{Standing, at_reset, between_instructions, chosen, kept_after, moved_on, next_of, plan_of, registers_of, row_of_signal, signalled};
     ghost use Rattle.cpu_tables.specs.declared.operation.Op.TheVariants.{Reset};
     ghost use Rattle.cpu65816.specs.Stands.{Stands, TakesUp, access_of};
@@ -37,36 +41,37 @@ impl Cpu {
             p: 0x34,
             e: true,
         };
-        let mut cpu = Cpu::before(registers);
-        cpu.micro.enter();
-        cpu
+        let mut micro = Micro::ended(
+            registers,
+            Row {
+                op: Op::Reset,
+                mode: Mode::Stack,
+            },
+        );
+        micro.enter();
+        settle(&mut micro, false, false, false);
+        Cpu {
+            micro,
+            kept: false,
+            nmi_level: false,
+            irq_level: false,
+        }
     }
 
     /// A processor before the first access of an instruction, with registers of the caller's.
     pub fn between(registers: Regs) -> Cpu
         ensures { Stands result (between_instructions registers) }
     {
-        Cpu::before(registers)
-    }
-
-    /// A processor that has done nothing yet.
-    fn before(registers: Regs) -> Cpu
-        ensures left { rest result.micro ≡ ends registers }
-        ensures start { result.micro.start ≡ registers }
-        ensures here { result.micro.here ≡ registers }
-        ensures row { result.micro.row ≡ row_of_signal Reset }
-        ensures kept { result.kept ≡ false }
-        ensures nmi { result.nmi_level ≡ false }
-        ensures irq { result.irq_level ≡ false }
-    {
+        let mut micro = Micro::ended(
+            registers,
+            Row {
+                op: Op::Reset,
+                mode: Mode::Stack,
+            },
+        );
+        settle(&mut micro, true, false, false);
         Cpu {
-            micro: Micro::ended(
-                registers,
-                Row {
-                    op: Op::Reset,
-                    mode: Mode::Stack,
-                },
-            ),
+            micro,
             kept: false,
             nmi_level: false,
             irq_level: false,
@@ -80,14 +85,7 @@ impl Cpu {
         ensures within { address_of result < 2 ^ 24 }
         ensures standing { (s : Standing) → Stands self.now s → result ≡ next_of s }
     {
-        if self.micro.has_ended(self.is_awake()) {
-            self.first()
-        } else {
-            match next(&self.micro) {
-                Some(access) => access,
-                None => Access::Inner,
-            }
-        }
+        self.micro.access
     }
 
     /// Whether an instruction that waits for an interrupt has one, disabled or not.
@@ -98,65 +96,30 @@ impl Cpu {
         self.kept || self.irq_level
     }
 
-    /// Whether an interrupt request begins the next instruction, if no edge is kept.
-    #[inline(always)]
-    fn takes_irq(&self) -> bool
-        ensures { result ≡ (self.now.irq_level && not (flag self.now.micro.here.p IRQ_DISABLE)) }
-    {
-        self.irq_level && !is_set(self.micro.here.p, IRQ_DISABLE)
-    }
-
-    /// The first access of the next instruction.
-    #[inline(always)]
-    #[tactic(auto, unfolding(cpu_modes::specs::Uses::use_of))]
-    fn first(&self) -> Access
-        ensures exact { result ≡ first_access (plan_of (chosen self.now.kept self.now.irq_level self.now.micro.here) self.now.micro.here) }
-        ensures within { address_of result < 2 ^ 24 }
-    {
-        if self.kept {
-            Access::Inner
-        } else if self.takes_irq() {
-            Access::Inner
-        } else {
-            Access::Fetch(code_address(&self.micro.here))
-        }
-    }
-
-    /// An instruction begins, where the last one has ended.
-    #[inline(always)]
-    fn begin(&mut self)
-        ensures left { rest self.new.micro ≡ plan_of (chosen self.old.kept self.old.irq_level self.old.micro.here) self.old.micro.here }
-        ensures start { self.new.micro.start ≡ self.old.micro.here }
-        ensures kept { self.new.kept ≡ kept_after (chosen self.old.kept self.old.irq_level self.old.micro.here) self.old.kept }
-        ensures nmi { self.new.nmi_level ≡ self.old.nmi_level }
-        ensures irq { self.new.irq_level ≡ self.old.irq_level }
+    /// An interrupt begins, where the last instruction has ended and the next access is no fetch.
+    fn begin_interrupt(&mut self)
+        requires ended { finished (self.old.kept || self.old.irq_level) (rest self.old.micro) ≡ Some self.old.micro.here }
+        requires inner { IsTrue (is_inner (access_of self.old)) }
+        ensures { TakesUp self.old self.new }
     {
         self.micro.start = self.micro.here;
-        if self.kept {
-            self.kept = false;
-            self.micro.row = Row {
-                op: Op::Nmi,
-                mode: Mode::Stack,
-            };
-            self.micro.enter();
-        } else if self.takes_irq() {
-            self.micro.row = Row {
-                op: Op::Irq,
-                mode: Mode::Stack,
-            };
-            self.micro.enter();
-        } else {
-            self.micro.place = Place::Opcode;
-        }
+        let op = if self.kept { Op::Nmi } else { Op::Irq };
+        self.kept = false;
+        self.micro.row = Row {
+            op,
+            mode: Mode::Stack,
+        };
+        self.micro.enter();
     }
 
-    /// The next instruction is in hand, where the last one has ended.
+    /// The instruction is in hand that an internal cycle belongs to.
     #[inline(always)]
     fn take_up(&mut self)
+        requires { IsTrue (is_inner (access_of self.old)) }
         ensures { TakesUp self.old self.new }
     {
         if self.micro.has_ended(self.is_awake()) {
-            self.begin();
+            self.begin_interrupt();
         }
     }
 
@@ -166,8 +129,8 @@ impl Cpu {
         requires { IsTrue (gets_byte (access_of self.old)) }
         ensures { (s : Standing) → Stands self.old s → Stands self.new (moved_on s byte) }
     {
-        self.take_up();
-        self.micro.took(byte);
+        let has_ended = self.micro.took(byte);
+        settle(&mut self.micro, has_ended, self.kept, self.irq_level);
     }
 
     /// The next access, a write, was made.
@@ -176,8 +139,8 @@ impl Cpu {
         requires { IsTrue (is_write (access_of self.old)) }
         ensures { (s : Standing) → Stands self.old s → Stands self.new (moved_on s 0) }
     {
-        self.take_up();
-        self.micro.wrote();
+        let has_ended = self.micro.wrote();
+        settle(&mut self.micro, has_ended, self.kept, self.irq_level);
     }
 
     /// The next access, an internal cycle, was made.
@@ -187,7 +150,8 @@ impl Cpu {
         ensures { (s : Standing) → Stands self.old s → Stands self.new (moved_on s 0) }
     {
         self.take_up();
-        self.micro.idle();
+        let has_ended = self.micro.idle();
+        settle(&mut self.micro, has_ended, self.kept, self.irq_level);
     }
 
     /// The lines are given.
@@ -200,6 +164,8 @@ impl Cpu {
         }
         self.nmi_level = nmi;
         self.irq_level = irq;
+        let is_between = self.micro.has_ended(true);
+        settle(&mut self.micro, is_between, self.kept, self.irq_level);
     }
 
     /// The registers at the start of the instruction in hand.

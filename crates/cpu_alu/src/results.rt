@@ -31,7 +31,7 @@ use crate::registers::{
     bytes_swapped, flag_set, flags_cleared, flags_set, modes_exchanged, pushed_status, stack_set,
     status_set, with_a_wide, with_bank, with_d,
 };
-use crate::sums::{bits_tested, compared, with_added, with_subtracted};
+use crate::sums::{add, bits_tested, compared, subtract};
 use crate::width::{accumulator_value, index_numbers, memory_numbers, with_a, with_x, with_y};
 use cpu_tables::{CARRY, DECIMAL, IRQ_DISABLE, Mode, OVERFLOW, Op, Regs, Row};
 
@@ -49,117 +49,128 @@ pub fn apply(row: Row, regs: Regs, word: u16) -> (Regs, u16)
 }
 
 /// The registers after an instruction.
-#[tactic(auto, unfolding(crate::specs::Results::registers_after))]
 #[inline(always)]
 pub fn registers_after(row: Row, regs: Regs, word: u16) -> Regs
     ensures { result ≡ registers_after row.op row.mode regs word }
 {
+    let mut after = regs;
+    finish(&mut after, row, word);
+    after
+}
+
+/// An instruction ends: the registers become those after it. One copy for all ends of instructions,
+/// which writes the registers in place, and of them those that the operation changes.
+#[tactic(auto, unfolding(crate::specs::Results::registers_after))]
+#[inline(never)]
+pub fn finish(regs: &mut Regs, row: Row, word: u16)
+    ensures { regs.new ≡ registers_after row.op row.mode regs.old word }
+{
     let on_a = is_accumulator(row.mode);
     match row.op {
         // Sums, comparisons, logic.
-        Op::Adc => with_added(regs, word),
-        Op::Sbc => with_subtracted(regs, word),
-        Op::Cmp => compared(memory_numbers(regs), regs.a, regs, word),
-        Op::Cpx => compared(index_numbers(regs), regs.x, regs, word),
-        Op::Cpy => compared(index_numbers(regs), regs.y, regs, word),
-        Op::Bit => bits_tested(is_immediate(row.mode), regs, word),
-        Op::Ora => with_a(regs, (regs.a | word) as u32),
-        Op::And => with_a(regs, (regs.a & word) as u32),
-        Op::Eor => with_a(regs, (regs.a ^ word) as u32),
+        Op::Adc => add(regs, word),
+        Op::Sbc => subtract(regs, word),
+        Op::Cmp => *regs = compared(memory_numbers(*regs), regs.a, *regs, word),
+        Op::Cpx => *regs = compared(index_numbers(*regs), regs.x, *regs, word),
+        Op::Cpy => *regs = compared(index_numbers(*regs), regs.y, *regs, word),
+        Op::Bit => *regs = bits_tested(is_immediate(row.mode), *regs, word),
+        Op::Ora => *regs = with_a(*regs, (regs.a | word) as u32),
+        Op::And => *regs = with_a(*regs, (regs.a & word) as u32),
+        Op::Eor => *regs = with_a(*regs, (regs.a ^ word) as u32),
         // Changes of A or memory.
-        Op::Asl => with_changed(on_a, regs, asl(row.mode, regs, word)),
-        Op::Lsr => with_changed(on_a, regs, lsr(row.mode, regs, word)),
-        Op::Rol => with_changed(on_a, regs, rol(row.mode, regs, word)),
-        Op::Ror => with_changed(on_a, regs, ror(row.mode, regs, word)),
-        Op::Inc => with_changed(on_a, regs, inc(row.mode, regs, word)),
-        Op::Dec => with_changed(on_a, regs, dec(row.mode, regs, word)),
-        Op::Tsb => with_changed(false, regs, tsb(regs, word)),
-        Op::Trb => with_changed(false, regs, trb(regs, word)),
+        Op::Asl => *regs = with_changed(on_a, *regs, asl(row.mode, *regs, word)),
+        Op::Lsr => *regs = with_changed(on_a, *regs, lsr(row.mode, *regs, word)),
+        Op::Rol => *regs = with_changed(on_a, *regs, rol(row.mode, *regs, word)),
+        Op::Ror => *regs = with_changed(on_a, *regs, ror(row.mode, *regs, word)),
+        Op::Inc => *regs = with_changed(on_a, *regs, inc(row.mode, *regs, word)),
+        Op::Dec => *regs = with_changed(on_a, *regs, dec(row.mode, *regs, word)),
+        Op::Tsb => *regs = with_changed(false, *regs, tsb(*regs, word)),
+        Op::Trb => *regs = with_changed(false, *regs, trb(*regs, word)),
         // Steps of the indexes.
-        Op::Inx => with_x(regs, regs.x as u32 + 1),
-        Op::Iny => with_y(regs, regs.y as u32 + 1),
-        Op::Dex => with_x(regs, regs.x as u32 + 65535),
-        Op::Dey => with_y(regs, regs.y as u32 + 65535),
+        Op::Inx => *regs = with_x(*regs, regs.x as u32 + 1),
+        Op::Iny => *regs = with_y(*regs, regs.y as u32 + 1),
+        Op::Dex => *regs = with_x(*regs, regs.x as u32 + 65535),
+        Op::Dey => *regs = with_y(*regs, regs.y as u32 + 65535),
         // Loads and pulls.
-        Op::Lda => with_a(regs, word as u32),
-        Op::Ldx => with_x(regs, word as u32),
-        Op::Ldy => with_y(regs, word as u32),
-        Op::Pla => with_a(regs, word as u32),
-        Op::Plx => with_x(regs, word as u32),
-        Op::Ply => with_y(regs, word as u32),
-        Op::Plb => with_bank(regs, word),
-        Op::Pld => with_d(regs, word),
-        Op::Plp => status_set(regs, (word % 256) as u8),
+        Op::Lda => *regs = with_a(*regs, word as u32),
+        Op::Ldx => *regs = with_x(*regs, word as u32),
+        Op::Ldy => *regs = with_y(*regs, word as u32),
+        Op::Pla => *regs = with_a(*regs, word as u32),
+        Op::Plx => *regs = with_x(*regs, word as u32),
+        Op::Ply => *regs = with_y(*regs, word as u32),
+        Op::Plb => *regs = with_bank(*regs, word),
+        Op::Pld => *regs = with_d(*regs, word),
+        Op::Plp => *regs = status_set(*regs, (word % 256) as u8),
         // Stores and pushes.
-        Op::Sta => regs,
-        Op::Stx => regs,
-        Op::Sty => regs,
-        Op::Stz => regs,
-        Op::Pha => regs,
-        Op::Phx => regs,
-        Op::Phy => regs,
-        Op::Phb => regs,
-        Op::Phd => regs,
-        Op::Phk => regs,
-        Op::Php => regs,
-        Op::Pea => regs,
-        Op::Pei => regs,
-        Op::Per => regs,
+        Op::Sta => {}
+        Op::Stx => {}
+        Op::Sty => {}
+        Op::Stz => {}
+        Op::Pha => {}
+        Op::Phx => {}
+        Op::Phy => {}
+        Op::Phb => {}
+        Op::Phd => {}
+        Op::Phk => {}
+        Op::Php => {}
+        Op::Pea => {}
+        Op::Pei => {}
+        Op::Per => {}
         // Transfers.
-        Op::Tax => with_x(regs, regs.a as u32),
-        Op::Tay => with_y(regs, regs.a as u32),
-        Op::Tsx => with_x(regs, regs.s as u32),
-        Op::Txy => with_y(regs, regs.x as u32),
-        Op::Tyx => with_x(regs, regs.y as u32),
-        Op::Txa => with_a(regs, regs.x as u32),
-        Op::Tya => with_a(regs, regs.y as u32),
-        Op::Txs => stack_set(regs, regs.x),
-        Op::Tcs => stack_set(regs, regs.a),
-        Op::Tcd => with_d(regs, regs.a),
-        Op::Tdc => with_a_wide(regs, regs.d),
-        Op::Tsc => with_a_wide(regs, regs.s),
-        Op::Xba => bytes_swapped(regs),
+        Op::Tax => *regs = with_x(*regs, regs.a as u32),
+        Op::Tay => *regs = with_y(*regs, regs.a as u32),
+        Op::Tsx => *regs = with_x(*regs, regs.s as u32),
+        Op::Txy => *regs = with_y(*regs, regs.x as u32),
+        Op::Tyx => *regs = with_x(*regs, regs.y as u32),
+        Op::Txa => *regs = with_a(*regs, regs.x as u32),
+        Op::Tya => *regs = with_a(*regs, regs.y as u32),
+        Op::Txs => *regs = stack_set(*regs, regs.x),
+        Op::Tcs => *regs = stack_set(*regs, regs.a),
+        Op::Tcd => *regs = with_d(*regs, regs.a),
+        Op::Tdc => *regs = with_a_wide(*regs, regs.d),
+        Op::Tsc => *regs = with_a_wide(*regs, regs.s),
+        Op::Xba => *regs = bytes_swapped(*regs),
         // Flags.
-        Op::Clc => flag_set(regs, CARRY, false),
-        Op::Sec => flag_set(regs, CARRY, true),
-        Op::Cli => flag_set(regs, IRQ_DISABLE, false),
-        Op::Sei => flag_set(regs, IRQ_DISABLE, true),
-        Op::Cld => flag_set(regs, DECIMAL, false),
-        Op::Sed => flag_set(regs, DECIMAL, true),
-        Op::Clv => flag_set(regs, OVERFLOW, false),
-        Op::Rep => flags_cleared(regs, word),
-        Op::Sep => flags_set(regs, word),
-        Op::Xce => modes_exchanged(regs),
+        Op::Clc => *regs = flag_set(*regs, CARRY, false),
+        Op::Sec => *regs = flag_set(*regs, CARRY, true),
+        Op::Cli => *regs = flag_set(*regs, IRQ_DISABLE, false),
+        Op::Sei => *regs = flag_set(*regs, IRQ_DISABLE, true),
+        Op::Cld => *regs = flag_set(*regs, DECIMAL, false),
+        Op::Sed => *regs = flag_set(*regs, DECIMAL, true),
+        Op::Clv => *regs = flag_set(*regs, OVERFLOW, false),
+        Op::Rep => *regs = flags_cleared(*regs, word),
+        Op::Sep => *regs = flags_set(*regs, word),
+        Op::Xce => *regs = modes_exchanged(*regs),
         // Branches, jumps, calls, returns.
-        Op::Bpl => branched(Op::Bpl, regs, word),
-        Op::Bmi => branched(Op::Bmi, regs, word),
-        Op::Bvc => branched(Op::Bvc, regs, word),
-        Op::Bvs => branched(Op::Bvs, regs, word),
-        Op::Bcc => branched(Op::Bcc, regs, word),
-        Op::Bcs => branched(Op::Bcs, regs, word),
-        Op::Bne => branched(Op::Bne, regs, word),
-        Op::Beq => branched(Op::Beq, regs, word),
-        Op::Bra => branched(Op::Bra, regs, word),
-        Op::Brl => jumped(regs, far_place(regs.pc, word)),
-        Op::Jmp => jumped(regs, word),
-        Op::Jsr => jumped(regs, word),
-        Op::Jsl => jumped(regs, word),
-        Op::Rts => jumped(regs, place_after(word)),
-        Op::Rtl => jumped(regs, place_after(word)),
-        Op::Rti => returned_from_interrupt(regs, word),
+        Op::Bpl => *regs = branched(Op::Bpl, *regs, word),
+        Op::Bmi => *regs = branched(Op::Bmi, *regs, word),
+        Op::Bvc => *regs = branched(Op::Bvc, *regs, word),
+        Op::Bvs => *regs = branched(Op::Bvs, *regs, word),
+        Op::Bcc => *regs = branched(Op::Bcc, *regs, word),
+        Op::Bcs => *regs = branched(Op::Bcs, *regs, word),
+        Op::Bne => *regs = branched(Op::Bne, *regs, word),
+        Op::Beq => *regs = branched(Op::Beq, *regs, word),
+        Op::Bra => *regs = branched(Op::Bra, *regs, word),
+        Op::Brl => *regs = jumped(*regs, far_place(regs.pc, word)),
+        Op::Jmp => *regs = jumped(*regs, word),
+        Op::Jsr => *regs = jumped(*regs, word),
+        Op::Jsl => *regs = jumped(*regs, word),
+        Op::Rts => *regs = jumped(*regs, place_after(word)),
+        Op::Rtl => *regs = jumped(*regs, place_after(word)),
+        Op::Rti => *regs = returned_from_interrupt(*regs, word),
         // Interrupts and the reset.
-        Op::Brk => interrupted(regs, word),
-        Op::Cop => interrupted(regs, word),
-        Op::Nmi => interrupted(regs, word),
-        Op::Irq => interrupted(regs, word),
-        Op::Reset => after_reset(word),
+        Op::Brk => *regs = interrupted(*regs, word),
+        Op::Cop => *regs = interrupted(*regs, word),
+        Op::Nmi => *regs = interrupted(*regs, word),
+        Op::Irq => *regs = interrupted(*regs, word),
+        Op::Reset => *regs = after_reset(word),
         // Block moves, and what changes no register.
-        Op::Mvn => block_moved(1, regs),
-        Op::Mvp => block_moved(65535, regs),
-        Op::Nop => regs,
-        Op::Wdm => regs,
-        Op::Wai => regs,
-        Op::Stp => regs,
+        Op::Mvn => *regs = block_moved(1, *regs),
+        Op::Mvp => *regs = block_moved(65535, *regs),
+        Op::Nop => {}
+        Op::Wdm => {}
+        Op::Wai => {}
+        Op::Stp => {}
     }
 }
 

@@ -194,25 +194,26 @@ fn with_sum(regs: Regs, sum: Sum) -> Regs
     Regs { p, ..loaded }
 }
 
-/// ADC: A plus the operand plus the carry.
+/// ADC: A plus the operand plus the carry. Out of line, so that no other operation pays for the
+/// registers that the decimal digits need.
 #[tactic(auto, unfolding(crate::specs::Sums::add))]
-#[inline(always)]
-pub fn with_added(regs: Regs, word: u16) -> Regs
-    ensures { result ≡ add regs word }
+#[inline(never)]
+pub fn add(regs: &mut Regs, word: u16)
+    ensures { regs.new ≡ add regs.old word }
 {
-    let m = word as u32 % memory_numbers(regs);
-    with_sum(regs, sum_with_a(Direction::Addition, regs, m))
+    let m = word as u32 % memory_numbers(*regs);
+    *regs = with_sum(*regs, sum_with_a(Direction::Addition, *regs, m));
 }
 
 /// SBC: A plus the complement of the operand plus the carry.
 #[tactic(auto, unfolding(crate::specs::Sums::subtract))]
-#[inline(always)]
-pub fn with_subtracted(regs: Regs, word: u16) -> Regs
-    ensures { result ≡ subtract regs word }
+#[inline(never)]
+pub fn subtract(regs: &mut Regs, word: u16)
+    ensures { regs.new ≡ subtract regs.old word }
 {
-    let size = memory_numbers(regs);
+    let size = memory_numbers(*regs);
     let m = size - 1 - word as u32 % size;
-    with_sum(regs, sum_with_a(Direction::Subtraction, regs, m))
+    *regs = with_sum(*regs, sum_with_a(Direction::Subtraction, *regs, m));
 }
 
 /// CMP, CPX and CPY: a register's value is compared with the operand.

@@ -40,6 +40,16 @@ first_access (waits _) = Inner
 first_access stops = Inner
 first_access (ends _) = Inner
 
+-- the access that is made next whatever the interrupt lines are; what comes after an end, or in a wait, is for them to say
+abbrev pub comes : Plan → Option Access
+comes (fetches at _) = Some (Fetch at)
+comes (reads at _) = Some (Read at)
+comes (writes at byte _) = Some (Write at byte)
+comes (idles _) = Some Inner
+comes (waits _) = None
+comes stops = Some Inner
+comes (ends _) = None
+
 -- whether an access is a fetch or a read
 abbrev pub gets_byte : Access → Bool
 gets_byte (Fetch _) = true

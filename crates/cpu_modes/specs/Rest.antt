@@ -1,9 +1,9 @@
-use Rattle.std.specs.Prelude.{ℕ, Bool, ◌%◌, if◌then◌else◌}
+use Rattle.std.specs.Prelude.{◌≡◌, ℕ, Bool, true, false, Some, ◌%◌, ◌<◌}
 use Rattle.cpu_tables.specs.declared.opcode.Row.{Row}
 use Rattle.cpu_tables.specs.declared.regs.Regs.{Regs}
-use Rattle.cpu_modes.specs.Addresses.{in_bank, indexed, stack, pushed}
-use Rattle.cpu_modes.specs.Orders.{fetch, done, load, load_high, store, store_high, written_of, write_low, write_high, changed, change, change_high, data_at, push_low, push_word, target, target_high, pointer, pointer_high, after_offset, direct_order, stack_data, stack_pointer, operand, operand_high, bank_of, after_operand, call_bank, call_pointer, call_pointer_high, call_pointer_pushes, immediate, immediate_high, push_order, pull_data, pull_high, return_pulls, return_counter, return_high, return_status, return_bank, branch, interrupted, push_counter, push_counter_low, push_status, block, block_source, block_read, block_write, instruction}
-use Rattle.cpu_modes.specs.Plan.{Plan, reads, writes, idles, waits, stops, ends}
+use Rattle.cpu_modes.specs.Addresses.{in_bank, indexed, second, stack, pushed}
+use Rattle.cpu_modes.specs.Orders.{fetch, pull, done, load_high, store, store_high, written_of, write_low, write_high, changed, change, change_high, data_at, push_low, push_word, target, target_high, pointer, pointer_high, after_offset, direct_order, stack_data, stack_pointer, operand, operand_high, bank_of, after_operand, call_bank, call_pointer, call_pointer_high, call_pointer_pushes, immediate_high, push_order, pull_data, pull_high, return_pulls, return_counter, return_high, return_status, return_bank, branch, interrupted, push_counter, push_counter_low, push_status, block, block_source, block_read, block_write, instruction}
+use Rattle.cpu_modes.specs.Plan.{Plan, fetches, reads, writes, idles, waits, stops, ends, address_of, comes, finished}
 use Rattle.cpu_modes.specs.declared.micro.Micro.{Micro}
 use Rattle.cpu_modes.specs.declared.place.Traffic.{Traffic}
 use Rattle.cpu_modes.specs.declared.place.OperandKind.{OperandKind}
@@ -13,10 +13,9 @@ use Rattle.cpu_modes.specs.declared.place.TargetKind.{TargetKind}
 
 -- What is left to do from a place on: the registers, a base (an address, or a word to be pushed) and a word (an operand, or its low byte) are those that the accesses before it left.
 abbrev pub rest_at : Place → Traffic → Row → Regs → ℕ → ℕ → Plan
-rest_at Place.Opcode d row r base word = instruction r
 rest_at Place.OperandByte d row r base word = fetch r (λ byte r'. done row r' byte)
 rest_at Place.StatusOperand d row r base word = fetch r (λ mask r'. idles (done row r' mask))
-rest_at Place.ImmediateLow d row r base word = immediate d row r
+rest_at Place.ImmediateLow d row r base word = fetch r (λ low r'. immediate_high row r' low)
 rest_at Place.ImmediateHigh d row r base word = immediate_high row r word
 rest_at (Place.DirectOffset kind) d row r base word = direct_order kind d row r
 rest_at (Place.LowCycle kind) d row r base word = idles (after_offset kind d row r word)
@@ -31,7 +30,8 @@ rest_at (Place.PointerHigh kind) d row r base word = pointer_high kind d row r b
 rest_at Place.PointerBank d row r base word = reads base (λ bank. data_at d NextAddress row r (in_bank bank word))
 rest_at Place.PointerBankY d row r base word = reads base (λ bank. data_at d NextAddress row r (indexed (in_bank bank word) r.y))
 rest_at (Place.DataCycle reach) d row r base word = idles (data_at d reach row r base)
-rest_at (Place.LoadLow reach) d row r base word = load d reach row r base
+rest_at Place.LoadByte d row r base word = reads base (λ byte. done row r byte)
+rest_at (Place.LoadLow reach) d row r base word = reads base (λ low. load_high row r (second reach base) low)
 rest_at Place.LoadHigh d row r base word = load_high row r base word
 rest_at (Place.StoreLow reach) d row r base word = store d reach r base (written_of row r word)
 rest_at Place.StoreHigh d row r base word = store_high r base (written_of row r word)
@@ -48,7 +48,8 @@ rest_at Place.PushHigh d row r base word = push_word row r base word
 rest_at Place.PushLow d row r base word = push_low row r base word
 rest_at Place.PullFirstCycle d row r base word = idles (idles (pull_data d row r))
 rest_at Place.PullCycle d row r base word = idles (pull_data d row r)
-rest_at Place.PullLow d row r base word = pull_data d row r
+rest_at Place.PullByte d row r base word = pull r (λ byte r'. done row r' byte)
+rest_at Place.PullLow d row r base word = pull r (λ low r'. pull_high row r' low)
 rest_at Place.PullHigh d row r base word = pull_high row r word
 rest_at Place.CallBankPush d row r base word = after_operand OperandKind.CallLong d row r word
 rest_at Place.CallBankCycle d row r base word = idles (call_bank row r word)
@@ -89,6 +90,17 @@ rest_at Place.Ended d row r base word = ends r
 abbrev pub rest : Micro → Plan
 rest m = rest_at m.place m.traffic m.row m.here m.base m.word
 
--- what a micro-state leaves to do where its last access may just have been made: then the results are to come
-abbrev pub leaves : Bool → Micro → Plan
-leaves was_last m = if was_last then done m.row m.here m.word else rest m
+-- what is left once an instruction that has ended, or is woken, has given way to the next one, from its opcode fetch on
+abbrev pub onward : Plan → Plan
+onward (fetches at more) = fetches at more
+onward (reads at more) = reads at more
+onward (writes at byte more) = writes at byte more
+onward (idles more) = idles more
+onward (waits r) = instruction r
+onward stops = stops
+onward (ends r) = instruction r
+
+-- A micro-state in the middle of an instruction keeps its next access. Where the instruction has ended or waits, the registers are those here, and the next access is for the interrupt lines to say.
+abbrev pub Keeps : Bool → Micro → Type 0
+Keeps false m = (comes (rest m) ≡ Some m.access) × (address_of m.access < 16777216)
+Keeps true m = finished true (rest m) ≡ Some m.here

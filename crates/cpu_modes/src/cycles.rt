@@ -5,13 +5,14 @@ use crate::place::{Place, TargetKind};
 
 impl Micro {
     ghost use Rattle.cpu_modes.specs.Plan.{after, first_access, is_inner};
-    ghost use Rattle.cpu_modes.specs.Rest.{leaves, rest};
+    ghost use Rattle.cpu_modes.specs.Rest.{Keeps, rest};
 
-    /// The next access, an internal cycle, was made. Answers whether it was the last.
+    /// The next access, an internal cycle, was made. Answers whether the instruction has ended or waits.
     #[inline(always)]
-    pub(crate) fn pass_idle(&mut self) -> bool
+    pub fn idle(&mut self) -> bool
         requires { IsTrue (is_inner (first_access (rest self.old))) }
-        ensures left { leaves result self.new ≡ after (rest self.old) 0 }
+        ensures left { rest self.new ≡ after (rest self.old) 0 }
+        ensures keeps { Keeps result self.new }
         ensures start { self.new.start ≡ self.old.start }
     {
         match self.place {
@@ -20,7 +21,7 @@ impl Micro {
                 false
             }
             Place::PointerCycle(kind) => {
-                self.place = Place::PointerLow(kind);
+                self.to_read(Place::PointerLow(kind));
                 false
             }
             Place::DataCycle(reach) => {
@@ -28,44 +29,40 @@ impl Micro {
                 false
             }
             Place::ChangeCycle(reach) => {
-                self.place = if self.traffic.wide {
-                    Place::ChangeWriteHigh(reach)
-                } else {
-                    Place::ChangeWriteLow
-                };
+                self.to_change(reach);
                 false
             }
             Place::TwoCycles => {
-                self.place = Place::LastCycle;
+                self.to_idle(Place::LastCycle);
                 false
             }
-            Place::LastCycle => true,
+            Place::LastCycle => self.finish(),
             Place::PushCycle => {
                 self.push_written();
                 false
             }
             Place::PushWordCycle => {
-                self.place = Place::PushHigh;
+                self.to_push_word();
                 false
             }
             Place::PullFirstCycle => {
-                self.place = Place::PullCycle;
+                self.to_idle(Place::PullCycle);
                 false
             }
             Place::PullCycle => {
-                self.place = Place::PullLow;
+                self.to_pulled();
                 false
             }
             Place::CallBankCycle => {
-                self.place = Place::CallBank;
+                self.to_fetch(Place::CallBank);
                 false
             }
             Place::TargetCycle => {
-                self.place = Place::TargetLow(TargetKind::Near);
+                self.to_read(Place::TargetLow(TargetKind::Near));
                 false
             }
             Place::ReturnFirstCycle(kind) => {
-                self.place = Place::ReturnCycle(kind);
+                self.to_idle(Place::ReturnCycle(kind));
                 false
             }
             Place::ReturnCycle(kind) => {
@@ -73,7 +70,7 @@ impl Micro {
                 false
             }
             Place::InterruptFirstCycle => {
-                self.place = Place::InterruptCycle;
+                self.to_idle(Place::InterruptCycle);
                 false
             }
             Place::InterruptCycle => {
@@ -81,16 +78,19 @@ impl Micro {
                 false
             }
             Place::WaitFirstCycle => {
-                self.place = Place::WaitCycle;
+                self.to_idle(Place::WaitCycle);
                 false
             }
             Place::WaitCycle => {
                 self.place = Place::Waiting;
+                true
+            }
+            Place::Waiting | Place::Ended => true,
+            Place::Stopped => {
+                self.to_idle(Place::Stopped);
                 false
             }
-            Place::Waiting | Place::Stopped => false,
-            Place::Opcode
-            | Place::OperandByte
+            Place::OperandByte
             | Place::StatusOperand
             | Place::ImmediateLow
             | Place::ImmediateHigh
@@ -104,6 +104,7 @@ impl Micro {
             | Place::PointerHigh(_)
             | Place::PointerBank
             | Place::PointerBankY
+            | Place::LoadByte
             | Place::LoadLow(_)
             | Place::LoadHigh
             | Place::StoreLow(_)
@@ -114,6 +115,7 @@ impl Micro {
             | Place::ChangeWriteLow
             | Place::PushHigh
             | Place::PushLow
+            | Place::PullByte
             | Place::PullLow
             | Place::PullHigh
             | Place::CallBankPush
@@ -138,8 +140,7 @@ impl Micro {
             | Place::BlockDestination
             | Place::BlockSource
             | Place::BlockRead
-            | Place::BlockWrite
-            | Place::Ended => false,
+            | Place::BlockWrite => false,
         }
     }
 }

@@ -2,7 +2,7 @@ ghost use Rattle.std.specs.Prelude.{◌≡◌, MatchBool};
 
 use crate::micro::Micro;
 use crate::place::{Direction, Place, Traffic};
-use cpu_tables::{Regs, Row};
+use cpu_tables::{Access, Regs, Row};
 
 impl Micro {
     ghost use Rattle.cpu_modes.specs.Plan.{ends, finished};
@@ -26,6 +26,7 @@ impl Micro {
             place: Place::Ended,
             base: 0,
             word: 0,
+            access: Access::Inner,
         }
     }
 
@@ -39,8 +40,7 @@ impl Micro {
         match self.place {
             Place::Ended => true,
             Place::Waiting => awake,
-            Place::Opcode
-            | Place::OperandByte
+            Place::OperandByte
             | Place::StatusOperand
             | Place::ImmediateLow
             | Place::ImmediateHigh
@@ -57,6 +57,7 @@ impl Micro {
             | Place::PointerBank
             | Place::PointerBankY
             | Place::DataCycle(_)
+            | Place::LoadByte
             | Place::LoadLow(_)
             | Place::LoadHigh
             | Place::StoreLow(_)
@@ -74,6 +75,7 @@ impl Micro {
             | Place::PushLow
             | Place::PullFirstCycle
             | Place::PullCycle
+            | Place::PullByte
             | Place::PullLow
             | Place::PullHigh
             | Place::CallBankPush

@@ -1,4 +1,4 @@
-ghost use Rattle.std.specs.Prelude.{◌≡◌, ◌<◌};
+ghost use Rattle.std.specs.Prelude.{◌≡◌, ◌<◌, false};
 ghost use Rattle.cpu_modes.specs.Orders.{vector};
 
 use crate::address::is_wide;
@@ -23,32 +23,35 @@ fn vector(cause: Cause, e: bool) -> u32
 
 impl Micro {
     ghost use Rattle.cpu_modes.specs.Orders.{by_mode, call_order, data_of, jump_kind, operand, order};
-    ghost use Rattle.cpu_modes.specs.Rest.{rest};
+    ghost use Rattle.cpu_modes.specs.Rest.{Keeps, rest};
 
     /// An operation with data begins.
     #[inline(always)]
     pub(crate) fn enter_mode(&mut self)
         ensures left { rest self.new ≡ by_mode self.old.row.mode self.old.traffic self.old.row self.old.here }
+        ensures keeps { Keeps false self.new }
         ensures start { self.new.start ≡ self.old.start }
     {
         self.word = 0;
-        self.place = match self.row.mode {
-            Mode::Immediate => Place::ImmediateLow,
-            Mode::Direct => Place::DirectOffset(DirectKind::Plain),
-            Mode::DirectX => Place::DirectOffset(DirectKind::X),
-            Mode::DirectY => Place::DirectOffset(DirectKind::Y),
-            Mode::DirectPointer => Place::DirectOffset(DirectKind::Pointer),
-            Mode::DirectXPointer => Place::DirectOffset(DirectKind::XPointer),
-            Mode::DirectPointerY => Place::DirectOffset(DirectKind::PointerY),
-            Mode::DirectLongPointer => Place::DirectOffset(DirectKind::LongPointer),
-            Mode::DirectLongPointerY => Place::DirectOffset(DirectKind::LongPointerY),
-            Mode::Absolute => Place::OperandLow(OperandKind::Plain),
-            Mode::AbsoluteX => Place::OperandLow(OperandKind::X),
-            Mode::AbsoluteY => Place::OperandLow(OperandKind::Y),
-            Mode::Long => Place::OperandLow(OperandKind::Long),
-            Mode::LongX => Place::OperandLow(OperandKind::LongX),
-            Mode::StackRelative => Place::StackOffset,
-            Mode::StackPointerY => Place::StackPointerOffset,
+        match self.row.mode {
+            Mode::Immediate => self.to_immediate(),
+            Mode::Direct => self.to_fetch(Place::DirectOffset(DirectKind::Plain)),
+            Mode::DirectX => self.to_fetch(Place::DirectOffset(DirectKind::X)),
+            Mode::DirectY => self.to_fetch(Place::DirectOffset(DirectKind::Y)),
+            Mode::DirectPointer => self.to_fetch(Place::DirectOffset(DirectKind::Pointer)),
+            Mode::DirectXPointer => self.to_fetch(Place::DirectOffset(DirectKind::XPointer)),
+            Mode::DirectPointerY => self.to_fetch(Place::DirectOffset(DirectKind::PointerY)),
+            Mode::DirectLongPointer => self.to_fetch(Place::DirectOffset(DirectKind::LongPointer)),
+            Mode::DirectLongPointerY => self.to_fetch(Place::DirectOffset(
+                DirectKind::LongPointerY,
+            )),
+            Mode::Absolute => self.to_fetch(Place::OperandLow(OperandKind::Plain)),
+            Mode::AbsoluteX => self.to_fetch(Place::OperandLow(OperandKind::X)),
+            Mode::AbsoluteY => self.to_fetch(Place::OperandLow(OperandKind::Y)),
+            Mode::Long => self.to_fetch(Place::OperandLow(OperandKind::Long)),
+            Mode::LongX => self.to_fetch(Place::OperandLow(OperandKind::LongX)),
+            Mode::StackRelative => self.to_fetch(Place::StackOffset),
+            Mode::StackPointerY => self.to_fetch(Place::StackPointerOffset),
             Mode::AbsolutePointer
             | Mode::AbsoluteXPointer
             | Mode::AbsoluteLongPointer
@@ -57,35 +60,38 @@ impl Micro {
             | Mode::Accumulator
             | Mode::Implied
             | Mode::Stack
-            | Mode::BlockMove => Place::LastCycle,
-        };
+            | Mode::BlockMove => self.to_idle(Place::LastCycle),
+        }
     }
 
     /// A jump begins.
     #[inline(always)]
     pub(crate) fn enter_jump(&mut self)
         ensures left { rest self.new ≡ operand (jump_kind self.old.row.mode) self.old.traffic self.old.row self.old.here }
+        ensures keeps { Keeps false self.new }
         ensures start { self.new.start ≡ self.old.start }
     {
-        self.place = Place::OperandLow(match self.row.mode {
+        let kind = match self.row.mode {
             Mode::Long => OperandKind::JumpLong,
             Mode::AbsolutePointer => OperandKind::JumpPointer,
             Mode::AbsoluteXPointer => OperandKind::JumpXPointer,
             Mode::AbsoluteLongPointer => OperandKind::JumpLongPointer,
             _ => OperandKind::Jump,
-        });
+        };
+        self.to_fetch(Place::OperandLow(kind));
     }
 
     /// A call begins.
     #[inline(always)]
     pub(crate) fn enter_call(&mut self)
         ensures left { rest self.new ≡ call_order self.old.row.mode self.old.traffic self.old.row self.old.here }
+        ensures keeps { Keeps false self.new }
         ensures start { self.new.start ≡ self.old.start }
     {
-        self.place = match self.row.mode {
-            Mode::AbsoluteXPointer => Place::CallPointerLow,
-            _ => Place::OperandLow(OperandKind::Call),
-        };
+        match self.row.mode {
+            Mode::AbsoluteXPointer => self.to_fetch(Place::CallPointerLow),
+            _ => self.to_fetch(Place::OperandLow(OperandKind::Call)),
+        }
     }
 
     /// The data of an operation.
@@ -101,6 +107,7 @@ impl Micro {
     #[inline(always)]
     pub fn enter(&mut self)
         ensures left { rest self.new ≡ order self.old.row self.old.here }
+        ensures keeps { Keeps false self.new }
         ensures start { self.new.start ≡ self.old.start }
     {
         self.traffic = Traffic {
@@ -122,51 +129,51 @@ impl Micro {
             }
             Use::Internal => {
                 self.word = 0;
-                self.place = Place::LastCycle;
+                self.to_idle(Place::LastCycle);
             }
             Use::Exchange => {
                 self.word = 0;
-                self.place = Place::TwoCycles;
+                self.to_idle(Place::TwoCycles);
             }
-            Use::Status => self.place = Place::StatusOperand,
-            Use::Reserved => self.place = Place::OperandByte,
+            Use::Status => self.to_fetch(Place::StatusOperand),
+            Use::Reserved => self.to_fetch(Place::OperandByte),
             Use::Push(width) => {
                 self.with_data(Direction::Store, width);
                 self.word = 0;
-                self.place = Place::PushCycle;
+                self.to_idle(Place::PushCycle);
             }
             Use::Pull(width) => {
                 self.with_data(Direction::Load, width);
-                self.place = Place::PullFirstCycle;
+                self.to_idle(Place::PullFirstCycle);
             }
-            Use::PushOperand => self.place = Place::OperandLow(OperandKind::Pushed),
-            Use::PushDirect => self.place = Place::DirectOffset(DirectKind::Pushed),
+            Use::PushOperand => self.to_fetch(Place::OperandLow(OperandKind::Pushed)),
+            Use::PushDirect => self.to_fetch(Place::DirectOffset(DirectKind::Pushed)),
             Use::PushRelative => {
                 self.with_data(Direction::Store, Width::Word);
-                self.place = Place::OperandLow(OperandKind::PushedRelative);
+                self.to_fetch(Place::OperandLow(OperandKind::PushedRelative));
             }
             Use::Jump => self.enter_jump(),
             Use::Call => self.enter_call(),
-            Use::CallLong => self.place = Place::OperandLow(OperandKind::CallLong),
-            Use::Return => self.place = Place::ReturnFirstCycle(ReturnKind::Near),
-            Use::ReturnLong => self.place = Place::ReturnFirstCycle(ReturnKind::Far),
-            Use::ReturnInterrupt => self.place = Place::ReturnFirstCycle(ReturnKind::Interrupt),
-            Use::Branch => self.place = Place::BranchOffset,
-            Use::BranchLong => self.place = Place::OperandLow(OperandKind::BranchLong),
+            Use::CallLong => self.to_fetch(Place::OperandLow(OperandKind::CallLong)),
+            Use::Return => self.to_idle(Place::ReturnFirstCycle(ReturnKind::Near)),
+            Use::ReturnLong => self.to_idle(Place::ReturnFirstCycle(ReturnKind::Far)),
+            Use::ReturnInterrupt => self.to_idle(Place::ReturnFirstCycle(ReturnKind::Interrupt)),
+            Use::Branch => self.to_fetch(Place::BranchOffset),
+            Use::BranchLong => self.to_fetch(Place::OperandLow(OperandKind::BranchLong)),
             Use::Software(cause) => {
                 self.base = vector(cause, self.here.e);
-                self.place = Place::BreakOperand;
+                self.to_fetch(Place::BreakOperand);
             }
             Use::Hardware(cause) => {
                 self.base = vector(cause, self.here.e);
-                self.place = Place::InterruptFirstCycle;
+                self.to_idle(Place::InterruptFirstCycle);
             }
-            Use::BlockMove => self.place = Place::BlockDestination,
-            Use::Wait => self.place = Place::WaitFirstCycle,
-            Use::Stop => self.place = Place::Stopped,
+            Use::BlockMove => self.to_fetch(Place::BlockDestination),
+            Use::Wait => self.to_idle(Place::WaitFirstCycle),
+            Use::Stop => self.to_idle(Place::Stopped),
             Use::Reset => {
                 self.base = 0xFFFC;
-                self.place = Place::TargetLow(TargetKind::Near);
+                self.to_read(Place::TargetLow(TargetKind::Near));
             }
         }
     }

@@ -3,27 +3,26 @@
 //! The crate stands on `cpu_tables` and `cpu_alu`. An order is a tree in `specs/Orders.antt`, to be
 //! held beside the data sheet's table of cycles: at each fetch and read it goes on by the byte got,
 //! and at its end it has the registers. A `Micro` is an instruction in the middle of its order: it
-//! keeps a place, registers, a base and a word, and forgets the accesses made. What it leaves to do is
-//! `rest` of `specs/Rest.antt`. The crate promises that `next` is the first access of that, and that
-//! `Micro::took`, `wrote` and `idle` leave what the tree leaves after it. Every micro-state leaves
-//! something to do, so `next` and `has_ended` have no condition; a caller asks `next` before it calls
-//! one of the three. Choosing the next instruction is the layer above.
+//! keeps a place, registers, a base, a word and its next access, and forgets the accesses made. What it
+//! leaves to do is `rest` of `specs/Rest.antt`. The crate promises that `Micro::took`, `wrote` and
+//! `idle` leave what the tree leaves after the next access, and that the access kept then is the first
+//! of that (`Keeps`). They answer whether the instruction has ended or waits: then the next access is
+//! for the interrupt lines to say, so the layer above sets it, and the opcode that `took` is given is
+//! the next instruction's. An interrupt begins with `enter`.
 #![tactic(auto)]
 
-mod access;
 mod address;
 mod cycles;
 mod end;
 mod enter;
 mod micro;
-mod moves;
 mod parts;
 mod place;
 mod reads;
+mod transitions;
 mod uses;
 mod writes;
 
-pub use access::next;
 pub use address::code_address;
 pub use micro::Micro;
 pub use place::{

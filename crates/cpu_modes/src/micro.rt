@@ -1,7 +1,7 @@
 ghost use Rattle.std.specs.Prelude.{◌<◌};
 
 use crate::place::{Place, Traffic};
-use cpu_tables::{Regs, Row};
+use cpu_tables::{Access, Regs, Row};
 
 /// An instruction in the middle of its accesses.
 #[derive(Clone, Copy, PartialEq, Eq, Debug)]
@@ -14,11 +14,14 @@ pub struct Micro {
     pub row: Row,
     /// Its data.
     pub traffic: Traffic,
-    /// The next access.
+    /// Where in the instruction's order the next access stands.
     pub place: Place,
-    /// An address of 24 bits, or a word that is to be pushed.
-    pub base: u32,
     /// An operand, or its low byte.
     pub word: u16,
+    /// An address of 24 bits, or a word that is to be pushed.
+    pub base: u32,
+    /// The next access. It is kept, so that it is found once; where the instruction has ended or waits,
+    /// the interrupt lines decide it.
+    pub access: Access,
     ghost in_range: { base < 16777216 },
 }

@@ -1,7 +1,7 @@
-ghost use Rattle.std.specs.Prelude.{◌≡◌, ◌+◌, ◌*◌, ◌/◌, ◌%◌, ◌<◌, ◌^◌};
+ghost use Rattle.std.specs.Prelude.{◌≡◌, ◌+◌, ◌*◌, ◌/◌, ◌%◌, ◌<◌, ◌^◌, false};
 ghost use Rattle.cpu_modes.specs.Addresses.{pulled, pushed, fetched};
 
-use crate::address::{direct_address, direct_always, has_index_cycle, next_in_bank};
+use crate::address::{direct_address, direct_always, has_index_cycle, high_byte, next_in_bank};
 use crate::micro::Micro;
 use crate::place::{
     BankKind, DirectKind, Direction, OperandKind, Place, PointerKind, Reach, ReturnKind, TargetKind,
@@ -10,23 +10,21 @@ use cpu_alu::{is_taken, operand_written, relative};
 
 impl Micro {
     ghost use Rattle.cpu_modes.specs.Orders.{after_bank, after_offset, after_operand, after_pointer, after_return, after_target, branch_cycles, data_at, data_indexed, interrupted, push_data, return_pulls, written_of};
-    ghost use Rattle.cpu_modes.specs.Rest.{leaves, rest};
+    ghost use Rattle.cpu_modes.specs.Rest.{Keeps, rest};
 
     /// The data is next, at an address.
     #[inline(always)]
     pub(crate) fn reach_data(&mut self, reach: Reach, at: u32)
         requires { at < 2 ^ 24 }
         ensures left { rest self.new ≡ data_at self.old.traffic reach self.old.row self.old.here at }
+        ensures keeps { Keeps false self.new }
         ensures start { self.new.start ≡ self.old.start }
     {
         self.base = at;
         match self.traffic.direction {
-            Direction::Load => self.place = Place::LoadLow(reach),
-            Direction::Store => {
-                self.word = 0;
-                self.place = Place::StoreLow(reach);
-            }
-            Direction::Change => self.place = Place::ChangeReadLow(reach),
+            Direction::Load => self.to_load(reach),
+            Direction::Store => self.to_store(reach),
+            Direction::Change => self.to_read(Place::ChangeReadLow(reach)),
         }
     }
 
@@ -35,13 +33,14 @@ impl Micro {
     pub(crate) fn reach_indexed(&mut self, at: u32, index: u16)
         requires { at < 2 ^ 24 }
         ensures left { rest self.new ≡ data_indexed self.old.traffic self.old.row self.old.here at index }
+        ensures keeps { Keeps false self.new }
         ensures start { self.new.start ≡ self.old.start }
     {
         let has_cycle = has_index_cycle(self.traffic, &self.here, at, index);
         let to = (at + index as u32) % 16777216;
         if has_cycle {
             self.base = to;
-            self.place = Place::DataCycle(Reach::NextAddress);
+            self.to_idle(Place::DataCycle(Reach::NextAddress));
         } else {
             self.reach_data(Reach::NextAddress, to);
         }
@@ -51,6 +50,7 @@ impl Micro {
     #[inline(always)]
     pub(crate) fn pass_offset(&mut self, kind: DirectKind, offset: u16)
         ensures left { rest self.new ≡ after_offset kind self.old.traffic self.old.row self.old.here offset }
+        ensures keeps { Keeps false self.new }
         ensures start { self.new.start ≡ self.old.start }
     {
         match kind {
@@ -60,35 +60,35 @@ impl Micro {
             }
             DirectKind::X => {
                 self.base = direct_address(&self.here, offset, self.here.x);
-                self.place = Place::DataCycle(Reach::NextInBankZero);
+                self.to_idle(Place::DataCycle(Reach::NextInBankZero));
             }
             DirectKind::Y => {
                 self.base = direct_address(&self.here, offset, self.here.y);
-                self.place = Place::DataCycle(Reach::NextInBankZero);
+                self.to_idle(Place::DataCycle(Reach::NextInBankZero));
             }
             DirectKind::Pointer => {
                 self.base = direct_address(&self.here, offset, 0);
-                self.place = Place::PointerLow(PointerKind::Plain);
+                self.to_read(Place::PointerLow(PointerKind::Plain));
             }
             DirectKind::XPointer => {
                 self.base = direct_address(&self.here, offset, self.here.x);
-                self.place = Place::PointerCycle(PointerKind::Plain);
+                self.to_idle(Place::PointerCycle(PointerKind::Plain));
             }
             DirectKind::PointerY => {
                 self.base = direct_address(&self.here, offset, 0);
-                self.place = Place::PointerLow(PointerKind::Y);
+                self.to_read(Place::PointerLow(PointerKind::Y));
             }
             DirectKind::LongPointer => {
                 self.base = direct_always(&self.here, offset);
-                self.place = Place::PointerLow(PointerKind::Long);
+                self.to_read(Place::PointerLow(PointerKind::Long));
             }
             DirectKind::LongPointerY => {
                 self.base = direct_always(&self.here, offset);
-                self.place = Place::PointerLow(PointerKind::LongY);
+                self.to_read(Place::PointerLow(PointerKind::LongY));
             }
             DirectKind::Pushed => {
                 self.base = direct_always(&self.here, offset);
-                self.place = Place::PointerLow(PointerKind::Pushed);
+                self.to_read(Place::PointerLow(PointerKind::Pushed));
             }
         }
     }
@@ -97,6 +97,7 @@ impl Micro {
     #[inline(always)]
     pub(crate) fn pass_pointer(&mut self, kind: PointerKind, at: u32, word: u16)
         ensures left { rest self.new ≡ after_pointer kind self.old.traffic self.old.row self.old.here at word }
+        ensures keeps { Keeps false self.new }
         ensures start { self.new.start ≡ self.old.start }
     {
         let in_data_bank = 65536 * self.here.dbr as u32 + word as u32;
@@ -105,22 +106,22 @@ impl Micro {
             PointerKind::Y => self.reach_indexed(in_data_bank, self.here.y),
             PointerKind::StackY => {
                 self.base = (in_data_bank + self.here.y as u32) % 16777216;
-                self.place = Place::DataCycle(Reach::NextAddress);
+                self.to_idle(Place::DataCycle(Reach::NextAddress));
             }
             PointerKind::Long => {
                 self.base = (at % 65536 + 1) % 65536;
                 self.word = word;
-                self.place = Place::PointerBank;
+                self.to_read(Place::PointerBank);
             }
             PointerKind::LongY => {
                 self.base = (at % 65536 + 1) % 65536;
                 self.word = word;
-                self.place = Place::PointerBankY;
+                self.to_read(Place::PointerBankY);
             }
             PointerKind::Pushed => {
                 self.base = word as u32;
                 self.word = word;
-                self.place = Place::PushHigh;
+                self.to_push_word();
             }
         }
     }
@@ -128,7 +129,8 @@ impl Micro {
     /// An operand's two bytes were fetched.
     #[inline(always)]
     pub(crate) fn pass_operand(&mut self, kind: OperandKind, word: u16) -> bool
-        ensures left { leaves result self.new ≡ after_operand kind self.old.traffic self.old.row self.old.here word }
+        ensures left { rest self.new ≡ after_operand kind self.old.traffic self.old.row self.old.here word }
+        ensures keeps { Keeps result self.new }
         ensures start { self.new.start ≡ self.old.start }
     {
         let in_data_bank = 65536 * self.here.dbr as u32 + word as u32;
@@ -147,54 +149,54 @@ impl Micro {
                 false
             }
             OperandKind::Long => {
-                self.place = Place::OperandBank(BankKind::Plain);
+                self.to_fetch(Place::OperandBank(BankKind::Plain));
                 false
             }
             OperandKind::LongX => {
-                self.place = Place::OperandBank(BankKind::X);
+                self.to_fetch(Place::OperandBank(BankKind::X));
                 false
             }
-            OperandKind::Jump => true,
+            OperandKind::Jump => self.finish(),
             OperandKind::JumpLong => {
-                self.place = Place::OperandBank(BankKind::Jump);
+                self.to_fetch(Place::OperandBank(BankKind::Jump));
                 false
             }
             OperandKind::JumpPointer => {
                 self.base = word as u32;
-                self.place = Place::TargetLow(TargetKind::Near);
+                self.to_read(Place::TargetLow(TargetKind::Near));
                 false
             }
             OperandKind::JumpXPointer => {
                 self.base = 65536 * self.here.pbr as u32
                     + (word as u32 + self.here.x as u32) % 65536;
-                self.place = Place::TargetCycle;
+                self.to_idle(Place::TargetCycle);
                 false
             }
             OperandKind::JumpLongPointer => {
                 self.base = word as u32;
-                self.place = Place::TargetLow(TargetKind::Far);
+                self.to_read(Place::TargetLow(TargetKind::Far));
                 false
             }
             OperandKind::Call => {
                 self.base = self.here.pc.wrapping_sub(1) as u32;
-                self.place = Place::PushWordCycle;
+                self.to_idle(Place::PushWordCycle);
                 false
             }
             OperandKind::CallLong => {
-                self.place = Place::CallBankPush;
+                self.to_push(Place::CallBankPush, self.here.pbr);
                 false
             }
             OperandKind::Pushed => {
                 self.base = word as u32;
-                self.place = Place::PushHigh;
+                self.to_push_word();
                 false
             }
             OperandKind::PushedRelative => {
-                self.place = Place::PushCycle;
+                self.to_idle(Place::PushCycle);
                 false
             }
             OperandKind::BranchLong => {
-                self.place = Place::LastCycle;
+                self.to_idle(Place::LastCycle);
                 false
             }
         }
@@ -203,7 +205,8 @@ impl Micro {
     /// The bank of an operand was fetched.
     #[inline(always)]
     pub(crate) fn pass_bank(&mut self, kind: BankKind, bank: u8) -> bool
-        ensures left { leaves result self.new ≡ after_bank kind self.old.traffic self.old.row self.old.here self.old.word bank }
+        ensures left { rest self.new ≡ after_bank kind self.old.traffic self.old.row self.old.here self.old.word bank }
+        ensures keeps { Keeps result self.new }
         ensures start { self.new.start ≡ self.old.start }
     {
         let at = 65536 * bank as u32 + self.word as u32;
@@ -219,7 +222,7 @@ impl Micro {
             }
             BankKind::Jump => {
                 self.here.pbr = bank;
-                true
+                self.finish()
             }
         }
     }
@@ -228,29 +231,31 @@ impl Micro {
     #[inline(always)]
     pub(crate) fn push_written(&mut self)
         ensures left { rest self.new ≡ push_data self.old.traffic self.old.row self.old.here (written_of self.old.row self.old.here self.old.word) self.old.word }
+        ensures keeps { Keeps false self.new }
         ensures start { self.new.start ≡ self.old.start }
     {
         self.base = operand_written(self.row, self.here, self.word) as u32;
-        self.place = if self.traffic.wide {
-            Place::PushHigh
+        if self.traffic.wide {
+            self.to_push_word();
         } else {
-            Place::PushLow
-        };
+            self.to_push_low();
+        }
     }
 
     /// A target's two bytes were read.
     #[inline(always)]
     pub(crate) fn pass_target(&mut self, kind: TargetKind, at: u32, word: u16) -> bool
         requires { at < 2 ^ 24 }
-        ensures left { leaves result self.new ≡ after_target kind self.old.row self.old.here at word }
+        ensures left { rest self.new ≡ after_target kind self.old.row self.old.here at word }
+        ensures keeps { Keeps result self.new }
         ensures start { self.new.start ≡ self.old.start }
     {
         self.word = word;
         match kind {
-            TargetKind::Near => true,
+            TargetKind::Near => self.finish(),
             TargetKind::Far => {
                 self.base = next_in_bank(at);
-                self.place = Place::TargetBank;
+                self.to_read(Place::TargetBank);
                 false
             }
         }
@@ -260,34 +265,40 @@ impl Micro {
     #[inline(always)]
     pub(crate) fn pull_return(&mut self, kind: ReturnKind)
         ensures left { rest self.new ≡ return_pulls kind self.old.row self.old.here }
+        ensures keeps { Keeps false self.new }
         ensures start { self.new.start ≡ self.old.start }
     {
-        self.place = match kind {
-            ReturnKind::Near => Place::ReturnLow(ReturnKind::Near),
-            ReturnKind::Far => Place::ReturnLow(ReturnKind::Far),
-            ReturnKind::Interrupt => Place::ReturnStatus,
-        };
+        match kind {
+            ReturnKind::Near => self.to_pull(Place::ReturnLow(ReturnKind::Near)),
+            ReturnKind::Far => self.to_pull(Place::ReturnLow(ReturnKind::Far)),
+            ReturnKind::Interrupt => self.to_pull(Place::ReturnStatus),
+        }
     }
 
     /// The program counter was pulled.
     #[inline(always)]
     pub(crate) fn pass_return(&mut self, kind: ReturnKind, word: u16) -> bool
-        ensures left { leaves result self.new ≡ after_return kind self.old.row self.old.here word }
+        ensures left { rest self.new ≡ after_return kind self.old.row self.old.here word }
+        ensures keeps { Keeps result self.new }
         ensures start { self.new.start ≡ self.old.start }
     {
         self.word = word;
         match kind {
             ReturnKind::Near => {
-                self.place = Place::LastCycle;
+                self.to_idle(Place::LastCycle);
                 false
             }
             ReturnKind::Far => {
-                self.place = Place::ReturnBank;
+                self.to_pull(Place::ReturnBank);
                 false
             }
             ReturnKind::Interrupt => {
-                self.place = Place::ReturnBank;
-                self.here.e
+                if self.here.e {
+                    self.finish()
+                } else {
+                    self.to_pull(Place::ReturnBank);
+                    false
+                }
             }
         }
     }
@@ -295,30 +306,35 @@ impl Micro {
     /// A branch's distance was fetched.
     #[inline(always)]
     pub(crate) fn branch(&mut self, offset: u8) -> bool
-        ensures left { leaves result self.new ≡ branch_cycles self.old.row self.old.here offset }
+        ensures left { rest self.new ≡ branch_cycles self.old.row self.old.here offset }
+        ensures keeps { Keeps result self.new }
         ensures start { self.new.start ≡ self.old.start }
     {
         self.word = offset as u16;
-        let is_taken = is_taken(self.row.op, self.here.p);
-        let target = relative(self.here.pc, offset);
-        self.place = if self.here.e && target / 256 != self.here.pc / 256 {
-            Place::TwoCycles
+        if is_taken(self.row.op, self.here.p) {
+            let target = relative(self.here.pc, offset);
+            if self.here.e && target / 256 != self.here.pc / 256 {
+                self.to_idle(Place::TwoCycles);
+            } else {
+                self.to_idle(Place::LastCycle);
+            }
+            false
         } else {
-            Place::LastCycle
-        };
-        !is_taken
+            self.finish()
+        }
     }
 
     /// An interrupt's pushes are next.
     #[inline(always)]
     pub(crate) fn interrupt(&mut self)
         ensures left { rest self.new ≡ interrupted self.old.row self.old.here self.old.base }
+        ensures keeps { Keeps false self.new }
         ensures start { self.new.start ≡ self.old.start }
     {
-        self.place = if self.here.e {
-            Place::InterruptHigh
+        if self.here.e {
+            self.to_push(Place::InterruptHigh, high_byte(self.here.pc as u32));
         } else {
-            Place::InterruptBank
-        };
+            self.to_push(Place::InterruptBank, self.here.pbr);
+        }
     }
 }

@@ -136,13 +136,11 @@ pub enum ReturnKind {
 /// The next access of an instruction.
 #[derive(Clone, Copy, PartialEq, Eq, Debug)]
 pub enum Place {
-    /// The fetch of the opcode.
-    Opcode,
     /// The fetch of the only operand byte, the last access.
     OperandByte,
     /// The fetch of the mask of REP or SEP.
     StatusOperand,
-    /// The fetch of the low byte of an immediate operand.
+    /// The fetch of the low byte of an immediate operand of 16 bits.
     ImmediateLow,
     /// The fetch of its high byte.
     ImmediateHigh,
@@ -172,7 +170,9 @@ pub enum Place {
     PointerBankY,
     /// A cycle before the data.
     DataCycle(Reach),
-    /// The read of data, of its low byte first.
+    /// The read of data of 8 bits.
+    LoadByte,
+    /// The read of the low byte of data of 16 bits.
     LoadLow(Reach),
     /// The read of its high byte.
     LoadHigh,
@@ -206,7 +206,9 @@ pub enum Place {
     PullFirstCycle,
     /// The second cycle of a pull.
     PullCycle,
-    /// The pull of the low byte, or of the only one.
+    /// The pull of the only byte.
+    PullByte,
+    /// The pull of the low byte.
     PullLow,
     /// The pull of the high byte.
     PullHigh,

@@ -1,7 +1,7 @@
-ghost use Rattle.std.specs.Prelude.{◌≡◌, ◌+◌, ◌*◌, ◌%◌, IsTrue};
+ghost use Rattle.std.specs.Prelude.{◌≡◌, ◌+◌, ◌*◌, ◌%◌, IsTrue, true, unwrap_or};
 ghost use Rattle.cpu_modes.specs.Addresses.{join};
 
-use crate::address::{next_in_bank, pointer_next, second_address};
+use crate::address::{high_byte, low_byte, next_in_bank, pointer_next, second_address};
 use crate::micro::Micro;
 use crate::place::{Place, PointerKind, Reach, ReturnKind};
 use cpu_tables::row;
@@ -15,19 +15,22 @@ fn join(low: u16, high: u8) -> u16
 }
 
 impl Micro {
-    ghost use Rattle.cpu_modes.specs.Plan.{after, first_access, gets_byte};
-    ghost use Rattle.cpu_modes.specs.Rest.{leaves, rest};
+    ghost use Rattle.cpu_modes.specs.Plan.{after, finished, first_access, gets_byte};
+    ghost use Rattle.cpu_modes.specs.Rest.{Keeps, onward, rest};
 
-    /// The next access, a fetch or a read, got a byte. Answers whether it was the last.
+    /// The next access, a fetch or a read, got a byte; where the last instruction has ended or was
+    /// woken, it is the opcode fetch of the next one. Answers whether the instruction has ended.
     #[inline(always)]
-    pub(crate) fn pass_byte(&mut self, got: u8) -> bool
-        requires { IsTrue (gets_byte (first_access (rest self.old))) }
-        ensures left { leaves result self.new ≡ after (rest self.old) got }
-        ensures start { self.new.start ≡ self.old.start }
+    pub fn took(&mut self, got: u8) -> bool
+        requires { IsTrue (gets_byte (first_access (onward (rest self.old)))) }
+        ensures left { rest self.new ≡ after (onward (rest self.old)) got }
+        ensures keeps { Keeps result self.new }
+        ensures start { self.new.start ≡ unwrap_or (finished true (rest self.old)) self.old.start }
     {
         let byte = got as u16;
         match self.place {
-            Place::Opcode => {
+            Place::Ended | Place::Waiting => {
+                self.start = self.here;
                 self.pass_fetch();
                 self.row = row(got);
                 self.enter();
@@ -36,24 +39,24 @@ impl Micro {
             Place::OperandByte => {
                 self.pass_fetch();
                 self.word = byte;
-                true
+                self.finish()
             }
             Place::StatusOperand => {
                 self.pass_fetch();
                 self.word = byte;
-                self.place = Place::LastCycle;
+                self.to_idle(Place::LastCycle);
                 false
             }
             Place::ImmediateLow => {
                 self.pass_fetch();
                 self.word = byte;
-                self.place = Place::ImmediateHigh;
-                !self.traffic.wide
+                self.to_fetch(Place::ImmediateHigh);
+                false
             }
             Place::ImmediateHigh => {
                 self.pass_fetch();
                 self.word = join(self.word, got);
-                true
+                self.finish()
             }
             Place::DirectOffset(kind) => {
                 self.pass_fetch();
@@ -61,26 +64,26 @@ impl Micro {
                     self.pass_offset(kind, byte);
                 } else {
                     self.word = byte;
-                    self.place = Place::LowCycle(kind);
+                    self.to_idle(Place::LowCycle(kind));
                 }
                 false
             }
             Place::StackOffset => {
                 self.pass_fetch();
                 self.base = (self.here.s as u32 + byte as u32) % 65536;
-                self.place = Place::DataCycle(Reach::NextInBankZero);
+                self.to_idle(Place::DataCycle(Reach::NextInBankZero));
                 false
             }
             Place::StackPointerOffset => {
                 self.pass_fetch();
                 self.base = (self.here.s as u32 + byte as u32) % 65536;
-                self.place = Place::PointerCycle(PointerKind::StackY);
+                self.to_idle(Place::PointerCycle(PointerKind::StackY));
                 false
             }
             Place::OperandLow(kind) => {
                 self.pass_fetch();
                 self.word = byte;
-                self.place = Place::OperandHigh(kind);
+                self.to_fetch(Place::OperandHigh(kind));
                 false
             }
             Place::OperandHigh(kind) => {
@@ -95,13 +98,13 @@ impl Micro {
                 self.pass_fetch();
                 self.base = self.here.pc.wrapping_sub(1) as u32;
                 self.here.pbr = got;
-                self.place = Place::PushHigh;
+                self.to_push_word();
                 false
             }
             Place::CallPointerLow => {
                 self.pass_fetch();
                 self.word = byte;
-                self.place = Place::CallPointerPushHigh;
+                self.to_push(Place::CallPointerPushHigh, high_byte(self.here.pc as u32));
                 false
             }
             Place::CallPointerHigh => {
@@ -109,7 +112,7 @@ impl Micro {
                 let word = join(self.word, got);
                 self.base = 65536 * self.here.pbr as u32
                     + (word as u32 + self.here.x as u32) % 65536;
-                self.place = Place::TargetCycle;
+                self.to_idle(Place::TargetCycle);
                 false
             }
             Place::BranchOffset => {
@@ -124,19 +127,19 @@ impl Micro {
             Place::BlockDestination => {
                 self.pass_fetch();
                 self.here.dbr = got;
-                self.place = Place::BlockSource;
+                self.to_fetch(Place::BlockSource);
                 false
             }
             Place::BlockSource => {
                 self.pass_fetch();
                 self.base = 65536 * got as u32 + self.here.x as u32;
-                self.place = Place::BlockRead;
+                self.to_read(Place::BlockRead);
                 false
             }
             Place::PointerLow(kind) => {
                 self.base = pointer_next(kind, &self.here, self.base);
                 self.word = byte;
-                self.place = Place::PointerHigh(kind);
+                self.to_read(Place::PointerHigh(kind));
                 false
             }
             Place::PointerHigh(kind) => {
@@ -154,67 +157,77 @@ impl Micro {
                 self.reach_data(Reach::NextAddress, to);
                 false
             }
+            Place::LoadByte => {
+                self.word = byte;
+                self.finish()
+            }
             Place::LoadLow(reach) => {
                 self.base = second_address(reach, self.base);
                 self.word = byte;
-                self.place = Place::LoadHigh;
-                !self.traffic.wide
+                self.to_read(Place::LoadHigh);
+                false
             }
             Place::LoadHigh => {
                 self.word = join(self.word, got);
-                true
+                self.finish()
             }
             Place::ChangeReadLow(reach) => {
                 self.word = byte;
-                self.place = if self.traffic.wide {
-                    Place::ChangeReadHigh(reach)
+                if self.traffic.wide {
+                    self.to_read_second(reach);
                 } else {
-                    Place::ChangeCycle(reach)
-                };
+                    self.to_idle(Place::ChangeCycle(reach));
+                }
                 false
             }
             Place::ChangeReadHigh(reach) => {
                 self.word = join(self.word, got);
-                self.place = Place::ChangeCycle(reach);
+                self.to_idle(Place::ChangeCycle(reach));
                 false
             }
             Place::TargetLow(kind) => {
                 self.base = next_in_bank(self.base);
                 self.word = byte;
-                self.place = Place::TargetHigh(kind);
+                self.to_read(Place::TargetHigh(kind));
                 false
             }
             Place::TargetHigh(kind) => self.pass_target(kind, self.base, join(self.word, got)),
             Place::TargetBank => {
                 self.here.pbr = got;
-                true
+                self.finish()
             }
             Place::BlockRead => {
                 self.word = byte;
-                self.place = Place::BlockWrite;
+                let at = 65536 * self.here.dbr as u32 + self.here.y as u32;
+                self.to_write(Place::BlockWrite, at, low_byte(byte as u32));
                 false
+            }
+            Place::PullByte => {
+                self.pass_pull();
+                self.word = byte;
+                self.finish()
             }
             Place::PullLow => {
                 self.pass_pull();
                 self.word = byte;
-                self.place = Place::PullHigh;
-                !self.traffic.wide
+                self.to_pull(Place::PullHigh);
+                false
             }
             Place::PullHigh => {
                 self.pass_pull();
                 self.word = join(self.word, got);
-                true
+                self.finish()
             }
             Place::ReturnStatus => {
                 self.pass_pull();
                 self.here.p = got;
-                self.place = Place::ReturnLow(ReturnKind::Interrupt);
+                self.to_pull(Place::ReturnLow(ReturnKind::Interrupt));
                 false
             }
             Place::ReturnLow(kind) => {
                 self.pass_pull();
                 self.word = byte;
-                self.place = Place::ReturnHigh(kind);
+                self.to_pull(Place::ReturnHigh(kind));
                 false
             }
             Place::ReturnHigh(kind) => {
@@ -224,7 +237,7 @@ impl Micro {
             Place::ReturnBank => {
                 self.pass_pull();
                 self.here.pbr = got;
-                true
+                self.finish()
             }
             Place::LowCycle(_)
             | Place::PointerCycle(_)
@@ -258,9 +271,7 @@ impl Micro {
             | Place::BlockWrite
             | Place::WaitFirstCycle
             | Place::WaitCycle
-            | Place::Waiting
-            | Place::Stopped
-            | Place::Ended => false,
+            | Place::Stopped => false,
         }
     }
 }

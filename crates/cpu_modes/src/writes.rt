@@ -1,89 +1,96 @@
-ghost use Rattle.std.specs.Prelude.{◌≡◌, IsTrue};
+ghost use Rattle.std.specs.Prelude.{◌≡◌, IsTrue, true, unwrap_or};
 
-use crate::address::second_address;
+use crate::address::{high_byte, low_byte, second_address};
 use crate::micro::Micro;
 use crate::place::{Place, TargetKind};
+use cpu_alu::{operand_written, pushed_status};
 
 impl Micro {
-    ghost use Rattle.cpu_modes.specs.Plan.{after, first_access, is_write};
-    ghost use Rattle.cpu_modes.specs.Rest.{leaves, rest};
+    ghost use Rattle.cpu_modes.specs.Plan.{after, finished, first_access, is_write};
+    ghost use Rattle.cpu_modes.specs.Rest.{Keeps, onward, rest};
 
-    /// The next access, a write, was made. Answers whether it was the last that has results.
+    /// The next access, a write, was made. Answers whether the instruction has ended.
     #[inline(always)]
-    pub(crate) fn pass_write(&mut self) -> bool
-        requires { IsTrue (is_write (first_access (rest self.old))) }
-        ensures left { leaves result self.new ≡ after (rest self.old) 0 }
-        ensures start { self.new.start ≡ self.old.start }
+    pub fn wrote(&mut self) -> bool
+        requires { IsTrue (is_write (first_access (onward (rest self.old)))) }
+        ensures left { rest self.new ≡ after (onward (rest self.old)) 0 }
+        ensures keeps { Keeps result self.new }
+        ensures start { self.new.start ≡ unwrap_or (finished true (rest self.old)) self.old.start }
     {
         match self.place {
             Place::StoreLow(reach) => {
-                self.base = second_address(reach, self.base);
-                self.place = if self.traffic.wide {
-                    Place::StoreHigh
+                if self.traffic.wide {
+                    self.base = second_address(reach, self.base);
+                    let written = operand_written(self.row, self.here, self.word);
+                    self.to_write(Place::StoreHigh, self.base, high_byte(written as u32));
+                    false
                 } else {
-                    Place::Ended
-                };
-                false
+                    self.place = Place::Ended;
+                    true
+                }
             }
             Place::StoreHigh => {
                 self.place = Place::Ended;
-                false
+                true
             }
             Place::ChangeWriteHigh(_) => {
-                self.place = Place::ChangeWriteLow;
+                let written = operand_written(self.row, self.here, self.word);
+                self.to_write(Place::ChangeWriteLow, self.base, low_byte(written as u32));
                 false
             }
-            Place::ChangeWriteLow => true,
+            Place::ChangeWriteLow => self.finish(),
             Place::PushHigh => {
                 self.pass_push();
-                self.place = Place::PushLow;
+                self.to_push_low();
                 false
             }
             Place::PushLow => {
                 self.pass_push();
-                true
+                self.finish()
             }
             Place::CallBankPush => {
                 self.pass_push();
-                self.place = Place::CallBankCycle;
+                self.to_idle(Place::CallBankCycle);
                 false
             }
             Place::CallPointerPushHigh => {
                 self.pass_push();
-                self.place = Place::CallPointerPushLow;
+                self.to_push(Place::CallPointerPushLow, low_byte(self.here.pc as u32));
                 false
             }
             Place::CallPointerPushLow => {
                 self.pass_push();
-                self.place = Place::CallPointerHigh;
+                self.to_fetch(Place::CallPointerHigh);
                 false
             }
             Place::InterruptBank => {
                 self.pass_push();
-                self.place = Place::InterruptHigh;
+                self.to_push(Place::InterruptHigh, high_byte(self.here.pc as u32));
                 false
             }
             Place::InterruptHigh => {
                 self.pass_push();
-                self.place = Place::InterruptLow;
+                self.to_push(Place::InterruptLow, low_byte(self.here.pc as u32));
                 false
             }
             Place::InterruptLow => {
                 self.pass_push();
-                self.place = Place::InterruptStatus;
+                self.to_push(
+                    Place::InterruptStatus,
+                    pushed_status(self.row.op, self.here),
+                );
                 false
             }
             Place::InterruptStatus => {
                 self.pass_push();
-                self.place = Place::TargetLow(TargetKind::Near);
+                self.to_read(Place::TargetLow(TargetKind::Near));
                 false
             }
             Place::BlockWrite => {
-                self.place = Place::TwoCycles;
+                self.to_idle(Place::TwoCycles);
                 false
             }
-            Place::Opcode
-            | Place::OperandByte
+            Place::OperandByte
             | Place::StatusOperand
             | Place::ImmediateLow
             | Place::ImmediateHigh
@@ -100,6 +107,7 @@ impl Micro {
             | Place::PointerBank
             | Place::PointerBankY
             | Place::DataCycle(_)
+            | Place::LoadByte
             | Place::LoadLow(_)
             | Place::LoadHigh
             | Place::ChangeReadLow(_)
@@ -111,6 +119,7 @@ impl Micro {
             | Place::PushWordCycle
             | Place::PullFirstCycle
             | Place::PullCycle
+            | Place::PullByte
             | Place::PullLow
             | Place::PullHigh
             | Place::CallBankCycle

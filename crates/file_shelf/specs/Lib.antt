@@ -2,5 +2,7 @@ pub mod Counts
 pub mod Faults
 pub mod Memory
 pub mod Plan
+pub mod Shelves
+pub mod Shown
 pub mod Stored
 pub mod Told

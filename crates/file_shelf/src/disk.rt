@@ -1,6 +1,6 @@
-ghost use Rattle.std.specs.Prelude.{◌≡◌, ℕ, ◌<◌, ◌≤◌, [], None, length, take, vec_len, OnOk, OnErr, IfSome, IsErrOf};
+ghost use Rattle.std.specs.Prelude.{◌≡◌, ℕ, ◌<◌, ◌≤◌, [], length, take, vec_len, OnOk, OnErr, IfSome, IsErrOf};
 ghost use Rattle.std.specs.Io.KnownBytes.{Appends as AppendsKnown};
-ghost use Rattle.file_shelf.specs.Counts.{count_of};
+ghost use Rattle.file_shelf.specs.Shelves.{shown_by_files};
 ghost use Rattle.file_shelf.specs.Faults.{no_faults};
 
 use crate::counts::Counts;
@@ -52,15 +52,7 @@ impl<'a, R: Files + Print> FileShelf<'a, R> {
 }
 
 impl<R: Files + Print> Shelf for FileShelf<'_, R> {
-    ghost held = { λ _ _. None };
-
-    ghost written = { λ _ _. None };
-
-    ghost named = { λ _ _. None };
-
-    ghost load_faults = { λ s _. s.loads };
-
-    ghost write_faults = { λ s out. count_of s.writes out };
+    ghost shown = { shown_by_files };
 
     fn load(&mut self, name: &str, limit: usize, into: &mut Vec<u8>) -> Result<(), LoadEnd> {
         let end = match fs::open(self.rt, name) {

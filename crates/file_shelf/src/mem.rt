@@ -2,9 +2,11 @@ ghost use Rattle.std.specs.Prelude.{◌≡◌, ℕ, ◌<◌, ◌≤◌, ◌↔�
 ghost use Rattle.std.specs.Option.{ForSome};
 ghost use Rattle.file_shelf.specs.Memory.{fault_count, raised, faults_of, load_failing, loaded, created, filled, given, planned, empty_memory};
 ghost use Rattle.file_shelf.specs.Plan.{create_fails, put_fails};
-ghost use Rattle.file_shelf.specs.Told.{HasRisen};
+ghost use Rattle.file_shelf.specs.Told.{HasRisen, Appends, AppendsSome};
+ghost use Rattle.file_shelf.specs.Shown.{IsUntouched, IsCreated, OnlyCreates, OnlyPuts};
 ghost use Rattle.file_shelf.specs.Counts.{count_of};
-ghost use Rattle.file_shelf.specs.Stored.{held_in, told, output_of};
+ghost use Rattle.file_shelf.specs.Shelves.{shown_by_memory};
+ghost use Rattle.file_shelf.specs.Stored.{held_in, output_of};
 
 use crate::counts::Counts;
 use crate::plan::{Plan, ShelfCall};
@@ -155,15 +157,7 @@ impl MemShelf {
 }
 
 impl Shelf for MemShelf {
-    ghost held = { λ s name. held_in s.stored.files name };
-
-    ghost written = { λ s out. told (output_of s.stored out) };
-
-    ghost named = { λ s out. Some (output_of s.stored out).name };
-
-    ghost load_faults = { faults_of };
-
-    ghost write_faults = { λ s out. count_of s.write_faults out };
+    ghost shown = { shown_by_memory };
 
     fn load(&mut self, name: &str, limit: usize, into: &mut Vec<u8>) -> Result<(), LoadEnd>
         requires { into.old.items ≡ [] }
@@ -198,6 +192,10 @@ impl Shelf for MemShelf {
         requires fits { length name.now ≤ 4096 }
         ensures failed { IsErr result ↔ IsTrue (create_fails self.old.plan) }
         ensures after { self.new ≡ created self.old out name.now }
+        ensures created { OnOk result (IsCreated (shown_by_memory self.new) out name.now) }
+        ensures risen { OnErr result (HasRisen (count_of self.old.write_faults out) (count_of self.new.write_faults out)) }
+        ensures untouched { OnErr result (IsUntouched (shown_by_memory self.old) (shown_by_memory self.new) out) }
+        ensures only { OnlyCreates (shown_by_memory self.old) (shown_by_memory self.new) out }
     {
         if self.plan.create() {
             self.write_faults.raise(out);
@@ -210,6 +208,10 @@ impl Shelf for MemShelf {
     fn put(&mut self, out: Out, bytes: &[u8]) -> Result<(), Failed>
         ensures failed { IsErr result ↔ IsTrue (put_fails self.old.plan out) }
         ensures after { self.new ≡ filled self.old out bytes.now }
+        ensures appended { OnOk result (Appends ((shown_by_memory self.old).written out) ((shown_by_memory self.new).written out) bytes.now) }
+        ensures risen { OnErr result (HasRisen (count_of self.old.write_faults out) (count_of self.new.write_faults out)) }
+        ensures prefix { OnErr result (AppendsSome ((shown_by_memory self.old).written out) ((shown_by_memory self.new).written out) bytes.now) }
+        ensures only { OnlyPuts (shown_by_memory self.old) (shown_by_memory self.new) out }
     {
         if self.plan.put(out) {
             self.write_faults.raise(out);

@@ -1,5 +1,6 @@
-ghost use Rattle.std.specs.Prelude.{◌≡◌, ◌<◌, ◌≤◌, ◌↔◌, [], length, Some, OnOk, OnErr, IfOk, IsOk, IsErrOf, vec_len, unwrap_or};
-ghost use Rattle.file_shelf.specs.Stored.{Stored, holding, held_in, blank, added, told, output_of, with_output, nothing_stored};
+ghost use Rattle.std.specs.Prelude.{◌≡◌, ◌<◌, ◌≤◌, ◌↔◌, [], length, OnOk, OnErr, IfOk, IsOk, IsErrOf, vec_len, unwrap_or};
+ghost use Rattle.file_shelf.specs.Stored.{Stored, holding, held_in, blank, added, output_of, with_output, nothing_stored};
+ghost use Rattle.file_shelf.specs.Shelves.{shown_by_sure};
 
 use crate::shelves::{Failed, LoadEnd, Out, Shelf};
 use crate::store::Store;
@@ -62,15 +63,7 @@ impl SureShelf {
 }
 
 impl Shelf for SureShelf {
-    ghost held = { λ s name. Some (unwrap_or (held_in s.files name) []) };
-
-    ghost written = { λ s out. told (output_of s out) };
-
-    ghost named = { λ s out. Some (output_of s out).name };
-
-    ghost load_faults = { λ _ _. 0 };
-
-    ghost write_faults = { λ _ _. 0 };
+    ghost shown = { shown_by_sure };
 
     fn load(&mut self, name: &str, limit: usize, into: &mut Vec<u8>) -> Result<(), LoadEnd>
         requires { into.old.items ≡ [] }

@@ -2,6 +2,8 @@
 use Rattle.std.specs.Prelude.{ℕ, ◌+◌, ◌/◌, ◌%◌, List, [], ◌∷◌, ◌++◌, codes, decimal, Option, Some, None, nat_lt, if◌then◌else◌}
 use Rattle.unbuilt_part.specs.declared.part.Part.{Part}
 use Rattle.unbuilt_part.specs.declared.part.Part.TheVariants as part
+use Rattle.cart_map.specs.declared.refused.CartRefused.{CartRefused}
+use Rattle.cart_map.specs.declared.refused.CartRefused.TheVariants as cart
 use Rattle.file_shelf.specs.declared.shelves.Input.{Input}
 use Rattle.file_shelf.specs.declared.shelves.Input.TheVariants as input
 use Rattle.file_shelf.specs.declared.shelves.Out.{Out}
@@ -26,6 +28,32 @@ hex_address address = hex_byte (address / 65536 % 256) ++ hex_byte (address / 25
 -- a run was made
 abbrev pub frames_text : ℕ → ℕ → List ℕ
 frames_text frames samples = codes "frames " ++ decimal frames ++ codes " samples " ++ decimal samples
+
+-- a demo was played: the sums of the bytes of its video and of its sound
+abbrev pub demo_text : ℕ → ℕ → ℕ → ℕ → List ℕ
+demo_text frames samples video sound =
+    frames_text frames samples ++ codes " video " ++ decimal video ++ codes " sound " ++ decimal sound
+
+-- a cartridge was made
+abbrev pub image_text : List ℕ
+image_text = codes "image 524288"
+
+-- a file is no cartridge, boot ROM, table or script
+abbrev pub cart_refused_text : CartRefused → List ℕ
+cart_refused_text cart.TooShort = codes "cart refused: too short"
+cart_refused_text cart.TooLong = codes "cart refused: too long"
+cart_refused_text cart.NoHeader = codes "cart refused: no header"
+cart_refused_text (cart.Coprocessor chip) = codes "cart refused: coprocessor " ++ hex_byte chip
+cart_refused_text (cart.RamSize size) = codes "cart refused: ram size " ++ decimal size
+
+abbrev pub boot_refused_text : List ℕ
+boot_refused_text = codes "boot refused"
+
+abbrev pub table_refused_text : ℕ → List ℕ
+table_refused_text entry = codes "table refused at " ++ decimal entry
+
+abbrev pub script_refused_text : ℕ → List ℕ
+script_refused_text line = codes "script refused at line " ++ decimal line
 
 -- the words are in no form
 abbrev pub usage_text : List ℕ

@@ -15,8 +15,9 @@ pub use file_shelf::{
     Failed, FileShelf, Input, LoadEnd, MemShelf, Out, Shelf, ShelfCall, SureShelf,
 };
 pub use lines::{
-    Line, cannot_read_line, cannot_write_line, frames_line, no_memory_line, not_built_line,
-    usage_line,
+    Line, boot_refused_line, cannot_read_line, cannot_write_line, cart_refused_line, demo_line,
+    frames_line, image_line, no_memory_line, not_built_line, script_refused_line,
+    table_refused_line, usage_line,
 };
 pub use order::{Files, Name, Order, WordsEnd};
 pub use read::read_words;

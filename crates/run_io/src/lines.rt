@@ -1,16 +1,18 @@
 ghost use Rattle.std.specs.Prelude.{◌≡◌, ◌+◌, ◌<◌, ◌≤◌, ◌++◌, length, decimal, []};
 ghost use Rattle.std.specs.Option.{option_map};
 ghost use Rattle.unbuilt_part.specs.declared.part.Part.{Part};
-ghost use Rattle.run_io.specs.Line.{line_of, hex_digit, hex_byte, frames_text, usage_text, cannot_read_text, cannot_write_text, no_memory_text, not_built_text};
+ghost use Rattle.cart_map.specs.declared.refused.CartRefused.{CartRefused};
+ghost use Rattle.run_io.specs.Line.{line_of, hex_digit, hex_byte, frames_text, demo_text, image_text, cart_refused_text, boot_refused_text, table_refused_text, script_refused_text, usage_text, cannot_read_text, cannot_write_text, no_memory_text, not_built_text};
 
 use arrayvec::ArrayString;
+use cart_map::CartRefused;
 use file_shelf::{Input, Out};
 use itoa::Buffer;
 use std::marker::Model;
 use unbuilt_part::Part;
 
 /// The most bytes that a line has.
-const ROOM: usize = 128;
+const ROOM: usize = 256;
 
 /// One line for the user, ended by LF. It is made without memory.
 #[derive(Drop)]
@@ -43,14 +45,14 @@ impl Line {
     }
 
     fn push(&mut self, text: &str)
-        requires room { length self.old + length text.now ≤ 128 }
+        requires room { length self.old + length text.now ≤ 256 }
         ensures appended { self.new ≡ self.old ++ text.now }
     {
         self.text.push_str(text);
     }
 
     fn push_number(&mut self, number: u64)
-        requires room { length self.old + 40 ≤ 128 }
+        requires room { length self.old + 40 ≤ 256 }
         ensures appended { self.new ≡ self.old ++ decimal number }
         ensures short { length self.new ≤ length self.old + 40 }
     {
@@ -59,7 +61,7 @@ impl Line {
     }
 
     fn push_hex(&mut self, byte: u8)
-        requires room { length self.old + 2 ≤ 128 }
+        requires room { length self.old + 2 ≤ 256 }
         ensures appended { self.new ≡ self.old ++ hex_byte byte }
     {
         self.text.push(char::from(digit(byte / 16)));
@@ -92,6 +94,30 @@ pub fn frames_line(frames: u32, samples: u64) -> Line
     line
 }
 
+/// A demo was played: `frames N samples M video A sound B`, with the sums of the bytes of each.
+pub fn demo_line(frames: u32, samples: u64, video: u64, sound: u64) -> Line
+    ensures text { result ≡ line_of (demo_text frames samples video sound) }
+{
+    let mut line = Line::new();
+    line.push("frames ");
+    line.push_number(u64::from(frames));
+    line.push(" samples ");
+    line.push_number(samples);
+    line.push(" video ");
+    line.push_number(video);
+    line.push(" sound ");
+    line.push_number(sound);
+    line.push("\n");
+    line
+}
+
+/// A cartridge was made: `image 524288`.
+pub fn image_line() -> Line
+    ensures text { result ≡ line_of image_text }
+{
+    whole("image 524288\n")
+}
+
 /// The words are in no form.
 pub fn usage_line() -> Line
     ensures text { result ≡ line_of usage_text }
@@ -122,6 +148,63 @@ pub fn cannot_write_line(out: Out) -> Option<Line>
         Out::Image => Some(whole("cannot write image\n")),
         Out::Say => None,
     }
+}
+
+/// A file is no cartridge: `cart refused: too short`, `too long`, `no header`, `coprocessor 13` (two
+/// hexadecimal digits) or `ram size 8`.
+pub fn cart_refused_line(cause: CartRefused) -> Line
+    ensures text { result ≡ line_of (cart_refused_text cause) }
+{
+    match cause {
+        CartRefused::TooShort => whole("cart refused: too short\n"),
+        CartRefused::TooLong => whole("cart refused: too long\n"),
+        CartRefused::NoHeader => whole("cart refused: no header\n"),
+        CartRefused::Coprocessor(chip) => coprocessor_line(chip),
+        CartRefused::RamSize(size) => numbered_line("cart refused: ram size ", u64::from(size)),
+    }
+}
+
+/// A file is no boot ROM: `boot refused`.
+pub fn boot_refused_line() -> Line
+    ensures text { result ≡ line_of boot_refused_text }
+{
+    whole("boot refused\n")
+}
+
+/// A file is no table: `table refused at 511`, at 512 for its length and else at its first large entry.
+pub fn table_refused_line(entry: u16) -> Line
+    ensures text { result ≡ line_of (table_refused_text entry) }
+{
+    numbered_line("table refused at ", u64::from(entry))
+}
+
+/// A file is no script: `script refused at line 3`, at 0 for its length and else at its first bad line.
+pub fn script_refused_line(line: u32) -> Line
+    ensures text { result ≡ line_of (script_refused_text line) }
+{
+    numbered_line("script refused at line ", u64::from(line))
+}
+
+fn coprocessor_line(chip: u8) -> Line
+    ensures text { result ≡ line_of (cart_refused_text (CartRefused.Coprocessor chip)) }
+{
+    let mut line = Line::new();
+    line.push("cart refused: coprocessor ");
+    line.push_hex(chip);
+    line.push("\n");
+    line
+}
+
+/// A line of a text and a number behind it.
+fn numbered_line(text: &str, number: u64) -> Line
+    requires room { length text.now ≤ 128 }
+    ensures text { result ≡ line_of (text.now ++ decimal number) }
+{
+    let mut line = Line::new();
+    line.push(text);
+    line.push_number(number);
+    line.push("\n");
+    line
 }
 
 /// There was no memory: `no memory`.
@@ -172,7 +255,7 @@ fn address_line(address: u32) -> Line
 
 /// A line of this text.
 fn whole(text: &str) -> Line
-    requires room { length text.now ≤ 128 }
+    requires room { length text.now ≤ 256 }
     ensures same { result ≡ text.now }
 {
     let mut line = Line::new();

@@ -1,1 +1,3 @@
 pub mod Taken
+pub mod Turns
+pub mod Underway

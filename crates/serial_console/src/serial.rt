@@ -14,10 +14,10 @@ use snes_defs::{Act, Side};
 /// the console where both stand at one stamp.
 #[derive(Drop)]
 pub struct Serial<C, S> {
-    console: C,
-    sound: S,
-    to_sound: [u8; 4],
-    to_console: [u8; 4],
+    pub(crate) console: C,
+    pub(crate) sound: S,
+    pub(crate) to_sound: [u8; 4],
+    pub(crate) to_console: [u8; 4],
 }
 
 /// The byte of a port under a clear, where `bit` is the port's bit of the mask.
@@ -97,7 +97,7 @@ fn any_step<M: Machine>(machine: &mut M, incoming: &mut [u8; 4], outgoing: &mut 
 /// where the machine sees that it is quiet.
 #[inline(always)]
 #[tactic(auto, using(crate::proofs::Taken::quiet))]
-fn step<M: Machine>(machine: &mut M, incoming: &mut [u8; 4], outgoing: &mut [u8; 4])
+pub(crate) fn step<M: Machine>(machine: &mut M, incoming: &mut [u8; 4], outgoing: &mut [u8; 4])
     requires room { length (M.waiting machine.old) + M.MOST ≤ M.CAP }
     requires early { M.stamp_of machine.old ≤ 2 ^ 62 }
     ensures next { (m : M.State) → M.stands machine.old m → M.stands machine.new (M.moves.next m (got_of (M.moves.act m) incoming.old)) }

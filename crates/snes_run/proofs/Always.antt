@@ -12,7 +12,7 @@ use Rattle.run_io.specs.declared.order.Order.TheVariants.{Run}
 use Rattle.run_io.specs.Form.{IsForm}
 use Rattle.snes_run.specs.declared.status.Status.{Status}
 use Rattle.snes_run.specs.declared.status.Status.TheVariants.{Ok, Usage, LoadFault, WriteFault, Unbuilt, NoMemory}
-use Rattle.snes_run.specs.Shown.{Shown}
+use Rattle.file_shelf.specs.Shown.{Shown}
 use Rattle.snes_run.specs.Inputs.{name_of, order_of, part_of, IsBuilt, ShowsBuilt, ShowsUnbuilt}
 use Rattle.snes_run.specs.Run.{Meets}
 use Rattle.snes_run.specs.Outcome.{ShowsRom, IsUnbuiltInput, IsMade, EndsUnbuilt}

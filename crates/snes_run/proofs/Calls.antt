@@ -12,7 +12,8 @@ use Rattle.run_io.specs.declared.order.Order.TheVariants.{Run}
 use Rattle.run_io.specs.Form.{IsForm}
 use Rattle.snes_run.specs.declared.status.Status.{Status}
 use Rattle.snes_run.specs.declared.status.Status.TheVariants.{Ok, Usage, LoadFault, WriteFault, Unbuilt, NoMemory}
-use Rattle.snes_run.specs.Shown.{Shown, IsUntouched, IsPassedOver, IsKept, OnlyPuts, OnlyRunsOrLoads}
+use Rattle.file_shelf.specs.Shown.{Shown, IsUntouched, IsPassedOver, IsKept, OnlyPuts}
+use Rattle.snes_run.specs.Changes.{OnlyRunsOrLoads}
 use Rattle.snes_run.specs.Inputs.{name_of}
 use Rattle.snes_run.specs.Outputs.{IsBegun, IsVideoSoFar, IsAudioSoFar, VideoBegun, SoundBegun, VideoLeft, SoundLeft}
 use Rattle.snes_run.specs.Outcome.{AreUntouched, IsUnbuiltInput, IsUnbuiltRun, IsMade, EndsUnbuilt, EndsOrder}

@@ -11,12 +11,12 @@ use Rattle.run_io.specs.declared.order.Order.TheVariants.{Run}
 use Rattle.run_io.specs.Form.{IsForm}
 use Rattle.snes_run.specs.declared.status.Status.{Status}
 use Rattle.snes_run.specs.declared.status.Status.TheVariants.{Ok, Usage, LoadFault, WriteFault, Unbuilt, NoMemory}
-use Rattle.snes_run.specs.Shown.{Shown}
+use Rattle.file_shelf.specs.Shown.{Shown}
 use Rattle.snes_run.specs.Inputs.{name_of}
 use Rattle.std.proofs.lemmas.List.{append-nil}
 use Rattle.side_law.specs.SerialRun.{after_turns}
 use Rattle.console_side.specs.Console.{console_moves}
-use Rattle.audio_side.specs.Quiet.{sound_moves}
+use Rattle.quiet_side.specs.Quiet.{sound_moves}
 use Rattle.snes_run.specs.Run.{start_of, Emits}
 use Rattle.snes_run.specs.Outputs.{VideoLeft, SoundLeft, VideoBegun, SoundBegun, IsRunWritten}
 use Rattle.snes_run.specs.Outcome.{AreBuilt, AreBuiltBefore, AreUntouched, ShowsRom, IsLoadFault, IsVideoFault, IsSoundFault, IsMade, EndsUnbuilt, EndsOrder}

@@ -10,7 +10,7 @@ use Rattle.console_side.specs.declared.steps.Due.{Due}
 use Rattle.console_side.specs.declared.steps.Due.TheVariants.{Stopped, Refresh}
 use Rattle.console_side.specs.Core.{access_of}
 use Rattle.console_side.specs.Console.{ConsoleState, console_moves, console_after, due_of, due_access}
-use Rattle.audio_side.specs.Quiet.{SoundState, sound_moves}
+use Rattle.quiet_side.specs.Quiet.{SoundState, sound_moves}
 use Rattle.snes_run.specs.Run.{start_of, Meets, IsRunOf}
 
 -- a console that has met a part is stopped

@@ -4,7 +4,7 @@ use Rattle.file_shelf.specs.declared.shelves.Input.{Input}
 use Rattle.file_shelf.specs.declared.shelves.Input.TheVariants as input
 use Rattle.file_shelf.specs.Told.{Holds}
 use Rattle.run_io.specs.declared.order.Files.{Files}
-use Rattle.snes_run.specs.Shown.{Shown, OnlyLoads}
+use Rattle.file_shelf.specs.Shown.{Shown, OnlyLoads}
 use Rattle.snes_run.specs.Inputs.{ShowsBuilt}
 use Rattle.snes_run.specs.Outcome.{AreBuilt}
 

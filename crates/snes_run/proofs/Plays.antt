@@ -6,9 +6,9 @@ use Rattle.file_shelf.specs.Told.{Holds}
 use Rattle.run_io.specs.declared.order.Files.{Files}
 use Rattle.snes_run.specs.declared.status.Status.{Status}
 use Rattle.snes_run.specs.declared.status.Status.TheVariants.{Ok, Usage, LoadFault, WriteFault, Unbuilt, NoMemory}
-use Rattle.snes_run.specs.Shown.{Shown, OnlyCreates, OnlyRuns, IsUntouched, IsPassedOver}
+use Rattle.file_shelf.specs.Shown.{Shown, IsCreated, OnlyCreates, OnlyRuns, IsUntouched, IsPassedOver}
 use Rattle.snes_run.specs.Run.{start_of, Emits}
-use Rattle.snes_run.specs.Outputs.{IsCreated, IsVideoSoFar, IsAudioSoFar, VideoBegun, SoundBegun}
+use Rattle.snes_run.specs.Outputs.{IsVideoSoFar, IsAudioSoFar, VideoBegun, SoundBegun}
 use Rattle.snes_run.specs.Outcome.{EndsRun, EndsPlay}
 use Rattle.snes_run.proofs.Runs.{told_more}
 use Rattle.snes_run.proofs.ShownLemmas.{risen_since}

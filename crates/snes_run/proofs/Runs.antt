@@ -13,8 +13,8 @@ use Rattle.side_law.specs.SerialRun.{IsPast, after_turns}
 use Rattle.serial_console.specs.declared.serial.Serial.{Serial}
 use Rattle.serial_console.specs.Serial.{IsAt}
 use Rattle.console_side.specs.Console.{ConsoleState, ConsoleValue, IsMet, console_moves, StandsAt as ConsoleStands}
-use Rattle.audio_side.specs.Quiet.{SoundState, AudioValue, sound_moves, StandsAt as SoundStands}
-use Rattle.snes_run.specs.Shown.{Shown}
+use Rattle.quiet_side.specs.Quiet.{SoundState, AudioValue, sound_moves, StandsAt as SoundStands}
+use Rattle.file_shelf.specs.Shown.{Shown}
 use Rattle.snes_run.specs.Run.{start_of, Underway, Emits, IsUnmetBefore}
 use Rattle.snes_run.specs.Outcome.{HoldsSoFar, HoldsRun, IsStop}
 

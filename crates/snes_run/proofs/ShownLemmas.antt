@@ -1,7 +1,7 @@
 -- What calls one after another may change.
 use Rattle.std.proofs.Common.{ℕ, ◌≤◌, ◌∙◌, arith}
 use Rattle.file_shelf.specs.Told.{HasRisen}
-use Rattle.snes_run.specs.Shown.{Shown, OnlyLoads, OnlyRuns}
+use Rattle.file_shelf.specs.Shown.{Shown, OnlyLoads, OnlyRuns}
 
 pub only_runs_then : (a b c : Shown) → OnlyRuns a b → OnlyRuns b c → OnlyRuns a c
 only_runs_then a b c first then = record {

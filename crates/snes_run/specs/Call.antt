@@ -11,7 +11,7 @@ use Rattle.run_io.specs.Form.{IsForm}
 use Rattle.run_io.specs.Line.{line_of, frames_text}
 use Rattle.snes_run.specs.declared.status.Status.{Status}
 use Rattle.snes_run.specs.declared.status.Status.TheVariants.{Ok, Usage, LoadFault, WriteFault, Unbuilt, NoMemory}
-use Rattle.snes_run.specs.Shown.{Shown}
+use Rattle.file_shelf.specs.Shown.{Shown}
 use Rattle.snes_run.specs.Outcome.{AreUntouched, IsMade, EndsOrder}
 
 -- the words are in no form

@@ -1,8 +1,8 @@
 pub mod Call
+pub mod Changes
 pub mod Inputs
 pub mod Outcome
 pub mod Outputs
 pub mod Run
-pub mod Shown
 pub mod Snes
 pub mod Status

@@ -11,7 +11,7 @@ use Rattle.run_io.specs.declared.order.Files.{Files}
 use Rattle.console_side.specs.Console.{IsMet}
 use Rattle.snes_run.specs.declared.status.Status.{Status}
 use Rattle.snes_run.specs.declared.status.Status.TheVariants.{Ok, Usage, LoadFault, WriteFault, Unbuilt, NoMemory}
-use Rattle.snes_run.specs.Shown.{Shown, IsUntouched}
+use Rattle.file_shelf.specs.Shown.{Shown, IsUntouched}
 use Rattle.snes_run.specs.Inputs.{name_of, order_of, ShowsBuilt, ShowsUnbuilt}
 use Rattle.snes_run.specs.Run.{Meets, IsRunOf}
 use Rattle.snes_run.specs.Outputs.{IsVideoSoFar, IsAudioSoFar, VideoBegun, SoundBegun, VideoLeft, SoundLeft, IsRunWritten}

@@ -4,18 +4,13 @@ use Rattle.file_shelf.specs.declared.shelves.Out.{Out}
 use Rattle.file_shelf.specs.declared.shelves.Out.TheVariants.{Video, Sound}
 use Rattle.file_shelf.specs.Told.{Holds}
 use Rattle.run_io.specs.declared.order.Files.{Files}
-use Rattle.snes_run.specs.Shown.{Shown, IsUntouched}
+use Rattle.file_shelf.specs.Shown.{Shown, IsUntouched}
 use Rattle.snes_run.specs.Run.{Emits, IsRunOf, Begins}
 
 -- an output has this name, and holds bytes of this kind, as far as it is told
 pub record IsBegun (after : Shown) (out : Out) (name : List ℕ) (Kind : List ℕ → Type 0) : Type 0 where
   pub named : Holds (after.named out) name
   pub bytes : IfSome (after.written out) Kind
-
--- an output has this name, and is empty
-pub record IsCreated (after : Shown) (out : Out) (name : List ℕ) : Type 0 where
-  pub named : Holds (after.named out) name
-  pub empty : Holds (after.written out) []
 
 -- the first of the bytes that the console emits in a run, and the first of those of the sound side
 pub record IsVideoSoFar (rom : List ℕ) (frames : ℕ) (bytes : List ℕ) : Type 0 where

@@ -6,7 +6,7 @@ use Rattle.unbuilt_part.specs.declared.part.Part.{Part}
 use Rattle.side_law.specs.Serial.{SerialState, serial_of}
 use Rattle.side_law.specs.SerialRun.{IsOutput, IsUnderway, after_turns}
 use Rattle.console_side.specs.Console.{ConsoleState, console_start, console_moves}
-use Rattle.audio_side.specs.Quiet.{SoundState, sound_start, sound_moves}
+use Rattle.quiet_side.specs.Quiet.{SoundState, sound_start, sound_moves}
 
 -- the serial console at its start, with this ROM
 abbrev pub start_of : List ℕ → SerialState ConsoleState SoundState

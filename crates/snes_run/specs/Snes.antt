@@ -9,7 +9,7 @@ use Rattle.file_shelf.specs.Told.{HasRisen}
 use Rattle.run_io.specs.declared.order.Files.{Files}
 use Rattle.snes_run.specs.declared.status.Status.{Status}
 use Rattle.snes_run.specs.declared.status.Status.TheVariants.{Ok, Usage, LoadFault, WriteFault, Unbuilt, NoMemory}
-use Rattle.snes_run.specs.Shown.{Shown}
+use Rattle.file_shelf.specs.Shown.{Shown}
 use Rattle.snes_run.specs.Inputs.{name_of, order_of, IsBuilt, ShowsUnbuilt}
 use Rattle.snes_run.specs.Run.{Meets}
 use Rattle.snes_run.specs.Outcome.{AreBuilt, AreBuiltBefore, ShowsRom}

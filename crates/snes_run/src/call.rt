@@ -1,5 +1,6 @@
 ghost use Rattle.std.specs.Prelude.{◌≡◌, ◌≤◌, IfSome};
-ghost use Rattle.snes_run.specs.Shown.{shown, OnlyPuts, OnlyRunsOrLoads};
+ghost use Rattle.file_shelf.specs.Shown.{OnlyPuts};
+ghost use Rattle.snes_run.specs.Changes.{OnlyRunsOrLoads};
 ghost use Rattle.snes_run.specs.Status.{refusal_of};
 ghost use Rattle.snes_run.specs.Call.{EndsWords, IsSaid};
 
@@ -22,8 +23,8 @@ pub(crate) struct Ordered {
 /// Reads the words, and does what they order.
 #[tactic(auto, using(crate::proofs::Calls::order_ends))]
 pub(crate) fn follow<H: Shelf>(alloc: Global, words: &Argv, shelf: &mut H) -> Ordered
-    ensures ends { let shows = shown H.held H.written H.named H.load_faults H.write_faults in EndsWords words.now (shows shelf.old) (shows shelf.new) result.frames result.status }
-    ensures only { let shows = shown H.held H.written H.named H.load_faults H.write_faults in OnlyRunsOrLoads (shows shelf.old) (shows shelf.new) }
+    ensures ends { EndsWords words.now (H.shown shelf.old) (H.shown shelf.new) result.frames result.status }
+    ensures only { OnlyRunsOrLoads (H.shown shelf.old) (H.shown shelf.new) }
 {
     let files = match read_words(alloc, words) {
         Ok(Order::Run(files)) => files,
@@ -63,8 +64,8 @@ fn refusal(status: Status) -> Option<Line>
 
 /// Says the line of a refusal. A put that fails is passed over.
 pub(crate) fn refuse<H: Shelf>(shelf: &mut H, status: Status)
-    ensures said { let shows = shown H.held H.written H.named H.load_faults H.write_faults in IfSome (refusal_of status) (IsSaid (shows shelf.old) (shows shelf.new)) }
-    ensures only { let shows = shown H.held H.written H.named H.load_faults H.write_faults in OnlyPuts (shows shelf.old) (shows shelf.new) Out.Say }
+    ensures said { IfSome (refusal_of status) (IsSaid (H.shown shelf.old) (H.shown shelf.new)) }
+    ensures only { OnlyPuts (H.shown shelf.old) (H.shown shelf.new) Out.Say }
 {
     if let Some(line) = refusal(status) {
         let _ = shelf.put(Out::Say, line.bytes());

@@ -2,7 +2,7 @@ ghost use Rattle.std.specs.Prelude.{◌≡◌, ◌≢◌, ◌↔◌, IsTrue, IfO
 ghost use Rattle.cart_map.specs.Plain.{IsPlain};
 ghost use Rattle.file_shelf.specs.Told.{Holds};
 ghost use Rattle.snes_run.specs.Inputs.{name_of, part_of, limit_of, IsBuilt, EndsInput};
-ghost use Rattle.snes_run.specs.Shown.{shown, OnlyLoads};
+ghost use Rattle.file_shelf.specs.Shown.{OnlyLoads};
 
 use crate::status::Status;
 use cart_map::plain;
@@ -55,9 +55,9 @@ fn fetch<H: Shelf>(
     files: &Files,
     input: Input,
 ) -> Result<Vec<u8>, Status>
-    ensures whole { IfOk result (λ bytes. Holds (H.held shelf.old (name_of files.now input)) bytes.items) }
-    ensures ends { IfErr result (EndsInput input (H.held shelf.old (name_of files.now input)) (H.load_faults shelf.old (name_of files.now input)) (H.load_faults shelf.new (name_of files.now input))) }
-    ensures only { let shows = shown H.held H.written H.named H.load_faults H.write_faults in OnlyLoads (shows shelf.old) (shows shelf.new) }
+    ensures whole { IfOk result (λ bytes. Holds ((H.shown shelf.old).held (name_of files.now input)) bytes.items) }
+    ensures ends { IfErr result (EndsInput input ((H.shown shelf.old).held (name_of files.now input)) ((H.shown shelf.old).load_faults (name_of files.now input)) ((H.shown shelf.new).load_faults (name_of files.now input))) }
+    ensures only { OnlyLoads (H.shown shelf.old) (H.shown shelf.new) }
 {
     let mut bytes = Vec::new(alloc);
     match shelf.load(name(files, input), limit(input), &mut bytes) {
@@ -76,9 +76,9 @@ pub(crate) fn load_cart<H: Shelf>(
 ) -> Result<Cart, Status>
     ensures plain { IfOk result IsPlain }
     ensures built { IfOk result (λ cart. IsBuilt Input.Cart cart.rom) }
-    ensures whole { IfOk result (λ cart. Holds (H.held shelf.old files.now.cart) cart.rom) }
-    ensures ends { IfErr result (EndsInput Input.Cart (H.held shelf.old files.now.cart) (H.load_faults shelf.old files.now.cart) (H.load_faults shelf.new files.now.cart)) }
-    ensures only { let shows = shown H.held H.written H.named H.load_faults H.write_faults in OnlyLoads (shows shelf.old) (shows shelf.new) }
+    ensures whole { IfOk result (λ cart. Holds ((H.shown shelf.old).held files.now.cart) cart.rom) }
+    ensures ends { IfErr result (EndsInput Input.Cart ((H.shown shelf.old).held files.now.cart) ((H.shown shelf.old).load_faults files.now.cart) ((H.shown shelf.new).load_faults files.now.cart)) }
+    ensures only { OnlyLoads (H.shown shelf.old) (H.shown shelf.new) }
 {
     let file = fetch(alloc, shelf, files, Input::Cart)?;
     match plain(file) {
@@ -108,9 +108,9 @@ pub(crate) fn load_built<H: Shelf>(
     input: Input,
 ) -> Result<(), Status>
     requires { input ≢ Input.Cart }
-    ensures built { IfOk result (λ done. IfSome (H.held shelf.old (name_of files.now input)) (IsBuilt input)) }
-    ensures ends { IfErr result (EndsInput input (H.held shelf.old (name_of files.now input)) (H.load_faults shelf.old (name_of files.now input)) (H.load_faults shelf.new (name_of files.now input))) }
-    ensures only { let shows = shown H.held H.written H.named H.load_faults H.write_faults in OnlyLoads (shows shelf.old) (shows shelf.new) }
+    ensures built { IfOk result (λ done. IfSome ((H.shown shelf.old).held (name_of files.now input)) (IsBuilt input)) }
+    ensures ends { IfErr result (EndsInput input ((H.shown shelf.old).held (name_of files.now input)) ((H.shown shelf.old).load_faults (name_of files.now input)) ((H.shown shelf.new).load_faults (name_of files.now input))) }
+    ensures only { OnlyLoads (H.shown shelf.old) (H.shown shelf.new) }
 {
     let file = fetch(alloc, shelf, files, input)?;
     if is_built(input, file.as_slice()) {

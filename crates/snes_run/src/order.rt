@@ -2,7 +2,8 @@ ghost use Rattle.std.specs.Prelude.{◌≡◌, ◌≤◌, IfOk, OnOk, IfErr};
 ghost use Rattle.snes_defs.specs.declared.region.Region.TheVariants.{Ntsc};
 ghost use Rattle.cart_map.specs.Plain.{IsPlain};
 ghost use Rattle.file_shelf.specs.Told.{Holds};
-ghost use Rattle.snes_run.specs.Shown.{shown, OnlyLoads, OnlyRunsOrLoads};
+ghost use Rattle.file_shelf.specs.Shown.{OnlyLoads};
+ghost use Rattle.snes_run.specs.Changes.{OnlyRunsOrLoads};
 ghost use Rattle.snes_run.specs.Outcome.{AreBuilt, EndsOrder};
 
 use crate::inputs::{load_built, load_cart};
@@ -17,10 +18,10 @@ fn load_job<H: Shelf>(alloc: Global, files: &Files, shelf: &mut H) -> Result<Job
     ensures plain { IfOk result (λ job. IsPlain job.cart) }
     ensures ntsc { IfOk result (λ job. job.region ≡ Ntsc) }
     ensures frames { IfOk result (λ job. job.frames ≡ files.now.frames) }
-    ensures rom { IfOk result (λ job. Holds (H.held shelf.old files.now.cart) job.cart.rom) }
-    ensures built { let shows = shown H.held H.written H.named H.load_faults H.write_faults in OnOk result (AreBuilt (shows shelf.old) files.now) }
-    ensures ends { let shows = shown H.held H.written H.named H.load_faults H.write_faults in IfErr result (EndsOrder files.now (shows shelf.old) (shows shelf.new)) }
-    ensures only { let shows = shown H.held H.written H.named H.load_faults H.write_faults in OnlyLoads (shows shelf.old) (shows shelf.new) }
+    ensures rom { IfOk result (λ job. Holds ((H.shown shelf.old).held files.now.cart) job.cart.rom) }
+    ensures built { OnOk result (AreBuilt (H.shown shelf.old) files.now) }
+    ensures ends { IfErr result (EndsOrder files.now (H.shown shelf.old) (H.shown shelf.new)) }
+    ensures only { OnlyLoads (H.shown shelf.old) (H.shown shelf.new) }
 {
     let cart = load_cart(alloc, shelf, files)?;
     load_built(alloc, shelf, files, Input::Boot)?;
@@ -39,8 +40,8 @@ fn load_job<H: Shelf>(alloc: Global, files: &Files, shelf: &mut H) -> Result<Job
 /// Does an order to run: loads its inputs and runs them.
 pub(crate) fn perform<H: Shelf>(alloc: Global, files: &Files, shelf: &mut H) -> Status
     requires { files.now.frames ≤ 36000 }
-    ensures ends { let shows = shown H.held H.written H.named H.load_faults H.write_faults in EndsOrder files.now (shows shelf.old) (shows shelf.new) result }
-    ensures only { let shows = shown H.held H.written H.named H.load_faults H.write_faults in OnlyRunsOrLoads (shows shelf.old) (shows shelf.new) }
+    ensures ends { EndsOrder files.now (H.shown shelf.old) (H.shown shelf.new) result }
+    ensures only { OnlyRunsOrLoads (H.shown shelf.old) (H.shown shelf.new) }
 {
     match load_job(alloc, files, shelf) {
         Ok(job) => play(alloc, &job, files, shelf),

@@ -2,13 +2,12 @@ ghost use Rattle.std.specs.Prelude.{◌≡◌, ◌<◌, ◌≤◌, [], length, O
 ghost use Rattle.snes_defs.specs.declared.region.Region.TheVariants.{Ntsc};
 ghost use Rattle.cart_map.specs.Plain.{IsPlain};
 ghost use Rattle.file_shelf.specs.Told.{Holds, HasRisen};
-ghost use Rattle.snes_run.specs.Shown.{shown, IsUntouched, OnlyCreates, OnlyRuns};
-ghost use Rattle.snes_run.specs.Outputs.{IsCreated};
+ghost use Rattle.file_shelf.specs.Shown.{IsCreated, IsUntouched, OnlyCreates, OnlyRuns};
 ghost use Rattle.snes_run.specs.Outcome.{EndsPlay};
 
 use crate::run::run_out;
 use crate::status::Status;
-use audio_side::AudioSide;
+use quiet_side::AudioSide;
 use console_side::ConsoleSide;
 use run_io::{Failed, Files, Name, Out, Shelf};
 use snes_defs::Job;
@@ -19,10 +18,10 @@ const BUFFER: usize = 65_536;
 
 /// Creates an output under its name.
 fn create<H: Shelf>(shelf: &mut H, out: Out, name: &Name) -> Result<(), Failed>
-    ensures created { let shows = shown H.held H.written H.named H.load_faults H.write_faults in OnOk result (IsCreated (shows shelf.new) out name.now) }
-    ensures failed { OnErr result (HasRisen (H.write_faults shelf.old out) (H.write_faults shelf.new out)) }
-    ensures untouched { let shows = shown H.held H.written H.named H.load_faults H.write_faults in OnErr result (IsUntouched (shows shelf.old) (shows shelf.new) out) }
-    ensures only { let shows = shown H.held H.written H.named H.load_faults H.write_faults in OnlyCreates (shows shelf.old) (shows shelf.new) out }
+    ensures created { OnOk result (IsCreated (H.shown shelf.new) out name.now) }
+    ensures failed { OnErr result (HasRisen ((H.shown shelf.old).write_faults out) ((H.shown shelf.new).write_faults out)) }
+    ensures untouched { OnErr result (IsUntouched (H.shown shelf.old) (H.shown shelf.new) out) }
+    ensures only { OnlyCreates (H.shown shelf.old) (H.shown shelf.new) out }
 {
     shelf.create(out, name.text())
 }
@@ -33,8 +32,8 @@ pub(crate) fn play<H: Shelf>(alloc: Global, job: &Job, files: &Files, shelf: &mu
     requires ntsc { job.now.region ≡ Ntsc }
     requires frames { job.now.frames ≤ 36000 }
     requires same_frames { job.now.frames ≡ files.now.frames }
-    ensures ends { let shows = shown H.held H.written H.named H.load_faults H.write_faults in EndsPlay job.now.cart.rom files.now (shows shelf.old) (shows shelf.new) result }
-    ensures only { let shows = shown H.held H.written H.named H.load_faults H.write_faults in OnlyRuns (shows shelf.old) (shows shelf.new) }
+    ensures ends { EndsPlay job.now.cart.rom files.now (H.shown shelf.old) (H.shown shelf.new) result }
+    ensures only { OnlyRuns (H.shown shelf.old) (H.shown shelf.new) }
 {
     let Ok(console) = ConsoleSide::new(alloc, job) else {
         return Status::NoMemory;

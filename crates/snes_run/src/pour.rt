@@ -1,6 +1,6 @@
 ghost use Rattle.std.specs.Prelude.{◌≡◌, ◌<◌, ◌≤◌, [], length, OnOk, OnErr};
 ghost use Rattle.file_shelf.specs.Told.{Appends, AppendsSome, HasRisen};
-ghost use Rattle.snes_run.specs.Shown.{shown, OnlyPuts};
+ghost use Rattle.file_shelf.specs.Shown.{OnlyPuts};
 
 use run_io::{Failed, Out, Shelf};
 use side_law::Machine;
@@ -18,10 +18,10 @@ pub(crate) fn pour<M: Machine, H: Shelf>(
     ensures stamp { M.stamp_of machine.new ≡ M.stamp_of machine.old }
     ensures region { M.region_of machine.new ≡ M.region_of machine.old }
     ensures empty { M.waiting machine.new ≡ [] }
-    ensures ok { OnOk result (Appends (H.written shelf.old out) (H.written shelf.new out) (M.waiting machine.old)) }
-    ensures some { AppendsSome (H.written shelf.old out) (H.written shelf.new out) (M.waiting machine.old) }
-    ensures failed { OnErr result (HasRisen (H.write_faults shelf.old out) (H.write_faults shelf.new out)) }
-    ensures only { let shows = shown H.held H.written H.named H.load_faults H.write_faults in OnlyPuts (shows shelf.old) (shows shelf.new) out }
+    ensures ok { OnOk result (Appends ((H.shown shelf.old).written out) ((H.shown shelf.new).written out) (M.waiting machine.old)) }
+    ensures some { AppendsSome ((H.shown shelf.old).written out) ((H.shown shelf.new).written out) (M.waiting machine.old) }
+    ensures failed { OnErr result (HasRisen ((H.shown shelf.old).write_faults out) ((H.shown shelf.new).write_faults out)) }
+    ensures only { OnlyPuts (H.shown shelf.old) (H.shown shelf.new) out }
 {
     if machine.pending() == 0 {
         return Ok(());

@@ -1,13 +1,13 @@
 ghost use Rattle.std.specs.Prelude.{◌≡◌, ◌≤◌, [], length};
 ghost use Rattle.file_shelf.specs.Told.{Holds};
 ghost use Rattle.console_side.specs.Console.{console_start, IsConsole};
-ghost use Rattle.audio_side.specs.Quiet.{sound_start};
-ghost use Rattle.snes_run.specs.Shown.{shown, OnlyRuns};
+ghost use Rattle.quiet_side.specs.Quiet.{sound_start};
+ghost use Rattle.file_shelf.specs.Shown.{OnlyRuns};
 ghost use Rattle.snes_run.specs.Outcome.{EndsRun};
 
 use crate::status::Status;
 use crate::turns::turn_out;
-use audio_side::AudioSide;
+use quiet_side::AudioSide;
 use clock_ratio::end_stamp;
 use console_side::ConsoleSide;
 use run_io::{Out, Shelf};
@@ -29,11 +29,11 @@ pub(crate) fn run_out<H: Shelf>(
     requires sound_starts { sound.state ≡ sound_start }
     requires sound_empty { sound.waiting ≡ [] }
     requires buffer { 1024 ≤ length buffer.old }
-    requires video_created { Holds (H.written shelf.old Out.Video) [] }
-    requires sound_created { Holds (H.written shelf.old Out.Sound) [] }
-    ensures ends { let shows = shown H.held H.written H.named H.load_faults H.write_faults in EndsRun console.state.rom frames (shows shelf.old) (shows shelf.new) result }
-    ensures only { let shows = shown H.held H.written H.named H.load_faults H.write_faults in OnlyRuns (shows shelf.old) (shows shelf.new) }
-    ensures named { H.named shelf.new ≡ H.named shelf.old }
+    requires video_created { Holds ((H.shown shelf.old).written Out.Video) [] }
+    requires sound_created { Holds ((H.shown shelf.old).written Out.Sound) [] }
+    ensures ends { EndsRun console.state.rom frames (H.shown shelf.old) (H.shown shelf.new) result }
+    ensures only { OnlyRuns (H.shown shelf.old) (H.shown shelf.new) }
+    ensures named { (H.shown shelf.new).named ≡ (H.shown shelf.old).named }
 {
     let mut serial = Serial::new(console, sound);
     let end = end_stamp(frames);

@@ -1,6 +1,6 @@
 ghost use Rattle.std.specs.Prelude.{◌≤◌, OnOk, OnErr, IfSome};
 ghost use Rattle.file_shelf.specs.Told.{Appends, AppendsSome, HasRisen};
-ghost use Rattle.snes_run.specs.Shown.{shown, IsUntouched, IsKept, OnlyPuts};
+ghost use Rattle.file_shelf.specs.Shown.{IsUntouched, IsKept, OnlyPuts};
 ghost use Rattle.snes_run.specs.Status.{refusal_of};
 ghost use Rattle.snes_run.specs.Call.{EndsCall, IsSaid, made_line};
 
@@ -12,10 +12,10 @@ use std::alloc::Global;
 
 /// Does what the words order, and says how it ended.
 pub(crate) fn called<H: Shelf>(alloc: Global, words: &Argv, shelf: &mut H) -> Status
-    ensures ends { let shows = shown H.held H.written H.named H.load_faults H.write_faults in EndsCall words.now (shows shelf.old) (shows shelf.new) result }
-    ensures image { let shows = shown H.held H.written H.named H.load_faults H.write_faults in IsUntouched (shows shelf.old) (shows shelf.new) Out.Image }
-    ensures kept { let shows = shown H.held H.written H.named H.load_faults H.write_faults in IsKept (shows shelf.old) (shows shelf.new) }
-    ensures said { let shows = shown H.held H.written H.named H.load_faults H.write_faults in IfSome (refusal_of result) (IsSaid (shows shelf.old) (shows shelf.new)) }
+    ensures ends { EndsCall words.now (H.shown shelf.old) (H.shown shelf.new) result }
+    ensures image { IsUntouched (H.shown shelf.old) (H.shown shelf.new) Out.Image }
+    ensures kept { IsKept (H.shown shelf.old) (H.shown shelf.new) }
+    ensures said { IfSome (refusal_of result) (IsSaid (H.shown shelf.old) (H.shown shelf.new)) }
 {
     let ordered = follow(alloc, words, shelf);
     match ordered.status {
@@ -33,10 +33,10 @@ pub(crate) fn called<H: Shelf>(alloc: Global, words: &Argv, shelf: &mut H) -> St
 /// Says the line of a run that was made.
 fn say_made<H: Shelf>(shelf: &mut H, frames: u32) -> Result<(), Failed>
     requires { frames ≤ 36000 }
-    ensures said { OnOk result (Appends (H.written shelf.old Out.Say) (H.written shelf.new Out.Say) (made_line frames)) }
-    ensures some { OnErr result (AppendsSome (H.written shelf.old Out.Say) (H.written shelf.new Out.Say) (made_line frames)) }
-    ensures failed { OnErr result (HasRisen (H.write_faults shelf.old Out.Say) (H.write_faults shelf.new Out.Say)) }
-    ensures only { let shows = shown H.held H.written H.named H.load_faults H.write_faults in OnlyPuts (shows shelf.old) (shows shelf.new) Out.Say }
+    ensures said { OnOk result (Appends ((H.shown shelf.old).written Out.Say) ((H.shown shelf.new).written Out.Say) (made_line frames)) }
+    ensures some { OnErr result (AppendsSome ((H.shown shelf.old).written Out.Say) ((H.shown shelf.new).written Out.Say) (made_line frames)) }
+    ensures failed { OnErr result (HasRisen ((H.shown shelf.old).write_faults Out.Say) ((H.shown shelf.new).write_faults Out.Say)) }
+    ensures only { OnlyPuts (H.shown shelf.old) (H.shown shelf.new) Out.Say }
 {
     let line = frames_line(frames, samples_before(end_stamp(frames)));
     shelf.put(Out::Say, line.bytes())

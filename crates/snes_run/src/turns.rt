@@ -3,7 +3,7 @@ ghost use Rattle.clock_ratio.specs.Stamp.{least_of};
 ghost use Rattle.file_shelf.specs.Told.{Appends, AppendsSome, HasRisen};
 ghost use Rattle.side_law.specs.Serial.{SerialState, turn as turned, console_emits, sound_emits};
 ghost use Rattle.serial_console.specs.Serial.{IsAt, console_of, sound_of, earlier_side};
-ghost use Rattle.snes_run.specs.Shown.{shown, OnlyRuns};
+ghost use Rattle.file_shelf.specs.Shown.{OnlyRuns};
 
 use crate::pour::pour;
 use run_io::{Out, Shelf};
@@ -28,14 +28,14 @@ pub(crate) fn turn_out<C: Machine, S: Machine, H: Shelf>(
     ensures turns { (w : SerialState C.State S.State) → IsAt C.stands S.stands serial.old w → IsAt C.stands S.stands serial.new (turned C.moves S.moves w) }
     ensures console_empty { OnOk result (C.waiting (console_of serial.new) ≡ []) }
     ensures sound_empty { OnOk result (S.waiting (sound_of serial.new) ≡ []) }
-    ensures video { OnOk result ((w : SerialState C.State S.State) → IsAt C.stands S.stands serial.old w → Appends (H.written shelf.old Out.Video) (H.written shelf.new Out.Video) (console_emits C.moves S.moves w)) }
-    ensures audio { OnOk result ((w : SerialState C.State S.State) → IsAt C.stands S.stands serial.old w → Appends (H.written shelf.old Out.Sound) (H.written shelf.new Out.Sound) (sound_emits C.moves S.moves w)) }
-    ensures some_video { (w : SerialState C.State S.State) → IsAt C.stands S.stands serial.old w → AppendsSome (H.written shelf.old Out.Video) (H.written shelf.new Out.Video) (console_emits C.moves S.moves w) }
-    ensures some_audio { (w : SerialState C.State S.State) → IsAt C.stands S.stands serial.old w → AppendsSome (H.written shelf.old Out.Sound) (H.written shelf.new Out.Sound) (sound_emits C.moves S.moves w) }
-    ensures fault { IfErr result (λ out. HasRisen (H.write_faults shelf.old out) (H.write_faults shelf.new out)) }
+    ensures video { OnOk result ((w : SerialState C.State S.State) → IsAt C.stands S.stands serial.old w → Appends ((H.shown shelf.old).written Out.Video) ((H.shown shelf.new).written Out.Video) (console_emits C.moves S.moves w)) }
+    ensures audio { OnOk result ((w : SerialState C.State S.State) → IsAt C.stands S.stands serial.old w → Appends ((H.shown shelf.old).written Out.Sound) ((H.shown shelf.new).written Out.Sound) (sound_emits C.moves S.moves w)) }
+    ensures some_video { (w : SerialState C.State S.State) → IsAt C.stands S.stands serial.old w → AppendsSome ((H.shown shelf.old).written Out.Video) ((H.shown shelf.new).written Out.Video) (console_emits C.moves S.moves w) }
+    ensures some_audio { (w : SerialState C.State S.State) → IsAt C.stands S.stands serial.old w → AppendsSome ((H.shown shelf.old).written Out.Sound) ((H.shown shelf.new).written Out.Sound) (sound_emits C.moves S.moves w) }
+    ensures fault { IfErr result (λ out. HasRisen ((H.shown shelf.old).write_faults out) ((H.shown shelf.new).write_faults out)) }
     ensures fault_of_run { IfErr result (λ out. (out ≡ Out.Video) ⊎ (out ≡ Out.Sound)) }
-    ensures named { H.named shelf.new ≡ H.named shelf.old }
-    ensures only { let shows = shown H.held H.written H.named H.load_faults H.write_faults in OnlyRuns (shows shelf.old) (shows shelf.new) }
+    ensures named { (H.shown shelf.new).named ≡ (H.shown shelf.old).named }
+    ensures only { OnlyRuns (H.shown shelf.old) (H.shown shelf.new) }
     ensures console_rises { C.stamp_of (console_of serial.old) ≤ S.stamp_of (sound_of serial.old) → C.stamp_of (console_of serial.old) + least_of (C.region_of (console_of serial.old)) ≤ C.stamp_of (console_of serial.new) }
     ensures sound_rises { S.stamp_of (sound_of serial.old) < C.stamp_of (console_of serial.old) → S.stamp_of (sound_of serial.old) + least_of (S.region_of (sound_of serial.old)) ≤ S.stamp_of (sound_of serial.new) }
     ensures console_region { C.region_of (console_of serial.new) ≡ C.region_of (console_of serial.old) }

@@ -82,11 +82,11 @@ fn carry_with(op: SpcOp, carry: bool, bit: bool) -> bool
 /// The registers after an operation between C and a bit of a byte.
 #[tactic(auto, unfolding(crate::specs::Bits::with_bit_carry))]
 #[inline(always)]
-pub fn carry_of_bit(op: SpcOp, regs: SpcRegs, number: u8, byte: u8) -> SpcRegs
-    ensures { result ≡ with_bit_carry op regs number byte }
+pub fn carry_of_bit(regs: &mut SpcRegs, op: SpcOp, number: u8, byte: u8)
+    ensures { regs.new ≡ with_bit_carry op regs.old number byte }
 {
     let carry = carry_with(op, is_set(regs.psw, CARRY), has_bit(byte, number));
-    flag_set(regs, CARRY, carry)
+    *regs = flag_set(*regs, CARRY, carry);
 }
 
 /// The byte that MOV1 with C as the bit, or NOT1, writes back.

@@ -3,7 +3,7 @@
 //! The crate stands on `spc_tables` and `status_bits`. Each call is exact by the definition of its
 //! name in `specs/`: an operation between two operands, on a register and a byte that was read, a
 //! changed byte, a stored byte, a word, a bit, a branch's condition, or what happens inside the
-//! processor. All are total: an operation that a call isn't for changes nothing.
+//! processor. All are total: an operation that a call isn't for changes nothing. What changes registers writes them in place, and each operation those alone that it changes.
 #![tactic(auto)]
 
 pub mod arithmetic;
@@ -19,4 +19,4 @@ pub use bits::{byte_with_bit, carry_of_bit};
 pub use changes::Changed;
 pub use flow::{broken, counted_down, is_taken, is_taken_by, place_at};
 pub use results::{change, change_by_a, combine, inside, load, load_word, pop, stored_byte};
-pub use words::{low_after_step, with_word_step, word_after_step};
+pub use words::{low_after_step, step_word, word_after_step};

@@ -70,23 +70,17 @@ fn a_changed(regs: SpcRegs, changed: Changed) -> SpcRegs
 
 /// An operation between a register and a byte that was read.
 #[tactic(auto, unfolding(crate::specs::Results::loaded))]
-#[inline(always)]
-pub fn load(op: SpcOp, regs: SpcRegs, byte: u8) -> SpcRegs
-    ensures { result ≡ loaded op regs byte }
+#[inline(never)]
+pub fn load(regs: &mut SpcRegs, op: SpcOp, byte: u8)
+    ensures { regs.new ≡ loaded op regs.old byte }
 {
     match op {
-        SpcOp::MovA => a_loaded(regs, byte),
-        SpcOp::MovX => x_loaded(regs, byte),
-        SpcOp::MovY => y_loaded(regs, byte),
-        SpcOp::CmpX => SpcRegs {
-            psw: compared(regs.psw, regs.x, byte),
-            ..regs
-        },
-        SpcOp::CmpY => SpcRegs {
-            psw: compared(regs.psw, regs.y, byte),
-            ..regs
-        },
-        _ => a_changed(regs, combine(op, regs.psw, regs.a, byte)),
+        SpcOp::MovA => *regs = a_loaded(*regs, byte),
+        SpcOp::MovX => *regs = x_loaded(*regs, byte),
+        SpcOp::MovY => *regs = y_loaded(*regs, byte),
+        SpcOp::CmpX => regs.psw = compared(regs.psw, regs.x, byte),
+        SpcOp::CmpY => regs.psw = compared(regs.psw, regs.y, byte),
+        _ => *regs = a_changed(*regs, combine(op, regs.psw, regs.a, byte)),
     }
 }
 
@@ -142,31 +136,31 @@ pub fn stored_byte(op: SpcOp, regs: SpcRegs) -> u8
 
 /// The registers after a byte was pulled into one of them.
 #[tactic(auto, unfolding(crate::specs::Results::popped))]
-#[inline(always)]
-pub fn pop(op: SpcOp, regs: SpcRegs, byte: u8) -> SpcRegs
-    ensures { result ≡ popped op regs byte }
+#[inline(never)]
+pub fn pop(regs: &mut SpcRegs, op: SpcOp, byte: u8)
+    ensures { regs.new ≡ popped op regs.old byte }
 {
     match op {
-        SpcOp::PopA => SpcRegs { a: byte, ..regs },
-        SpcOp::PopX => SpcRegs { x: byte, ..regs },
-        SpcOp::PopY => SpcRegs { y: byte, ..regs },
-        SpcOp::PopPsw => SpcRegs { psw: byte, ..regs },
-        _ => regs,
+        SpcOp::PopA => regs.a = byte,
+        SpcOp::PopX => regs.x = byte,
+        SpcOp::PopY => regs.y = byte,
+        SpcOp::PopPsw => regs.psw = byte,
+        _ => {}
     }
 }
 
 /// An operation between YA and a word that was read.
 #[tactic(auto, unfolding(crate::specs::Results::word_loaded))]
-#[inline(always)]
-pub fn load_word(op: SpcOp, regs: SpcRegs, word: u16) -> SpcRegs
-    ensures { result ≡ word_loaded op regs word }
+#[inline(never)]
+pub fn load_word(regs: &mut SpcRegs, op: SpcOp, word: u16)
+    ensures { regs.new ≡ word_loaded op regs.old word }
 {
     match op {
-        SpcOp::MovwYa => ya_loaded(regs, word),
-        SpcOp::Addw => word_added(regs, word),
-        SpcOp::Subw => word_subtracted(regs, word),
-        SpcOp::Cmpw => word_compared(regs, word),
-        _ => regs,
+        SpcOp::MovwYa => *regs = ya_loaded(*regs, word),
+        SpcOp::Addw => *regs = word_added(*regs, word),
+        SpcOp::Subw => *regs = word_subtracted(*regs, word),
+        SpcOp::Cmpw => *regs = word_compared(*regs, word),
+        _ => {}
     }
 }
 
@@ -196,44 +190,44 @@ fn change_a(op: SpcOp, mode: SpcMode, regs: SpcRegs) -> SpcRegs
 
 /// What happens inside the processor, in registers and flags alone.
 #[tactic(auto, unfolding(crate::specs::Results::internal))]
-#[inline(always)]
-pub fn inside(op: SpcOp, mode: SpcMode, regs: SpcRegs) -> SpcRegs
-    ensures { result ≡ internal op mode regs }
+#[inline(never)]
+pub fn inside(regs: &mut SpcRegs, op: SpcOp, mode: SpcMode)
+    ensures { regs.new ≡ internal op mode regs.old }
 {
     match op {
         // Transfers.
-        SpcOp::MovAX => a_loaded(regs, regs.x),
-        SpcOp::MovAY => a_loaded(regs, regs.y),
-        SpcOp::MovXA => x_loaded(regs, regs.a),
-        SpcOp::MovYA => y_loaded(regs, regs.a),
-        SpcOp::MovXSp => x_loaded(regs, regs.sp),
-        SpcOp::MovSpX => SpcRegs { sp: regs.x, ..regs },
+        SpcOp::MovAX => *regs = a_loaded(*regs, regs.x),
+        SpcOp::MovAY => *regs = a_loaded(*regs, regs.y),
+        SpcOp::MovXA => *regs = x_loaded(*regs, regs.a),
+        SpcOp::MovYA => *regs = y_loaded(*regs, regs.a),
+        SpcOp::MovXSp => *regs = x_loaded(*regs, regs.sp),
+        SpcOp::MovSpX => regs.sp = regs.x,
         // Shifts and counts.
-        SpcOp::Asl => change_a(SpcOp::Asl, mode, regs),
-        SpcOp::Lsr => change_a(SpcOp::Lsr, mode, regs),
-        SpcOp::Rol => change_a(SpcOp::Rol, mode, regs),
-        SpcOp::Ror => change_a(SpcOp::Ror, mode, regs),
-        SpcOp::Inc => change_a(SpcOp::Inc, mode, regs),
-        SpcOp::Dec => change_a(SpcOp::Dec, mode, regs),
-        SpcOp::IncX => x_loaded(regs, one_more(regs.x)),
-        SpcOp::IncY => y_loaded(regs, one_more(regs.y)),
-        SpcOp::DecX => x_loaded(regs, one_less(regs.x)),
-        SpcOp::DecY => y_loaded(regs, one_less(regs.y)),
+        SpcOp::Asl => *regs = change_a(SpcOp::Asl, mode, *regs),
+        SpcOp::Lsr => *regs = change_a(SpcOp::Lsr, mode, *regs),
+        SpcOp::Rol => *regs = change_a(SpcOp::Rol, mode, *regs),
+        SpcOp::Ror => *regs = change_a(SpcOp::Ror, mode, *regs),
+        SpcOp::Inc => *regs = change_a(SpcOp::Inc, mode, *regs),
+        SpcOp::Dec => *regs = change_a(SpcOp::Dec, mode, *regs),
+        SpcOp::IncX => *regs = x_loaded(*regs, one_more(regs.x)),
+        SpcOp::IncY => *regs = y_loaded(*regs, one_more(regs.y)),
+        SpcOp::DecX => *regs = x_loaded(*regs, one_less(regs.x)),
+        SpcOp::DecY => *regs = y_loaded(*regs, one_less(regs.y)),
         // Multiplication, division, decimal digits.
-        SpcOp::Mul => multiplied(regs),
-        SpcOp::Div => divided(regs),
-        SpcOp::Daa => adjusted(regs),
-        SpcOp::Das => adjusted_after_subtraction(regs),
-        SpcOp::Xcn => digits_exchanged(regs),
+        SpcOp::Mul => *regs = multiplied(*regs),
+        SpcOp::Div => *regs = divided(*regs),
+        SpcOp::Daa => *regs = adjusted(*regs),
+        SpcOp::Das => *regs = adjusted_after_subtraction(*regs),
+        SpcOp::Xcn => *regs = digits_exchanged(*regs),
         // Flags.
-        SpcOp::Clrp => flag_set(regs, DIRECT_PAGE, false),
-        SpcOp::Setp => flag_set(regs, DIRECT_PAGE, true),
-        SpcOp::Clrc => flag_set(regs, CARRY, false),
-        SpcOp::Setc => flag_set(regs, CARRY, true),
-        SpcOp::Notc => flag_set(regs, CARRY, !is_set(regs.psw, CARRY)),
-        SpcOp::Clrv => flag_set(flag_set(regs, OVERFLOW, false), HALF_CARRY, false),
-        SpcOp::Ei => flag_set(regs, INTERRUPT_ENABLE, true),
-        SpcOp::Di => flag_set(regs, INTERRUPT_ENABLE, false),
-        _ => regs,
+        SpcOp::Clrp => *regs = flag_set(*regs, DIRECT_PAGE, false),
+        SpcOp::Setp => *regs = flag_set(*regs, DIRECT_PAGE, true),
+        SpcOp::Clrc => *regs = flag_set(*regs, CARRY, false),
+        SpcOp::Setc => *regs = flag_set(*regs, CARRY, true),
+        SpcOp::Notc => *regs = flag_set(*regs, CARRY, !is_set(regs.psw, CARRY)),
+        SpcOp::Clrv => *regs = flag_set(flag_set(*regs, OVERFLOW, false), HALF_CARRY, false),
+        SpcOp::Ei => *regs = flag_set(*regs, INTERRUPT_ENABLE, true),
+        SpcOp::Di => *regs = flag_set(*regs, INTERRUPT_ENABLE, false),
+        _ => {}
     }
 }

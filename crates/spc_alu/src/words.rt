@@ -144,11 +144,8 @@ pub fn word_after_step(op: SpcOp, word: u16) -> u16
 /// INCW and DECW: the registers, by the word that was read.
 #[tactic(auto, unfolding(crate::specs::Words::after_word_step))]
 #[inline(always)]
-pub fn with_word_step(op: SpcOp, regs: SpcRegs, word: u16) -> SpcRegs
-    ensures { result ≡ after_word_step op regs word }
+pub fn step_word(regs: &mut SpcRegs, op: SpcOp, word: u16)
+    ensures { regs.new ≡ after_word_step op regs.old word }
 {
-    SpcRegs {
-        psw: with_word_result(word_after_step(op, word), regs.psw),
-        ..regs
-    }
+    regs.psw = with_word_result(word_after_step(op, word), regs.psw);
 }

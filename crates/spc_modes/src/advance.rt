@@ -6,9 +6,7 @@ use crate::address::{
 };
 use crate::micro::Micro;
 use crate::place::{Place, PointerKind};
-use spc_alu::{
-    broken, change, change_by_a, combine, load, load_word, pop, with_word_step, word_after_step,
-};
+use spc_alu::{broken, load, load_word, pop, step_word, word_after_step};
 use spc_tables::row;
 
 impl Micro {
@@ -41,13 +39,13 @@ impl Micro {
     }
 
     /// INCW and DECW: the high byte was read.
-    #[inline(always)]
+    #[inline(never)]
     fn pass_word_step(&mut self, high: u8)
         ensures left { rest self.new ≡ after (step_word_high self.old.row self.old.here self.old.base self.old.byte) high }
         ensures start { self.new.start ≡ self.old.start }
     {
         let word = join_bytes(self.byte, high);
-        self.here = with_word_step(self.row.op, self.here, word);
+        step_word(&mut self.here, self.row.op, word);
         self.byte = (word_after_step(self.row.op, word) / 256) as u8;
         self.place = Place::WriteLast;
     }
@@ -75,19 +73,11 @@ impl Micro {
             }
             Place::DataCycle => self.reach_data(self.base),
             Place::Load => {
-                let regs = load(self.row.op, self.here, got);
-                self.end_with(regs);
+                load(&mut self.here, self.row.op, got);
+                self.place = Place::Between;
             }
-            Place::ChangeRead => {
-                let changed = change(self.row.op, self.row.mode, self.here.psw, got);
-                self.write_back(changed);
-            }
-            Place::ChangeByARead => {
-                let changed = change_by_a(self.row.op, self.here, got);
-                self.here.psw = changed.psw;
-                self.byte = changed.value;
-                self.place = Place::WriteCycle;
-            }
+            Place::ChangeRead => self.pass_change(got),
+            Place::ChangeByARead => self.pass_change_by_a(got),
             Place::WordLow => {
                 self.base = place_after_in_page(self.base);
                 self.byte = got;
@@ -100,8 +90,8 @@ impl Micro {
             }
             Place::WordCycle => self.place = Place::WordHigh,
             Place::WordHigh => {
-                let regs = load_word(self.row.op, self.here, join_bytes(self.byte, got));
-                self.end_with(regs);
+                load_word(&mut self.here, self.row.op, join_bytes(self.byte, got));
+                self.place = Place::Between;
             }
             Place::StoreWordCycle => self.place = Place::StoreWordLow,
             Place::StoreWordLow => {
@@ -128,7 +118,7 @@ impl Micro {
             Place::PointerHigh(kind) => self.pass_pointer(kind, join_bytes(self.byte, got)),
             Place::IncrementCycle => self.reach_increment(),
             Place::IncrementLoad => {
-                self.here = load(self.row.op, self.here, got);
+                load(&mut self.here, self.row.op, got);
                 self.here.x = one_more(self.here.x);
                 self.byte = 0;
                 self.place = Place::Cycles;
@@ -156,10 +146,7 @@ impl Micro {
                 self.byte = got;
                 self.place = Place::PairRead;
             }
-            Place::PairRead => {
-                let changed = combine(self.row.op, self.here.psw, got, self.byte);
-                self.pass_pair(changed);
-            }
+            Place::PairRead => self.pass_pair(got),
             Place::BranchFirstCycle(is_taken) => self.place = Place::BranchCycle(is_taken),
             Place::BranchCycle(is_taken) => self.place = Place::BranchDistance(is_taken),
             Place::BranchDistance(is_taken) => {
@@ -179,8 +166,8 @@ impl Micro {
             Place::PullCycle => self.reach_pulls(),
             Place::PullRegister => {
                 self.pass_pull();
-                let regs = pop(self.row.op, self.here, got);
-                self.end_with(regs);
+                pop(&mut self.here, self.row.op, got);
+                self.place = Place::Between;
             }
             Place::ReturnStatus => {
                 self.pass_pull();

@@ -31,7 +31,7 @@ impl Micro {
     {
         match self.row.mode {
             SpcMode::Accumulator => {
-                self.here = inside(self.row.op, self.row.mode, self.here);
+                inside(&mut self.here, self.row.op, self.row.mode);
                 self.byte = 0;
                 self.place = Place::Cycles;
             }
@@ -63,7 +63,7 @@ impl Micro {
     {
         match use_of(self.row.op) {
             Use::Internal(cycles) => {
-                self.here = inside(self.row.op, self.row.mode, self.here);
+                inside(&mut self.here, self.row.op, self.row.mode);
                 self.end_after(cycles);
             }
             Use::Branch => {

@@ -5,7 +5,8 @@ use crate::micro::Micro;
 use crate::place::{Place, PointerKind};
 use crate::uses::{Use, use_of};
 use spc_alu::{
-    Changed, byte_with_bit, carry_of_bit, counted_down, is_taken_by, load, place_at, stored_byte,
+    Changed, byte_with_bit, carry_of_bit, change, change_by_a, combine, counted_down, is_taken_by,
+    load, place_at, stored_byte,
 };
 use spc_tables::{SpcMode, SpcRegs};
 
@@ -28,20 +29,12 @@ impl Micro {
       tested,
       with_psw,
       written_back,
+      written_back_slowly,
     };
+    ghost use Rattle.spc_alu.specs.Results.{changed, changed_by_a, combined};
     ghost use Rattle.spc_modes.specs.Plan.{ends};
     ghost use Rattle.spc_modes.specs.Rest.{rest};
     ghost use Rattle.spc_modes.specs.Uses.{use_of};
-
-    /// The instruction ends, with some registers.
-    #[inline(always)]
-    pub(crate) fn end_with(&mut self, regs: SpcRegs)
-        ensures left { rest self.new ≡ ends regs }
-        ensures start { self.new.start ≡ self.old.start }
-    {
-        self.here = regs;
-        self.place = Place::Between;
-    }
 
     /// Some internal cycles are left, and then the instruction ends.
     #[inline(always)]
@@ -60,13 +53,36 @@ impl Micro {
 
     /// A changed byte is written back at once.
     #[inline(always)]
-    pub(crate) fn write_back(&mut self, changed: Changed)
+    fn write_back(&mut self, changed: Changed)
         ensures left { rest self.new ≡ written_back self.old.here self.old.base changed }
         ensures start { self.new.start ≡ self.old.start }
     {
         self.here.psw = changed.psw;
         self.byte = changed.value;
         self.place = Place::WriteLast;
+    }
+
+    /// The byte that is changed was read. This and the other steps that have results are out of line:
+    /// the step of an access stays small.
+    #[inline(never)]
+    pub(crate) fn pass_change(&mut self, byte: u8)
+        ensures left { rest self.new ≡ written_back self.old.here self.old.base (changed self.old.row.op self.old.row.mode self.old.here.psw byte) }
+        ensures start { self.new.start ≡ self.old.start }
+    {
+        let changed = change(self.row.op, self.row.mode, self.here.psw, byte);
+        self.write_back(changed);
+    }
+
+    /// The byte that is changed by the bits of A was read.
+    #[inline(never)]
+    pub(crate) fn pass_change_by_a(&mut self, byte: u8)
+        ensures left { rest self.new ≡ written_back_slowly self.old.here self.old.base (changed_by_a self.old.row.op self.old.here byte) }
+        ensures start { self.new.start ≡ self.old.start }
+    {
+        let changed = change_by_a(self.row.op, self.here, byte);
+        self.here.psw = changed.psw;
+        self.byte = changed.value;
+        self.place = Place::WriteCycle;
     }
 
     /// The data is next, at an address.
@@ -94,14 +110,14 @@ impl Micro {
     }
 
     /// The byte of a bit was read.
-    #[inline(always)]
+    #[inline(never)]
     pub(crate) fn pass_bit(&mut self, byte: u8)
         ensures left { rest self.new ≡ bit_end (use_of self.old.row.op) self.old.row self.old.here self.old.base self.old.byte byte }
         ensures start { self.new.start ≡ self.old.start }
     {
         match use_of(self.row.op) {
             Use::ReadBitSlowly => {
-                self.here = carry_of_bit(self.row.op, self.here, self.byte, byte);
+                carry_of_bit(&mut self.here, self.row.op, self.byte, byte);
                 self.byte = 0;
                 self.place = Place::Cycles;
             }
@@ -114,8 +130,8 @@ impl Micro {
                 self.place = Place::WriteCycle;
             }
             _ => {
-                let regs = carry_of_bit(self.row.op, self.here, self.byte, byte);
-                self.end_with(regs);
+                carry_of_bit(&mut self.here, self.row.op, self.byte, byte);
+                self.place = Place::Between;
             }
         }
     }
@@ -152,11 +168,12 @@ impl Micro {
     }
 
     /// Both operands in memory were read.
-    #[inline(always)]
-    pub(crate) fn pass_pair(&mut self, changed: Changed)
-        ensures left { rest self.new ≡ pair_end (use_of self.old.row.op) self.old.here self.old.base changed }
+    #[inline(never)]
+    pub(crate) fn pass_pair(&mut self, first: u8)
+        ensures left { rest self.new ≡ pair_end (use_of self.old.row.op) self.old.here self.old.base (combined self.old.row.op self.old.here.psw first self.old.byte) }
         ensures start { self.new.start ≡ self.old.start }
     {
+        let changed = combine(self.row.op, self.here.psw, first, self.byte);
         match use_of(self.row.op) {
             Use::Compare => {
                 self.here.psw = changed.psw;
@@ -316,8 +333,8 @@ impl Micro {
         let offset = byte as u16;
         match self.row.mode {
             SpcMode::Immediate => {
-                let regs = load(self.row.op, self.here, byte);
-                self.end_with(regs);
+                load(&mut self.here, self.row.op, byte);
+                self.place = Place::Between;
             }
             SpcMode::Direct => {
                 let at = direct_place(&self.here, offset);

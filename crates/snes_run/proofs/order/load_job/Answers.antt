@@ -2,7 +2,6 @@ use Rattle.std.proofs.Common.{◌≤◌, arith}
 use Rattle.std.proofs.lemmas.List.Elements.{All-replicate}
 use Rattle.file_shelf.specs.declared.shelves.Input.TheVariants.{Cart, Boot, Table, Script}
 use Rattle.snes_run.specs.Inputs.{IsBuilt}
-use Rattle.snes_run.specs.Shown.{shown}
 use Rattle.snes_run.proofs.Orders.{all_built, loaded_is_built, still_shows}
 use Rattle.snes_run.proofs.ShownLemmas.{only_loads_then}
 use Rattle.snes_run.proofs.order.load_job.Goals as goal
@@ -12,8 +11,7 @@ of-requires g c = All-replicate (λ n. n ≤ 2047) 512 0 (omega arith)
 
 pub returns-clause-built : goal.returns-clause-built
 returns-clause-built g c =
-    let shelf = g.H.Shelf in
-    let before = shown shelf.held shelf.written shelf.named shelf.load_faults shelf.write_faults c.args.shelf.now in
+    let before = g.H.Shelf.shown c.args.shelf.now in
     let files = c.args.files.now in
     let first = c.load_cart.ensures.only in
     let second = only_loads_then _ _ _ first c.load_built.ensures.only in

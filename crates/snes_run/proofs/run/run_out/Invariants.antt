@@ -1,16 +1,15 @@
 use Rattle.std.proofs.Common.{◌≡◌, ◌+◌, ◌-◌, ◌*◌}
-use Rattle.snes_run.specs.Shown.{shown, OnlyRuns}
+use Rattle.file_shelf.specs.Shown.{OnlyRuns}
 use Rattle.snes_run.proofs.Runs.{IsRunning}
 use Rattle.snes_run.proofs.run.run_out.Given as goal
 
 abbrev pub invariant-loop-serial : goal.invariant-loop-serial
 invariant-loop-serial g l =
-    let shelf = g.H.Shelf in
-    let shows = shown shelf.held shelf.written shelf.named shelf.load_faults shelf.write_faults in
+    let shows = g.H.Shelf.shown in
     record {
-      running : IsRunning l.fn.console.state.rom l.fn.frames l.serial (shelf.written l.shelf);
+      running : IsRunning l.fn.console.state.rom l.fn.frames l.serial (shows l.shelf).written;
       only : OnlyRuns (shows l.initial.shelf) (shows l.shelf);
-      named : shelf.named l.shelf ≡ shelf.named l.initial.shelf;
+      named : (shows l.shelf).named ≡ (shows l.initial.shelf).named;
     }
 
 -- the stamps that are left to the end

@@ -1,5 +1,6 @@
-use Rattle.std.proofs.Common.{Bool, [], ◌≡◌, ℕ, suc, ◌-◌, ◌+◌, ◌<◌, ◌≤◌, ap, sym, refl, ◌∙◌, arith}
+use Rattle.std.proofs.Common.{Bool, [], ◌==◌, if◌then◌else◌, ◌≡◌, ℕ, suc, ◌-◌, ◌+◌, ◌<◌, ◌≤◌, ap, sym, refl, ◌∙◌, arith}
 use Rattle.beam.specs.Events.{BeamValue, lines_of, next_v, next_h, happens_at, happens_next, beam_next, beam_after, passed, events_of, blank_after}
+use Rattle.std.proofs.lemmas.Bool.Decides.{nat_tests}
 use Rattle.beam.specs.Places.{next_place}
 use Rattle.beam.proofs.Quiet.{reached_by, quiet_passed, further}
 use Rattle.beam.proofs.beam.Beam.reach.Goals as goal
@@ -87,3 +88,17 @@ returns-clause-last_moved c =
     let later = c.next_place-place.ensures.later in
     let h : c.next_place-place.result - (c.next_place-place.result - c.place_of-v.result.1) ≡ c.place_of-v.result.1 = omega arith in
     rw (← c.self.view_is) (rw (left_is c) (rw h (moved_to c ∙ ap (λ x. beam_next c.args.overscan x) (sym (to_last c).0))))
+
+place_clock : (place : ℕ) → 0 < place → next_h (place - 1) ≡ (if place == 1364 then 0 else place)
+unfolding next_h
+place_clock place h = grind (arith, nat_tests)
+
+pub returns-clause-clock : goal.returns-clause-clock
+returns-clause-clock c =
+    let i = c.self.invariant in
+    let i1 = i.1 in
+    let i2 = i.2 in
+    let later = c.next_place-place.ensures.later in
+    let h : c.next_place-place.result - (c.next_place-place.result - c.place_of-v.result.1) ≡ c.place_of-v.result.1 = omega arith in
+    let sum : (seen c).h + c.self.inside.left ≡ c.self.inside.place = omega arith in
+    rw (← c.self.view_is) (rw (left_is c) (rw (h, sum) (c.place_of-v.ensures.clock ∙ place_clock c.self.inside.place (omega arith))))

@@ -1,5 +1,6 @@
-use Rattle.cpu65816.proofs.Moves.{Stands-moved_on}
+use Rattle.std.proofs.Common.{refl, ◌∙◌}
+use Rattle.cpu65816.proofs.Moves.{Stands-after_cycle}
 use Rattle.cpu65816.proofs.processor.Cpu.idle.Goals as goal
 
 pub returns : goal.returns
-returns c = λ s h. Stands-moved_on c.args.self.now c.take_up.new.self c.idle.new.self s 0 h c.take_up.ensures c.idle.ensures.left c.idle.ensures.start
+returns c = λ s h. Stands-after_cycle c.args.self.now c.take_up.new.self _ s c.take_up.ensures (c.settle.ensures.left ∙ c.idle-has_ended.ensures.left) (c.settle.ensures.start ∙ c.idle-has_ended.ensures.start) refl refl refl h

@@ -1,0 +1,123 @@
+ghost use Rattle.std.specs.Prelude.{◌≡◌, ◌≤◌, ◌/◌, ◌%◌, ◌^◌};
+ghost use Rattle.snes_defs.specs.declared.ports.Side.TheVariants.{Sound};
+ghost use Rattle.snes_defs.specs.Script.{is_reset};
+ghost use Rattle.clock_ratio.specs.Stamp.{frame_of, rate_of};
+ghost use Rattle.audio_side.specs.Clock.{gone_on, is_reset_due, stamp_now};
+
+use clock_ratio::{FRAME_STAMPS, PAL_FRAME_STAMPS, PAL_SOUND_RATE, SOUND_RATE};
+use snes_defs::Region;
+use std::marker::Model;
+
+/// The clock of the sound side.
+#[derive(Drop)]
+pub struct CycleClock {
+    pub region: Region,
+    /// The frames that begin with a reset, in order.
+    pub resets: Vec<u32>,
+    /// The number of the next cycle, from 0.
+    pub cycle: u64,
+}
+
+impl Model for CycleClock {
+    ghost use Rattle.std.specs.Prelude.{◌≤◌, ◌+◌, ◌*◌, ◌^◌};
+    ghost use Rattle.snes_defs.specs.declared.ports.Side.TheVariants.{Sound};
+    ghost use Rattle.clock_ratio.specs.Stamp.{rate_of};
+    ghost use Rattle.audio_side.specs.Clock.{Clock};
+
+    ghost Value = { Clock };
+
+    ghost view = { λ s. record { region = s.region; resets = s.resets.items; cycle = s.cycle } };
+
+    ghost invariant = { λ s. (s.cycle ≤ 2 ^ 46) × (rate_of s.region Sound * s.cycle ≤ 2 ^ 62 + rate_of s.region Sound) };
+}
+
+impl CycleClock {
+    /// The stamps of a cycle.
+    #[inline(always)]
+    fn rate(&self) -> u64
+        ensures { result ≡ rate_of self.now.region Sound }
+    {
+        match self.region {
+            Region::Ntsc => SOUND_RATE,
+            Region::Pal => PAL_SOUND_RATE,
+        }
+    }
+
+    /// The stamp of the next cycle.
+    #[inline(always)]
+    pub fn stamp(&self) -> u64
+        ensures { result ≡ stamp_now self.now }
+    {
+        match self.region {
+            Region::Ntsc => SOUND_RATE * self.cycle,
+            Region::Pal => PAL_SOUND_RATE * self.cycle,
+        }
+    }
+
+    /// The frame in which the next cycle lies.
+    #[inline(always)]
+    fn frame(&self) -> u64
+        ensures { result ≡ stamp_now self.now / frame_of self.now.region }
+    {
+        let stamp = self.stamp();
+        match self.region {
+            Region::Ntsc => stamp / FRAME_STAMPS,
+            Region::Pal => stamp / PAL_FRAME_STAMPS,
+        }
+    }
+
+    /// How many stamps of that frame have passed.
+    #[inline(always)]
+    fn passed(&self) -> u64
+        ensures { result ≡ stamp_now self.now % frame_of self.now.region }
+    {
+        let stamp = self.stamp();
+        match self.region {
+            Region::Ntsc => stamp % FRAME_STAMPS,
+            Region::Pal => stamp % PAL_FRAME_STAMPS,
+        }
+    }
+
+    /// Whether a frame begins with a reset.
+    #[inline(never)]
+    fn has_reset(&self, frame: u64) -> bool
+        ensures { result ≡ is_reset self.now.resets frame }
+    {
+        for reset in self.resets.as_slice() {
+            if *reset as u64 == frame {
+                return true;
+            }
+        }
+        false
+    }
+
+    /// Whether the next step is a reset.
+    #[inline(always)]
+    pub fn is_due(&self) -> bool
+        ensures { result ≡ is_reset_due self.now }
+    {
+        if self.resets.is_empty() {
+            false
+        } else {
+            self.passed() < self.rate() && self.has_reset(self.frame())
+        }
+    }
+
+    /// The number of the next cycle, from 0.
+    #[inline(always)]
+    pub fn number(&self) -> u64
+        ensures value { result ≡ self.now.cycle }
+        ensures small { result ≤ 2 ^ 46 }
+    {
+        self.cycle
+    }
+
+    /// A cycle has ended.
+    #[inline(always)]
+    pub fn go_on(&mut self)
+        requires { stamp_now self.old ≤ 2 ^ 62 }
+        ensures { self.new ≡ gone_on self.old }
+    {
+        self.cycle += 1;
+    }
+}

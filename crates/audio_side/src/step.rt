@@ -1,0 +1,162 @@
+ghost use Rattle.std.specs.Prelude.{◌≡◌, ◌≤◌, ◌+◌, ◌^◌, ◌++◌, length};
+ghost use Rattle.side_law.specs.Moves.{IsAtPorts};
+ghost use Rattle.spc700.specs.Instruction.{Standing, at_reset, moved_on, next_of};
+ghost use Rattle.spc700.specs.Stands.{Stands};
+ghost use Rattle.audio_side.specs.Board.{vector};
+ghost use Rattle.audio_side.specs.Effect.{act_of, act_of_load, act_of_store, effect, emitted, given, passed, reset_board};
+ghost use Rattle.audio_side.specs.Sound.{IsRunning, SoundState, board_before_end, processor_after, sound_act};
+
+use crate::board::{Hardware, cleared};
+use crate::clock::CycleClock;
+use circular_buffer::HeapCircularBuffer;
+use snes_defs::Act;
+use spc700::{Spc, SpcAccess};
+
+/// What a fetch or a read does at the ports.
+#[tactic(auto, unfolding(crate::specs::Effect::act_of_load))]
+#[inline(always)]
+fn load_act(at: u16) -> Act
+    ensures value { result ≡ act_of_load at }
+    ensures at_ports { IsAtPorts result }
+{
+    if at >= 0xF4 && at <= 0xF7 {
+        Act::Read((at - 0xF4) as u8)
+    } else {
+        Act::Quiet
+    }
+}
+
+/// What a write does at the ports.
+#[tactic(auto, unfolding(crate::specs::Effect::act_of_store))]
+#[inline(always)]
+fn store_act(at: u16, byte: u8) -> Act
+    ensures value { result ≡ act_of_store at byte }
+    ensures at_ports { IsAtPorts result }
+{
+    if at >= 0xF4 && at <= 0xF7 {
+        Act::Write((at - 0xF4) as u8, byte)
+    } else if at == 0xF1 && cleared(byte) > 0 {
+        Act::Clear(cleared(byte))
+    } else {
+        Act::Quiet
+    }
+}
+
+/// What the next access does at the ports.
+#[inline(always)]
+fn access_act(spc: &Spc) -> Act
+    ensures value { (s : Standing) → Stands spc.now s → result ≡ act_of (next_of s) }
+    ensures at_ports { IsAtPorts result }
+{
+    match spc.next() {
+        SpcAccess::Fetch(at) => load_act(at),
+        SpcAccess::Read(at) => load_act(at),
+        SpcAccess::Write(at, byte) => store_act(at, byte),
+        SpcAccess::Inner => Act::Quiet,
+    }
+}
+
+/// What the next step does at the ports.
+#[tactic(auto, unfolding(crate::specs::Sound::sound_act))]
+#[inline(always)]
+pub fn next_act(spc: &Spc, board: &Hardware, clock: &CycleClock) -> Act
+    ensures value { (s : Standing) → Stands spc.now s
+        → result ≡ sound_act (record { processor = s; board = board.now; clock = clock.now }) }
+    ensures at_ports { IsAtPorts result }
+{
+    let _board = board;
+    if clock.is_due() {
+        Act::Clear(15)
+    } else {
+        access_act(spc)
+    }
+}
+
+/// The processor's next access is made.
+#[inline(always)]
+fn access(spc: &mut Spc, board: &mut Hardware, got: u8)
+    ensures processor { (s : Standing) → Stands spc.old s → Stands spc.new (moved_on s (given board.old (next_of s) got)) }
+    ensures board { (s : Standing) → Stands spc.old s → board.new ≡ effect board.old (next_of s) }
+{
+    match spc.next() {
+        SpcAccess::Fetch(at) => {
+            let byte = board.load(at, got);
+            board.finish_load(at);
+            spc.took(byte);
+        }
+        SpcAccess::Read(at) => {
+            let byte = board.load(at, got);
+            board.finish_load(at);
+            spc.took(byte);
+        }
+        SpcAccess::Write(at, byte) => {
+            board.store(at, byte);
+            spc.wrote();
+        }
+        SpcAccess::Inner => spc.idle(),
+    }
+}
+
+/// A processor at the vector `pc`.
+pub fn fresh(pc: u16) -> Spc
+    ensures stands { Stands result (at_reset pc) }
+    ensures runs { IsRunning result }
+{
+    Spc::new(pc)
+}
+
+/// A reset.
+#[inline(never)]
+fn restart(spc: &mut Spc, board: &mut Hardware)
+    ensures processor { Stands spc.new (at_reset (vector board.old)) }
+    ensures board { board.new ≡ reset_board board.old }
+{
+    *spc = Spc::new(board.entry());
+    board.reset();
+}
+
+/// The next step but for its end: a reset, or an access.
+#[inline(always)]
+pub fn begin(spc: &mut Spc, board: &mut Hardware, clock: &CycleClock, got: u8)
+    ensures processor { (s : Standing) → Stands spc.old s
+        → Stands spc.new (processor_after (record { processor = s; board = board.old; clock = clock.now }) got) }
+    ensures board { (s : Standing) → Stands spc.old s
+        → board.new ≡ board_before_end (record { processor = s; board = board.old; clock = clock.now }) }
+    ensures runs { IsRunning spc.old → IsRunning spc.new }
+{
+    make(spc, board, clock, got);
+}
+
+/// The same, by the instruction that the processor stands for.
+#[tactic(auto, unfolding(crate::specs::Sound::processor_after, crate::specs::Sound::board_before_end))]
+#[inline(always)]
+fn make(spc: &mut Spc, board: &mut Hardware, clock: &CycleClock, got: u8)
+    ensures processor { (s : Standing) → Stands spc.old s
+        → Stands spc.new (processor_after (record { processor = s; board = board.old; clock = clock.now }) got) }
+    ensures board { (s : Standing) → Stands spc.old s
+        → board.new ≡ board_before_end (record { processor = s; board = board.old; clock = clock.now }) }
+{
+    if clock.is_due() {
+        restart(spc, board);
+    } else {
+        access(spc, board, got);
+    }
+}
+
+/// The end of a step: the timers, and by the last of each 32 cycles a sample, whose bytes wait.
+#[tactic(auto, unfolding(crate::specs::Effect::passed, crate::specs::Effect::emitted))]
+#[inline(always)]
+pub fn finish(board: &mut Hardware, cycle: u64, waiting: &mut HeapCircularBuffer<u8>)
+    requires cycle { cycle ≤ 2 ^ 46 }
+    requires room { length waiting.old.items + 4 ≤ waiting.old.capacity }
+    ensures board { board.new ≡ passed cycle board.old }
+    ensures waiting { waiting.new.items ≡ waiting.old.items ++ emitted cycle board.old }
+    ensures capacity { waiting.new.capacity ≡ waiting.old.capacity }
+    ensures few { length waiting.new.items ≤ length waiting.old.items + 4 }
+{
+    board.time(cycle);
+    if cycle % 32 == 31 {
+        let bytes = board.sample(cycle / 32);
+        waiting.fill_from_slice(&bytes);
+    }
+}

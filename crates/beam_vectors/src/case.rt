@@ -1,0 +1,91 @@
+use crate::number::decimal;
+use beam::{Beam, Happens};
+use snes_defs::{IrqTime, Region};
+use std::str::SplitWhitespace;
+
+/// Whether the beam does what a line says. A line of no known form doesn't hold.
+pub fn holds(beam: &mut Beam, line: &str) -> bool {
+    let mut words = line.split_whitespace();
+    match words.next() {
+        Some("beam") => begins(beam, words).unwrap_or(false),
+        Some("end") => true,
+        Some("p") => passes(beam, words).unwrap_or(false),
+        _ => false,
+    }
+}
+
+/// A new beam.
+fn begins(beam: &mut Beam, mut words: SplitWhitespace<'_>) -> Option<bool> {
+    let _number = words.next()?;
+    let region = match words.next()? {
+        "ntsc" => Region::Ntsc,
+        "pal" => Region::Pal,
+        _ => return None,
+    };
+    *beam = Beam::new(region);
+    Some(true)
+}
+
+/// Whether so many steps give the events of a line, and the beam stands where it says.
+fn passes(beam: &mut Beam, mut words: SplitWhitespace<'_>) -> Option<bool> {
+    let clocks = decimal(words.next()?)?;
+    let times = decimal(words.next()?)?;
+    let irq = IrqTime {
+        kind: u8::try_from(decimal(words.next()?)?).ok()?,
+        h: decimal(words.next()?)?,
+        v: decimal(words.next()?)?,
+    };
+    let overscan = decimal(words.next()?)? == 1;
+    let mut letters = words.next()?.as_bytes();
+    if letters == b"-".as_slice() {
+        letters = b"".as_slice();
+    }
+    beam.aim(irq);
+    let mut same = true;
+    for _ in 0..times {
+        let mut rest = clocks;
+        // At most one place a clock.
+        for _ in 0..clocks {
+            let left = beam.left();
+            if rest < left {
+                break;
+            }
+            rest -= left;
+            let happens = beam.reach(overscan);
+            match after(letters, happens) {
+                Some(others) => letters = others,
+                None => same = false,
+            }
+        }
+        if rest < beam.left() {
+            beam.go_on(rest);
+        }
+    }
+    let h = decimal(words.next()?)?;
+    let v = decimal(words.next()?)?;
+    let blank = decimal(words.next()?)? == 1;
+    let spot = beam.spot();
+    let stands = spot.h == h && spot.v == v && spot.blank == blank;
+    Some(same && letters.is_empty() && stands)
+}
+
+/// The letters after those of the events of a place, if they are first, in order.
+fn after(letters: &[u8], happens: Happens) -> Option<&[u8]> {
+    let letters = expect(letters, happens.line, b'L')?;
+    let letters = expect(letters, happens.blank, b'B')?;
+    let letters = expect(letters, happens.hdma_frame, b'F')?;
+    let letters = expect(letters, happens.refresh, b'R')?;
+    let letters = expect(letters, happens.draw, b'D')?;
+    let letters = expect(letters, happens.hdma_line, b'H')?;
+    expect(letters, happens.timer, b'T')
+}
+
+/// The letters after this one, if it is first where it is to come.
+fn expect(letters: &[u8], comes: bool, letter: u8) -> Option<&[u8]> {
+    if comes {
+        let (first, rest) = letters.split_first()?;
+        if *first == letter { Some(rest) } else { None }
+    } else {
+        Some(letters)
+    }
+}

@@ -1,0 +1,142 @@
+use crate::image::{generated, zeros};
+use crate::number::hexadecimal;
+use cart_map::{CartEnd, CartRefused, Place, accept, clocks, place};
+use snes_defs::{Cart, MapKind};
+use std::alloc::Global;
+use std::mem;
+use std::str::SplitWhitespace;
+
+/// The case in hand: its file until it is asked for, and then the cartridge that it gave, if any.
+#[derive(Drop)]
+pub struct Case {
+    alloc: Global,
+    file: Vec<u8>,
+    cart: Option<Cart>,
+}
+
+impl Case {
+    pub fn new(alloc: Global) -> Case {
+        Case {
+            alloc,
+            file: Vec::new(alloc),
+            cart: None,
+        }
+    }
+
+    /// Whether a line holds. One that makes the file holds, and one that can't be read doesn't.
+    pub fn holds(&mut self, line: &str) -> bool {
+        self.result_of(line).unwrap_or(false)
+    }
+
+    /// The same, or nothing for a line that can't be read.
+    fn result_of(&mut self, line: &str) -> Option<bool> {
+        let mut words = line.split_whitespace();
+        let kind = words.next()?;
+        if kind == "image" {
+            let size = words.next()?.parse::<usize>().ok()?;
+            let seed = hexadecimal(words.next()?.as_bytes())?;
+            let ands = hexadecimal(words.next()?.as_bytes())?;
+            self.file = generated(self.alloc, size, seed, ands).ok()?;
+            return Some(true);
+        }
+        if kind == "zeros" {
+            let size = words.next()?.parse::<usize>().ok()?;
+            self.file = zeros(self.alloc, size).ok()?;
+            return Some(true);
+        }
+        if kind == "p" {
+            let offset = hexadecimal(words.next()?.as_bytes())?;
+            return self.puts(offset as usize, words.next()?.as_bytes());
+        }
+        if kind == "accept" {
+            return self.answers(words);
+        }
+        if kind == "at" {
+            return self.lies(words);
+        }
+        Some(kind == "cart" || kind == "end")
+    }
+
+    /// Puts bytes, two digits each, into the file.
+    fn puts(&mut self, offset: usize, digits: &[u8]) -> Option<bool> {
+        let mut at = offset;
+        for pair in digits.chunks(2) {
+            let byte = self.file.get_mut(at)?;
+            *byte = u8::try_from(hexadecimal(pair)?).ok()?;
+            at = at.checked_add(1)?;
+        }
+        Some(true)
+    }
+
+    /// Whether the file is accepted or refused as the words say.
+    fn answers(&mut self, mut words: SplitWhitespace<'_>) -> Option<bool> {
+        let file = mem::replace(&mut self.file, Vec::new(self.alloc));
+        let kind = words.next()?;
+        match accept(file) {
+            Ok(cart) => {
+                let map = if kind == "lorom" {
+                    MapKind::LoRom
+                } else if kind == "hirom" {
+                    MapKind::HiRom
+                } else {
+                    return Some(false);
+                };
+                let size = words.next()?.parse::<usize>().ok()?;
+                let ram = words.next()?.parse::<u32>().ok()?;
+                let same = cart.map == map && cart.rom.get().len() == size && cart.ram == ram;
+                self.cart = Some(cart);
+                Some(same)
+            }
+            Err(CartEnd::NoMemory) => Some(false),
+            Err(CartEnd::Refused(cause)) => {
+                self.cart = None;
+                Some(is_named(cause, kind, words.next())?)
+            }
+        }
+    }
+
+    /// Whether an address has the place and the clocks that the words say. Where the file was refused
+    /// they say nothing.
+    fn lies(&mut self, mut words: SplitWhitespace<'_>) -> Option<bool> {
+        let addr = hexadecimal(words.next()?.as_bytes())?;
+        let kind = words.next()?;
+        if kind == "-" {
+            return Some(self.cart.is_none());
+        }
+        if addr >= 0x100_0000 {
+            return None;
+        }
+        let index = hexadecimal(words.next()?.as_bytes())?;
+        let slow = words.next()?.parse::<u8>().ok()?;
+        let fast = words.next()?.parse::<u8>().ok()?;
+        let cart = self.cart.as_ref()?;
+        let (named, number) = named(place(cart, addr));
+        let same = named == kind && number == index;
+        Some(same && clocks(addr, false) == slow && clocks(addr, true) == fast)
+    }
+}
+
+/// The name of a place, and its number.
+fn named(place: Place) -> (&'static str, u32) {
+    match place {
+        Place::Wram(index) => ("wram", index),
+        Place::Rom(index) => ("rom", index),
+        Place::Ram(index) => ("ram", index),
+        Place::BBus(register) => ("bbus", u32::from(register)),
+        Place::Cpu(register) => ("cpu", u32::from(register)),
+        Place::Open => ("open", 0),
+    }
+}
+
+/// Whether a refusal is the one of this name, with this byte where it tells one.
+fn is_named(cause: CartRefused, kind: &str, byte: Option<&str>) -> Option<bool> {
+    match cause {
+        CartRefused::TooShort => Some(kind == "tooshort"),
+        CartRefused::TooLong => Some(kind == "toolong"),
+        CartRefused::NoHeader => Some(kind == "noheader"),
+        CartRefused::Coprocessor(chip) => {
+            Some(kind == "coprocessor" && hexadecimal(byte?.as_bytes())? == u32::from(chip))
+        }
+        CartRefused::RamSize(size) => Some(kind == "ramsize" && byte?.parse::<u8>().ok()? == size),
+    }
+}

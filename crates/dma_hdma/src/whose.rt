@@ -1,0 +1,10 @@
+/// Which channel moves the next byte.
+#[derive(Clone, Copy, Debug, PartialEq, Eq)]
+pub enum Turn {
+    /// No byte is due.
+    Nobody,
+    /// This channel, for its HDMA.
+    Hdma(usize),
+    /// This channel, for its DMA.
+    Dma(usize),
+}

@@ -1,0 +1,9 @@
+ghost use Rattle.std.specs.Prelude.{◌≡◌, ◌≢◌, MatchOption, length};
+
+/// The boot ROM of the sound processor, FFC0 to FFFF of its addresses: the file, where it has 64
+/// bytes.
+pub fn read_boot(file: &[u8]) -> Option<[u8; 64]>
+    ensures { MatchOption result (length file.now ≢ 64) (λ boot. boot ≡ file.now) }
+{
+    <[u8; 64]>::try_from(file).ok()
+}

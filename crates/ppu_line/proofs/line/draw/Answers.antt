@@ -1,0 +1,20 @@
+use Rattle.std.proofs.Common.{ℕ, ◌-◌, ap, ◌∙◌}
+use Rattle.row_passes.specs.Inks.{Ink}
+use Rattle.ppu_screens.specs.Screens.{ink_at, even_dot, odd_dot}
+use Rattle.ppu_line.specs.Line.{main_front, sub_front, pixel}
+use Rattle.ppu_line.proofs.Halves.{halves}
+use Rattle.ppu_line.proofs.line.draw.Goals as goal
+
+pub returns-clause-dots : goal.returns-clause-dots
+unfolding pixel
+returns-clause-dots c =
+    let row : ℕ = c.args.v - 1 in
+    halves _
+    (λ x. even_dot c.args.p.now x (main_front c.args.p.now row x) (sub_front c.args.p.now row x))
+    (λ x. odd_dot c.args.p.now x (main_front c.args.p.now row x) (sub_front c.args.p.now row x))
+    (λ x h. c.finish.ensures.even x h
+    ∙ ap (λ (i : Ink). even_dot c.args.p.now x i (ink_at c.fronts-over.new.sub x)) (c.fronts-over.ensures.main x h)
+    ∙ ap (λ (i : Ink). even_dot c.args.p.now x (main_front c.args.p.now row x) i) (c.fronts-over.ensures.sub x h))
+    (λ x h. c.finish.ensures.odd x h
+    ∙ ap (λ (i : Ink). odd_dot c.args.p.now x i (ink_at c.fronts-over.new.sub x)) (c.fronts-over.ensures.main x h)
+    ∙ ap (λ (i : Ink). odd_dot c.args.p.now x (main_front c.args.p.now row x) i) (c.fronts-over.ensures.sub x h))

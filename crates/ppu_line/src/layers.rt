@@ -1,0 +1,276 @@
+//! The layers of a row, each painted and laid over both screens.
+
+ghost use Rattle.std.specs.Prelude.{◌≡◌, ℕ, ◌+◌, ◌*◌, ◌<◌, ◌≤◌, ◌==◌, true, false};
+ghost use Rattle.row_passes.specs.Inks.{nearest};
+ghost use Rattle.tile_cache.specs.Planes.{IsInStep};
+ghost use Rattle.ppu_regs.specs.Reads.{bit_of};
+ghost use Rattle.ppu_tiles.specs.Modes.{is_hires, depth_of};
+ghost use Rattle.ppu_objects.specs.Objects.{passes_range};
+ghost use Rattle.ppu_objects.specs.Pieces.{passes_time, object_candidate};
+ghost use Rattle.ppu_screens.specs.Screens.{ink_at};
+ghost use Rattle.ppu_line.specs.Line.{has_background, has_depth, plane_candidate, ink_of, main_ink, sub_ink};
+
+use ppu_mode7::m7_planes;
+use ppu_objects::obj_planes;
+use ppu_regs::{Over, Planes, Ppu};
+use ppu_screens::{base, lay_layer};
+use ppu_tiles::{depth, ink_row};
+use tile_cache::TileCache;
+
+#[inline(always)]
+fn is_depth(depth: u8) -> bool
+    ensures { result ≡ has_depth depth }
+{
+    depth == 2 || depth == 4 || depth == 8
+}
+
+/// Whether a mode has a background.
+#[inline(always)]
+#[tactic(auto, unfolding(crate::specs::Line::has_background))]
+fn has(mode: u8, layer: u8) -> bool
+    ensures { result ≡ has_background mode layer }
+{
+    if mode == 7 {
+        layer <= 2
+    } else {
+        is_depth(depth(mode, layer))
+    }
+}
+
+/// Whether a mode is mode 7.
+#[inline(always)]
+fn rotates(mode: u8) -> bool
+    ensures { result ≡ (mode == 7) }
+{
+    mode == 7
+}
+
+/// Paints a background of modes 0 to 6.
+#[inline(always)]
+fn paint_tiles(p: &Ppu, tiles: &TileCache, layer: u8, row: u16, odd: bool, out: &mut Planes)
+    requires first { 1 ≤ layer }
+    requires last { layer ≤ 4 }
+    requires row { row < 239 }
+    requires step { IsInStep tiles.now p.now.vram }
+    requires mode { (p.now.registers.mode == 7) ≡ false }
+    requires has { has_depth (depth_of p.now.registers.mode layer) ≡ true }
+    ensures { (x : ℕ) → x < 256 → ink_at out.new x ≡ ink_of p.now layer (plane_candidate p.now layer row (2 * x + bit_of odd)) }
+{
+    let r = p.registers();
+    let named = r.screens(layer).arithmetic;
+    let low = base(r, layer, 0, named);
+    let high = base(r, layer, 1, named);
+    ink_row(
+        p,
+        tiles,
+        layer,
+        row,
+        odd,
+        low,
+        high,
+        &mut out.ranks,
+        &mut out.numbers,
+    );
+}
+
+/// Paints a background of mode 7.
+#[inline(always)]
+fn paint_rotated(p: &Ppu, layer: u8, row: u16, odd: bool, out: &mut Planes)
+    requires first { 1 ≤ layer }
+    requires last { layer ≤ 4 }
+    requires row { row < 239 }
+    requires mode { (p.now.registers.mode == 7) ≡ true }
+    ensures { (x : ℕ) → x < 256 → ink_at out.new x ≡ ink_of p.now layer (plane_candidate p.now layer row (2 * x + bit_of odd)) }
+{
+    let r = p.registers();
+    let named = r.screens(layer).arithmetic;
+    let low = base(r, layer, 0, named);
+    let high = base(r, layer, 1, named);
+    m7_planes(p, layer, row, low, high, out);
+}
+
+/// Paints a background that the mode has: its dots 2x, or 2x + 1 where `odd`.
+#[tactic(auto, unfolding(crate::specs::Line::has_background))]
+fn paint_background(p: &Ppu, tiles: &TileCache, layer: u8, row: u16, odd: bool, out: &mut Planes)
+    requires first { 1 ≤ layer }
+    requires last { layer ≤ 4 }
+    requires row { row < 239 }
+    requires step { IsInStep tiles.now p.now.vram }
+    requires has { has_background p.now.registers.mode layer ≡ true }
+    ensures { (x : ℕ) → x < 256 → ink_at out.new x ≡ ink_of p.now layer (plane_candidate p.now layer row (2 * x + bit_of odd)) }
+{
+    if rotates(p.registers().mode) {
+        paint_rotated(p, layer, row, odd, out);
+    } else {
+        paint_tiles(p, tiles, layer, row, odd, out);
+    }
+}
+
+#[inline(always)]
+fn hires(mode: u8) -> bool
+    ensures { result ≡ is_hires mode }
+{
+    mode == 5 || mode == 6
+}
+
+/// Lays a background of 512 dots over both screens: the odd dots on the main screen, the even ones on the sub
+/// screen.
+fn lay_both(
+    p: &Ppu,
+    tiles: &TileCache,
+    layer: u8,
+    row: u16,
+    odd: &mut Planes,
+    even: &mut Planes,
+    main: &mut Planes,
+    sub: &mut Planes,
+)
+    requires first { 1 ≤ layer }
+    requires last { layer ≤ 4 }
+    requires row { row < 239 }
+    requires step { IsInStep tiles.now p.now.vram }
+    requires has { has_background p.now.registers.mode layer ≡ true }
+    ensures main { (x : ℕ) → x < 256 → ink_at main.new x ≡ nearest (ink_at main.old x) (main_ink p.now row x layer) }
+    ensures sub { (x : ℕ) → x < 256 → ink_at sub.new x ≡ nearest (ink_at sub.old x) (sub_ink p.now row x layer) }
+{
+    paint_background(p, tiles, layer, row, true, odd);
+    paint_background(p, tiles, layer, row, false, even);
+    lay_layer(p, layer, odd, even, main, sub);
+}
+
+/// Lays a background of 256 pixels over both screens.
+fn lay_same(
+    p: &Ppu,
+    tiles: &TileCache,
+    layer: u8,
+    row: u16,
+    odd: &mut Planes,
+    main: &mut Planes,
+    sub: &mut Planes,
+)
+    requires first { 1 ≤ layer }
+    requires last { layer ≤ 4 }
+    requires row { row < 239 }
+    requires step { IsInStep tiles.now p.now.vram }
+    requires has { has_background p.now.registers.mode layer ≡ true }
+    requires alike { is_hires p.now.registers.mode ≡ false }
+    ensures main { (x : ℕ) → x < 256 → ink_at main.new x ≡ nearest (ink_at main.old x) (main_ink p.now row x layer) }
+    ensures sub { (x : ℕ) → x < 256 → ink_at sub.new x ≡ nearest (ink_at sub.old x) (sub_ink p.now row x layer) }
+{
+    paint_background(p, tiles, layer, row, true, odd);
+    lay_layer(p, layer, odd, odd, main, sub);
+}
+
+/// Lays a background that the mode has over both screens.
+#[inline(always)]
+fn lay_background(
+    p: &Ppu,
+    tiles: &TileCache,
+    layer: u8,
+    row: u16,
+    odd: &mut Planes,
+    even: &mut Planes,
+    main: &mut Planes,
+    sub: &mut Planes,
+)
+    requires first { 1 ≤ layer }
+    requires last { layer ≤ 4 }
+    requires row { row < 239 }
+    requires step { IsInStep tiles.now p.now.vram }
+    requires has { has_background p.now.registers.mode layer ≡ true }
+    ensures main { (x : ℕ) → x < 256 → ink_at main.new x ≡ nearest (ink_at main.old x) (main_ink p.now row x layer) }
+    ensures sub { (x : ℕ) → x < 256 → ink_at sub.new x ≡ nearest (ink_at sub.old x) (sub_ink p.now row x layer) }
+{
+    if hires(p.registers().mode) {
+        lay_both(p, tiles, layer, row, odd, even, main, sub);
+    } else {
+        lay_same(p, tiles, layer, row, odd, main, sub);
+    }
+}
+
+/// The same, if a screen shows the layer.
+#[inline(always)]
+#[tactic(auto, using(crate::proofs::Painted::unshown))]
+fn lay_shown(
+    p: &Ppu,
+    tiles: &TileCache,
+    layer: u8,
+    row: u16,
+    odd: &mut Planes,
+    even: &mut Planes,
+    main: &mut Planes,
+    sub: &mut Planes,
+)
+    requires first { 1 ≤ layer }
+    requires last { layer ≤ 4 }
+    requires row { row < 239 }
+    requires step { IsInStep tiles.now p.now.vram }
+    requires has { has_background p.now.registers.mode layer ≡ true }
+    ensures main { (x : ℕ) → x < 256 → ink_at main.new x ≡ nearest (ink_at main.old x) (main_ink p.now row x layer) }
+    ensures sub { (x : ℕ) → x < 256 → ink_at sub.new x ≡ nearest (ink_at sub.old x) (sub_ink p.now row x layer) }
+{
+    let screens = *p.registers().screens(layer);
+    if screens.main || screens.sub {
+        lay_background(p, tiles, layer, row, odd, even, main, sub);
+    }
+}
+
+/// Adds a background to both screens, if the mode has it and a screen shows it.
+#[tactic(auto, using(crate::proofs::Painted::absent))]
+pub fn add_background(
+    p: &Ppu,
+    tiles: &TileCache,
+    layer: u8,
+    row: u16,
+    odd: &mut Planes,
+    even: &mut Planes,
+    main: &mut Planes,
+    sub: &mut Planes,
+)
+    requires first { 1 ≤ layer }
+    requires last { layer ≤ 4 }
+    requires row { row < 239 }
+    requires step { IsInStep tiles.now p.now.vram }
+    ensures main { (x : ℕ) → x < 256 → ink_at main.new x ≡ nearest (ink_at main.old x) (main_ink p.now row x layer) }
+    ensures sub { (x : ℕ) → x < 256 → ink_at sub.new x ≡ nearest (ink_at sub.old x) (sub_ink p.now row x layer) }
+{
+    if has(p.registers().mode, layer) {
+        lay_shown(p, tiles, layer, row, odd, even, main, sub);
+    }
+}
+
+/// Paints the objects.
+#[inline(always)]
+fn paint_objects(p: &Ppu, row: u16, out: &mut Planes) -> Over
+    requires row { row < 239 }
+    ensures inks { (x : ℕ) → x < 256 → ink_at out.new x ≡ ink_of p.now 5 (object_candidate p.now row x) }
+    ensures range { result.range ≡ passes_range p.now row }
+    ensures time { result.time ≡ passes_time p.now row }
+{
+    let r = p.registers();
+    let first = base(r, 5, 0, false);
+    let second = base(r, 5, 1, false);
+    let third = base(r, 5, 2, false);
+    let fourth = base(r, 5, 3, false);
+    let bases = [first, second, third, fourth];
+    obj_planes(p, row, &bases, r.screens(5).arithmetic, out)
+}
+
+/// Adds the objects to both screens, and answers which of their limits were passed.
+pub fn add_objects(
+    p: &Ppu,
+    row: u16,
+    work: &mut Planes,
+    main: &mut Planes,
+    sub: &mut Planes,
+) -> Over
+    requires row { row < 239 }
+    ensures main { (x : ℕ) → x < 256 → ink_at main.new x ≡ nearest (ink_at main.old x) (main_ink p.now row x 5) }
+    ensures sub { (x : ℕ) → x < 256 → ink_at sub.new x ≡ nearest (ink_at sub.old x) (sub_ink p.now row x 5) }
+    ensures range { result.range ≡ passes_range p.now row }
+    ensures time { result.time ≡ passes_time p.now row }
+{
+    let over = paint_objects(p, row, work);
+    lay_layer(p, 5, work, work, main, sub);
+    over
+}

@@ -1,0 +1,76 @@
+-- The first so many elements of a list that grows at its end.
+use Rattle.std.proofs.Common.{◌≡◌, ℕ, suc, ◌+◌, ◌-◌, ◌<◌, ◌≤◌, Bool, true, false, nat_lt, List, [], ◌∷◌, ◌++◌, length, take, drop, get_or, refl, sym, ap, ◌∙◌, append_assoc, add-one, arith}
+use Rattle.std.proofs.lemmas.List.{take-append-le, length-take, length-append}
+use Rattle.std.proofs.lemmas.Bool.{le-ltb, lt-ltb}
+use Rattle.std.proofs.lemmas.Grind.{common_steps}
+use Rattle.std.proofs.Math.Seq.{drop-cons}
+use Rattle.ppu_regs.specs.Picture.{Picture}
+use Rattle.ppu_objects.specs.declared.objects.Object.{Object}
+use Rattle.ppu_objects.specs.declared.pieces.Piece.{Piece}
+use Rattle.ppu_objects.specs.Objects.{grown, on_row, object_in_turn, stands_on}
+use Rattle.ppu_objects.specs.Pieces.{first_pieces, is_on_screen, piece_left, pieces_of, all_pieces}
+
+-- with room, the new element is among the first
+pub take_push_room : {A : Type 0} (m : ℕ) (xs : List A) (x : A) → length (take m xs) < m → take m (xs ++ x ∷ []) ≡ take m xs ++ x ∷ []
+take_push_room m xs x h = grind (arith, common_steps, length-take, length-append)
+
+pub push_items : {A : Type 0} (m : ℕ) (old new xs : List A) (x : A) → old ≡ take m xs → length old < m → new ≡ old ++ x ∷ [] →
+    new ≡ take m (xs ++ x ∷ [])
+push_items m old new xs x e h n =
+    let short : length (take m xs) < m = omega (arith, ap length e) in
+    n ∙ ap (λ l. l ++ x ∷ []) e ∙ sym (take_push_room m xs x short)
+
+pub push_more : {A : Type 0} (m : ℕ) (old xs : List A) (x : A) → old ≡ take m xs → length old < m →
+    nat_lt m (length xs) ≡ nat_lt m (length (xs ++ x ∷ []))
+push_more m old xs x e h =
+    let size : length old ≡ length (take m xs) = ap length e in
+    let all : length xs < m = omega (arith, size, length-take m xs) in
+    let here : length (xs ++ x ∷ []) ≤ m = simp length-append (omega arith) in
+    let before : length xs ≤ m = omega arith in
+    le-ltb m (length xs) before ∙ sym (le-ltb m (length (xs ++ x ∷ [])) here)
+
+-- without room, the first ones stay
+pub full_items : {A : Type 0} (m : ℕ) (old xs : List A) (x : A) → old ≡ take m xs → m ≤ length old → old ≡ take m (xs ++ x ∷ [])
+full_items m old xs x e h =
+    let size : length old ≡ length (take m xs) = ap length e in
+    let enough : m ≤ length xs = omega (arith, size, length-take m xs) in
+    e ∙ sym (take-append-le m xs (x ∷ []) enough)
+
+pub full_more : {A : Type 0} (m : ℕ) (old xs : List A) (x : A) → old ≡ take m xs → m ≤ length old → true ≡ nat_lt m (length (xs ++ x ∷ []))
+full_more m old xs x e h =
+    let size : length old ≡ length (take m xs) = ap length e in
+    let enough : m ≤ length xs = omega (arith, size, length-take m xs) in
+    let here : m < length (xs ++ x ∷ []) = simp length-append (omega arith) in
+    sym (lt-ltb m (length (xs ++ x ∷ [])) here)
+
+-- growing a list behind others
+pub grown-append : {A : Type 0} (does : Bool) (x : A) (xs ys : List A) → grown does x (xs ++ ys) ≡ xs ++ grown does x ys
+unfolding grown
+grown-append true x xs ys = append_assoc xs ys (x ∷ [])
+grown-append false x xs ys = refl
+
+-- one more object, and one more piece
+pub on_row_more : (p : Picture) (row k : ℕ) → on_row p row (k + 1) ≡
+    grown (stands_on p.registers.object_tiles.size (object_in_turn p k) row) (object_in_turn p k) (on_row p row k)
+unfolding on_row
+on_row_more p row k = rw add-one refl
+
+pub pieces_more : (o : Object) (k : ℕ) (xs : List Piece) → xs ++ first_pieces o (k + 1) ≡
+    grown (is_on_screen (piece_left o k)) (record { object = o; column = k }) (xs ++ first_pieces o k)
+unfolding first_pieces
+pieces_more o k xs = rw add-one (sym (grown-append (is_on_screen (piece_left o k)) (record { object = o; column = k }) xs (first_pieces o k)))
+
+-- the pieces from an object on
+pieces_from : (code : ℕ) (list : List Object) (d : Object) (i from next : ℕ) → from ≡ i → next ≡ suc i → i < length list →
+    all_pieces code (drop from list) ≡ all_pieces code (drop next list) ++ pieces_of code (get_or list i d)
+unfolding all_pieces
+pieces_from code list d i from next f n below = rw f (rw n (rw (drop-cons list i d below) refl))
+
+-- the pieces of the last objects, and of one more
+pub all_pieces_more : (code : ℕ) (list : List Object) (j : ℕ) (d : Object) → j < length list →
+    all_pieces code (drop (length list - (j + 1)) list) ≡
+    all_pieces code (drop (length list - j) list) ++ pieces_of code (get_or list (length list - 1 - j) d)
+all_pieces_more code list j d h =
+    pieces_from code list d (length list - 1 - j) (length list - (j + 1)) (length list - j) (omega arith) (omega arith) (omega arith)
+
+pub ruleset turns = all_pieces_more

@@ -1,0 +1,126 @@
+//! Rows of objects, as planes and as dots.
+
+ghost use Rattle.std.specs.Prelude.{◌≡◌, ℕ, ◌+◌, ◌*◌, ◌/◌, ◌%◌, ◌<◌, ◌≤◌, ◌==◌, [], fold, true, length, slice_index, slice_index_or};
+ghost use Rattle.ppu_regs.specs.Dots.{no_dot, dot_of};
+ghost use Rattle.ppu_objects.specs.Objects.{passes_range};
+ghost use Rattle.ppu_objects.specs.Pieces.{drawn_pieces, passes_time, nothing, painted, object_candidate};
+ghost use Rattle.ppu_objects.specs.Ranks.{object_rank, row_bases, IsOfObjects};
+ghost use Rattle.ppu_regs.specs.declared.dots.Candidate.{Candidate};
+ghost use Rattle.ppu_regs.specs.Dots.{no_dot, dot_of};
+
+use crate::objects::{Object, gather};
+use crate::painting::paint;
+use crate::pieces::{Piece, gather_pieces};
+use arrayvec::ArrayVec;
+use ppu_regs::{Dot, Over, Planes, Ppu};
+
+#[inline(always)]
+fn clear(out: &mut Planes)
+    ensures ranks { (x : ℕ) → x < 256 → slice_index out.new.ranks x ≡ 0 }
+    ensures numbers { (x : ℕ) → x < 256 → slice_index out.new.numbers x ≡ 0 }
+{
+    for x in 0..256usize {
+        out.ranks[x] = 0;
+        out.numbers[x] = 0;
+    }
+}
+
+/// Gathers the drawn pieces of a row in an empty list, and answers which limits were passed.
+#[tactic(auto, unfolding(crate::specs::Pieces::drawn_pieces, crate::specs::Pieces::passes_time))]
+fn gather_row(p: &Ppu, row: u16, pieces: &mut ArrayVec<Piece, 34>) -> Over
+    requires row { row < 239 }
+    requires empty { pieces.old.items ≡ [] }
+    ensures pieces { pieces.new.items ≡ drawn_pieces p.now row }
+    ensures range { result.range ≡ passes_range p.now row }
+    ensures time { result.time ≡ passes_time p.now row }
+{
+    let mut objects: ArrayVec<Object, 32> = ArrayVec::new();
+    let range = gather(p, row, &mut objects);
+    let time = gather_pieces(p.registers().object_tiles.size, objects.as_slice(), pieces);
+    Over { range, time }
+}
+
+/// Draws pieces in turn over a row in which nothing stands.
+#[tactic(auto, unfolding(crate::specs::Pieces::painted, crate::specs::Ranks::object_rank), using(std::proofs::lemmas::List::Sums::fold_more))]
+fn paint_all(p: &Ppu, row: u16, pieces: &[Piece], bases: &[u8; 4], named: bool, out: &mut Planes)
+    requires row { row < 239 }
+    requires bases { (k : ℕ) → slice_index bases.now k ≤ 240 }
+    requires ranks_clear { (x : ℕ) → x < 256 → slice_index out.old.ranks x ≡ 0 }
+    requires numbers_clear { (x : ℕ) → x < 256 → slice_index out.old.numbers x ≡ 0 }
+    ensures ranks { (x : ℕ) → x < 256 → slice_index out.new.ranks x ≡ object_rank bases.now named (fold (painted p.now row x) nothing pieces.now) }
+    ensures numbers { (x : ℕ) → x < 256 → slice_index out.new.numbers x ≡ (fold (painted p.now row x) nothing pieces.now).number }
+{
+    for i in 0..pieces.len() {
+        let piece = pieces[i];
+        paint(p, row, &piece, bases, named, out);
+    }
+}
+
+/// Writes the objects of a row as planes, and answers which limits were passed: `bases` are the rank bytes of the
+/// four priorities, and bit 3 is set where `named` and the palette may take part in arithmetic.
+#[tactic(auto, unfolding(crate::specs::Pieces::object_candidate))]
+pub fn obj_planes(p: &Ppu, row: u16, bases: &[u8; 4], named: bool, out: &mut Planes) -> Over
+    requires row { row < 239 }
+    requires bases { (k : ℕ) → slice_index bases.now k ≤ 240 }
+    ensures ranks { (x : ℕ) → x < 256 → slice_index out.new.ranks x ≡ object_rank bases.now named (object_candidate p.now row x) }
+    ensures numbers { (x : ℕ) → x < 256 → slice_index out.new.numbers x ≡ (object_candidate p.now row x).number }
+    ensures range { result.range ≡ passes_range p.now row }
+    ensures time { result.time ≡ passes_time p.now row }
+{
+    clear(out);
+    let mut pieces: ArrayVec<Piece, 34> = ArrayVec::new();
+    let over = gather_row(p, row, &mut pieces);
+    paint_all(p, row, pieces.as_slice(), bases, named, out);
+    over
+}
+
+/// One pixel of a row as a dot, from its bytes in planes whose rank bytes are those of `obj_row`.
+#[inline(always)]
+#[tactic(auto, unfolding(crate::specs::Ranks::object_rank, crate::specs::Ranks::rank_byte, ppu_regs::specs::Dots::dot_of, ppu_regs::specs::Dots::colour_of))]
+fn dot_at(cgram: &[u16; 256], rank: u8, number: u8) -> Dot
+    ensures { (c : Candidate) → IsOfObjects c → rank ≡ object_rank row_bases true c → number ≡ c.number → result ≡ dot_of cgram.now c }
+{
+    if rank == 0 {
+        Dot {
+            on: false,
+            prio: 0,
+            colour: 0,
+            math: false,
+        }
+    } else {
+        Dot {
+            on: true,
+            prio: (rank / 16 + 3) % 4,
+            colour: cgram[number as usize],
+            math: rank / 8 % 2 == 1,
+        }
+    }
+}
+
+#[inline(always)]
+fn dot_in_row(p: &Ppu, row: u16, x: usize, rank: u8, number: u8) -> Dot
+    requires rank { rank ≡ object_rank row_bases true (object_candidate p.now row x) }
+    requires number { number ≡ (object_candidate p.now row x).number }
+    ensures { result ≡ dot_of p.now.cgram (object_candidate p.now row x) }
+{
+    dot_at(p.cgram(), rank, number)
+}
+
+/// Writes the dots of the objects of a row, and answers which limits were passed.
+pub fn obj_row(p: &Ppu, row: u16, out: &mut [Dot]) -> Over
+    requires row { row < 239 }
+    requires room { length out.old ≡ 256 }
+    ensures dots { (x : ℕ) → x < 256 → slice_index_or out.new x no_dot ≡ dot_of p.now.cgram (object_candidate p.now row x) }
+    ensures range { result.range ≡ passes_range p.now row }
+    ensures time { result.time ≡ passes_time p.now row }
+{
+    let mut planes = Planes {
+        ranks: [0; 256],
+        numbers: [0; 256],
+    };
+    let over = obj_planes(p, row, &[16, 32, 48, 64], true, &mut planes);
+    for x in 0..256usize {
+        out[x] = dot_in_row(p, row, x, planes.ranks[x], planes.numbers[x]);
+    }
+    over
+}

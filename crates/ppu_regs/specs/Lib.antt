@@ -1,0 +1,7 @@
+pub mod Bits
+pub mod Dots
+pub mod Pages
+pub mod Picture
+pub mod Ports
+pub mod Reads
+pub mod Writes

@@ -1,0 +1,26 @@
+//! The picture unit's registers, 2100 to 213F, and its three memories.
+//!
+//! The crate stands on `snes_defs`. `Ppu` is seen in contracts as the record `Picture` of
+//! `specs/Picture.antt`: all registers by name, and VRAM, CGRAM and OAM as lists.
+#![tactic(auto)]
+
+mod bits;
+mod cgram;
+mod dots;
+mod layers;
+mod oam;
+mod pages;
+mod ppu;
+mod reads;
+mod registers;
+mod start;
+mod vram;
+mod writes;
+
+pub use dots::{Candidate, Dot, Planes, direct_colour};
+pub use ppu::Ppu;
+pub use registers::{
+    Background, CgramPort, ColourMath, Combine, Counters, Display, LayerScreens, LayerWindows,
+    OamPort, ObjectTiles, Outside, Over, Registers, Rotation, Settings, VramPort, Window,
+    WindowPart,
+};

@@ -1,0 +1,124 @@
+//! From what stands in front on both screens to the 512 dots of a row.
+
+ghost use Rattle.std.specs.Prelude.{◌≡◌, ℕ, ◌+◌, ◌*◌, ◌<◌, ◌==◌, not, false, length, slice_index};
+ghost use Rattle.row_passes.specs.Inks.{is_named, is_found};
+ghost use Rattle.row_passes.specs.Colours.{dimmed};
+ghost use Rattle.color_window.specs.Mixing.{fixed_colour};
+ghost use Rattle.ppu_screens.specs.Screens.{ink_at, has_direct, front_ink_colour, main_colour, sub_colour, is_halved, even_dot, odd_dot};
+
+use crate::order::rank;
+use color_window::{fixed, mask_row, mix_row};
+use ppu_regs::{Planes, Ppu, Registers};
+use row_passes::{is_found_key, look_up, write_dots};
+
+#[inline(always)]
+#[tactic(auto, unfolding(crate::specs::Screens::has_direct))]
+fn direct(r: &Registers) -> bool
+    ensures { result ≡ has_direct r.now }
+{
+    r.colour.direct && (r.mode == 3 || r.mode == 4 || r.mode == 7)
+}
+
+/// The colours of what stands in front.
+#[tactic(auto, unfolding(crate::specs::Screens::front_ink_colour))]
+fn front_colours(p: &Ppu, front: &Planes, out: &mut [u16; 256])
+    ensures { (x : ℕ) → x < 256 → slice_index out.new x ≡ front_ink_colour p.now (ink_at front.now x) }
+{
+    let r = p.registers();
+    look_up(
+        p.cgram(),
+        direct(r),
+        rank(r, 1, 0),
+        rank(r, 1, 1),
+        &front.ranks,
+        &front.numbers,
+        out,
+    );
+}
+
+/// The main screen's colours before brightness.
+#[tactic(auto, unfolding(crate::specs::Screens::main_colour), using(crate::proofs::Halves::masks))]
+fn main_colours(p: &Ppu, main: &Planes, sub: &Planes, subs: &[u16; 256], out: &mut [u16; 256])
+    requires { (x : ℕ) → x < 256 → slice_index subs.now x ≡ front_ink_colour p.now (ink_at sub.now x) }
+    ensures { (x : ℕ) → x < 256 → slice_index out.new x ≡ main_colour p.now x (ink_at main.now x) (ink_at sub.now x) }
+{
+    let mut inside = [0u8; 256];
+    mask_row(p, 6, &mut inside);
+    front_colours(p, main, out);
+    mix_row(p, &inside, &main.ranks, out, &sub.ranks, subs);
+}
+
+#[inline(always)]
+#[tactic(auto, unfolding(crate::specs::Screens::sub_colour))]
+fn or_fixed(p: &Ppu, fixed: u16, key: u8, number: u8, colour: u16) -> u16
+    requires fixed { fixed ≡ fixed_colour p.now.registers.colour }
+    requires colour { colour ≡ front_ink_colour p.now (record { key = key; number = number }) }
+    ensures { result ≡ sub_colour p.now (record { key = key; number = number }) }
+{
+    if is_found_key(key) { colour } else { fixed }
+}
+
+/// The sub screen's colours, for the even dots.
+fn sub_colours(p: &Ppu, sub: &Planes, subs: &[u16; 256], out: &mut [u16; 256])
+    requires { (x : ℕ) → x < 256 → slice_index subs.now x ≡ front_ink_colour p.now (ink_at sub.now x) }
+    ensures { (x : ℕ) → x < 256 → slice_index out.new x ≡ sub_colour p.now (ink_at sub.now x) }
+{
+    let fixed = fixed(p);
+    for x in 0..256usize {
+        out[x] = or_fixed(p, fixed, sub.ranks[x], sub.numbers[x], subs[x]);
+    }
+}
+
+#[inline(always)]
+#[tactic(auto, unfolding(crate::specs::Screens::is_halved))]
+fn halved(r: &Registers) -> bool
+    ensures { result ≡ is_halved r.now }
+{
+    r.settings.half_dots || r.mode == 5 || r.mode == 6
+}
+
+fn clear(out: &mut [u16])
+    requires { length out.old ≡ 512 }
+    ensures { (e : ℕ) → e < 512 → slice_index out.new e ≡ 0 }
+{
+    for e in 0..512usize {
+        out[e] = 0;
+    }
+}
+
+#[tactic(auto, unfolding(crate::specs::Screens::even_dot, crate::specs::Screens::odd_dot))]
+fn finish_shown(p: &Ppu, main: &Planes, sub: &Planes, out: &mut [u16])
+    requires room { length out.old ≡ 512 }
+    requires shown { p.now.registers.display.blanked ≡ false }
+    ensures even { (x : ℕ) → x < 256 → slice_index out.new (2 * x) ≡ even_dot p.now x (ink_at main.now x) (ink_at sub.now x) }
+    ensures odd { (x : ℕ) → x < 256 → slice_index out.new (2 * x + 1) ≡ odd_dot p.now x (ink_at main.now x) (ink_at sub.now x) }
+{
+    p.in_range();
+    let brightness = p.registers().display.brightness;
+    let mut subs = [0u16; 256];
+    front_colours(p, sub, &mut subs);
+    let mut odd = [0u16; 256];
+    main_colours(p, main, sub, &subs, &mut odd);
+    if halved(p.registers()) {
+        let mut even = [0u16; 256];
+        sub_colours(p, sub, &subs, &mut even);
+        write_dots(brightness, &even, &odd, out);
+    } else {
+        write_dots(brightness, &odd, &odd, out);
+    }
+}
+
+/// Writes the row's 512 dots from what stands in front on the main and on the sub screen: dots 2x and 2x + 1 are those
+/// of the pixel x.
+#[tactic(auto, unfolding(crate::specs::Screens::even_dot, crate::specs::Screens::odd_dot))]
+pub fn finish(p: &Ppu, main: &Planes, sub: &Planes, out: &mut [u16])
+    requires { length out.old ≡ 512 }
+    ensures even { (x : ℕ) → x < 256 → slice_index out.new (2 * x) ≡ even_dot p.now x (ink_at main.now x) (ink_at sub.now x) }
+    ensures odd { (x : ℕ) → x < 256 → slice_index out.new (2 * x + 1) ≡ odd_dot p.now x (ink_at main.now x) (ink_at sub.now x) }
+{
+    if p.registers().display.blanked {
+        clear(out);
+    } else {
+        finish_shown(p, main, sub, out);
+    }
+}

@@ -1,0 +1,99 @@
+//! What stands in front on the main and on the sub screen.
+
+ghost use Rattle.std.specs.Prelude.{◌≡◌, ℕ, ◌<◌, ◌≤◌, ◌&&◌, true, slice_index};
+ghost use Rattle.row_passes.specs.Inks.{no_ink, nearest};
+ghost use Rattle.color_window.specs.Windows.{is_inside, mask_of};
+ghost use Rattle.ppu_screens.specs.Screens.{ink_at, standing, on_main, on_sub, backdrop};
+
+use color_window::mask_row;
+use ppu_regs::{Planes, Ppu};
+use row_passes::{fill_row, lay};
+
+#[inline(always)]
+#[tactic(auto, using(crate::proofs::FrontLemmas::inks))]
+fn fill(key: u8, planes: &mut Planes)
+    ensures { (x : ℕ) → x < 256 → ink_at planes.new x ≡ record { key = key; number = 0 } }
+{
+    fill_row(key, &mut planes.ranks);
+    fill_row(0, &mut planes.numbers);
+}
+
+/// Begins a row: the backdrop on the main screen, nothing on the sub screen.
+#[tactic(auto, unfolding(crate::specs::Screens::backdrop))]
+pub fn start(p: &Ppu, main: &mut Planes, sub: &mut Planes)
+    ensures main { (x : ℕ) → x < 256 → ink_at main.new x ≡ backdrop p.now.registers }
+    ensures sub { (x : ℕ) → x < 256 → ink_at sub.new x ≡ no_ink }
+{
+    let key = if p.registers().colour.backdrop { 8 } else { 0 };
+    fill(key, main);
+    fill(0, sub);
+}
+
+/// The mask of the pixels at which a layer isn't seen.
+#[inline(always)]
+#[tactic(auto, unfolding(color_window::specs::Windows::mask_of))]
+fn hidden_row(p: &Ppu, layer: u8, masked: bool, out: &mut [u8; 256])
+    requires first { 1 ≤ layer }
+    requires last { layer ≤ 5 }
+    ensures { (x : ℕ) → x < 256 → slice_index out.new x ≡ mask_of (masked && is_inside p.now.registers layer x) }
+{
+    if masked {
+        mask_row(p, layer, out);
+    } else {
+        fill_row(0, out);
+    }
+}
+
+/// Lays a layer that is on over a screen.
+#[tactic(auto, using(crate::proofs::FrontLemmas::lays))]
+fn lay_seen(p: &Ppu, layer: u8, masked: bool, row: &Planes, front: &mut Planes)
+    requires first { 1 ≤ layer }
+    requires last { layer ≤ 5 }
+    ensures { (x : ℕ) → x < 256 → ink_at front.new x ≡
+        nearest (ink_at front.old x) (standing true masked (is_inside p.now.registers layer x) (ink_at row.now x)) }
+{
+    let mut hidden = [0u8; 256];
+    hidden_row(p, layer, masked, &mut hidden);
+    lay(
+        &row.ranks,
+        &row.numbers,
+        &hidden,
+        &mut front.ranks,
+        &mut front.numbers,
+    );
+}
+
+#[inline(always)]
+#[tactic(auto, using(crate::proofs::FrontLemmas::unseen))]
+fn lay_on(p: &Ppu, layer: u8, on: bool, masked: bool, row: &Planes, front: &mut Planes)
+    requires first { 1 ≤ layer }
+    requires last { layer ≤ 5 }
+    ensures { (x : ℕ) → x < 256 → ink_at front.new x ≡
+        nearest (ink_at front.old x) (standing on masked (is_inside p.now.registers layer x) (ink_at row.now x)) }
+{
+    if on {
+        lay_seen(p, layer, masked, row, front);
+    }
+}
+
+/// Lays a layer (1 to 4 for BG1 to BG4, 5 for the objects) over both screens, where it is on and not masked: at each
+/// pixel the nearer to the front stays. The even dots go to the sub screen and the odd ones to the main screen,
+/// which differ in modes 5 and 6 alone.
+#[tactic(auto, unfolding(crate::specs::Screens::on_main, crate::specs::Screens::on_sub))]
+pub fn lay_layer(
+    p: &Ppu,
+    layer: u8,
+    odd_dots: &Planes,
+    even_dots: &Planes,
+    main: &mut Planes,
+    sub: &mut Planes,
+)
+    requires first { 1 ≤ layer }
+    requires last { layer ≤ 5 }
+    ensures main { (x : ℕ) → x < 256 → ink_at main.new x ≡ nearest (ink_at main.old x) (on_main p.now.registers layer x (ink_at odd_dots.now x)) }
+    ensures sub { (x : ℕ) → x < 256 → ink_at sub.new x ≡ nearest (ink_at sub.old x) (on_sub p.now.registers layer x (ink_at even_dots.now x)) }
+{
+    let screens = *p.registers().screens(layer);
+    lay_on(p, layer, screens.main, screens.main_masked, odd_dots, main);
+    lay_on(p, layer, screens.sub, screens.sub_masked, even_dots, sub);
+}

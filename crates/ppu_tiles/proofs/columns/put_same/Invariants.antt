@@ -1,0 +1,11 @@
+use Rattle.std.proofs.Common.{◌≡◌, ℕ, ◌+◌, ◌-◌, ◌*◌, ◌<◌, ◌≤◌, List, Bool, length, slice_index, if◌then◌else◌}
+use Rattle.ppu_tiles.proofs.columns.put_same.Given as goal
+
+-- the first n bytes are put, and nothing before them has changed
+pub record IsPut (v : ℕ) (row before : List ℕ) (at n : ℕ) : Type 0 where
+  pub put : (k : ℕ) → k < n → slice_index row (at + k) ≡ v
+  pub below : (k : ℕ) → k < at → slice_index row k ≡ slice_index before k
+  pub size : length row ≡ 264
+
+abbrev pub invariant-loop-k : goal.invariant-loop-k
+invariant-loop-k l = IsPut l.v l.row l.initial.row l.at l.k

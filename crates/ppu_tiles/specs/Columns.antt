@@ -1,0 +1,80 @@
+-- How a row of a background is cut into columns of one tile: column c is the pixels x whose place from the
+-- scroll's low three bits on, x + scroll % 8, is 8c to 8c + 7. A column has one scroll and one map entry. These
+-- words are for the steps below `ink_row`; a reader of its contract needs none of them but `base_of`.
+use Rattle.std.specs.Prelude.{ℕ, Bool, true, not, ◌+◌, ◌-◌, ◌*◌, ◌/◌, ◌%◌, ◌==◌, ◌||◌, ◌&&◌, List, IsTrue, if◌then◌else◌}
+use Rattle.ppu_regs.specs.declared.registers.Registers.{Registers}
+use Rattle.ppu_regs.specs.declared.registers.Background.{Background}
+use Rattle.ppu_regs.specs.declared.dots.Candidate.{Candidate}
+use Rattle.ppu_regs.specs.Picture.{Picture, background_of}
+use Rattle.tile_cache.specs.Planes.{cached_value}
+use Rattle.ppu_tiles.specs.declared.scrolls.Scroll.{Scroll}
+use Rattle.ppu_tiles.specs.Modes.{depth_of, is_hires, tile_height}
+use Rattle.ppu_tiles.specs.Backgrounds.{column_scroll, entry_at, pixel_at, number_of, turned, tile_of, line_word}
+
+-- the byte in the plane of ranks for a candidate's priority
+abbrev pub base_of : ℕ → ℕ → Candidate → ℕ
+base_of low high c = if c.priority == 1 then high else low
+
+-- a depth that a layer of modes 0 to 6 has
+abbrev pub IsDepth : ℕ → Type 0
+IsDepth depth = IsTrue ((depth == 2) || (depth == 4) || (depth == 8))
+
+-- the word of the line in which place x of a tile lies, at row py of the map
+unfoldable pub half_word : Background → ℕ → ℕ → ℕ → ℕ → ℕ
+half_word b depth entry x py =
+    let y = turned (entry / 32768 == 1) (tile_height b) py in line_word b depth (tile_of entry x y) y
+
+-- pixel q of the sixteen of a wide tile, taken from the cache
+unfoldable pub wide_value : List ℕ → Background → ℕ → ℕ → ℕ → ℕ → ℕ
+wide_value cache b depth entry py q =
+    let x = turned (entry / 16384 % 2 == 1) 16 q in cached_value cache (half_word b depth entry x py) depth (x % 8)
+
+-- a column whose place in the map is m, in eights of pixels: its first pixel, and the one at place j
+abbrev pub column_start : ℕ → ℕ → ℕ
+column_start mode m = if is_hires mode then 16 * m else 8 * m
+
+abbrev pub column_place : ℕ → ℕ → ℕ → ℕ → ℕ
+column_place mode m odd j = if is_hires mode then 2 * (8 * m + j) + odd else 8 * m + j
+
+-- of column c of row y: its place in the map, its row there, and its map entry
+abbrev pub column_m : Picture → ℕ → ℕ → ℕ
+column_m p layer c = c + (column_scroll p layer c).across / 8
+
+abbrev pub column_row : Picture → ℕ → ℕ → ℕ → ℕ
+column_row p layer y c = y + 1 + (column_scroll p layer c).down
+
+abbrev pub column_entry : Picture → ℕ → ℕ → ℕ → ℕ
+column_entry p layer y c =
+    entry_at p (background_of p.registers layer) (column_start p.registers.mode (column_m p layer c)) (column_row p layer y c)
+
+-- the value at place j of column c
+unfoldable pub column_value : Picture → ℕ → ℕ → ℕ → ℕ → ℕ → ℕ
+column_value p layer y odd c j =
+    pixel_at p (background_of p.registers layer) (depth_of p.registers.mode layer) (column_entry p layer y c)
+    (column_place p.registers.mode (column_m p layer c) odd j) (column_row p layer y c)
+
+-- the palette of direct colour, where colours are direct
+abbrev pub direct_palette_of : Registers → ℕ → ℕ → ℕ
+direct_palette_of r depth entry = if (depth == 8) && r.colour.direct then entry / 1024 % 8 else 0
+
+-- the byte of a column in the plane of ranks
+unfoldable pub column_base : Picture → ℕ → ℕ → ℕ → ℕ → ℕ → ℕ
+column_base p layer y low high c =
+    (if column_entry p layer y c / 8192 % 2 == 1 then high else low)
+    + direct_palette_of p.registers (depth_of p.registers.mode layer) (column_entry p layer y c)
+
+-- the number from which a column's values are counted
+unfoldable pub column_first : Picture → ℕ → ℕ → ℕ → ℕ
+column_first p layer y c =
+    number_of p.registers.mode layer (depth_of p.registers.mode layer) (column_entry p layer y c / 1024 % 8) 0
+
+-- the candidate that two bytes of a row stand for, where the byte of priority 1 is 32 and that of 0 is 16
+unfoldable pub planes_candidate : ℕ → ℕ → Bool → Candidate
+planes_candidate rank number direct = record {
+  on = not (rank == 0);
+  priority = rank / 32;
+  number = number;
+  direct = direct;
+  palette = rank % 8;
+  math = true;
+}

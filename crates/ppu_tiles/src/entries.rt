@@ -1,0 +1,78 @@
+ghost use Rattle.std.specs.Prelude.{◌≡◌, ◌<◌, ◌≤◌, ◌-◌, ◌%◌, ◌/◌, ◌==◌, ◌*◌, ◌+◌};
+ghost use Rattle.ppu_tiles.specs.Backgrounds.{map_word, entry_at, turned, tile_of, line_word, number_of, candidate_of, block_start};
+
+use crate::modes::{height, width};
+use ppu_regs::{Background, Ppu, Registers};
+
+/// The first row or column of the mosaic block in which one lies.
+#[inline(always)]
+#[tactic(auto, unfolding(crate::specs::Backgrounds::block_start))]
+pub fn block(r: &Registers, b: &Background, n: u16) -> u16
+    ensures start { result ≡ block_start r.now b.now n }
+    ensures before { result ≤ n }
+{
+    if b.mosaic {
+        n - n % (r.mosaic as u16 + 1)
+    } else {
+        n
+    }
+}
+
+/// The word of VRAM with the map entry at a column and a row of tiles.
+#[inline(always)]
+#[tactic(auto, unfolding(crate::specs::Backgrounds::map_word))]
+fn map_place(b: &Background, col: u16, row: u16) -> usize
+    ensures word { result ≡ map_word b.now col row }
+    ensures within { result < 32768 }
+{
+    let right = if b.wide { col / 32 % 2 * 0x400 } else { 0 };
+    let screens = if b.wide { 0x800 } else { 0x400 };
+    let below = if b.tall { row / 32 % 2 * screens } else { 0 };
+    let place = b.map_base as usize + (row % 32 * 32) as usize + (col % 32) as usize;
+    (place + right as usize + below as usize) % 32768
+}
+
+/// The map entry at a pixel of the map.
+#[inline(always)]
+#[tactic(auto, unfolding(crate::specs::Backgrounds::entry_at))]
+pub fn entry(p: &Ppu, b: &Background, px: u16, py: u16) -> u16
+    ensures { result ≡ entry_at p.now b.now px py }
+{
+    let mode = p.registers().mode;
+    p.vram()[map_place(b, px / width(mode, b), py / height(b))]
+}
+
+/// The place in a tile of 8 or 16 pixels, turned over where the entry says so.
+#[inline(always)]
+pub fn turn(flip: bool, size: u16, n: u16) -> u16
+    requires { 0 < size }
+    ensures place { result ≡ turned flip size n }
+    ensures within { result < size }
+{
+    let place = n % size;
+    if flip { size - 1 - place } else { place }
+}
+
+/// The tile of an entry at a place of a large tile.
+#[inline(always)]
+pub fn tile(entry: u16, x: u16, y: u16) -> u16
+    requires x { x < 16 }
+    requires y { y < 16 }
+    ensures tile { result ≡ tile_of entry x y }
+    ensures within { result < 1024 }
+{
+    (entry % 1024 + x / 8 + 16 * (y / 8)) % 1024
+}
+
+/// The word of VRAM at which a line of a tile begins.
+#[inline(always)]
+#[tactic(auto, unfolding(crate::specs::Backgrounds::line_word))]
+pub fn line_place(b: &Background, depth: u8, tile: u16, y: u16) -> u16
+    requires depth { depth ≤ 8 }
+    requires tile { tile < 1024 }
+    ensures word { result ≡ line_word b.now depth tile y }
+    ensures within { result < 32768 }
+{
+    let place = b.tile_base as u32 + tile as u32 * (4 * depth as u32) + (y % 8) as u32;
+    (place % 32768) as u16
+}

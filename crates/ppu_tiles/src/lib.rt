@@ -1,0 +1,18 @@
+//! The backgrounds of the picture modes 0 to 6.
+//!
+//! The crate stands on `ppu_regs` and `tile_cache`. What a background has at a dot is a function of the
+//! picture, `background_candidate` in `specs/Backgrounds.antt`. `bg_row` gives a row of it as dots with
+//! their colours, `ink_row` as two byte planes, in which a caller compares layers before it looks colours
+//! up. Both take decoded tiles that are in step with VRAM, and neither takes memory.
+#![tactic(auto)]
+
+mod columns;
+mod dots;
+mod entries;
+mod modes;
+mod rows;
+mod scrolls;
+
+pub use dots::bg_row;
+pub use modes::depth;
+pub use rows::ink_row;

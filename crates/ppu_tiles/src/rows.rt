@@ -1,0 +1,190 @@
+ghost use Rattle.std.specs.Prelude.{◌≡◌, ℕ, ◌<◌, ◌≤◌, ◌+◌, ◌-◌, ◌*◌, ◌/◌, ◌%◌, ◌==◌, slice_index, if◌then◌else◌};
+ghost use Rattle.ppu_regs.specs.Reads.{bit_of};
+ghost use Rattle.ppu_regs.specs.Dots.{rank_of};
+ghost use Rattle.tile_cache.specs.Planes.{IsInStep};
+ghost use Rattle.ppu_tiles.specs.Modes.{depth_of};
+ghost use Rattle.ppu_tiles.specs.Backgrounds.{block_start, candidate_at, background_candidate};
+ghost use Rattle.ppu_tiles.specs.Columns.{IsDepth, base_of, column_value, column_base, column_first};
+
+use crate::columns::put_column;
+use crate::entries::block;
+use crate::modes::depth;
+use ppu_regs::{Background, Ppu, Registers};
+use tile_cache::TileCache;
+
+/// The 33 columns of a row, side by side: their values, and what they are counted from in both planes.
+#[inline(always)]
+fn paint(
+    p: &Ppu,
+    tiles: &TileCache,
+    layer: u8,
+    y: u16,
+    odd: bool,
+    low: u8,
+    high: u8,
+    values: &mut [u8; 264],
+    bases: &mut [u8; 264],
+    firsts: &mut [u8; 264],
+)
+    requires first { 1 ≤ layer }
+    requires last { layer ≤ 4 }
+    requires depth { IsDepth (depth_of p.now.registers.mode layer) }
+    requires step { IsInStep tiles.now p.now.vram }
+    requires y { y ≤ 239 }
+    requires low { low ≤ 248 }
+    requires high { high ≤ 248 }
+    ensures values { (k : ℕ) → k < 264 → slice_index values.new k ≡ column_value p.now layer y (bit_of odd) (k / 8) (k % 8) }
+    ensures bases { (k : ℕ) → k < 264 → slice_index bases.new k ≡ column_base p.now layer y low high (k / 8) }
+    ensures firsts { (k : ℕ) → k < 264 → slice_index firsts.new k ≡ column_first p.now layer y (k / 8) }
+{
+    let r = p.registers();
+    let b = r.background(layer);
+    let bits = depth(r.mode, layer);
+    for c in 0..33usize {
+        put_column(
+            p, tiles, b, bits, layer, y, odd, c, low, high, values, bases, firsts,
+        );
+    }
+}
+
+/// The byte of a value in the plane of ranks.
+#[inline(always)]
+fn rank(value: u8, base: u8) -> u8
+    ensures { result ≡ (if value == 0 then 0 else base) }
+{
+    if value == 0 { 0 } else { base }
+}
+
+/// The two planes from a painted row, from one of its first eight pixels on.
+#[inline(always)]
+fn ink(
+    values: &[u8; 264],
+    bases: &[u8; 264],
+    firsts: &[u8; 264],
+    from: usize,
+    ranks: &mut [u8; 256],
+    numbers: &mut [u8; 256],
+)
+    requires { from < 8 }
+    ensures ranks { (x : ℕ) → x < 256 → slice_index ranks.new x ≡ (if slice_index values.now (x + from) == 0 then 0 else slice_index bases.now (x + from)) }
+    ensures numbers { (x : ℕ) → x < 256 → slice_index numbers.new x ≡ (slice_index firsts.now (x + from) + slice_index values.now (x + from)) % 256 }
+{
+    for x in 0..256usize {
+        let value = values[x + from];
+        ranks[x] = rank(value, bases[x + from]);
+        numbers[x] = firsts[x + from].wrapping_add(value);
+    }
+}
+
+/// The place in a block of the dot after one.
+#[inline(always)]
+#[tactic(auto, using(crate::proofs::Blocks::mod_next))]
+fn next_place(place: usize, size: usize) -> usize
+    requires positive { 1 ≤ size }
+    requires small { size ≤ 16 }
+    requires within { place < size }
+    ensures { (x : ℕ) → place ≡ x % size → result ≡ (x + 1) % size }
+{
+    if place + 1 == size { 0 } else { place + 1 }
+}
+
+/// Each byte becomes that of the first dot of its block of `size` dots.
+#[inline(always)]
+fn spread(row: &mut [u8; 256], size: usize)
+    requires positive { 1 ≤ size }
+    requires small { size ≤ 16 }
+    ensures { (x : ℕ) → x < 256 → slice_index row.new x ≡ slice_index row.old (x - x % size) }
+{
+    let mut place = 0;
+    for x in 0..256 {
+        row[x] = row[x - place];
+        place = next_place(place, size);
+    }
+}
+
+/// Each byte becomes that of the first dot of its mosaic block, where the layer has mosaic.
+#[inline(always)]
+#[tactic(auto, unfolding(crate::specs::Backgrounds::block_start))]
+fn take_blocks(r: &Registers, b: &Background, row: &mut [u8; 256])
+    requires { r.now.mosaic < 16 }
+    ensures { (x : ℕ) → x < 256 → slice_index row.new x ≡ slice_index row.old (block_start r.now b.now x) }
+{
+    if b.mosaic {
+        spread(row, r.mosaic as usize + 1);
+    }
+}
+
+/// A row without mosaic, of row `y` of the screen.
+#[inline(always)]
+fn plain_row(
+    p: &Ppu,
+    tiles: &TileCache,
+    layer: u8,
+    y: u16,
+    odd: bool,
+    low: u8,
+    high: u8,
+    ranks: &mut [u8; 256],
+    numbers: &mut [u8; 256],
+)
+    requires first { 1 ≤ layer }
+    requires last { layer ≤ 4 }
+    requires depth { IsDepth (depth_of p.now.registers.mode layer) }
+    requires y { y ≤ 239 }
+    requires low { low ≤ 248 }
+    requires high { high ≤ 248 }
+    requires step { IsInStep tiles.now p.now.vram }
+    ensures ranks { (x : ℕ) → x < 256 → slice_index ranks.new x ≡ (let c = candidate_at p.now layer y x (bit_of odd) in rank_of (base_of low high c) c) }
+    ensures numbers { (x : ℕ) → x < 256 → slice_index numbers.new x ≡ (candidate_at p.now layer y x (bit_of odd)).number }
+{
+    let mut values = [0u8; 264];
+    let mut bases = [0u8; 264];
+    let mut firsts = [0u8; 264];
+    paint(
+        p,
+        tiles,
+        layer,
+        y,
+        odd,
+        low,
+        high,
+        &mut values,
+        &mut bases,
+        &mut firsts,
+    );
+    let from = (p.registers().background(layer).scroll_x % 8) as usize;
+    ink(&values, &bases, &firsts, from, ranks, numbers);
+}
+
+/// A row of a layer in two byte planes: `ranks` has 0 where the layer has nothing, else `low` or `high` by the
+/// dot's priority, plus the palette of a direct colour; `numbers` has the number of the colour. Dot x is
+/// dot 2x of the row, or 2x + 1 where `odd`.
+pub fn ink_row(
+    p: &Ppu,
+    tiles: &TileCache,
+    layer: u8,
+    row: u16,
+    odd: bool,
+    low: u8,
+    high: u8,
+    ranks: &mut [u8; 256],
+    numbers: &mut [u8; 256],
+)
+    requires first { 1 ≤ layer }
+    requires last { layer ≤ 4 }
+    requires depth { IsDepth (depth_of p.now.registers.mode layer) }
+    requires row { row < 239 }
+    requires low { low ≤ 248 }
+    requires high { high ≤ 248 }
+    requires step { IsInStep tiles.now p.now.vram }
+    ensures ranks { (x : ℕ) → x < 256 → slice_index ranks.new x ≡ (let c = background_candidate p.now layer row (2 * x + bit_of odd) in rank_of (base_of low high c) c) }
+    ensures numbers { (x : ℕ) → x < 256 → slice_index numbers.new x ≡ (background_candidate p.now layer row (2 * x + bit_of odd)).number }
+{
+    p.in_range();
+    let r = p.registers();
+    let b = r.background(layer);
+    let y = block(r, b, row);
+    plain_row(p, tiles, layer, y, odd, low, high, ranks, numbers);
+    take_blocks(r, b, ranks);
+    take_blocks(r, b, numbers);
+}

@@ -1,0 +1,128 @@
+ghost use Rattle.std.specs.Prelude.{◌≡◌, ◌<◌, ◌≤◌, ◌%◌, ◌/◌, ◌*◌, ◌+◌, ◌==◌};
+ghost use Rattle.ppu_tiles.specs.Backgrounds.{own_scroll, offset_entry, acts_on, across_by, two_offsets, one_offset, column_scroll};
+
+use crate::entries::entry;
+use crate::modes::offsets;
+use ppu_regs::{Background, Ppu};
+
+/// The scrolls of a layer at one place, ten bits each.
+#[derive(Clone, Copy)]
+pub struct Scroll {
+    pub across: u16,
+    pub down: u16,
+}
+
+/// The scrolls of a layer's registers.
+#[inline(always)]
+#[tactic(auto, unfolding(crate::specs::Backgrounds::own_scroll))]
+pub fn own(b: &Background) -> Scroll
+    ensures scroll { result ≡ own_scroll b.now }
+    ensures across { result.across < 1024 }
+    ensures down { result.down < 1024 }
+{
+    Scroll {
+        across: b.scroll_x % 1024,
+        down: b.scroll_y % 1024,
+    }
+}
+
+/// BG3's entry for a column from 1, or the one so many pixels lower.
+#[inline(always)]
+#[tactic(auto, unfolding(crate::specs::Backgrounds::offset_entry))]
+fn offset(p: &Ppu, c: u16, lower: u16) -> u16
+    requires first { 0 < c }
+    requires last { c ≤ 32 }
+    requires lower { lower ≤ 8 }
+    ensures { result ≡ offset_entry p.now c lower }
+{
+    let b = &p.registers().bg3;
+    entry(
+        p,
+        b,
+        8 * (c - 1) + b.scroll_x / 8 % 128 * 8,
+        b.scroll_y % 1024 + lower,
+    )
+}
+
+/// Whether an entry acts on BG1 or BG2.
+#[inline(always)]
+fn acts(layer: u8, entry: u16) -> bool
+    ensures { result ≡ acts_on layer entry }
+{
+    let bit = if layer == 1 {
+        entry / 8192 % 2
+    } else {
+        entry / 16384 % 2
+    };
+    bit == 1
+}
+
+/// Modes 2 and 6: an entry for across and one for down.
+#[inline(always)]
+#[tactic(auto, unfolding(crate::specs::Backgrounds::two_offsets))]
+fn two(layer: u8, own: Scroll, first: u16, second: u16) -> Scroll
+    requires across { own.across < 1024 }
+    requires down { own.down < 1024 }
+    ensures scroll { result ≡ two_offsets layer own first second }
+    ensures across { result.across < 1024 }
+    ensures down { result.down < 1024 }
+{
+    Scroll {
+        across: if acts(layer, first) {
+            first / 8 % 128 * 8 + own.across % 8
+        } else {
+            own.across
+        },
+        down: if acts(layer, second) {
+            second % 1024
+        } else {
+            own.down
+        },
+    }
+}
+
+/// Mode 4: one entry, whose bit 15 says down.
+#[inline(always)]
+#[tactic(auto, unfolding(crate::specs::Backgrounds::one_offset))]
+fn one(layer: u8, own: Scroll, entry: u16) -> Scroll
+    requires across { own.across < 1024 }
+    requires down { own.down < 1024 }
+    ensures scroll { result ≡ one_offset layer own entry }
+    ensures across { result.across < 1024 }
+    ensures down { result.down < 1024 }
+{
+    if !acts(layer, entry) {
+        return own;
+    }
+    if entry / 32768 == 1 {
+        Scroll {
+            across: own.across,
+            down: entry % 1024,
+        }
+    } else {
+        Scroll {
+            across: entry / 8 % 128 * 8 + own.across % 8,
+            down: own.down,
+        }
+    }
+}
+
+/// The scrolls of a layer in a column of tiles.
+#[inline(always)]
+#[tactic(auto, unfolding(crate::specs::Backgrounds::column_scroll))]
+pub fn in_column(p: &Ppu, layer: u8, c: u16) -> Scroll
+    requires { c ≤ 32 }
+    ensures scroll { result ≡ column_scroll p.now layer c }
+    ensures across { result.across < 1024 }
+    ensures down { result.down < 1024 }
+{
+    let r = p.registers();
+    let own = own(r.background(layer));
+    if !offsets(r.mode) || c == 0 {
+        own
+    } else if r.mode == 4 {
+        one(layer, own, offset(p, c, 0))
+    } else {
+        two(layer, own, offset(p, c, 0), offset(p, c, 8))
+    }
+}

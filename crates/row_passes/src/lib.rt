@@ -1,0 +1,14 @@
+//! Passes over the 256 pixels of a picture row: what stands in front, colours, brightness, dots.
+//!
+//! A row is a fixed array, and each pass is one loop over such arrays that the compiler makes vector code
+//! of. What a pass does at a pixel is a function of the numbers at that pixel, defined in `specs/`
+//! (`Inks`, `Colours`), and each pass promises it for every pixel. A pixel of a screen is an
+//! ink of two bytes: its key (rank, whether arithmetic is named, palette bits of a direct colour) and its
+//! number (in CGRAM). The crate stands on std alone, and knows neither layers nor registers.
+#![tactic(auto)]
+
+mod colours;
+mod inks;
+
+pub use colours::{join_colours, look_up, write_dots};
+pub use inks::{choose, fill_row, is_found_key, lay};

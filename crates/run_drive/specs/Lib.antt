@@ -1,0 +1,3 @@
+pub mod OutputLaws
+pub mod Outputs
+pub mod Run

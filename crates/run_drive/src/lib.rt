@@ -1,0 +1,20 @@
+// Runs of two machines from their start to an end stamp, and the bytes that they emit on the way.
+//
+// Stands on the serial console and on the shelf of files, and knows neither a console nor a sound
+// side: the loops are generic over two machines, and over a `Sink` that takes what they emit. Any
+// shelf is one, under the names of its outputs for video and sound. At Ok it took, byte for byte, the
+// output of the serial run of the two machines, whichever loop ran them; otherwise the first bytes of
+// it.
+//
+// A caller makes both machines and the buffer, and has created the outputs. `docs/RUNS.md` has the
+// rules.
+#![tactic(auto)]
+
+mod pour;
+mod serial_run;
+mod shelf_sink;
+mod sink;
+
+pub use serial_run::run_serial;
+pub use shelf_sink::out_of;
+pub use sink::Sink;

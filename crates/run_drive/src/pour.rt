@@ -1,0 +1,34 @@
+ghost use Rattle.std.specs.Prelude.{◌≡◌, ◌≢◌, ◌≤◌, ℕ, List, [], length, OnOk, OnErr};
+ghost use Rattle.snes_defs.specs.declared.ports.Side.{Side};
+ghost use Rattle.run_drive.specs.Run.{Adds, AddsSome};
+
+use crate::sink::Sink;
+use file_shelf::Failed;
+use side_law::Machine;
+use snes_defs::Side;
+
+/// Moves the bytes that wait in a machine to the sink, all at once. Where none waits nothing is taken.
+#[inline(always)]
+pub(crate) fn pour<M: Machine, K: Sink>(
+    machine: &mut M,
+    side: Side,
+    buffer: &mut [u8],
+    sink: &mut K,
+) -> Result<(), Failed>
+    requires { length (M.waiting machine.old) ≤ length buffer.old }
+    ensures state { (m : M.State) → M.stands machine.old m → M.stands machine.new m }
+    ensures stamp { M.stamp_of machine.new ≡ M.stamp_of machine.old }
+    ensures region { M.region_of machine.new ≡ M.region_of machine.old }
+    ensures empty { M.waiting machine.new ≡ [] }
+    ensures whole { OnOk result (Adds (K.holds sink.old side) (K.holds sink.new side) (M.waiting machine.old)) }
+    ensures some { OnErr result (AddsSome (K.holds sink.old side) (K.holds sink.new side) (M.waiting machine.old)) }
+    ensures other { (other : Side) (had : List ℕ) → other ≢ side → K.holds sink.old other had → K.holds sink.new other had }
+    ensures failed { OnErr result (K.failed sink.old sink.new side) }
+    ensures only { K.only_takes sink.old sink.new }
+{
+    if machine.pending() == 0 {
+        return Ok(());
+    }
+    let count = machine.drain(buffer);
+    sink.take(side, &buffer[..count])
+}

@@ -1,0 +1,47 @@
+ghost use Rattle.std.specs.Prelude.{◌≡◌, ◌^◌, ◌≤◌, [], length, OnOk, IfErr};
+ghost use Rattle.run_drive.specs.Run.{TookRun, TookFirst};
+
+use crate::pour::pour;
+use crate::sink::Sink;
+use serial_console::Serial;
+use side_law::Machine;
+use snes_defs::Side;
+
+/// Runs two machines of one region as the serial console does, each turn a step of the earlier one,
+/// until both stamps are at least `end`, and hands the sink what they emit: after each turn that
+/// emits, the bytes of that turn. Err names the side of which the sink failed to take some.
+pub fn run_serial<C: Machine + Drop, S: Machine + Drop, K: Sink>(
+    console: C,
+    sound: S,
+    end: u64,
+    buffer: &mut [u8],
+    sink: &mut K,
+) -> Result<(), Side>
+    requires region { C.region_of console ≡ S.region_of sound }
+    requires early { end ≤ 2 ^ 62 }
+    requires console_room { C.MOST ≤ C.CAP }
+    requires sound_room { S.MOST ≤ S.CAP }
+    requires console_fits { C.MOST ≤ length buffer.old }
+    requires sound_fits { S.MOST ≤ length buffer.old }
+    requires console_empty { C.waiting console ≡ [] }
+    requires sound_empty { S.waiting sound ≡ [] }
+    requires no_video { K.holds sink.old Side.Console [] }
+    requires no_sound { K.holds sink.old Side.Sound [] }
+    ensures whole { OnOk result ((c : C.State) (s : S.State) → C.stands console c → S.stands sound s → TookRun C.moves S.moves c s end (K.holds sink.new)) }
+    ensures first { (c : C.State) (s : S.State) → C.stands console c → S.stands sound s → TookFirst C.moves S.moves c s end (K.holds sink.new) }
+    ensures failed { IfErr result (K.failed sink.old sink.new) }
+    ensures only { K.only_takes sink.old sink.new }
+{
+    let mut serial = Serial::new(console, sound);
+    while !serial.finished(end) {
+        serial.console_turns(end);
+        let Ok(()) = pour(serial.console(), Side::Console, buffer, sink) else {
+            return Err(Side::Console);
+        };
+        serial.sound_turns(end);
+        let Ok(()) = pour(serial.sound(), Side::Sound, buffer, sink) else {
+            return Err(Side::Sound);
+        };
+    }
+    Ok(())
+}

@@ -1,0 +1,10 @@
+//! Laws above the definitions of the S-DSP, each a call of `sdsp_voice` or `sdsp_echo` with the law as
+//! its contract: a muted unit is silent; a filter without taps adds nothing; a voice that is started
+//! forgets what it sounded before; an envelope stays in its eleven bits.
+#![tactic(auto)]
+
+mod echo;
+mod voice;
+
+pub use echo::{mix_muted, mix_without_taps};
+pub use voice::{start_both, step_within};

@@ -1,0 +1,25 @@
+//! The voices of the S-DSP: registers, BRR, envelopes, noise, interpolation, and what a sample adds up to.
+//!
+//! The crate stands on `snes_defs` for the interpolation table. `Voices` keeps the 128 registers and
+//! the eight voices: `read` and `write` are exact by `specs/Registers.antt`, and `sample` makes one
+//! sample, exact by `specs/Sample.antt`: keys, then noise, then for each voice from 0 its output, its
+//! envelope and its position. BRR blocks are read from the 64 KiB of RAM that the caller hands in. A
+//! rate has an event at each sample whose number its period divides, counted from sample 0 of the
+//! machine, and not from a key on. No call takes memory. `sdsp_echo` makes the numbers that are heard
+//! from the sums.
+#![tactic(auto)]
+
+pub mod brr;
+pub mod envelope;
+pub mod interpolation;
+pub mod keys;
+pub mod noise;
+pub mod output;
+pub mod setting;
+pub mod signed;
+pub mod sums;
+pub mod voice;
+pub mod voices;
+
+pub use sums::Sums;
+pub use voices::Voices;

@@ -1,0 +1,34 @@
+/// Where a voice's envelope stands.
+#[derive(Clone, Copy, Debug, PartialEq, Eq)]
+pub enum Phase {
+    Attack,
+    Decay,
+    Sustain,
+    /// After key off, and before a voice is started for the first time.
+    Release,
+}
+
+/// One of the eight voices.
+#[derive(Clone, Copy, Debug, PartialEq, Eq)]
+pub struct Voice {
+    pub phase: Phase,
+    /// The envelope, 0 to 7FF.
+    pub envelope: u16,
+    /// How far the voice is between its samples, in parts of 1000 (hexadecimal) to a sample.
+    pub position: u16,
+    /// The last four decoded samples, signed 15 bits each.
+    pub oldest: i16,
+    pub older: i16,
+    pub newer: i16,
+    pub newest: i16,
+    /// Where the BRR block lies that is being decoded.
+    pub address: u16,
+    /// The next sample of the block, 0 to 15.
+    pub place: u8,
+    /// The voice's bit of ENDX.
+    pub ended: bool,
+    /// ENVX, the envelope as the last sample used it.
+    pub envx: u8,
+    /// OUTX, the high byte of the last sample's output.
+    pub outx: u8,
+}

@@ -1,0 +1,401 @@
+ghost use Rattle.std.specs.Prelude.{◌≡◌, ◌<◌, ◌≤◌, ◌^◌, IsTrue, length, slice_set, unsigned_abs};
+ghost use Rattle.sdsp_voice.specs.Registers.{all_unended, at_power_on, at_reset, bit, ended_bit, ended_bits, kept, read, setting, unended, voice, written};
+ghost use Rattle.sdsp_voice.specs.Keys.{after_keys, key_taken, keyed, keyed_below};
+ghost use Rattle.sdsp_voice.specs.Noise.{after_noise};
+ghost use Rattle.sdsp_voice.specs.Sample.{IsResting, after_sample, pass, sums_of, turn};
+
+use crate::envelope::due;
+use crate::keys::{key_off, mute, start};
+use crate::noise::next_noise;
+use crate::output::{go_on, mix, out_of};
+use crate::setting::Setting;
+use crate::sums::Sums;
+use crate::voice::{Phase, Voice};
+use snes_defs::Table;
+
+/// 6C FLG: bit 7 silences all voices, bit 6 mutes the output, bit 5 stops echo writes, bits 4-0 are
+/// the noise's rate.
+const FLG: usize = 0x6C;
+
+/// 4C KON: each set bit starts a voice.
+const KON: u8 = 0x4C;
+
+/// 5C KOFF: each set bit releases a voice.
+const KOFF: usize = 0x5C;
+
+/// 2D PMON: each set bit has a voice's pitch moved by the voice before.
+const PMON: usize = 0x2D;
+
+/// 3D NON: each set bit has a voice sound noise.
+const NON: usize = 0x3D;
+
+/// 4D EON: each set bit has a voice go into the echo.
+const EON: usize = 0x4D;
+
+/// 5D DIR: the page of the directory of sources.
+const DIR: usize = 0x5D;
+
+/// 7C ENDX: each set bit tells that a voice came to the end of a block with the end bit.
+const ENDX: u8 = 0x7C;
+
+/// A voice that was never started.
+const RESTING: Voice = Voice {
+    phase: Phase::Release,
+    envelope: 0,
+    position: 0,
+    oldest: 0,
+    older: 0,
+    newer: 0,
+    newest: 0,
+    address: 0,
+    place: 0,
+    ended: false,
+    envx: 0,
+    outx: 0,
+};
+
+/// The eight voices with their registers and the noise generator.
+#[derive(Clone, Copy, Debug, PartialEq, Eq)]
+pub struct Voices {
+    /// The bytes of 00 to 7F, as written. ENVX, OUTX and ENDX are kept in the voices.
+    registers: [u8; 128],
+    voices: [Voice; 8],
+    /// The noise generator, 15 bits.
+    noise: u16,
+    /// The bits of all bytes that were written to KON since the last sample.
+    notes: u8,
+}
+
+/// Bit `k` of a byte.
+#[inline(always)]
+fn is_on(byte: u8, k: usize) -> bool
+    requires { k < 8 }
+    ensures { result ≡ bit byte k }
+{
+    (byte >> k) % 2 == 1
+}
+
+impl Voices {
+    /// The voices after power on.
+    #[tactic(auto, unfolding(crate::specs::Registers::at_power_on))]
+    pub fn new() -> Voices
+        ensures { result ≡ at_power_on }
+    {
+        let mut registers = [0; 128];
+        registers[FLG] = 0xE0;
+        Voices {
+            registers,
+            voices: [RESTING; 8],
+            noise: 0x4000,
+            notes: 0,
+        }
+    }
+
+    /// Bit `v` of ENDX, by its weight.
+    #[inline(always)]
+    fn ended_weight(&self, v: usize) -> u8
+        requires { v < 8 }
+        ensures value { result ≡ ended_bit self.now v }
+        ensures small { result ≤ 2 ^ v }
+    {
+        if self.voices[v].ended { 1 << v } else { 0 }
+    }
+
+    /// ENDX.
+    fn ended(&self) -> u8
+        ensures { result ≡ ended_bits self.now }
+    {
+        self.ended_weight(0)
+            + self.ended_weight(1)
+            + self.ended_weight(2)
+            + self.ended_weight(3)
+            + self.ended_weight(4)
+            + self.ended_weight(5)
+            + self.ended_weight(6)
+            + self.ended_weight(7)
+    }
+
+    /// What a register shows.
+    #[tactic(auto, unfolding(crate::specs::Registers::read))]
+    #[inline(always)]
+    pub fn read(&self, reg: u8) -> u8
+        requires { reg < 128 }
+        ensures { result ≡ read self.now reg }
+    {
+        if reg == ENDX {
+            self.ended()
+        } else if reg % 16 == 8 {
+            self.voices[(reg / 16) as usize].envx
+        } else if reg % 16 == 9 {
+            self.voices[(reg / 16) as usize].outx
+        } else {
+            self.registers[reg as usize]
+        }
+    }
+
+    /// The byte that a register keeps, as it was written last.
+    #[inline(always)]
+    pub fn kept(&self, reg: u8) -> u8
+        requires { reg < 128 }
+        ensures { result ≡ kept self.now reg }
+    {
+        self.registers[reg as usize]
+    }
+
+    /// The reset button: FLG is E0 again, and what was written to KON is forgotten. All else stays.
+    #[tactic(auto, unfolding(crate::specs::Registers::at_reset))]
+    pub fn reset(&mut self)
+        ensures { self.new ≡ at_reset self.old }
+    {
+        self.registers[FLG] = 0xE0;
+        self.notes = 0;
+    }
+
+    /// A voice whose bit of ENDX was cleared.
+    #[inline(always)]
+    fn unended(&self, v: usize) -> Voice
+        requires { v < 8 }
+        ensures { result ≡ unended self.now v }
+    {
+        let mut voice = self.voices[v];
+        voice.ended = false;
+        voice
+    }
+
+    /// ENDX is cleared.
+    fn clear_ended(&mut self)
+        ensures { self.new ≡ record self.old { voices = all_unended self.old } }
+    {
+        self.voices = [
+            self.unended(0),
+            self.unended(1),
+            self.unended(2),
+            self.unended(3),
+            self.unended(4),
+            self.unended(5),
+            self.unended(6),
+            self.unended(7),
+        ];
+    }
+
+    /// A register is written.
+    #[tactic(auto, unfolding(crate::specs::Registers::written))]
+    pub fn write(&mut self, reg: u8, v: u8)
+        requires { reg < 128 }
+        ensures { self.new ≡ written self.old reg v }
+    {
+        if reg == ENDX {
+            self.clear_ended();
+        } else if reg % 16 == 8 {
+            self.voices[(reg / 16) as usize].envx = v;
+        } else if reg % 16 == 9 {
+            self.voices[(reg / 16) as usize].outx = v;
+        } else if reg == KON {
+            self.registers[reg as usize] = v;
+            self.notes = self.notes | v;
+        } else {
+            self.registers[reg as usize] = v;
+        }
+    }
+
+    /// What voice `v` takes from the registers.
+    #[tactic(auto, unfolding(crate::specs::Registers::setting))]
+    #[inline(always)]
+    fn setting(&self, v: usize) -> Setting
+        requires { v < 8 }
+        ensures value { result ≡ setting self.now v }
+        ensures pitch { result.pitch ≤ 0x3FFF }
+    {
+        let base = 16 * v;
+        let source = self.registers[base + 4] as u32;
+        Setting {
+            left: self.registers[base].cast_signed(),
+            right: self.registers[base + 1].cast_signed(),
+            pitch: self.registers[base + 2] as u16 + 256 * (self.registers[base + 3] % 64) as u16,
+            entry: ((256 * self.registers[DIR] as u32 + 4 * source) % 65536) as u16,
+            adsr1: self.registers[base + 5],
+            adsr2: self.registers[base + 6],
+            gain: self.registers[base + 7],
+            modulated: is_on(self.registers[PMON], v) && v != 0,
+            noisy: is_on(self.registers[NON], v),
+            echoed: is_on(self.registers[EON], v),
+        }
+    }
+
+    /// One voice of the keys.
+    #[tactic(auto, unfolding(crate::specs::Keys::keyed))]
+    #[inline(always)]
+    fn keyed(&self, ram: &[u8], v: usize, voice: Voice) -> Voice
+        requires ram { length ram.now ≡ 65536 }
+        requires v { v < 8 }
+        ensures { result ≡ keyed ram.now self.now v voice }
+    {
+        let mut voice = voice;
+        if is_on(self.registers[FLG], 7) {
+            mute(&mut voice);
+        }
+        if is_on(self.registers[KOFF], v) {
+            key_off(&mut voice);
+        } else if is_on(self.notes, v) {
+            start(ram, self.setting(v).entry, &mut voice);
+        }
+        voice
+    }
+
+    /// The keys of voice `v`.
+    #[inline(always)]
+    fn take_key(&mut self, ram: &[u8], v: usize)
+        requires ram { length ram.now ≡ 65536 }
+        requires v { v < 8 }
+        ensures { self.new ≡ record self.old { voices = key_taken ram.now self.old v self.old.voices } }
+    {
+        self.voices[v] = self.keyed(ram, v, self.voices[v]);
+    }
+
+    /// The keys of all voices.
+    #[tactic(auto, using(crate::proofs::Steps::no_key, crate::proofs::Steps::one_more_key, crate::proofs::Steps::key_of_same))]
+    #[inline(always)]
+    fn take_all_keys(&mut self, ram: &[u8])
+        requires { length ram.now ≡ 65536 }
+        ensures { self.new ≡ record self.old { voices = keyed_below ram.now self.old 8 } }
+    {
+        'keys: for v in 0..8 {
+            self.take_key(ram, v);
+        }
+    }
+
+    /// The keys, which a sample looks at first.
+    #[tactic(auto, using(crate::proofs::Quiet::keys_idle), unfolding(crate::specs::Keys::after_keys))]
+    #[inline(always)]
+    fn take_keys(&mut self, ram: &[u8])
+        requires { length ram.now ≡ 65536 }
+        ensures { self.new ≡ after_keys ram.now self.old }
+    {
+        if is_on(self.registers[FLG], 7) || self.registers[KOFF] != 0 || self.notes != 0 {
+            self.take_all_keys(ram);
+            self.notes = 0;
+        }
+    }
+
+    /// The noise generator.
+    #[tactic(auto, unfolding(crate::specs::Noise::after_noise))]
+    #[inline(always)]
+    fn step_noise(&mut self, s: u64)
+        ensures { self.new ≡ after_noise s self.old }
+    {
+        if due(self.registers[FLG] % 32, s) {
+            self.noise = next_noise(self.noise);
+        }
+    }
+
+    /// The pitch of voice `v`.
+    #[tactic(auto, unfolding(crate::specs::Registers::setting))]
+    #[inline(always)]
+    fn pitch(&self, v: usize) -> u16
+        requires { v < 8 }
+        ensures { result ≡ (setting self.now v).pitch }
+    {
+        self.registers[16 * v + 2] as u16 + 256 * (self.registers[16 * v + 3] % 64) as u16
+    }
+
+    /// Whether voice `v` is silent and stays where it is.
+    #[inline(always)]
+    fn is_resting(&self, v: usize) -> bool
+        requires { v < 8 }
+        ensures { IsTrue result → IsResting self.now v }
+    {
+        let voice = &self.voices[v];
+        voice.envelope == 0
+            && voice.phase == Phase::Release
+            && voice.position < 4096
+            && self.pitch(v) == 0
+    }
+
+    /// A voice at rest shows zeros.
+    #[inline(always)]
+    fn rest(&mut self, v: usize)
+        requires { v < 8 }
+        ensures { self.new ≡ record self.old { voices = slice_set self.old.voices v (record (voice self.old v) { envx = 0; outx = 0 }) } }
+    {
+        let voice = &mut self.voices[v];
+        voice.envx = 0;
+        voice.outx = 0;
+    }
+
+    /// The same of any voice, whatever it does.
+    #[tactic(auto, unfolding(crate::specs::Sample::turn))]
+    #[inline(always)]
+    fn full_turn(
+        &mut self,
+        ram: &[u8],
+        table: &Table,
+        s: u64,
+        v: usize,
+        sums: Sums,
+        before: i32,
+    ) -> (Sums, i32)
+        requires ram { length ram.now ≡ 65536 }
+        requires v { v < 8 }
+        requires before { unsigned_abs before ≤ 2 ^ 20 }
+        ensures voices { self.new ≡ record self.old { voices = (turn ram.now table.now s self.old v (pass self.old sums before)).voices } }
+        ensures sums { result.0 ≡ (turn ram.now table.now s self.old v (pass self.old sums before)).sums }
+        ensures before { result.1 ≡ (turn ram.now table.now s self.old v (pass self.old sums before)).before }
+        ensures small { unsigned_abs result.1 ≤ 2 ^ 20 }
+    {
+        let setting = self.setting(v);
+        let out = out_of(table, self.noise, &setting, &self.voices[v]);
+        let sums = mix(sums, out, &setting);
+        go_on(ram, &setting, s, before, out, &mut self.voices[v]);
+        (sums, out)
+    }
+
+    /// The turn of voice `v` in a sample: its output goes into the sums, and it goes on.
+    #[tactic(auto, using(crate::proofs::Quiet::turn_at_rest))]
+    #[inline(always)]
+    fn turn(
+        &mut self,
+        ram: &[u8],
+        table: &Table,
+        s: u64,
+        v: usize,
+        sums: Sums,
+        before: i32,
+    ) -> (Sums, i32)
+        requires ram { length ram.now ≡ 65536 }
+        requires v { v < 8 }
+        requires before { unsigned_abs before ≤ 2 ^ 20 }
+        ensures voices { self.new ≡ record self.old { voices = (turn ram.now table.now s self.old v (pass self.old sums before)).voices } }
+        ensures sums { result.0 ≡ (turn ram.now table.now s self.old v (pass self.old sums before)).sums }
+        ensures before { result.1 ≡ (turn ram.now table.now s self.old v (pass self.old sums before)).before }
+        ensures small { unsigned_abs result.1 ≤ 2 ^ 20 }
+    {
+        if self.is_resting(v) {
+            self.rest(v);
+            (sums, 0)
+        } else {
+            self.full_turn(ram, table, s, v, sums, before)
+        }
+    }
+
+    /// Sample `s`: keys, noise, and then each voice's output, envelope and position.
+    #[tactic(auto, using(crate::proofs::Steps::no_turn, crate::proofs::Steps::one_more_turn, crate::proofs::Steps::turn_of_same), unfolding(crate::specs::Sample::after_sample, crate::specs::Sample::sums_of, crate::specs::Sample::prepared))]
+    pub fn sample(&mut self, ram: &[u8], table: &Table, s: u64) -> Sums
+        requires { length ram.now ≡ 65536 }
+        ensures after { self.new ≡ after_sample ram.now table.now s self.old }
+        ensures sums { result ≡ sums_of ram.now table.now s self.old }
+    {
+        self.take_keys(ram);
+        self.step_noise(s);
+        let mut sums = Sums {
+            left: 0,
+            right: 0,
+            echo_left: 0,
+            echo_right: 0,
+        };
+        let mut before = 0;
+        'voices: for v in 0..8 {
+            (sums, before) = self.turn(ram, table, s, v, sums, before);
+        }
+        sums
+    }
+}

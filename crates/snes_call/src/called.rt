@@ -1,0 +1,41 @@
+ghost use Rattle.std.specs.Prelude.{◌≡◌, ◌⊎◌, false, IfOk, IfErr, IfSome, IsErrOf};
+ghost use Rattle.file_shelf.specs.declared.shelves.Out.{Out};
+ghost use Rattle.file_shelf.specs.Shown.{IsPassedOver, IsKept};
+ghost use Rattle.snes_call.specs.Commands.{HasFewFrames, creates};
+ghost use Rattle.snes_call.specs.RunFiles.{OnlySays};
+ghost use Rattle.snes_call.specs.Status.{refusal_of};
+ghost use Rattle.snes_call.specs.Said.{IsSaid};
+ghost use Rattle.snes_call.specs.Call.{EndsCall};
+
+use crate::commands::follow;
+use crate::player::Player;
+use crate::say::{refuse, say};
+use crate::status::Status;
+use file_shelf::Shelf;
+use run_io::{Command, WordsEnd};
+use std::alloc::Global;
+
+/// Does what words that were read ask for, and says how it ended.
+pub(crate) fn called<P: Player, H: Shelf>(
+    alloc: Global,
+    read: Result<Command, WordsEnd>,
+    shelf: &mut H,
+) -> Status
+    requires { IfOk read HasFewFrames }
+    ensures ends { IfOk read (λ command. EndsCall P.emits command (H.shown shelf.old) (H.shown shelf.new) result) }
+    ensures usage { IsErrOf read WordsEnd.Usage → result ≡ Status.Usage }
+    ensures no_memory { IsErrOf read WordsEnd.NoMemory → result ≡ Status.NoMemory }
+    ensures unread { IfErr read (λ end. OnlySays (H.shown shelf.old) (H.shown shelf.new)) }
+    ensures said { IfSome (refusal_of result) (IsSaid (H.shown shelf.old) (H.shown shelf.new)) }
+    ensures others { IfOk read (λ command. (out : Out) → creates command out ≡ false → (out ≡ Out.Say) ⊎ IsPassedOver (H.shown shelf.old) (H.shown shelf.new) out) }
+    ensures kept { IsKept (H.shown shelf.old) (H.shown shelf.new) }
+{
+    match read {
+        Ok(command) => {
+            let outcome = follow::<P, H>(alloc, &command, shelf);
+            say(shelf, outcome)
+        }
+        Err(WordsEnd::Usage) => refuse(shelf, Status::Usage),
+        Err(WordsEnd::NoMemory) => refuse(shelf, Status::NoMemory),
+    }
+}

@@ -1,0 +1,35 @@
+ghost use Rattle.std.specs.Prelude.{◌≡◌, IfOk, IfErr};
+ghost use Rattle.snes_call.specs.Commands.{HasFewFrames, IsDone, EndsCommand, OnlyCommanded};
+
+use crate::demo::play_demo;
+use crate::make_image::make_image;
+use crate::player::Player;
+use crate::run_files::{CommandEnd, run_files};
+use crate::writing::Way;
+use file_shelf::Shelf;
+use run_io::{Command, Line};
+use snes_defs::NoMemory;
+use std::alloc::Global;
+
+/// Does what a command asks for, and gives the line to say.
+#[tactic(auto, using(crate::proofs::Changing::changing))]
+pub(crate) fn follow<P: Player, H: Shelf>(
+    alloc: Global,
+    command: &Command,
+    shelf: &mut H,
+) -> Result<Line, CommandEnd>
+    requires { HasFewFrames command.now }
+    ensures done { IfOk result (IsDone P.emits command.now (H.shown shelf.old) (H.shown shelf.new)) }
+    ensures ends { IfErr result (EndsCommand P.emits command.now (H.shown shelf.old) (H.shown shelf.new)) }
+    ensures only { OnlyCommanded command.now (H.shown shelf.old) (H.shown shelf.new) }
+{
+    match command {
+        Command::Run(files) => run_files::<P, H>(alloc, files, Way::Turns, shelf),
+        Command::Serial(files) => run_files::<P, H>(alloc, files, Way::Serial, shelf),
+        Command::Make { number, out } => make_image(alloc, *number, out, shelf),
+        Command::Demo { number, frames } => match play_demo::<P>(alloc, *number, *frames) {
+            Ok(line) => Ok(line),
+            Err(NoMemory) => Err(CommandEnd::NoMemory),
+        },
+    }
+}

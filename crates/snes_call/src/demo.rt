@@ -1,0 +1,56 @@
+ghost use Rattle.std.specs.Prelude.{◌≡◌, ◌≤◌, IfOk, IfErr};
+ghost use Rattle.snes_call.specs.Made.{IsDemoJob, IsDemo};
+
+use crate::player::Player;
+use crate::sums::Sums;
+use clock_ratio::{end_stamp, samples_before};
+use demo_files::{demo_boot_rom, demo_table, image};
+use run_io::{Line, demo_line};
+use snes_defs::{Bytes, Cart, Job, MapKind, NoMemory, Region, Spans};
+use std::alloc::Global;
+
+/// The job of a demo.
+fn demo_job(alloc: Global, number: u32, frames: u32) -> Result<Job, NoMemory>
+    ensures { IfOk result (IsDemoJob number frames) }
+{
+    let Ok(rom) = image(alloc, number) else {
+        return Err(NoMemory);
+    };
+    Ok(Job {
+        cart: Cart {
+            map: MapKind::LoRom,
+            rom: Bytes::of(rom),
+            ram: 0,
+        },
+        boot: demo_boot_rom(),
+        table: demo_table(),
+        script: Spans::of(alloc, Vec::new(alloc)),
+        frames,
+        region: Region::Ntsc,
+    })
+}
+
+/// Plays the job of a demo in memory, and gives the line to say. It touches no shelf.
+pub(crate) fn play_demo<P: Player>(
+    alloc: Global,
+    number: u32,
+    frames: u32,
+) -> Result<Line, NoMemory>
+    requires { frames ≤ 36000 }
+    ensures { IfOk result (IsDemo P.emits number frames) }
+{
+    let Ok(job) = demo_job(alloc, number, frames) else {
+        return Err(NoMemory);
+    };
+    let Ok(player) = P::ready(alloc, &job) else {
+        return Err(NoMemory);
+    };
+    let mut sums = Sums::new();
+    match player.play_turns(&mut sums) {
+        Ok(()) => {
+            let samples = samples_before(end_stamp(frames));
+            Ok(demo_line(frames, samples, sums.video, sums.audio))
+        }
+        Err(_) => unreachable!(),
+    }
+}

@@ -1,0 +1,12 @@
+-- What an order to run changes of a shelf.
+use Rattle.std.specs.Prelude.{◌≡◌, ◌≢◌, ℕ, ◌≤◌, List}
+use Rattle.file_shelf.specs.declared.shelves.Out.{Out}
+use Rattle.file_shelf.specs.declared.shelves.Out.TheVariants.{Video, Sound}
+use Rattle.file_shelf.specs.Shown.{Shown, IsPassedOver}
+
+-- a call that loads and then writes a run: of the outputs it changes video and sound alone
+pub record OnlyRunsOrLoads (before after : Shown) : Type 0 where
+  pub held : after.held ≡ before.held
+  pub load_faults : (name : List ℕ) → before.load_faults name ≤ after.load_faults name
+  pub write_faults : (any : Out) → before.write_faults any ≤ after.write_faults any
+  pub others : (other : Out) → other ≢ Video → other ≢ Sound → IsPassedOver before after other

@@ -1,0 +1,177 @@
+//! The sound unit at work, to measure the time of a sample and of a cycle.
+//!
+//! The arguments are what to run and how often: `play` makes samples with eight voices and echo on,
+//! `rest` with none, and `cycles` steps of the whole sound machine over a loop that reads a timer and
+//! writes a port. Without arguments nothing is done. What it prints is a sum over what came out, so
+//! that two builds can be compared.
+#![tactic(auto)]
+
+ghost use Rattle.std.specs.Prelude.{◌≡◌, length};
+
+use audio_side::AudioSide;
+use sdsp_echo::Echo;
+use sdsp_voice::Voices;
+use side_law::Machine;
+use snes_defs::{Act, Bytes, Cart, Job, MapKind, Region, Spans, Table};
+use std::alloc::Global;
+use std::{env, io};
+
+/// Registers of the eight voices: volumes, pitch, source, envelope. The pitch and the sustain rate
+/// differ from voice to voice.
+fn set_voices(voices: &mut Voices) {
+    for k in 0..8u8 {
+        voices.write(16 * k, 0x30);
+        voices.write(16 * k + 1, 0x38);
+        voices.write(16 * k + 2, 0x37 + 9 * k);
+        voices.write(16 * k + 3, 0x0B + k);
+        voices.write(16 * k + 4, k);
+        voices.write(16 * k + 5, 0x8F);
+        voices.write(16 * k + 6, 0x70 + k);
+        voices.write(16 * k + 7, 0x7F);
+        voices.write(16 * k + 15, 0x10 + k);
+    }
+}
+
+/// Registers that the voices share, with the echo on.
+fn set_mix(voices: &mut Voices) {
+    for (reg, byte) in [
+        (0x0C, 0x7F),
+        (0x1C, 0x7F),
+        (0x2C, 0x40),
+        (0x3C, 0x40),
+        (0x4D, 0xFF),
+        (0x5D, 0x70),
+        (0x6D, 0x80),
+        (0x7D, 4),
+        (0x0D, 0x30),
+        (0x6C, 0x0C),
+    ] {
+        if reg < 128 {
+            voices.write(reg, byte);
+        }
+    }
+}
+
+/// A RAM of noise, with a directory at 7000 whose eight sources begin at 2000.
+fn fill(ram: &mut [u8])
+    requires { length ram.old ≡ 65536 }
+{
+    let mut x = 0x12345u32;
+    'bytes: for i in 0..65536 {
+        x = x.wrapping_mul(1664525).wrapping_add(1013904223);
+        ram[i] = (x >> 24) as u8;
+    }
+    'sources: for k in 0..64 {
+        let place = 9 * (k % 8);
+        ram[0x7000 + 2 * k] = place as u8;
+        ram[0x7001 + 2 * k] = 0x20;
+        ram[0x2000 + place] = if k % 8 == 7 { 0x93 } else { 0x90 };
+    }
+}
+
+/// So many samples.
+fn samples(ram: &mut [u8], playing: bool, count: u64) -> u64 {
+    if ram.len() != 65536 {
+        return 0;
+    }
+    let mut voices = Voices::new();
+    let mut echo = Echo::new();
+    let table = Table::of([1024; 512]);
+    if playing {
+        fill(ram);
+        set_voices(&mut voices);
+        set_mix(&mut voices);
+    }
+    let mut sum = 0u64;
+    'samples: for s in 0..count {
+        if playing && s % 16384 == 0 {
+            voices.write(0x4C, 0xFF);
+        }
+        let sums = voices.sample(ram, &table, s);
+        let (left, right) = echo.mix(&voices, sums, ram);
+        let pair = left.cast_unsigned() as u64 * 65536 + right.cast_unsigned() as u64;
+        sum = sum.wrapping_mul(31).wrapping_add(pair);
+    }
+    sum
+}
+
+/// MOV FA,#01; MOV F1,#81; loop: MOV A,FD; MOV F4,A; INC 10; MOV A,F4; ADC A,10; MOV 12,A; BRA loop.
+const LOOP: [u8; 20] = [
+    0x8F, 0x01, 0xFA, 0x8F, 0x81, 0xF1, 0xE4, 0xFD, 0xC4, 0xF4, 0xAB, 0x10, 0xE4, 0xF4, 0x84, 0x10,
+    0xC4, 0x12, 0x2F, 0xF2,
+];
+
+/// A job with that loop as boot ROM.
+fn job(alloc: Global) -> io::Result<Job> {
+    let mut boot = [0u8; 64];
+    for (i, byte) in LOOP.iter().enumerate() {
+        boot[i] = *byte;
+    }
+    boot[62] = 0xC0;
+    boot[63] = 0xFF;
+    Ok(Job {
+        cart: Cart {
+            map: MapKind::LoRom,
+            rom: Bytes::of(vec![in alloc; 0u8]?),
+            ram: 0,
+        },
+        boot,
+        table: Table::of([0; 512]),
+        script: Spans::of(alloc, Vec::new(alloc)),
+        frames: 1,
+        region: Region::Ntsc,
+    })
+}
+
+/// So many cycles.
+fn cycles(alloc: Global, job: &Job, count: u64) -> u64 {
+    let Ok(mut side) = AudioSide::new(alloc, job) else {
+        return 0;
+    };
+    let mut bytes = [0u8; 4096];
+    let mut sum = 0u64;
+    for _ in 0..count {
+        let got = match side.act() {
+            Act::Read(port) => port,
+            Act::Write(_, byte) => {
+                sum = sum.wrapping_mul(31).wrapping_add(byte as u64);
+                0
+            }
+            Act::Quiet => 0,
+            Act::Clear(_) => 0,
+        };
+        if !side.ready() {
+            let _count = side.drain(&mut bytes);
+        }
+        if !side.ready() || side.stamp() > 1 << 62 {
+            return sum;
+        }
+        side.step(got);
+    }
+    sum
+}
+
+/// So many zeros.
+fn zeros(alloc: Global, size: usize) -> io::Result<Vec<u8>> {
+    Ok(vec![in alloc; 0u8; size]?)
+}
+
+fn main(rt: HostRuntime) -> io::Result<()> {
+    let alloc = rt.alloc();
+    let mut words = env::args(&rt)?.skip(1);
+    let Some(what) = words.next() else {
+        return Ok(());
+    };
+    let Some(count) = words.next() else {
+        return Ok(());
+    };
+    let count = count.as_str().parse::<u64>().unwrap_or(0);
+    let sum = if what.as_str() == "cycles" {
+        let job = job(alloc)?;
+        cycles(alloc, &job, count)
+    } else {
+        let mut ram = zeros(alloc, 65536)?;
+        samples(ram.as_mut_slice(), what.as_str() == "play", count)
+    };
+    println!(rt; "{sum}")
+}

@@ -1,0 +1,182 @@
+ghost use Rattle.std.specs.Prelude.{◌≡◌, ◌≤◌, All, length};
+
+use crate::generator::Generator;
+use crate::number::{byte, byte_in, decimal, hexadecimal};
+use sdsp_echo::Echo;
+use sdsp_voice::Voices;
+use snes_defs::Table;
+use std::str::SplitWhitespace;
+
+/// The voices and the echo with a table, and the number of the next sample.
+#[derive(Drop)]
+pub struct Unit {
+    voices: Voices,
+    echo: Echo,
+    table: Table,
+    sample: u64,
+}
+
+/// What a line of a case says.
+#[derive(Clone, Copy, Debug, PartialEq, Eq)]
+pub enum Outcome {
+    /// It was done, or it is what the unit shows.
+    Holds,
+    /// The unit shows something else.
+    Differs,
+}
+
+impl Unit {
+    pub fn new() -> Unit {
+        Unit {
+            voices: Voices::new(),
+            echo: Echo::new(),
+            table: ramp(),
+            sample: 0,
+        }
+    }
+
+    /// One line of a case, but for its first and last. RAM has 64 KiB.
+    pub fn line(&mut self, ram: &mut [u8], line: &str) -> Option<Outcome> {
+        if ram.len() != 65536 {
+            return None;
+        }
+        let mut words = line.split_whitespace();
+        let kind = words.next()?;
+        match kind.as_bytes() {
+            b"ram" => fill(ram, words)?,
+            b"p" => put(ram, words)?,
+            b"table" => self.table = table(words)?,
+            b"start" => self.sample = decimal(words.next()?.as_bytes())?,
+            b"w" => self.write(words)?,
+            b"s" => return self.play(ram, words),
+            b"q" => return self.read(words),
+            b"m" => return same_hash(ram, words),
+            _ => return None,
+        }
+        Some(Outcome::Holds)
+    }
+
+    /// Writes of registers, before a sample.
+    fn write(&mut self, mut words: SplitWhitespace<'_>) -> Option<()> {
+        if decimal(words.next()?.as_bytes())? != self.sample {
+            return None;
+        }
+        for word in words {
+            let reg = byte_in(word.as_bytes(), 0)?;
+            if reg >= 128 {
+                return None;
+            }
+            self.voices.write(reg, byte_in(word.as_bytes(), 2)?);
+        }
+        Some(())
+    }
+
+    /// Samples, compared with those of the line.
+    fn play(&mut self, ram: &mut [u8], mut words: SplitWhitespace<'_>) -> Option<Outcome>
+        requires { length ram.old ≡ 65536 }
+    {
+        let mut left_to_play = decimal(words.next()?.as_bytes())?;
+        let mut outcome = Outcome::Holds;
+        'samples: for word in words {
+            let expected = hexadecimal(word.as_bytes())?;
+            let sums = self.voices.sample(ram, &self.table, self.sample);
+            let (left, right) = self.echo.mix(&self.voices, sums, ram);
+            self.sample = self.sample.checked_add(1)?;
+            left_to_play = left_to_play.checked_sub(1)?;
+            let pair = left.cast_unsigned() as u64 * 65536 + right.cast_unsigned() as u64;
+            if pair != expected {
+                outcome = Outcome::Differs;
+            }
+        }
+        if left_to_play == 0 {
+            Some(outcome)
+        } else {
+            None
+        }
+    }
+
+    /// A register, compared with the line's byte.
+    fn read(&self, mut words: SplitWhitespace<'_>) -> Option<Outcome> {
+        let reg = byte(words.next()?.as_bytes())?;
+        if reg >= 128 {
+            return None;
+        }
+        let expected = byte(words.next()?.as_bytes())?;
+        Some(told(self.voices.read(reg) == expected))
+    }
+}
+
+/// Whether it holds.
+fn told(same: bool) -> Outcome {
+    if same {
+        Outcome::Holds
+    } else {
+        Outcome::Differs
+    }
+}
+
+/// The table of which entry i is 4 i, 2047 at most.
+fn ramp() -> Table {
+    let mut numbers = [0u16; 512];
+    'numbers: for i in 0..512 {
+        numbers[i] = (4 * i as u16).min(2047);
+    }
+    Table::of(numbers)
+}
+
+/// A table of a line: the ramp, or that of a seed.
+fn table(mut words: SplitWhitespace<'_>) -> Option<Table> {
+    let word = words.next()?;
+    if word.as_bytes() == b"ramp".as_slice() {
+        return Some(ramp());
+    }
+    let seed = u32::try_from(hexadecimal(word.as_bytes())?).ok()?;
+    Some(random_table(seed))
+}
+
+/// The table of a seed.
+fn random_table(seed: u32) -> Table {
+    let mut generator = Generator::new(seed);
+    let mut numbers = [0u16; 512];
+    'numbers: for i in 0..512 {
+        numbers[i] = (generator.next() >> 21) as u16;
+    }
+    Table::of(numbers)
+}
+
+/// RAM by a seed.
+fn fill(ram: &mut [u8], mut words: SplitWhitespace<'_>) -> Option<()> {
+    let seed = u32::try_from(hexadecimal(words.next()?.as_bytes())?).ok()?;
+    let ands = decimal(words.next()?.as_bytes())?;
+    let mut generator = Generator::new(seed);
+    for byte in ram {
+        *byte = generator.byte(ands);
+    }
+    Some(())
+}
+
+/// Bytes put into RAM.
+fn put(ram: &mut [u8], mut words: SplitWhitespace<'_>) -> Option<()>
+    requires { length ram.old ≡ 65536 }
+{
+    let address = usize::try_from(hexadecimal(words.next()?.as_bytes())?).ok()?;
+    let digits = words.next()?.as_bytes();
+    'bytes: for i in 0..digits.len() / 2 {
+        let at = address.checked_add(i)?;
+        if at >= 65536 {
+            return None;
+        }
+        ram[at] = byte_in(digits, 2 * i)?;
+    }
+    Some(())
+}
+
+/// Whether RAM has the hash of a line: 64-bit FNV-1a.
+fn same_hash(ram: &[u8], mut words: SplitWhitespace<'_>) -> Option<Outcome> {
+    let expected = hexadecimal(words.next()?.as_bytes())?;
+    let mut hash = 0xCBF2_9CE4_8422_2325u64;
+    for byte in ram {
+        hash = (hash ^ *byte as u64).wrapping_mul(0x100_0000_01B3);
+    }
+    Some(told(hash == expected))
+}
