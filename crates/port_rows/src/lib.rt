@@ -1,8 +1,10 @@
-// The worked cases of the port log, run.
+// The worked cases of the port log and of the passes over it, run.
 //
-// The contracts of `port_log` are proved for every call; what stands here are cases with numbers from
+// The contracts of `port_log` and `port_lock` are proved for every call; what stands here are cases with numbers from
 // outside the code. It has no code of its own.
 #![tactic(auto)]
 
+#[cfg(test)]
+mod lock;
 #[cfg(test)]
 mod log;

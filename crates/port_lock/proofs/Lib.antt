@@ -1,0 +1,6 @@
+pub mod Totals
+pub mod Locking
+pub mod Listing
+pub mod Leaving
+pub mod Calling
+pub mod Passing

@@ -1,0 +1,15 @@
+pub mod Known
+pub mod Codes
+pub mod PortsKnown
+pub mod PortsCode
+pub mod Sums
+pub mod LockRule
+pub mod ListRule
+pub mod KeptBook
+pub mod Events
+pub mod Seating
+pub mod Called
+pub mod Passes
+pub mod PassCode
+pub mod Wholes
+pub mod WholeCode

@@ -1,0 +1,32 @@
+// What lies in the slot of the lock table.
+use crate::views::ListView;
+use atomic_table::Badge;
+use port_log::PortLog;
+use std::marker::Model;
+
+/// The log, and a note: a seat of the list table that knows the book. The log stands for the two lists
+/// of the book. It lies behind a pointer, so that taking it out of the slot moves few bytes.
+#[derive(Drop)]
+pub struct Kept {
+    pub log: Box<PortLog>,
+    pub note: Badge<ListView>,
+}
+
+impl Model for Kept {
+    ghost use Rattle.port_lock.specs.Known.{KeptValue};
+    ghost use Rattle.port_lock.specs.Codes.{kept_code};
+
+    ghost Value = { KeptValue };
+
+    ghost coded = { kept_code };
+
+    ghost use Rattle.port_lock.specs.KeptBook.{book_on, IsNoted};
+
+    ghost view = { λ k. record {
+      book = book_on k.note.views;
+      list = k.note.table_id;
+      region = k.log.value.region;
+    } };
+
+    ghost invariant = { λ k. IsNoted k.log.value k.note.views };
+}

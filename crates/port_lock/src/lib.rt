@@ -1,0 +1,29 @@
+// The lock round the log of the ports, and the passes by which two threads use it.
+//
+// `Ports` has the log under a lock of one word and one slot, over which no call waits: each tries once to
+// take it. A `Whole` stands for both sides in one hand. It is cut into two passes, one for each side,
+// which two threads hold, and the two are made whole again. Stands on the log of the ports, and on tables
+// of atomic words whose steps are proved one by one.
+//
+// Two tables keep two rules, each by itself: the lock table says who has the log, the list table that
+// there is one book of both sides' entries and clocks, and that what a pass knows is so by the book. The
+// log lies in the slot beside a note that knows the book, and stands for its lists.
+//
+// A call over a pass is answered as the log call of its name is, on what the pass was told in this call,
+// or it finds the other side's number in the turn word and changes nothing. `docs/TWO-WORKERS.md` tells it.
+#![tactic(auto)]
+
+mod event;
+mod kept;
+mod late;
+mod pass;
+mod plays;
+mod ports;
+mod seats;
+mod views;
+mod whole;
+
+pub use late::PassLate;
+pub use pass::Pass;
+pub use ports::Ports;
+pub use whole::Whole;
