@@ -7,8 +7,8 @@ ghost use Rattle.snes_run.specs.Outcome.{EndsPlay};
 
 use crate::run::run_out;
 use crate::status::Status;
-use quiet_side::AudioSide;
 use console_side::ConsoleSide;
+use quiet_side::AudioSide;
 use run_io::{Failed, Files, Name, Out, Shelf};
 use snes_defs::Job;
 use std::alloc::Global;

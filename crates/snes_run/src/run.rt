@@ -7,9 +7,9 @@ ghost use Rattle.snes_run.specs.Outcome.{EndsRun};
 
 use crate::status::Status;
 use crate::turns::turn_out;
-use quiet_side::AudioSide;
 use clock_ratio::end_stamp;
 use console_side::ConsoleSide;
+use quiet_side::AudioSide;
 use run_io::{Out, Shelf};
 use serial_console::Serial;
 
