@@ -1,0 +1,12 @@
+//! The console's whole step, and its laws: one access or internal cycle of the 65C816, one refresh, one byte
+//! of a transfer or one reset.
+//!
+//! Stands on `console_steps`, whose halves of a step are joined here in the order in which they are due.
+//! What a step means is `console_steps/specs/World.antt`; that its moves are those of a machine of either
+//! region (a step lasts 6 to 40 clocks, emits at most one row, acts at ports below 4 with bytes) is
+//! `console_is_lawful` of `specs/SideLaws.antt`.
+#![tactic(auto)]
+
+mod step;
+
+pub use step::make_step;
