@@ -130,10 +130,10 @@ impl Case {
     /// Whether the next byte is moved as a word says; it is moved then.
     fn moves(&mut self, word: &[u8]) -> Option<bool> {
         let kind = *word.first()?;
+        let moved = self.byte_for(word)?;
         let Some(due) = self.dma.next() else {
             return Some(false);
         };
-        let moved = self.byte_for(word)?;
         self.dma.done(moved);
         let place = part(word, 1, 7)?;
         match due {

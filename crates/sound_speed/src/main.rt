@@ -101,6 +101,11 @@ const LOOP: [u8; 20] = [
     0xC4, 0x12, 0x2F, 0xF2,
 ];
 
+/// An interpolation table of zeros.
+fn empty_table() -> Table {
+    Table::of([0; 512])
+}
+
 /// A job with that loop as boot ROM.
 fn job(alloc: Global) -> io::Result<Job> {
     let mut boot = [0u8; 64];
@@ -116,7 +121,7 @@ fn job(alloc: Global) -> io::Result<Job> {
             ram: 0,
         },
         boot,
-        table: Table::of([0; 512]),
+        table: empty_table(),
         script: Spans::of(alloc, Vec::new(alloc)),
         frames: 1,
         region: Region::Ntsc,
