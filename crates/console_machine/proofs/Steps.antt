@@ -1,7 +1,6 @@
 -- The effect of a step, told of a world.
-use Rattle.std.proofs.Common.{◌≡◌, ℕ, ap, sym, subst, ◌∙◌}
+use Rattle.std.proofs.Common.{◌≡◌, ℕ, subst}
 use Rattle.cpu65816.specs.declared.processor.Cpu.{Cpu}
-use Rattle.cpu65816.specs.Instruction.{Standing}
 use Rattle.cpu65816.specs.Stands.{Stands}
 use Rattle.console_bus.specs.Rest.{Rest}
 use Rattle.console_steps.specs.World.{World, due_of, due_clocks, rest_after, processor_after, with_lines, effect}

@@ -1,10 +1,8 @@
 -- What a step keeps and how far it goes: the region, the beam on its line, the clocks, the bytes of one row.
-use Rattle.std.proofs.Common.{◌≡◌, ℕ, zero, suc, ◌+◌, ◌-◌, ◌*◌, ◌<◌, ◌≤◌, ◌==◌, ◌&&◌, ◌||◌, nat_lt, nat_le, Bool, true, false, IsTrue, Option, Some, None, List, [], ◌∷◌, ◌++◌, length, length-append, refl, sym, ap, subst, ◌∙◌, arith, add-zero, if◌then◌else◌}
+use Rattle.std.proofs.Common.{◌≡◌, ℕ, zero, suc, ◌+◌, ◌-◌, ◌<◌, ◌≤◌, ◌==◌, ◌&&◌, nat_lt, nat_le, Bool, true, false, IsTrue, List, [], ◌∷◌, ◌++◌, length, length-append, refl, sym, ap, subst, ◌∙◌, arith, add-zero, if◌then◌else◌}
 use Rattle.std.proofs.lemmas.Bool.Decides.{nat_tests}
-use Rattle.snes_defs.specs.declared.region.Region.{Region}
 use Rattle.cart_map.specs.declared.places.Place.{Place}
 use Rattle.cart_map.specs.declared.places.Place.TheVariants.{Wram, Rom, Ram, BBus, Cpu, Open}
-use Rattle.cart_map.specs.Clocks.{clocks_of, system_clocks, is_fast_bank}
 use Rattle.cpu_tables.specs.declared.access.Access.{Access}
 use Rattle.cpu_tables.specs.declared.access.Access.TheVariants.{Fetch, Read, Write, Inner}
 use Rattle.dma_hdma.specs.declared.moves.Move.{Move}
@@ -12,15 +10,15 @@ use Rattle.dma_hdma.specs.declared.moves.Move.TheVariants.{ToB, ToA, Load}
 use Rattle.beam.specs.declared.events.Event.{Event}
 use Rattle.beam.specs.declared.events.Event.TheVariants.{Line, Blank, HdmaFrame, Refresh, Draw, HdmaLine, Timer}
 use Rattle.beam.specs.declared.events.Happens.{Happens}
-use Rattle.beam.specs.Events.{BeamValue, one_if, events_of, happens_next, beam_next, next_h, next_v}
-use Rattle.console_bus.specs.Rest.{Rest, with_io}
+use Rattle.beam.specs.Events.{BeamValue, one_if, events_of, happens_next, beam_next, next_h}
+use Rattle.console_bus.specs.Rest.{Rest}
 use Rattle.console_bus.specs.Places.{register_read, register_written, chip_read, chip_written, place_read, place_written, a_side, place_at, taken_from, register_byte, on_bus}
-use Rattle.console_bus.specs.Happenings.{happened, emitted_at, was_reset, row_bytes}
-use Rattle.console_steps.specs.World.{World, Due, Resets, Refreshes, Moves_byte, Accesses, access_clocks, due_clocks, rest_after, effect, moved, events_next, after_event, after_events, bytes_of_events, after_clocks, bytes_in, overscan_of}
+use Rattle.console_bus.specs.Happenings.{emitted_at, was_reset, row_bytes}
+use Rattle.console_steps.specs.World.{World, Due, Resets, Refreshes, Moves_byte, Accesses, rest_after, moved, events_next, after_event, after_events, bytes_of_events, after_clocks, bytes_in, overscan_of}
 use Rattle.console_steps.specs.Draws.{room_for}
 use Rattle.console_steps.proofs.Beams.{happened_beam, length-row_bytes}
-use Rattle.console_steps.proofs.EventLists.{events_joined, bytes_joined}
-use Rattle.console_steps.proofs.Clocks.{DrawsAt, draws_at, room_left}
+use Rattle.console_steps.proofs.EventLists.{bytes_joined}
+use Rattle.console_steps.proofs.Clocks.{draws_at, room_left}
 
 -- ---- the beam's region and line clock, over an effect
 

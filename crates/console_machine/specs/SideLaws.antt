@@ -1,5 +1,5 @@
 -- The console's steps keep the laws of a machine.
-use Rattle.std.proofs.Common.{◌≡◌, ℕ, ◌+◌, ◌*◌, ◌/◌, ◌%◌, ◌<◌, ◌≤◌, ◌&&◌, ◌||◌, nat_lt, nat_le, Bool, true, false, Option, Some, None, length, refl, sym, ap, subst, ◌∙◌, arith, if◌then◌else◌}
+use Rattle.std.proofs.Common.{◌≡◌, ℕ, ◌+◌, ◌*◌, ◌/◌, ◌%◌, ◌<◌, ◌≤◌, ◌&&◌, nat_lt, Bool, true, false, length, sym, subst, ◌∙◌, arith, if◌then◌else◌}
 use Rattle.std.proofs.lemmas.Bool.Decides.{nat_tests}
 use Rattle.snes_defs.specs.declared.region.Region.{Region}
 use Rattle.snes_defs.specs.declared.region.Region.TheVariants.{Ntsc, Pal}
@@ -14,7 +14,7 @@ use Rattle.dma_hdma.specs.declared.moves.Move.{Move}
 use Rattle.dma_hdma.specs.declared.moves.Move.TheVariants.{ToB, ToA, Load}
 use Rattle.side_law.specs.Moves.{IsLawful, IsAtPorts}
 use Rattle.snes_defs.specs.declared.ports.Act.{Act}
-use Rattle.snes_defs.specs.declared.ports.Act.TheVariants.{Quiet, Read as PortRead, Write as PortWrite, Clear}
+use Rattle.snes_defs.specs.declared.ports.Act.TheVariants.{Quiet, Read as PortRead, Write as PortWrite}
 use Rattle.console_bus.specs.Rest.{Rest}
 use Rattle.console_bus.specs.Places.{is_port, place_at, taken_from}
 use Rattle.console_steps.specs.World.{World, Due, Resets, Refreshes, Moves_byte, Accesses, due_of, access_clocks, due_clocks, read_at, write_at, move_act, access_act, act_of, effect, world_after, bytes_after, region_of, console_moves}

@@ -1,12 +1,16 @@
-//! The console's whole step, and its laws: one access or internal cycle of the 65C816, one refresh, one byte
-//! of a transfer or one reset.
+//! The console side as a machine: one access or internal cycle of the 65C816, one refresh, one byte of a
+//! transfer or one reset a step.
 //!
-//! Stands on `console_steps`, whose halves of a step are joined here in the order in which they are due.
-//! What a step means is `console_steps/specs/World.antt`; that its moves are those of a machine of either
-//! region (a step lasts 6 to 40 clocks, emits at most one row, acts at ports below 4 with bytes) is
-//! `console_is_lawful` of `specs/SideLaws.antt`.
+//! Stands on `console_steps`, whose halves of a step are joined here in the order in which they are due,
+//! behind the trait `Machine`. What a step means is `console_steps/specs/World.antt`; that its moves are
+//! those of a machine of either region (a step lasts 6 to 40 clocks, emits at most one row, acts at ports
+//! below 4 with bytes) is `console_is_lawful` of `specs/SideLaws.antt`. The value at a job's start is still
+//! to be made.
 #![tactic(auto)]
 
+mod acts;
+mod parts;
+mod side;
 mod step;
 
-pub use step::make_step;
+pub use side::ConsoleSide;

@@ -17,10 +17,11 @@ use cpu65816::Cpu;
 
 /// How many clocks an access at an address lasts.
 #[inline(always)]
-#[tactic(auto, using(crate::proofs::Few::few_clocks))]
+#[tactic(auto, using(crate::proofs::Few::few_clocks, crate::proofs::Few::least_clocks))]
 fn lasts(bus: &Bus, addr: u32) -> u8
     requires { addr < 16777216 }
     ensures clocks { result ≡ clocks_of addr bus.now.io.fast }
+    ensures least { 6 ≤ result }
     ensures few { result ≤ 40 }
 {
     clocks(addr, bus.fast())
@@ -32,6 +33,7 @@ fn make_access(cpu: &mut Cpu, bus: &mut Bus, got: u8) -> u8
     ensures rest { bus.new ≡ rest_after bus.old (Accesses (access_of cpu.old)) got }
     ensures processor { (s : Standing) → Stands cpu.old s → Stands cpu.new (with_lines (processor_after s bus.old (Accesses (access_of cpu.old)) got) bus.new) }
     ensures clocks { result ≡ access_clocks (access_of cpu.old) bus.old.io.fast }
+    ensures least { 6 ≤ result }
     ensures few { result ≤ 40 }
 {
     match cpu.next() {
@@ -63,6 +65,7 @@ fn make_effect(cpu: &mut Cpu, bus: &mut Bus, got: u8) -> u8
     ensures rest { (s : Standing) → Stands cpu.old s → bus.new ≡ rest_after bus.old (due_from s bus.old) got }
     ensures processor { (s : Standing) → Stands cpu.old s → Stands cpu.new (with_lines (processor_after s bus.old (due_from s bus.old) got) bus.new) }
     ensures clocks { (s : Standing) → Stands cpu.old s → result ≡ due_clocks (due_from s bus.old) bus.old.io.fast }
+    ensures least { 6 ≤ result }
     ensures few { result ≤ 40 }
 {
     if bus.resets() {
@@ -85,11 +88,17 @@ fn make_effect(cpu: &mut Cpu, bus: &mut Bus, got: u8) -> u8
 /// Makes the step that is due, and answers how many master clocks it lasts. `got` is the incoming byte of the
 /// port where the step reads one. A row that is finished on the way joins the bytes that wait.
 #[inline(always)]
-pub fn make_step(cpu: &mut Cpu, bus: &mut Bus, waiting: &mut HeapCircularBuffer<u8>, got: u8) -> u8
+pub(crate) fn make_step(
+    cpu: &mut Cpu,
+    bus: &mut Bus,
+    waiting: &mut HeapCircularBuffer<u8>,
+    got: u8,
+) -> u8
     requires room { length waiting.old.items + 1024 ≤ waiting.old.capacity }
     ensures at { (w : World) → IsAt cpu.old bus.old w → IsAt cpu.new bus.new (world_after w (due_of w) got) }
     ensures bytes { (w : World) → IsAt cpu.old bus.old w → waiting.new.items ≡ waiting.old.items ++ bytes_after w (due_of w) got }
     ensures clocks { (w : World) → IsAt cpu.old bus.old w → result ≡ due_clocks (due_of w) w.rest.io.fast }
+    ensures least { 6 ≤ result }
     ensures few { result ≤ 40 }
     ensures size { length waiting.new.items ≤ length waiting.old.items + 1024 }
     ensures capacity { waiting.new.capacity ≡ waiting.old.capacity }

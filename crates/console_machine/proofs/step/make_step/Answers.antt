@@ -1,4 +1,4 @@
-use Rattle.std.proofs.Common.{◌≡◌, ◌+◌, ◌≤◌, length, arith}
+use Rattle.std.proofs.Common.{arith}
 use Rattle.console_machine.proofs.Few.{room_most}
 use Rattle.console_machine.proofs.step.make_step.Goals as goal
 
