@@ -102,7 +102,7 @@ back Sound v here idle =
 -- a call that took the log and gave it back
 pub told : (region : Region) (side : Side) (before mid after : Seats) (log : LogValue) (es : List Entry) (clock : ℕ)
     (Answers : Book → Type 0) → AreIdle side before → Enters region side before mid log
-    → Leaves mid after (logged side es clock (book_in mid.list.me.0)) → Answers (book_in mid.list.me.0)
+    → Leaves clock mid after (logged side es clock (book_in mid.list.me.0)) → Answers (book_in mid.list.me.0)
     → IsTold side before after es clock Answers
 told region side before mid after log es clock Answers idle en le answers =
     let b = book_in mid.list.me.0 in
@@ -120,6 +120,8 @@ told region side before mid after log es clock Answers idle en le answers =
           ∙ ap (λ v. (v, [])) (back side before.lock.me.0 idle.here idle.other);
       list_table = le.list_table ∙ en.list_table;
       lock_table = le.lock_table ∙ en.lock_table;
+      own = le.own;
+      told = le.told ∙ en.told;
     }
 
 -- a log after one more entry of a side, and a clock of it

@@ -64,6 +64,20 @@ other-clock Sound es clock b = refl
 
 -- a call that had the log
 module _ {side : Side} {before after : Seats} {es : List Entry} {clock : ℕ} {Answers : Book → Type 0} (s : StandFor side before) (t : IsTold side before after es clock Answers) where
+  half-now : half_in side after.list.me.0 ≡ half_by side (logged side es clock t.found)
+  half-now =
+      ap (λ m. half_in side m.0) t.list
+      ∙ told-half side (logged side es clock t.found) before.list.me.0 s.idle.has_half
+
+  was : IsTrueHalf side t.found (half_in side before.list.me.0)
+  was = half-true side t.found before.list.me.0 t.known s.idle.has_half
+
+  pub upto-now : (pass_of side after).upto ≡ clock_in (other_side side) t.found
+  upto-now = ap (λ h. h.upto) half-now ∙ other-clock side es clock t.found
+
+  pub at-now : (pass_of side after).at ≡ clock
+  at-now = ap (λ h. h.at) half-now ∙ clock-logged side es clock t.found
+
   pub stand-told : StandFor side after
   stand-told = record {
     idle = record {
@@ -81,18 +95,9 @@ module _ {side : Side} {before after : Seats} {es : List Entry} {clock : ℕ} {A
         ap (λ m. half_option (other_side side) m.0) t.list
         ∙ still-none (other_side side) (logged side es clock t.found) before.list.me.0 s.no_other;
     names_list = ap (λ m. m.0.list) t.lock ∙ s.names_list ∙ sym t.list_table;
+    own = t.own ∙ sym at-now;
+    known = t.told ∙ sym upto-now;
   }
-
-  half-now : half_in side after.list.me.0 ≡ half_by side (logged side es clock t.found)
-  half-now =
-      ap (λ m. half_in side m.0) t.list
-      ∙ told-half side (logged side es clock t.found) before.list.me.0 s.idle.has_half
-
-  was : IsTrueHalf side t.found (half_in side before.list.me.0)
-  was = half-true side t.found before.list.me.0 t.known s.idle.has_half
-
-  pub upto-now : (pass_of side after).upto ≡ clock_in (other_side side) t.found
-  upto-now = ap (λ h. h.upto) half-now ∙ other-clock side es clock t.found
 
   pub heard-now : (pass_of side after).heard ≡ list_in (other_side side) t.found
   heard-now = ap (λ h. h.heard) half-now ∙ other-list side es clock t.found
@@ -114,7 +119,7 @@ module _ {side : Side} {before after : Seats} {es : List Entry} {clock : ℕ} {A
             ∙ ap (λ (r : Region). let p : PortsKnown = record { lock = before.lock.table_id; list = before.list.table_id; region = r } in p) lock;
         side = refl;
         mine = mine-now;
-        at = ap (λ h. h.at) half-now ∙ clock-logged side es clock t.found;
+        at = at-now;
         more = was.heard.rest;
         heard = was.heard.whole_is ∙ sym heard-now;
         later = was.heard.later;
@@ -145,6 +150,8 @@ module _ {side : Side} {before after : Seats} (s : StandFor side before) (m : Mi
     away = ap (λ x. part_in (other_side side) x.0) m.lock ∙ same-part (other_side side) before.lock.me.0 ∙ s.away;
     no_other = ap (λ x. half_option (other_side side) x.0) m.list ∙ s.no_other;
     names_list = ap (λ x. x.0.list) m.lock ∙ s.names_list ∙ sym m.list_table;
+    own = m.own ∙ s.own ∙ sym (ap (λ x. (half_in side x.0).at) m.list);
+    known = m.told ∙ s.known ∙ sym (ap (λ x. (half_in side x.0).upto) m.list);
   }
 
 -- what is seen of a pass, by what its seats know

@@ -13,3 +13,6 @@ pub mod Passes
 pub mod PassCode
 pub mod Wholes
 pub mod WholeCode
+pub mod Counts
+pub mod Tallied
+pub mod WholeCalls

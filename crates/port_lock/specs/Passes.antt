@@ -12,8 +12,8 @@ use Rattle.port_lock.specs.PortsKnown.{PortsKnown}
 use Rattle.port_lock.specs.LockRule.{part_in}
 use Rattle.port_lock.specs.Seating.{half_option, half_in, AreIdle}
 use Rattle.port_lock.specs.declared.seats.Seats.{Seats}
-use Rattle.port_lock.specs.declared.late.PassLate.{PassLate}
-use Rattle.port_lock.specs.declared.late.PassLate.TheVariants.{Behind, Ahead, Held}
+use Rattle.port_wire.specs.declared.late.PassLate.{PassLate}
+use Rattle.port_wire.specs.declared.late.PassLate.TheVariants.{Behind, Ahead, Held}
 
 -- a pass: its side, what it logged and its clock, what it has heard of the other's list and the stamp up
 -- to which it has heard all; how often it was told, and how often it missed the log
@@ -46,6 +46,8 @@ pub record StandFor (side : Side) (seats : Seats) : Type 0 where
   pub away : part_in (other_side side) seats.lock.me.0 ≡ Away
   pub no_other : half_option (other_side side) seats.list.me.0 ≡ None
   pub names_list : seats.lock.me.0.list ≡ seats.list.table_id
+  pub own : seats.own ≡ (half_in side seats.list.me.0).at
+  pub known : seats.known ≡ (half_in side seats.list.me.0).upto
 
 -- the call found the other side's number in the turn word: it changed nothing, and counted that
 pub record IsMissed (by : Side) (old new : PassValue) : Type 0 where

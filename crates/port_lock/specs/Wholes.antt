@@ -1,6 +1,7 @@
 -- What contracts see of a whole, which is both passes in one. This project's own profile.
 use Rattle.std.specs.Prelude.{◌≡◌, ℕ, ◌≤◌, [], None}
 use Rattle.snes_defs.specs.declared.ports.Side.TheVariants.{Console, Sound}
+use Rattle.port_entries.specs.Entry.{CarryBytes}
 use Rattle.port_lock.specs.Known.{Here, Half}
 use Rattle.port_lock.specs.PortsKnown.{PortsKnown}
 use Rattle.port_lock.specs.Sums.{count_of}
@@ -36,6 +37,13 @@ pub record StandForBoth (seats : Seats) : Type 0 where
   pub has_sound : count_of seats.list.me.0.sound ≡ 1
   pub no_book : seats.list.me.0.book ≡ None
   pub names_list : seats.lock.me.0.list ≡ seats.list.table_id
+  pub own : seats.own ≡ (half_in Console seats.list.me.0).at
+  pub known : seats.known ≡ (half_in Console seats.list.me.0).upto
+
+-- and what is kept of the sound side's clocks beside them
+pub record KnowsSound (seats : Seats) (own known : ℕ) : Type 0 where
+  pub sound_own : own ≡ (half_in Sound seats.list.me.0).at
+  pub sound_known : known ≡ (half_in Sound seats.list.me.0).upto
 
 -- the whole of new ports: nothing was logged, and both clocks are 0
 abbrev pub new_whole : PortsKnown → WholeValue
@@ -83,3 +91,5 @@ pub record IsReunited (w : WholeValue) : Type 0 where
   pub sound : IsHeard w.sound.heard w.console.mine w.sound.upto
   pub console_upto : w.console.upto ≤ w.sound.at
   pub sound_upto : w.sound.upto ≤ w.console.at
+  pub console_bytes : CarryBytes w.console.mine
+  pub sound_bytes : CarryBytes w.sound.mine

@@ -5,9 +5,9 @@ ghost use Rattle.port_entries.specs.Entry.{WriteAt, ClearAt};
 ghost use Rattle.port_lock.specs.Called.{IfHeld, IfTold, logged_by, clock_by};
 ghost use Rattle.port_lock.specs.Passes.{IsMissed, IsHeardOn, ReadBy, ClearBy, WriteBy, AdvanceBy};
 
-use crate::late::PassLate;
 use crate::ports::Ports;
 use crate::seats::Seats;
+use port_wire::PassLate;
 use snes_defs::Side;
 use std::marker::Model;
 
@@ -29,6 +29,32 @@ impl Model for Pass {
     ghost view = { λ p. pass_of p.side p.seats };
 
     ghost invariant = { λ p. StandFor p.side p.seats };
+}
+
+impl Pass {
+    /// The side whose pass it is.
+    #[inline(always)]
+    pub fn side(&self) -> Side
+        ensures { result ≡ self.now.side }
+    {
+        self.side
+    }
+
+    /// The clock that the side has published.
+    #[inline(always)]
+    pub fn clock(&self) -> u64
+        ensures { result ≡ self.now.at }
+    {
+        self.seats.own
+    }
+
+    /// The latest clock of the other side that the pass was told.
+    #[inline(always)]
+    pub fn known(&self) -> u64
+        ensures { result ≡ self.now.upto }
+    {
+        self.seats.known
+    }
 }
 
 impl Ports {

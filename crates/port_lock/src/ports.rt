@@ -14,7 +14,6 @@ ghost use Rattle.port_log.specs.Kept.{other_side};
 
 use crate::event::Event;
 use crate::kept::Kept;
-use crate::late::PassLate;
 use crate::plays::{
     Give, Joined, ListRule, ListSeat, LockKey, LockRule, Look, Note, Take, Tell, Telling,
 };
@@ -22,6 +21,7 @@ use crate::seats::Seats;
 use crate::views::{ListView, LockView};
 use atomic_table::Table;
 use port_log::{Late, PortLog};
+use port_wire::PassLate;
 use snes_defs::{Region, Side};
 use std::alloc::Global;
 use std::marker::{Brand, Model};
@@ -90,6 +90,14 @@ impl Model for Ports {
 }
 
 impl Ports {
+    /// The region of the two machines.
+    #[inline(always)]
+    pub fn region(&self) -> Region
+        ensures { result ≡ self.now.region }
+    {
+        self.region
+    }
+
     /// Tries once to take the log for a side. Where it can, it has the log and the book; else the
     /// other side had it.
     #[inline(always)]
@@ -113,6 +121,7 @@ impl Ports {
             .shared
             .join_seat::<Joined>(&mut seats.list, note.into_seat());
         let _count = self.list.shared.load::<Look>(&mut seats.list, 0);
+        seats.known = log.clock(across(side));
         Some(log)
     }
 
@@ -156,7 +165,7 @@ impl Ports {
         requires rises { clock_in side (book_in seats.old.list.me.0) ≤ clock }
         requires later { AllByRecursion
             (λ e. clock_in side (book_in seats.old.list.me.0) ≤ entry_stamp e) (entries_of event) }
-        ensures { Leaves seats.old seats.new
+        ensures { Leaves clock seats.old seats.new
             (logged side (entries_of event) clock (book_in seats.old.list.me.0)) }
     {
         self.tell::<Brand>(side, &mut seats.list, event, clock);
@@ -168,6 +177,7 @@ impl Ports {
         let kept = Kept { log, note };
         let _empty = self.lock.shared.exchange(&mut seats.lock, 0, Some(kept));
         self.lock.shared.store::<Give>(&mut seats.lock, 0, 0);
+        seats.own = clock;
     }
 
     /// A read of a side, over its seats.

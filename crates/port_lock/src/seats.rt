@@ -6,4 +6,7 @@ use crate::plays::{ListSeat, LockSeat};
 pub struct Seats {
     pub lock: LockSeat,
     pub list: ListSeat,
+    /// The clock that the side of the last call has published, and the other's as it was told then.
+    pub own: u64,
+    pub known: u64,
 }

@@ -17,11 +17,15 @@ use std::marker::Model;
 /// Both sides' ways to the ports, in one hand.
 #[derive(Drop)]
 pub struct Whole {
-    seats: Seats,
+    pub(crate) seats: Seats,
+    // The sound side's clock, and the console's as the sound side was told it last. The seats have the
+    // console's.
+    pub(crate) own: u64,
+    pub(crate) known: u64,
 }
 
 impl Model for Whole {
-    ghost use Rattle.port_lock.specs.Wholes.{WholeValue, whole_of, StandForBoth};
+    ghost use Rattle.port_lock.specs.Wholes.{WholeValue, whole_of, StandForBoth, KnowsSound};
     ghost use Rattle.port_lock.specs.WholeCode.{whole_code};
 
     ghost Value = { WholeValue };
@@ -30,7 +34,7 @@ impl Model for Whole {
 
     ghost view = { λ w. whole_of w.seats };
 
-    ghost invariant = { λ w. StandForBoth w.seats };
+    ghost invariant = { λ w. StandForBoth w.seats × KnowsSound w.seats w.own w.known };
 }
 
 impl Ports {
@@ -40,19 +44,35 @@ impl Ports {
         ensures console { result.0 ≡ console_pass whole }
         ensures sound { result.1 ≡ sound_pass whole }
     {
-        let Whole { seats } = whole;
-        let Seats { mut lock, mut list } = seats;
+        let Whole {
+            seats,
+            own: sound_own,
+            known: sound_known,
+        } = whole;
+        let Seats {
+            mut lock,
+            mut list,
+            own,
+            known,
+        } = seats;
         let sound_lock = self.lock.shared.split_seat::<BySide>(&mut lock);
         let sound_list = self.list.shared.split_seat::<Halves>(&mut list);
         let console = Pass {
             side: Side::Console,
-            seats: Seats { lock, list },
+            seats: Seats {
+                lock,
+                list,
+                own,
+                known,
+            },
         };
         let sound = Pass {
             side: Side::Sound,
             seats: Seats {
                 lock: sound_lock,
                 list: sound_list,
+                own: sound_own,
+                known: sound_known,
             },
         };
         (console, sound)
@@ -70,17 +90,31 @@ impl Ports {
         ensures reunited { IsReunited result }
     {
         let Pass { side: _, seats } = console;
-        let Seats { mut lock, mut list } = seats;
+        let Seats {
+            mut lock,
+            mut list,
+            own,
+            known,
+        } = seats;
         let Pass { side: _, seats } = sound;
         let Seats {
             lock: sound_lock,
             list: sound_list,
+            own: sound_own,
+            known: sound_known,
         } = seats;
         self.lock.shared.join_seat::<BySide>(&mut lock, sound_lock);
         self.list.shared.join_seat::<Joined>(&mut list, sound_list);
         let _count = self.list.shared.load::<Look>(&mut list, 0);
         Whole {
-            seats: Seats { lock, list },
+            seats: Seats {
+                lock,
+                list,
+                own,
+                known,
+            },
+            own: sound_own,
+            known: sound_known,
         }
     }
 
@@ -116,8 +150,15 @@ impl Ports {
                 let seats = Seats {
                     lock: lock_seat,
                     list: list_seat,
+                    own: 0,
+                    known: 0,
                 };
-                Ok((ports, Whole { seats }))
+                let whole = Whole {
+                    seats,
+                    own: 0,
+                    known: 0,
+                };
+                Ok((ports, whole))
             }
             Err(Refused { slots: _ }) => Err(NoMemory),
         }
