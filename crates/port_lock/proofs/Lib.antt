@@ -4,3 +4,4 @@ pub mod Listing
 pub mod Leaving
 pub mod Calling
 pub mod Passing
+pub mod WholeSides

@@ -13,3 +13,4 @@ pub mod Passes
 pub mod PassCode
 pub mod Wholes
 pub mod WholeCode
+pub mod WholeCalls

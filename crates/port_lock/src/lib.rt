@@ -22,6 +22,7 @@ mod ports;
 mod seats;
 mod views;
 mod whole;
+mod whole_calls;
 
 pub use late::PassLate;
 pub use pass::Pass;

@@ -17,7 +17,7 @@ use std::marker::Model;
 /// Both sides' ways to the ports, in one hand.
 #[derive(Drop)]
 pub struct Whole {
-    seats: Seats,
+    pub(crate) seats: Seats,
 }
 
 impl Model for Whole {
