@@ -1,5 +1,5 @@
 -- How a leg over a pass goes on: by a try that was answered, and by one that was held back.
-use Rattle.std.proofs.Common.{◌≡◌, ℕ, zero, suc, ◌+◌, ◌<◌, ◌≤◌, List, [], ◌++◌, refl, ap, sym, ◌∙◌, arith, append_assoc}
+use Rattle.std.proofs.Common.{◌≡◌, ℕ, zero, suc, ◌+◌, ◌<◌, ◌≤◌, List, [], ◌++◌, ap, sym, ◌∙◌, arith, append_assoc}
 use Rattle.std.proofs.lemmas.List.{append-nil}
 use Rattle.snes_defs.specs.declared.ports.Side.{Side}
 use Rattle.port_entries.specs.Entry.{Entry}
@@ -12,6 +12,10 @@ use Rattle.port_wire.specs.Seen.{Half}
 use Rattle.port_wire.specs.Answers.{HearsOn}
 use Rattle.pair_run.specs.Tried.{Tried}
 use Rattle.pair_run.specs.Leg.{LegRan}
+
+-- a pass that made no call has heard what it had
+pub hears_nothing : (half : Half) → HearsOn half half
+hears_nothing half = record { more = []; heard = append-nil half.heard; later = tt; upto = omega arith; known = omega arith }
 
 module _ {State : Type 0} (side : Side) (moves : Moves State) where
   below_later : (heard : List Entry) (end later k : ℕ) (h : History State) → end ≤ later

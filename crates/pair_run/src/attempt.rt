@@ -1,4 +1,4 @@
-ghost use Rattle.std.specs.Prelude.{◌≡◌, ◌+◌, ◌^◌, ◌<◌, ◌≤◌, ℕ, OnOk, OnErr, IfErr, length};
+ghost use Rattle.std.specs.Prelude.{◌≡◌, ◌+◌, ◌^◌, ◌<◌, ◌≤◌, ℕ, false, IsTrue, OnOk, OnErr, IfErr, length};
 ghost use Rattle.clock_ratio.specs.Stamp.{least_of, window_of};
 ghost use Rattle.commute_laws.specs.History.{History};
 ghost use Rattle.port_wire.specs.Answers.{HearsOn};
@@ -148,9 +148,37 @@ fn try_write<W: Wire, M: Machine>(
     Ok(())
 }
 
+/// Makes the next step where it is quiet and needs no call: the clock that the pass was told allows it, and
+/// the own clock was published at most a quarter of the window before. Answers whether it did. Otherwise
+/// nothing has changed.
+#[inline(always)]
+fn step_alone<W: Wire, M: Machine>(wire: &W, pass: &W::Pass, machine: &mut M) -> bool
+    requires region { M.region_of machine.old ≡ W.region_of wire.now }
+    requires room { length (M.waiting machine.old) + M.MOST ≤ M.CAP }
+    requires early { M.stamp_of machine.old ≤ 2 ^ 62 }
+    requires clock { (W.seen pass.now).half.at ≤ M.stamp_of machine.old }
+    ensures clock { (W.seen pass.now).half.at ≤ M.stamp_of machine.new }
+    ensures same_region { M.region_of machine.new ≡ M.region_of machine.old }
+    ensures steps { IsTrue result → (before : History M.State) → M.stands machine.old before.now → before.entries ≡ (W.seen pass.now).half.mine → Tried (W.seen pass.now).side M.moves (window_of (W.region_of wire.now)) (M.stands machine.new) (W.seen pass.now).half (M.waiting machine.old) (M.waiting machine.new) before }
+    ensures rises { IsTrue result → M.stamp_of machine.old + least_of (M.region_of machine.old) ≤ M.stamp_of machine.new }
+    ensures emits_at_most { length (M.waiting machine.new) ≤ length (M.waiting machine.old) + M.MOST }
+    ensures stays { result ≡ false → machine.new ≡ machine.old }
+{
+    let at = machine.stamp();
+    let window = window(wire.region());
+    if at - wire.clock(pass) > window / 4 {
+        return false;
+    }
+    let other = wire.known(pass);
+    if at > other && at - other > window {
+        return false;
+    }
+    machine.try_step()
+}
+
 /// Tries the next step of a machine once, by the call of its act, and makes it where the call is answered.
 #[inline(always)]
-pub(crate) fn attempt<W: Wire, M: Machine>(
+fn try_call<W: Wire, M: Machine>(
     wire: &W,
     pass: &mut W::Pass,
     machine: &mut M,
@@ -179,4 +207,37 @@ pub(crate) fn attempt<W: Wire, M: Machine>(
         Act::Clear(mask) => try_clear(wire, pass, machine, mask),
         Act::Write(port, v) => try_write(wire, pass, machine, port, v),
     }
+}
+
+/// Tries the next step of a machine once: without a call where it needs none, else by the call of its act,
+/// and then makes it where the call is answered.
+#[inline(always)]
+#[tactic(auto, using(crate::proofs::LegGoesOn::hears_nothing))]
+pub(crate) fn attempt<W: Wire, M: Machine>(
+    wire: &W,
+    pass: &mut W::Pass,
+    machine: &mut M,
+) -> Result<(), PassLate>
+    requires of { W.is_pass_of wire.now pass.old }
+    requires region { M.region_of machine.old ≡ W.region_of wire.now }
+    requires room { length (M.waiting machine.old) + M.MOST ≤ M.CAP }
+    requires early { M.stamp_of machine.old ≤ 2 ^ 62 }
+    requires clock { (W.seen pass.old).half.at ≤ M.stamp_of machine.old }
+    ensures still_of { W.is_pass_of wire.now pass.new }
+    ensures side { (W.seen pass.new).side ≡ (W.seen pass.old).side }
+    ensures hears { HearsOn (W.seen pass.old).half (W.seen pass.new).half }
+    ensures clock { (W.seen pass.new).half.at ≤ M.stamp_of machine.new }
+    ensures same_region { M.region_of machine.new ≡ M.region_of machine.old }
+    ensures steps { OnOk result ((before : History M.State) → M.stands machine.old before.now → before.entries ≡ (W.seen pass.old).half.mine → Tried (W.seen pass.old).side M.moves (window_of (W.region_of wire.now)) (M.stands machine.new) (W.seen pass.new).half (M.waiting machine.old) (M.waiting machine.new) before) }
+    ensures rises { OnOk result (M.stamp_of machine.old + least_of (M.region_of machine.old) ≤ M.stamp_of machine.new) }
+    ensures emits_at_most { length (M.waiting machine.new) ≤ length (M.waiting machine.old) + M.MOST }
+    ensures stays { OnErr result (machine.new ≡ machine.old) }
+    ensures none_refused { OnOk result ((W.seen pass.new).half.tally.refused ≡ (W.seen pass.old).half.tally.refused) }
+    ensures one_refused { OnErr result ((W.seen pass.new).half.tally.refused ≡ counted_on (W.seen pass.old).half.tally.refused) }
+    ensures held_back { IfErr result (λ late. (m : M.State) → M.stands machine.old m → IsHeldBack (call_of (M.moves.act m)) (M.stamp_of machine.old) late (W.seen pass.old).half (W.seen pass.new).half) }
+{
+    if step_alone(wire, pass, machine) {
+        return Ok(());
+    }
+    try_call(wire, pass, machine)
 }

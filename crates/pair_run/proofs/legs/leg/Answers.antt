@@ -1,4 +1,4 @@
-use Rattle.std.proofs.Common.{◌≡◌, ◌+◌, ◌<◌, ◌≤◌, length, refl, sym, ◌∙◌, subst, rules, arith}
+use Rattle.std.proofs.Common.{◌+◌, ◌<◌, ◌≤◌, length, refl, sym, ◌∙◌, subst, rules, arith}
 use Rattle.clock_ratio.specs.Stamp.{window_of}
 use Rattle.clock_ratio.proofs.Numbers.{numbers}
 use Rattle.pair_run.specs.Leg.{LegRan}

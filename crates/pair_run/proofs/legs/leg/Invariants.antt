@@ -1,4 +1,4 @@
-use Rattle.std.proofs.Common.{◌≡◌, ◌+◌, ◌-◌, ◌*◌, ◌<◌, ◌≤◌, ℕ, length}
+use Rattle.std.proofs.Common.{◌≡◌, ◌+◌, ◌-◌, ◌*◌, ◌<◌, ◌≤◌, length}
 use Rattle.clock_ratio.specs.Stamp.{window_of}
 use Rattle.commute_laws.specs.History.{History}
 use Rattle.port_wire.specs.Tally.{HasRisenBy}
