@@ -1,11 +1,13 @@
 -- How the tally counts: refusals of one call in a row, and how the stamps and tries run out.
-use Rattle.std.proofs.Common.{◌≡◌, ℕ, zero, suc, ◌+◌, ◌-◌, ◌*◌, ◌^◌, ◌<◌, ◌≤◌, inl, inr, true, refl, ap, sym, ◌∙◌, subst, arith}
+use Rattle.std.proofs.Common.{◌≡◌, ℕ, zero, suc, ◌+◌, ◌-◌, ◌*◌, ◌^◌, ◌<◌, ◌≤◌, ◌⊎◌, inl, inr, ⊎_elim, true, refl, ap, sym, ◌∙◌, subst, arith}
 use Rattle.std.proofs.Math.Nat.{mul-le-mul_right}
+use Rattle.std.proofs.lemmas.Bool.{cases_lt}
 use Rattle.std.specs.Prelude.{if◌then◌else◌}
 use Rattle.port_wire.specs.declared.late.PassLate.{PassLate}
 use Rattle.port_wire.specs.declared.late.CallName.{CallName}
 use Rattle.port_wire.specs.declared.late.CallName.TheVariants.{Read, Clear, Write, Advance}
 use Rattle.port_wire.specs.Seen.{Half}
+use Rattle.port_wire.specs.Answers.{IsRefused, HasAdvanced}
 use Rattle.port_wire.specs.Tally.{Tally, same_name, is_again, counted_on, after_refusal, HasRisenBy}
 use Rattle.pair_run.specs.Leg.{IsSpent}
 
@@ -65,10 +67,29 @@ row_is_spent name at k tries late old mid new h few all risen is = record {
   last = ap (λ (t : Tally). t.last) is;
 }
 
-runs_out : (a b tries refused : ℕ) → a + 1 ≤ b → a * (tries + 1) + (tries - 0) < b * (tries + 1) + (tries - refused)
-runs_out a b tries refused less = omega (arith, mul-le-mul_right (tries + 1) less)
+-- publishing a clock counts one refusal or none
+pub advance_counts : (window at other : ℕ) (old new : Half) → HasAdvanced window at other old new
+    → (new.tally.refused ≡ old.tally.refused) ⊎ (new.tally.refused ≡ counted_on old.tally.refused)
+advance_counts window at other old new h =
+    ⊎_elim
+    (λ lt. inr (ap (λ (t : Tally). t.refused) (h.late (λ within. omega (arith, lt, within)))))
+    (λ le. inl (ap (λ (t : Tally). t.refused) (h.soon le)))
+    (cases_lt (other + window) at)
+
+pub refusal_counts : (name : CallName) (at : ℕ) (late : PassLate) (old new : Half) → IsRefused name at late old new
+    → (new.tally.refused ≡ old.tally.refused) ⊎ (new.tally.refused ≡ counted_on old.tally.refused)
+refusal_counts name at late old new h = inr (ap (λ (t : Tally). t.refused) h.tally)
+
+-- and those that were refused before have risen still
+pub risen_any : (k before after later : ℕ) → HasRisenBy k before after → (later ≡ after) ⊎ (later ≡ counted_on after) → HasRisenBy 0 before later
+risen_any k before after later h counts =
+    ⊎_elim (λ same. risen_less k before after later h same)
+    (λ more. risen_less (k + 1) before (counted_on after) later (counted_risen k before after h) more) counts
+
+runs_out : (a b tries refused told : ℕ) → a + 1 ≤ b → a * (tries + 2) + (tries - 0) + 1 < b * (tries + 2) + (tries - refused) + told
+runs_out a b tries refused told less = omega (arith, mul-le-mul_right (tries + 2) less)
 
 -- a step below the end leaves fewer stamps, however many tries it gives back
-pub stamps_run_out : (end at next tries refused : ℕ) → at < end → at < next
-    → (end - next) * (tries + 1) + (tries - 0) < (end - at) * (tries + 1) + (tries - refused)
-stamps_run_out end at next tries refused below rises = runs_out (end - next) (end - at) tries refused (omega (arith, below, rises))
+pub stamps_run_out : (end at next tries refused told : ℕ) → at < end → at < next
+    → (end - next) * (tries + 2) + (tries - 0) + 1 < (end - at) * (tries + 2) + (tries - refused) + told
+stamps_run_out end at next tries refused told below rises = runs_out (end - next) (end - at) tries refused told (omega (arith, below, rises))

@@ -1,4 +1,4 @@
-ghost use Rattle.std.specs.Prelude.{◌≡◌, ◌+◌, ◌^◌, ◌<◌, ◌≤◌, ℕ, false, IsTrue, OnOk, OnErr, IfErr, length};
+ghost use Rattle.std.specs.Prelude.{◌≡◌, ◌+◌, ◌^◌, ◌<◌, ◌≤◌, ◌⊎◌, ℕ, false, IsTrue, OnOk, OnErr, IfErr, length};
 ghost use Rattle.clock_ratio.specs.Stamp.{least_of, window_of};
 ghost use Rattle.commute_laws.specs.History.{History};
 ghost use Rattle.port_wire.specs.Answers.{HearsOn};
@@ -146,6 +146,25 @@ fn try_write<W: Wire, M: Machine>(
     wire.write(pass, at, port, v, at + least(wire.region()))?;
     machine.step(0);
     Ok(())
+}
+
+/// Publishes a clock, where the ports aren't held at this moment.
+#[inline(always)]
+#[tactic(auto, using(crate::proofs::Refusals::advance_counts, crate::proofs::Refusals::refusal_counts))]
+pub(crate) fn publish<W: Wire>(wire: &W, pass: &mut W::Pass, at: u64)
+    requires of { W.is_pass_of wire.now pass.old }
+    requires clock { (W.seen pass.old).half.at ≤ at }
+    ensures still_of { W.is_pass_of wire.now pass.new }
+    ensures side { (W.seen pass.new).side ≡ (W.seen pass.old).side }
+    ensures hears { HearsOn (W.seen pass.old).half (W.seen pass.new).half }
+    ensures mine { (W.seen pass.new).half.mine ≡ (W.seen pass.old).half.mine }
+    ensures clock { (W.seen pass.new).half.at ≤ at }
+    ensures counts { ((W.seen pass.new).half.tally.refused ≡ (W.seen pass.old).half.tally.refused) ⊎ ((W.seen pass.new).half.tally.refused ≡ counted_on (W.seen pass.old).half.tally.refused) }
+{
+    match wire.advance(pass, at) {
+        Ok(_) => {}
+        Err(_) => {}
+    }
 }
 
 /// Makes the next step where it is quiet and needs no call: the clock that the pass was told allows it, and

@@ -4,7 +4,7 @@ ghost use Rattle.commute_laws.specs.History.{History};
 ghost use Rattle.pair_run.specs.Leg.{LegRan, IfHeldBack, IsSpent};
 ghost use Rattle.pair_run.specs.Tried.{call_of};
 
-use crate::attempt::attempt;
+use crate::attempt::{attempt, publish};
 use crate::ends::{LegEnd, held_back};
 use crate::gate::Gate;
 use port_wire::Wire;
@@ -39,17 +39,29 @@ pub fn leg<W: Wire, M: Machine, G: Gate>(
 {
     gate.arrive(wire.side(pass), turn);
     let mut refused = 0;
+    let mut told = false;
     'steps: while machine.stamp() < end && machine.ready() {
         match attempt(wire, pass, machine) {
-            Ok(()) => refused = 0,
+            Ok(()) => {
+                refused = 0;
+                told = false;
+            }
             Err(late) => {
-                refused += 1;
-                if refused == tries {
-                    return held_back(late);
+                // The other side may be waiting for this clock in its turn: it is told once.
+                if told {
+                    refused += 1;
+                    if refused == tries {
+                        return held_back(late);
+                    }
+                } else {
+                    publish(wire, pass, machine.stamp());
+                    refused = 0;
+                    told = true;
                 }
             }
         }
     }
+    publish(wire, pass, machine.stamp());
     if machine.stamp() < end {
         LegEnd::Drain
     } else {

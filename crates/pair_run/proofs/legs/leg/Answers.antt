@@ -1,4 +1,5 @@
 use Rattle.std.proofs.Common.{◌+◌, ◌<◌, ◌≤◌, length, refl, sym, ◌∙◌, subst, rules, arith}
+use Rattle.std.specs.Prelude.{if◌then◌else◌}
 use Rattle.clock_ratio.specs.Stamp.{window_of}
 use Rattle.clock_ratio.proofs.Numbers.{numbers}
 use Rattle.pair_run.specs.Leg.{LegRan}
@@ -25,7 +26,7 @@ steps-init g c = record {
 
 pub steps-smaller-in-Ok : goal.steps-smaller-in-Ok
 steps-smaller-in-Ok g c =
-    stamps_run_out c.args.end (g.M.Machine.stamp_of c.steps.machine) (g.M.Machine.stamp_of c.attempt.new.machine) c.args.tries c.steps.refused
+    stamps_run_out c.args.end (g.M.Machine.stamp_of c.steps.machine) (g.M.Machine.stamp_of c.attempt.new.machine) c.args.tries c.steps.refused (if c.steps.told then 0 else 1)
     (omega (arith, c.steps-test.true, c.stamp.ensures.stamp))
     (omega (arith, c.in-Ok.ensures.rises, (numbers (g.M.Machine.region_of c.steps.machine)).rises))
 
@@ -57,50 +58,4 @@ steps-preserved-in-Ok g c =
           before_it.side (ok.steps was.after was.now_stands was.entries));
       risen = risen_less c.steps.refused (wire.seen c.args.pass.now).half.tally.refused old.tally.refused new.tally.refused before_it.risen ok.none_refused;
       in_row = λ m stands. none_in_row (call_of (machine.moves.act m)) (machine.stamp_of c.attempt.new.machine) new.tally;
-    }
-
-pub returns-then-refused-tries-clause-ran : goal.returns-then-refused-tries-clause-ran
-returns-then-refused-tries-clause-ran g c = λ before stands entries.
-    let wire = g.W.Wire in
-    let machine = g.M.Machine in
-    let late = c.in-Err.ensures in
-    let old = (wire.seen c.steps.pass).half in
-    let new = (wire.seen c.attempt.new.pass).half in
-    let side = (wire.seen c.args.pass.now).side in
-    let window = window_of (wire.region_of c.args.wire.now) in
-    let waited = machine.waiting c.args.machine.now in
-    let was = c.steps.invariant.ran before stands entries in
-    subst (λ x. LegRan side machine.moves window c.args.end (machine.stands x) new waited (machine.waiting x) before) (sym late.stays)
-    (leg_waits side machine.moves window c.args.end (machine.stands c.steps.machine) old new waited (machine.waiting c.steps.machine) before was late.hears
-    (late.held_back was.after.now was.now_stands).mine)
-
-pub steps-preserved : goal.steps-preserved
-steps-preserved g c =
-    let wire = g.W.Wire in
-    let machine = g.M.Machine in
-    let before_it = c.steps.invariant in
-    let late = c.in-Err.ensures in
-    let old = (wire.seen c.steps.pass).half in
-    let new = (wire.seen c.attempt.new.pass).half in
-    let side = (wire.seen c.args.pass.now).side in
-    let window = window_of (wire.region_of c.args.wire.now) in
-    let waited = machine.waiting c.args.machine.now in
-    record {
-      still_of = late.still_of;
-      side = late.side ∙ before_it.side;
-      clock = late.clock;
-      region = late.same_region ∙ before_it.region;
-      room = subst (λ x. length (machine.waiting x) + machine.MOST ≤ machine.CAP) (sym late.stays) before_it.room;
-      few = omega (arith, before_it.few, c.if-refused-tries.false);
-      ran = λ before stands entries.
-          let was = before_it.ran before stands entries in
-          subst (λ x. LegRan side machine.moves window c.args.end (machine.stands x) new waited (machine.waiting x) before) (sym late.stays)
-          (leg_waits side machine.moves window c.args.end (machine.stands c.steps.machine) old new waited (machine.waiting c.steps.machine) before was late.hears
-          (late.held_back was.after.now was.now_stands).mine);
-      risen = risen_on c.steps.refused (wire.seen c.args.pass.now).half.tally.refused old.tally.refused new.tally.refused before_it.risen late.one_refused;
-      in_row = λ m stands.
-          let there = subst (λ x. machine.stands x m) late.stays stands in
-          subst (λ x. InRow (call_of (machine.moves.act m)) (machine.stamp_of x) (c.steps.refused + 1) new.tally) (sym late.stays)
-          (in_row_on (call_of (machine.moves.act m)) (machine.stamp_of c.steps.machine) c.steps.refused old.tally new.tally c.in-Err.late (before_it.in_row m there)
-          (omega (arith, before_it.few, c.ranges.tries.fits)) (late.held_back m there).tally);
     }

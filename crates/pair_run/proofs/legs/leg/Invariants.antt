@@ -1,4 +1,5 @@
 use Rattle.std.proofs.Common.{◌≡◌, ◌+◌, ◌-◌, ◌*◌, ◌<◌, ◌≤◌, length}
+use Rattle.std.specs.Prelude.{if◌then◌else◌}
 use Rattle.clock_ratio.specs.Stamp.{window_of}
 use Rattle.commute_laws.specs.History.{History}
 use Rattle.port_wire.specs.Tally.{HasRisenBy}
@@ -25,6 +26,6 @@ invariant-steps g l =
           → InRow (call_of (machine.moves.act m)) (machine.stamp_of l.machine) l.refused (wire.seen l.pass).half.tally;
     }
 
--- the stamps to the end, and the tries that are left
+-- the stamps to the end, the tries that are left, and whether the clock is still to be told
 abbrev pub decreases-steps : goal.decreases-steps
-decreases-steps g l = (l.end - g.M.Machine.stamp_of l.machine) * (l.tries + 1) + (l.tries - l.refused)
+decreases-steps g l = (l.end - g.M.Machine.stamp_of l.machine) * (l.tries + 2) + (l.tries - l.refused) + (if l.told then 0 else 1)
