@@ -2,6 +2,7 @@ ghost use Rattle.std.specs.Prelude.{◌≡◌, ◌+◌, ◌^◌, ◌<◌, ◌≤
 ghost use Rattle.clock_ratio.specs.Stamp.{least_of, window_of};
 ghost use Rattle.commute_laws.specs.History.{History};
 ghost use Rattle.port_wire.specs.Answers.{HearsOn};
+ghost use Rattle.port_wire.specs.Tally.{counted_on};
 ghost use Rattle.pair_run.specs.Tried.{Tried, IsHeldBack, call_of};
 
 use clock_ratio::{least, window};
@@ -31,6 +32,8 @@ fn try_quiet<W: Wire, M: Machine>(
     ensures rises { OnOk result (M.stamp_of machine.old + least_of (M.region_of machine.old) ≤ M.stamp_of machine.new) }
     ensures emits_at_most { length (M.waiting machine.new) ≤ length (M.waiting machine.old) + M.MOST }
     ensures stays { OnErr result (machine.new ≡ machine.old) }
+    ensures none_refused { OnOk result ((W.seen pass.new).half.tally.refused ≡ (W.seen pass.old).half.tally.refused) }
+    ensures one_refused { OnErr result ((W.seen pass.new).half.tally.refused ≡ counted_on (W.seen pass.old).half.tally.refused) }
     ensures held_back { IfErr result (λ late. (m : M.State) → M.stands machine.old m → IsHeldBack (call_of (M.moves.act m)) (M.stamp_of machine.old) late (W.seen pass.old).half (W.seen pass.new).half) }
 {
     let at = machine.stamp();
@@ -66,6 +69,8 @@ fn try_read<W: Wire, M: Machine>(
     ensures rises { OnOk result (M.stamp_of machine.old + least_of (M.region_of machine.old) ≤ M.stamp_of machine.new) }
     ensures emits_at_most { length (M.waiting machine.new) ≤ length (M.waiting machine.old) + M.MOST }
     ensures stays { OnErr result (machine.new ≡ machine.old) }
+    ensures none_refused { OnOk result ((W.seen pass.new).half.tally.refused ≡ (W.seen pass.old).half.tally.refused) }
+    ensures one_refused { OnErr result ((W.seen pass.new).half.tally.refused ≡ counted_on (W.seen pass.old).half.tally.refused) }
     ensures held_back { IfErr result (λ late. (m : M.State) → M.stands machine.old m → IsHeldBack (call_of (M.moves.act m)) (M.stamp_of machine.old) late (W.seen pass.old).half (W.seen pass.new).half) }
 {
     let at = machine.stamp();
@@ -98,6 +103,8 @@ fn try_clear<W: Wire, M: Machine>(
     ensures rises { OnOk result (M.stamp_of machine.old + least_of (M.region_of machine.old) ≤ M.stamp_of machine.new) }
     ensures emits_at_most { length (M.waiting machine.new) ≤ length (M.waiting machine.old) + M.MOST }
     ensures stays { OnErr result (machine.new ≡ machine.old) }
+    ensures none_refused { OnOk result ((W.seen pass.new).half.tally.refused ≡ (W.seen pass.old).half.tally.refused) }
+    ensures one_refused { OnErr result ((W.seen pass.new).half.tally.refused ≡ counted_on (W.seen pass.old).half.tally.refused) }
     ensures held_back { IfErr result (λ late. (m : M.State) → M.stands machine.old m → IsHeldBack (call_of (M.moves.act m)) (M.stamp_of machine.old) late (W.seen pass.old).half (W.seen pass.new).half) }
 {
     let at = machine.stamp();
@@ -131,6 +138,8 @@ fn try_write<W: Wire, M: Machine>(
     ensures rises { OnOk result (M.stamp_of machine.old + least_of (M.region_of machine.old) ≤ M.stamp_of machine.new) }
     ensures emits_at_most { length (M.waiting machine.new) ≤ length (M.waiting machine.old) + M.MOST }
     ensures stays { OnErr result (machine.new ≡ machine.old) }
+    ensures none_refused { OnOk result ((W.seen pass.new).half.tally.refused ≡ (W.seen pass.old).half.tally.refused) }
+    ensures one_refused { OnErr result ((W.seen pass.new).half.tally.refused ≡ counted_on (W.seen pass.old).half.tally.refused) }
     ensures held_back { IfErr result (λ late. (m : M.State) → M.stands machine.old m → IsHeldBack (call_of (M.moves.act m)) (M.stamp_of machine.old) late (W.seen pass.old).half (W.seen pass.new).half) }
 {
     let at = machine.stamp();
@@ -160,6 +169,8 @@ pub(crate) fn attempt<W: Wire, M: Machine>(
     ensures rises { OnOk result (M.stamp_of machine.old + least_of (M.region_of machine.old) ≤ M.stamp_of machine.new) }
     ensures emits_at_most { length (M.waiting machine.new) ≤ length (M.waiting machine.old) + M.MOST }
     ensures stays { OnErr result (machine.new ≡ machine.old) }
+    ensures none_refused { OnOk result ((W.seen pass.new).half.tally.refused ≡ (W.seen pass.old).half.tally.refused) }
+    ensures one_refused { OnErr result ((W.seen pass.new).half.tally.refused ≡ counted_on (W.seen pass.old).half.tally.refused) }
     ensures held_back { IfErr result (λ late. (m : M.State) → M.stands machine.old m → IsHeldBack (call_of (M.moves.act m)) (M.stamp_of machine.old) late (W.seen pass.old).half (W.seen pass.new).half) }
 {
     match machine.act() {

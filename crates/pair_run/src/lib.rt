@@ -11,9 +11,16 @@
 #![tactic(auto)]
 
 mod attempt;
+mod earlier;
 mod ends;
 mod gate;
+mod legs;
+mod stepped;
+mod turns;
 
 pub use ends::LegEnd;
 pub use gate::Gate;
+pub use legs::leg;
 pub use port_wire::{CallName, PassLate, Wire};
+pub use stepped::Stepped;
+pub use turns::{Turned, turn};

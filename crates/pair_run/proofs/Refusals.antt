@@ -1,0 +1,74 @@
+-- How the tally counts: refusals of one call in a row, and how the stamps and tries run out.
+use Rattle.std.proofs.Common.{◌≡◌, ℕ, zero, suc, ◌+◌, ◌-◌, ◌*◌, ◌^◌, ◌<◌, ◌≤◌, ◌⊎◌, inl, inr, true, Some, refl, ap, sym, ◌∙◌, subst, arith}
+use Rattle.std.proofs.Math.Nat.{mul-le-mul_right}
+use Rattle.std.specs.Prelude.{if◌then◌else◌}
+use Rattle.port_wire.specs.declared.late.PassLate.{PassLate}
+use Rattle.port_wire.specs.declared.late.CallName.{CallName}
+use Rattle.port_wire.specs.declared.late.CallName.TheVariants.{Read, Clear, Write, Advance}
+use Rattle.port_wire.specs.Seen.{Half}
+use Rattle.port_wire.specs.Tally.{Tally, same_name, is_again, counted_on, after_refusal, HasRisenBy}
+use Rattle.pair_run.specs.Leg.{IsSpent}
+
+-- the last calls, so many, were all of this name at this stamp, and each was refused
+pub record InRow (name : CallName) (at k : ℕ) (tally : Tally) : Type 0 where
+  pub row : k ≤ tally.row
+  pub again : 1 ≤ k → is_again tally.last name at ≡ true
+
+pub none_in_row : (name : CallName) (at : ℕ) (tally : Tally) → InRow name at 0 tally
+none_in_row name at tally = record { row = omega arith; again = λ some. absurd (omega (arith, some)) }
+
+pub none_risen : (n : ℕ) → HasRisenBy 0 n n
+none_risen n = inl (omega arith)
+
+-- fewer have risen too
+pub risen_less : (k before after later : ℕ) → HasRisenBy k before after → later ≡ after → HasRisenBy 0 before later
+risen_less k before after later (inl h) is = inl (omega (arith, h, is))
+risen_less k before after later (inr h) is = inr (is ∙ h)
+
+counted_more : (n k : ℕ) → k ≤ n → k < 2 ^ 32 → k + 1 ≤ counted_on n
+counted_more n k le few = grind arith
+
+counted_risen : (k before after : ℕ) → HasRisenBy k before after → HasRisenBy (k + 1) before (counted_on after)
+counted_risen k before after h = grind arith
+
+pub risen_on : (k before after later : ℕ) → HasRisenBy k before after → later ≡ counted_on after → HasRisenBy (k + 1) before later
+risen_on k before after later h is = subst (HasRisenBy (k + 1) before) (sym is) (counted_risen k before after h)
+
+same_self : (name : CallName) → same_name name name ≡ true
+same_self Read = refl
+same_self Clear = refl
+same_self Write = refl
+same_self Advance = refl
+
+-- one refusal more in the row
+goes_on : (name : CallName) (at k : ℕ) (tally : Tally) (late : PassLate) → InRow name at k tally → k < 2 ^ 32
+    → k + 1 ≤ (after_refusal tally name at late).row
+goes_on name at zero tally late h few = counted_more (if is_again tally.last name at then tally.row else 0) 0 (omega arith) few
+goes_on name at (suc k) tally late h few = rw (h.again (omega arith)) (counted_more tally.row (suc k) h.row few)
+
+last_again : (name : CallName) (at : ℕ) (tally : Tally) (late : PassLate) → is_again (after_refusal tally name at late).last name at ≡ true
+last_again name at tally late = grind (arith, same_self)
+
+pub in_row_on : (name : CallName) (at k : ℕ) (tally later : Tally) (late : PassLate) → InRow name at k tally → k < 2 ^ 32
+    → later ≡ after_refusal tally name at late → InRow name at (k + 1) later
+in_row_on name at k tally later late h few is = subst (InRow name at (k + 1)) (sym is)
+    (record { row = goes_on name at k tally late h few; again = λ some. last_again name at tally late })
+
+-- a row of as many refusals as there are tries
+pub row_is_spent : (name : CallName) (at k tries : ℕ) (late : PassLate) (old mid new : Half)
+    → InRow name at k mid.tally → k < 2 ^ 32 → k + 1 ≡ tries
+    → HasRisenBy (k + 1) old.tally.refused new.tally.refused
+    → new.tally ≡ after_refusal mid.tally name at late → IsSpent name at late tries old new
+row_is_spent name at k tries late old mid new h few all risen is = record {
+  refused = subst (λ n. HasRisenBy n old.tally.refused new.tally.refused) all risen;
+  row = subst (λ n. n ≤ new.tally.row) all (in_row_on name at k mid.tally new.tally late h few is).row;
+  last = ap (λ (t : Tally). t.last) is;
+}
+
+runs_out : (a b tries refused : ℕ) → a + 1 ≤ b → a * (tries + 1) + (tries - 0) < b * (tries + 1) + (tries - refused)
+runs_out a b tries refused less = omega (arith, mul-le-mul_right (tries + 1) less)
+
+-- a step below the end leaves fewer stamps, however many tries it gives back
+pub stamps_run_out : (end at next tries refused : ℕ) → at < end → at < next
+    → (end - next) * (tries + 1) + (tries - 0) < (end - at) * (tries + 1) + (tries - refused)
+stamps_run_out end at next tries refused below rises = runs_out (end - next) (end - at) tries refused (omega (arith, below, rises))

@@ -1,0 +1,58 @@
+ghost use Rattle.std.specs.Prelude.{◌≡◌, ◌+◌, ◌*◌, ◌^◌, ◌<◌, ◌≤◌, ◌↔◌, ℕ, length};
+ghost use Rattle.clock_ratio.specs.Stamp.{window_of};
+ghost use Rattle.commute_laws.specs.History.{History};
+ghost use Rattle.pair_run.specs.Leg.{LegRan, IfHeldBack, IsSpent};
+ghost use Rattle.pair_run.specs.Tried.{call_of};
+
+use crate::attempt::attempt;
+use crate::ends::{LegEnd, held_back};
+use crate::gate::Gate;
+use port_wire::Wire;
+use side_law::Machine;
+
+/// Lets a machine run by itself over its pass, until it has come to `end`, has no room for the bytes of
+/// two more steps, or the call of its next step was refused `tries` times in a row.
+pub fn leg<W: Wire, M: Machine, G: Gate>(
+    wire: &W,
+    pass: &mut W::Pass,
+    machine: &mut M,
+    gate: &G,
+    turn: u64,
+    end: u64,
+    tries: u32,
+) -> LegEnd
+    requires of { W.is_pass_of wire.now pass.old }
+    requires region { M.region_of machine.old ≡ W.region_of wire.now }
+    requires tries { 1 ≤ tries }
+    requires ready { length (M.waiting machine.old) + 2 * M.MOST ≤ M.CAP }
+    requires clock { (W.seen pass.old).half.at ≤ M.stamp_of machine.old }
+    requires end { end ≤ 2 ^ 62 }
+    ensures still_of { W.is_pass_of wire.now pass.new }
+    ensures side { (W.seen pass.new).side ≡ (W.seen pass.old).side }
+    ensures clock { (W.seen pass.new).half.at ≤ M.stamp_of machine.new }
+    ensures same_region { M.region_of machine.new ≡ M.region_of machine.old }
+    ensures room { length (M.waiting machine.new) + M.MOST ≤ M.CAP }
+    ensures ran { (before : History M.State) → M.stands machine.old before.now → before.entries ≡ (W.seen pass.old).half.mine → LegRan (W.seen pass.old).side M.moves (window_of (W.region_of wire.now)) end (M.stands machine.new) (W.seen pass.new).half (M.waiting machine.old) (M.waiting machine.new) before }
+    ensures done { (result ≡ LegEnd.Done) ↔ (end ≤ M.stamp_of machine.new) }
+    ensures drain { (result ≡ LegEnd.Drain) ↔ ((M.stamp_of machine.new < end) × (¬ (length (M.waiting machine.new) + 2 * M.MOST ≤ M.CAP))) }
+    ensures spent { (m : M.State) → M.stands machine.new m → IfHeldBack result (λ late. IsSpent (call_of (M.moves.act m)) (M.stamp_of machine.new) late tries (W.seen pass.old).half (W.seen pass.new).half) }
+{
+    gate.arrive(wire.side(pass), turn);
+    let mut refused = 0;
+    'steps: while machine.stamp() < end && machine.ready() {
+        match attempt(wire, pass, machine) {
+            Ok(()) => refused = 0,
+            Err(late) => {
+                refused += 1;
+                if refused == tries {
+                    return held_back(late);
+                }
+            }
+        }
+    }
+    if machine.stamp() < end {
+        LegEnd::Drain
+    } else {
+        LegEnd::Done
+    }
+}
