@@ -1,5 +1,6 @@
 -- A command of words in a form runs at most 36,000 frames.
 use Rattle.std.proofs.Common.{◌≡◌, ℕ, ◌≤◌, Bool, true, false, ◌&&◌, nat_le, nat_eq, if◌then◌else◌, List, [], ◌∷◌, length, codes, Option, None, Some, refl, sym, ap, ◌∙◌, subst, arith}
+use Rattle.std.proofs.lemmas.Bool.{leb-true}
 use Rattle.std.specs.Str.{bytes_eq}
 use Rattle.run_io.specs.Number.{number_of}
 use Rattle.run_io.specs.Command.{given, value_of, number_up_to, number_in, frame_count_in, image_number_in, files_in, make_in, demo_in, command_of}
@@ -16,7 +17,7 @@ up_to : (most : ℕ) (read : Option ℕ) (n : ℕ) → number_up_to most read �
 up_to most None n h = absurd cc
 up_to most (Some m) n h =
     let go : (b : Bool) → nat_le m most ≡ b → (if b then Some m else None) ≡ Some n → n ≤ most
-    = elim [ true ↦ λ is k. let e : m ≡ n = some_is m n k in grind arith | false ↦ λ is k. absurd cc ] in
+    = elim [ true ↦ λ is k. subst (λ x. x ≤ most) (some_is m n k) (leb-true m most is) | false ↦ λ is k. absurd cc ] in
     go (nat_le m most) refl h
 
 number_few : (digits most : ℕ) (word : List ℕ) (n : ℕ) → number_in digits most word ≡ Some n → n ≤ most
