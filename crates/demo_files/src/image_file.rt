@@ -4,7 +4,7 @@ ghost use Rattle.demo_files.specs.Image.{head_of, number_next, byte_of};
 use snes_defs::NoMemory;
 use std::alloc::Global;
 
-/// The bytes of an image, and of its part that the generator doesn't make.
+/// The bytes of an image, and of its first page, which the generator doesn't make.
 const SIZE: usize = 0x8_0000;
 
 const HEAD: usize = 0x8000;
@@ -34,26 +34,36 @@ static HEADER: [u8; 64] = [
 
 /// The cartridge that a number makes: 512 KiB of LoROM with a small program, whose other pages are
 /// the upper bytes of x = 1664525 x + 1013904223 modulo 2^32, from the number on.
+#[tactic(auto, using(crate::proofs::Numbers::number_none, crate::proofs::Numbers::number_more, crate::proofs::Numbers::byte_head, crate::proofs::Numbers::byte_behind))]
 pub fn image(alloc: Global, number: u32) -> Result<Vec<u8>, NoMemory>
     ensures size { IfOk result (λ image. vec_len image ≡ 524288) }
     ensures bytes { IfOk result (λ image. (offset : ℕ) → offset < 524288 → slice_index image.items offset ≡ byte_of number offset) }
 {
-    let Ok(mut image) = Vec::with_capacity(alloc, SIZE) else {
-        return Err(NoMemory);
-    };
+    let mut image = first_page(alloc)?;
     let mut x = number;
-    for offset in 0..SIZE {
-        let byte = if offset < HEAD {
-            head(offset)
-        } else {
-            x = next(x);
-            (x / 0x100_0000) as u8
-        };
-        if image.push(byte).is_err() {
+    'pages: while image.len() < SIZE {
+        x = next(x);
+        if image.push((x / 0x100_0000) as u8).is_err() {
             return Err(NoMemory);
         }
     }
     Ok(image)
+}
+
+/// The first page of the image, with room for the others.
+fn first_page(alloc: Global) -> Result<Vec<u8>, NoMemory>
+    ensures size { IfOk result (λ page. vec_len page ≡ 32768) }
+    ensures bytes { IfOk result (λ page. (offset : ℕ) → offset < 32768 → slice_index page.items offset ≡ head_of offset) }
+{
+    let Ok(mut page) = Vec::with_capacity(alloc, SIZE) else {
+        return Err(NoMemory);
+    };
+    for offset in 0..HEAD {
+        if page.push(head(offset)).is_err() {
+            return Err(NoMemory);
+        }
+    }
+    Ok(page)
 }
 
 /// A byte of the first page: program, header or zero.

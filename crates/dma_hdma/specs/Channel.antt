@@ -1,6 +1,6 @@
 -- What one channel does. Source: fullsnes, "SNES DMA and HDMA Channel 0..7 Registers"; the order of the bytes, and that a transfer
 -- has no clocks beyond those of its bytes, is this project's own profile.
-use Rattle.std.specs.Prelude.{ℕ, ◌+◌, ◌-◌, ◌*◌, ◌/◌, ◌%◌, Bool, true, false, not, ◌&&◌, ◌||◌, nat_eq, nat_lt, if◌then◌else◌, Option, Some, None}
+use Rattle.std.specs.Prelude.{ℕ, ◌+◌, ◌*◌, ◌/◌, ◌%◌, Bool, true, false, not, ◌&&◌, ◌||◌, nat_eq, nat_lt, if◌then◌else◌, Option, Some, None}
 use Rattle.dma_hdma.specs.declared.channel_state.Channel.{Channel}
 use Rattle.dma_hdma.specs.declared.channel_state.Work.{Work}
 use Rattle.dma_hdma.specs.declared.channel_state.Work.TheVariants.{Idle, Send, Line, Low, High}

@@ -1,6 +1,6 @@
 -- The eight channels together: which byte is next, and what the calls do to the channels. HDMA goes before DMA, and each from
 -- channel 0 up. Source: fullsnes, "SNES DMA and HDMA Start/Enable Registers"; the order is this project's own profile.
-use Rattle.std.specs.Prelude.{◌≡◌, ℕ, ◌+◌, ◌*◌, ◌/◌, ◌%◌, ◌<◌, Bool, nat_eq, List, [], ◌∷◌, map, position, slice_set, Option, Some, None}
+use Rattle.std.specs.Prelude.{ℕ, ◌/◌, ◌%◌, ◌<◌, Bool, nat_eq, List, [], ◌∷◌, position, slice_set, Option, Some, None}
 use Rattle.std.specs.List.{slice_index_or}
 use Rattle.dma_hdma.specs.declared.channel_state.Channel.{Channel}
 use Rattle.dma_hdma.specs.declared.moves.Move.{Move}

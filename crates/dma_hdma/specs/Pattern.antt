@@ -1,5 +1,5 @@
 -- The patterns of DMAP bits 2 to 0. Source: fullsnes, "SNES DMA and HDMA Channel 0..7 Registers" (unit sizes).
-use Rattle.std.specs.Prelude.{ℕ, ◌+◌, ◌*◌, ◌%◌, List, [], ◌∷◌, ◌++◌, slice_index}
+use Rattle.std.specs.Prelude.{ℕ, ◌+◌, ◌*◌, ◌%◌, List, [], ◌∷◌, slice_index}
 
 -- what a pattern adds to the B address for four bytes one after another; shorter patterns begin again
 abbrev pub offsets : List ℕ

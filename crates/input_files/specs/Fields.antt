@@ -1,5 +1,5 @@
 -- A line of a script that holds a span. This project's own format.
-use Rattle.std.specs.Prelude.{ℕ, ◌+◌, ◌-◌, ◌*◌, Bool, not, ◌&&◌, ◌||◌, nat_le, nat_lt, nat_eq, if◌then◌else◌, List, [], ◌∷◌, length, take, drop, position, Option, Some, None, unwrap_or, option_and_then}
+use Rattle.std.specs.Prelude.{ℕ, ◌+◌, ◌-◌, ◌*◌, Bool, not, ◌&&◌, ◌||◌, nat_le, nat_eq, if◌then◌else◌, List, [], ◌∷◌, length, take, drop, position, Option, Some, None, unwrap_or}
 use Rattle.std.specs.Char.{is_ascii_digit}
 use Rattle.snes_defs.specs.declared.script.Span.{Span}
 

@@ -6,15 +6,11 @@
 // told too.
 #![tactic(auto)]
 
-mod asked;
-mod command;
 mod lines;
 mod order;
 mod read;
-mod read_command;
 mod words;
 
-pub use command::Command;
 pub use file_shelf::{
     Failed, FileShelf, Input, LoadEnd, MemShelf, Out, Shelf, ShelfCall, SureShelf,
 };
@@ -25,7 +21,6 @@ pub use lines::{
 };
 pub use order::{Files, Name, Order, WordsEnd};
 pub use read::read_words;
-pub use read_command::read_command;
 pub use words::Argv;
 
 #[cfg(test)]
