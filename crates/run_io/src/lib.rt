@@ -6,11 +6,16 @@
 // told too.
 #![tactic(auto)]
 
+mod asked;
+mod command_words;
+mod commands;
 mod lines;
 mod order;
 mod read;
 mod words;
 
+pub use command_words::read_command;
+pub use commands::Command;
 pub use file_shelf::{
     Failed, FileShelf, Input, LoadEnd, MemShelf, Out, Shelf, ShelfCall, SureShelf,
 };

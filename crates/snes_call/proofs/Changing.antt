@@ -4,8 +4,8 @@ use Rattle.file_shelf.specs.declared.shelves.Out.{Out}
 use Rattle.file_shelf.specs.declared.shelves.Out.TheVariants.{Video, Sound, Image, Say}
 use Rattle.file_shelf.specs.Shown.{Shown, IsPassedOver, IsKept, OnlyCreates}
 use Rattle.run_io.specs.declared.order.Files.{Files}
-use Rattle.run_io.specs.declared.command.Command.{Command}
-use Rattle.run_io.specs.declared.command.Command.TheVariants.{Run, Serial, Make, Demo}
+use Rattle.run_io.specs.declared.commands.Command.{Command}
+use Rattle.run_io.specs.declared.commands.Command.TheVariants.{Run, Serial, Make, Demo}
 use Rattle.snes_call.specs.RunFiles.{OnlySays}
 use Rattle.snes_call.specs.Changes.{OnlyRunsFiles}
 use Rattle.snes_call.specs.Commands.{creates, OnlyCommanded}

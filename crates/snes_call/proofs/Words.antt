@@ -5,8 +5,8 @@ use Rattle.std.specs.Str.{bytes_eq}
 use Rattle.run_io.specs.Number.{number_of}
 use Rattle.run_io.specs.Command.{given, value_of, number_up_to, number_in, frame_count_in, image_number_in, files_in, make_in, demo_in, command_of}
 use Rattle.run_io.specs.declared.order.Files.{Files}
-use Rattle.run_io.specs.declared.command.Command.{Command}
-use Rattle.run_io.specs.declared.command.Command.TheVariants.{Run, Serial, Make, Demo}
+use Rattle.run_io.specs.declared.commands.Command.{Command}
+use Rattle.run_io.specs.declared.commands.Command.TheVariants.{Run, Serial, Make, Demo}
 use Rattle.snes_call.specs.Commands.{HasFewFrames}
 
 some_is : {A : Type 0} (a b : A) → Some a ≡ Some b → a ≡ b

@@ -7,7 +7,7 @@ use Rattle.file_shelf.specs.declared.shelves.Out.TheVariants as out
 use Rattle.file_shelf.specs.Shown.{Shown}
 use Rattle.file_shelf.specs.Told.{HasRisen}
 use Rattle.run_io.specs.declared.order.Files.{Files}
-use Rattle.run_io.specs.declared.command.Command.{Command}
+use Rattle.run_io.specs.declared.commands.Command.{Command}
 use Rattle.snes_call.specs.declared.run_files.CommandEnd.TheVariants as end
 use Rattle.snes_call.specs.declared.status.Status.{Status}
 use Rattle.snes_call.specs.declared.status.Status.TheVariants.{Ok, Usage, LoadFault, Refused, WriteFault, NoMemory}

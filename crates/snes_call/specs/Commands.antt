@@ -5,8 +5,8 @@ use Rattle.file_shelf.specs.declared.shelves.Out.{Out}
 use Rattle.file_shelf.specs.declared.shelves.Out.TheVariants.{Video, Sound, Image, Say}
 use Rattle.file_shelf.specs.Shown.{Shown, IsUntouched, IsPassedOver, IsKept}
 use Rattle.run_io.specs.declared.order.Files.{Files}
-use Rattle.run_io.specs.declared.command.Command.{Command}
-use Rattle.run_io.specs.declared.command.Command.TheVariants.{Run, Serial, Make, Demo}
+use Rattle.run_io.specs.declared.commands.Command.{Command}
+use Rattle.run_io.specs.declared.commands.Command.TheVariants.{Run, Serial, Make, Demo}
 use Rattle.snes_call.specs.declared.run_files.CommandEnd.{CommandEnd}
 use Rattle.snes_call.specs.declared.run_files.CommandEnd.TheVariants.{NoMemory}
 use Rattle.snes_call.specs.Outputs.{IsVideoBegun, IsSoundBegun}
