@@ -134,6 +134,7 @@ fn value_of<'a>(words: &'a [Word], option: &str) -> Option<&'a Word>
 }
 
 /// The word behind an option.
+#[tactic(auto, using(crate::proofs::CommandLemmas::value_next))]
 fn value_in<'a>(words: &'a [Word], option: &str) -> Option<&'a Word>
     ensures value { MatchOption result (value_in words.now option.now ≡ None) (λ word. value_in words.now option.now ≡ Some word.now) }
 {
@@ -142,8 +143,10 @@ fn value_in<'a>(words: &'a [Word], option: &str) -> Option<&'a Word>
     if name.text() == option {
         return Some(value);
     }
-    let found = value_in(rest, option)?;
-    Some(found)
+    match value_in(rest, option) {
+        Some(found) => Some(found),
+        None => None,
+    }
 }
 
 /// A number of so many decimal digits at most, and at most so large.
