@@ -1,11 +1,11 @@
 -- Sums of bytes, as 64 bits keep them.
-use Rattle.std.proofs.Common.{◌≡◌, ℕ, ◌+◌, ◌%◌, ◌^◌, List, [], ◌∷◌, ◌++◌, sum, sym, ap, ◌∙◌, arith}
+use Rattle.std.proofs.Common.{◌≡◌, ℕ, ◌+◌, ◌%◌, ◌^◌, List, ◌++◌, sum, sym, ap, ◌∙◌}
 use Rattle.std.proofs.Math.Nat.{mod-add-mod}
+use Rattle.std.proofs.lemmas.List.Sums.{sum_by-append}
 use Rattle.snes_call.specs.Made.{sum_in}
 
 sum_append : (xs ys : List ℕ) → sum (xs ++ ys) ≡ sum xs + sum ys
-sum_append [] ys = omega arith
-sum_append (x ∷ xs) ys = omega (arith, sum_append xs ys)
+sum_append xs ys = sum_by-append (λ x. x) xs ys
 
 -- the sum of more bytes behind others
 pub sum_more : (start : ℕ) (had bytes : List ℕ) → start ≡ sum_in had → (start + sum bytes) % 2 ^ 64 ≡ sum_in (had ++ bytes)

@@ -1,5 +1,5 @@
 -- How a call ends, from how its command ended and what was said.
-use Rattle.std.proofs.Common.{◌≡◌, ◌≢◌, ℕ, ◌≤◌, List, Option, None, Some, IfSome, refl, sym, ap, ◌∙◌, subst, inl, inr, ⊎_elim, arith}
+use Rattle.std.proofs.Common.{◌≡◌, ◌≢◌, ℕ, ◌≤◌, List, Option, None, Some, IfSome, Result, Ok as good, Err, IfOk, IfErr, refl, sym, ap, ◌∙◌, subst, inl, inr, ⊎_elim, arith}
 use Rattle.std.specs.Prelude.{◌⊎◌}
 use Rattle.snes_defs.specs.declared.cart.Job.{Job}
 use Rattle.file_shelf.specs.declared.shelves.Out.{Out}
@@ -38,6 +38,14 @@ kept_then a b c first then = record {
   load_faults = λ name. omega (arith, first.load_faults name, ap (λ (f : List ℕ → ℕ). f name) then.load_faults);
   write_faults = λ any. omega (arith, first.write_faults any, then.write_faults any);
 }
+
+pub puts_others : (a b : Shown) (any : Out) → OnlyPuts a b out.Say → (any ≡ out.Say) ⊎ IsPassedOver a b any
+puts_others a b out.Say h = inl refl
+puts_others a b out.Video h = inr (h.others out.Video (λ e. cc))
+puts_others a b out.Sound h = inr (h.others out.Sound (λ e. cc))
+puts_others a b out.Image h = inr (h.others out.Image (λ e. cc))
+
+pub ruleset unread = (puts_only_say, puts_kept, puts_others)
 
 module _ (emits : Job → List ℕ → List ℕ → Type 0) (command : Command) (before mid after : Shown) (over : IsPassedOver before mid out.Say) (puts : OnlyPuts mid after out.Say) where
   since : (line : List ℕ) (status : Status) → Says mid after line status → Says before after line status
@@ -95,6 +103,13 @@ module _ (emits : Job → List ℕ → List ℕ → Type 0) (command : Command) 
       (λ h. subst (λ (s : Status). IfSome (refusal_of s) Said) (sym h.answer) tt)
       says
 
+  passes : (any : Out) → any ≢ out.Say → IsPassedOver before mid any → IsPassedOver before after any
+  passes any differ h = record {
+    written = (puts.others any differ).written ∙ h.written;
+    named = (puts.others any differ).named ∙ h.named;
+    write_faults = (puts.others any differ).write_faults ∙ h.write_faults;
+  }
+
   -- what was said since the command was done was said since the call began
   said_since : (line : List ℕ) → IsSaid mid after line → IsSaid before after line
   said_since line h = record {
@@ -106,3 +121,26 @@ module _ (emits : Job → List ℕ → List ℕ → Type 0) (command : Command) 
   pub refusal_since : (line : Option (List ℕ)) → IfSome line (IsSaid mid after) → IfSome line (IsSaid before after)
   refusal_since None h = tt
   refusal_since (Some line) h = said_since line h
+
+  -- either way
+  pub call_ends : (outcome : Result (List ℕ) CommandEnd) (status : Status)
+      → IfOk outcome (IsDone emits command before mid) → IfErr outcome (EndsCommand emits command before mid)
+      → IfOk outcome (λ line. Says mid after line status) → IfErr outcome (λ e. status ≡ status_of e)
+      → EndsCall emits command before after status
+  call_ends (good line) status done ends says is = done_ends line status done says
+  call_ends (Err e) status done ends says is = not_done_ends e status ends is
+
+  pub call_says : (outcome : Result (List ℕ) CommandEnd) (status : Status)
+      → IfOk outcome (λ line. Says mid after line status) → IfErr outcome (λ e. status ≡ status_of e)
+      → IfErr outcome (λ e. IfSome (refusal_of (status_of e)) (IsSaid mid after))
+      → IfSome (refusal_of status) (IsSaid before after)
+  call_says (good line) status says is said = no_refusal line status (IsSaid before after) says
+  call_says (Err e) status says is said =
+      subst (λ (s : Status). IfSome (refusal_of s) (IsSaid before after)) (sym is) (refusal_since (refusal_of (status_of e)) said)
+
+  -- the outputs that the command doesn't create
+  pub call_passes : (any : Out) → IsPassedOver before mid any → (any ≡ out.Say) ⊎ IsPassedOver before after any
+  call_passes out.Say h = inl refl
+  call_passes out.Video h = inr (passes out.Video (λ e. cc) h)
+  call_passes out.Sound h = inr (passes out.Sound (λ e. cc) h)
+  call_passes out.Image h = inr (passes out.Image (λ e. cc) h)

@@ -1,5 +1,5 @@
 -- The clauses of `snes`, each from how the call ended.
-use Rattle.std.proofs.Common.{◌≡◌, ◌≢◌, ℕ, ◌<◌, ◌≤◌, List, length, take, Option, None, Some, IfSome, IsSomeAnd, true, false, refl, sym, ap, ◌∙◌, subst, inl, inr, ⊎_elim, arith}
+use Rattle.std.proofs.Common.{◌≡◌, ◌≢◌, ℕ, ◌+◌, ◌*◌, ◌<◌, ◌≤◌, List, length, take, Option, None, Some, IfSome, IsSomeAnd, true, false, refl, sym, ap, ◌∙◌, subst, inl, inr, ⊎_elim, arith}
 use Rattle.std.specs.Prelude.{◌⊎◌}
 use Rattle.std.proofs.lemmas.List.{take_all}
 use Rattle.snes_defs.specs.declared.cart.Job.{Job}
@@ -40,7 +40,7 @@ few_inputs input.Table lt = absurd (omega arith)
 few_inputs input.Script lt = absurd (omega arith)
 
 -- outputs are created after all inputs were accepted
-after_inputs : (any : Out) (i : Input) → ¬ (place_of (Create any) < place_of (stage_of (LoadFault i)))
+after_inputs : (any : Out) (i : Input) → ¬ (place_of (Create any) < 2 + 2 * order_of i)
 after_inputs out.Video i lt = few_inputs i (omega arith)
 after_inputs out.Sound i lt = few_inputs i (omega arith)
 after_inputs out.Image i lt = few_inputs i (omega arith)
@@ -270,8 +270,8 @@ module _ (emits : Job → List ℕ → List ℕ → Type 0) (before after : Show
     begun (WriteFault out.Video) h any made late = begun_before command out.Video any made late h
     begun (WriteFault out.Sound) h any made late = begun_before command out.Sound any made late h
     begun (WriteFault out.Image) h any made late = begun_before command out.Image any made late h
-    begun (LoadFault i) h any made late = absurd (after_inputs any i late)
-    begun (Refused cause) h any made late = absurd (after_inputs any (input_of cause) (omega arith))
+    begun (LoadFault i) h any made late = absurd (after_inputs any i (omega arith))
+    begun (Refused cause) h any made late = absurd (after_inputs any (input_of cause) late)
     begun NoMemory h any made late = absurd (omega arith)
     begun Usage h any made late = absurd h
 

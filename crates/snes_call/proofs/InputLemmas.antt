@@ -41,10 +41,10 @@ too_long Cart bytes long =
 too_long Boot bytes long = λ size. absurd (omega arith)
 too_long Table bytes long =
     let other : nat_eq (length bytes) 1024 ≡ false = differs (length bytes) 1024 long in
-    subst (λ b. MatchBool b (IsFirstLarge bytes 512) (512 ≡ 512)) (sym other) refl
+    subst (λ b. MatchBool b (IsFirstLarge bytes 512) (◌≡◌ {A = ℕ} 512 512)) (sym other) refl
 too_long Script bytes long =
     let more : nat_lt 1048576 (length bytes) ≡ true = lt-ltb 1048576 (length bytes) long in
-    subst (λ b. MatchBool b (0 ≡ 0) (script_of bytes ≡ Err 0)) (sym more) refl
+    subst (λ b. MatchBool b (◌≡◌ {A = ℕ} 0 0) (script_of bytes ≡ Err 0)) (sym more) refl
 
 pub longer_is_refused : (input : Input) (told : Option (List ℕ)) → IfSome told (λ bytes. limit_of input < length bytes) → IfSome told (λ bytes. AreRefused bytes (too_long_of input))
 longer_is_refused input None long = tt
@@ -106,12 +106,12 @@ one_ends a b c files any (Refused cause) only earlier (is, refused) = record {
 one_ends a b c files any NoMemory only earlier h = tt
 
 pub loads_then : (a b c : Shown) → OnlyLoads a b → OnlyLoads b c → OnlyLoads a c
-loads_then a b c first then = record {
-  held = then.held ∙ first.held;
-  written = then.written ∙ first.written;
-  named = then.named ∙ first.named;
-  write_faults = then.write_faults ∙ first.write_faults;
-  load_faults = λ name. omega (arith, first.load_faults name, then.load_faults name);
+loads_then a b c first next = record {
+  held = next.held ∙ first.held;
+  written = next.written ∙ first.written;
+  named = next.named ∙ first.named;
+  write_faults = next.write_faults ∙ first.write_faults;
+  load_faults = λ name. omega (arith, first.load_faults name, next.load_faults name);
 }
 
 pub loads_none : (a : Shown) → OnlyLoads a a

@@ -15,26 +15,37 @@ use file_shelf::Shelf;
 use run_io::{Command, WordsEnd};
 use std::alloc::Global;
 
+/// Does what a command asks for, says how it ended, and gives the answer.
+fn commanded<P: Player, H: Shelf>(alloc: Global, command: &Command, shelf: &mut H) -> Status
+    requires { HasFewFrames command.now }
+    ensures ends { EndsCall P.emits command.now (H.shown shelf.old) (H.shown shelf.new) result }
+    ensures others { (out : Out) → creates command.now out ≡ false → (out ≡ Out.Say) ⊎ IsPassedOver (H.shown shelf.old) (H.shown shelf.new) out }
+    ensures said { IfSome (refusal_of result) (IsSaid (H.shown shelf.old) (H.shown shelf.new)) }
+    ensures kept { IsKept (H.shown shelf.old) (H.shown shelf.new) }
+{
+    let outcome = follow::<P, H>(alloc, command, shelf);
+    say(shelf, outcome)
+}
+
 /// Does what words that were read ask for, and says how it ended.
+#[tactic(auto, using(crate::proofs::Calls::unread))]
 pub(crate) fn called<P: Player, H: Shelf>(
     alloc: Global,
-    read: Result<Command, WordsEnd>,
+    read: &Result<Command, WordsEnd>,
     shelf: &mut H,
 ) -> Status
-    requires { IfOk read HasFewFrames }
-    ensures ends { IfOk read (λ command. EndsCall P.emits command (H.shown shelf.old) (H.shown shelf.new) result) }
-    ensures usage { IsErrOf read WordsEnd.Usage → result ≡ Status.Usage }
-    ensures no_memory { IsErrOf read WordsEnd.NoMemory → result ≡ Status.NoMemory }
-    ensures unread { IfErr read (λ end. OnlySays (H.shown shelf.old) (H.shown shelf.new)) }
+    requires { IfOk read.now HasFewFrames }
+    ensures ends { IfOk read.now (λ command. EndsCall P.emits command (H.shown shelf.old) (H.shown shelf.new) result) }
+    ensures usage { IsErrOf read.now WordsEnd.Usage → result ≡ Status.Usage }
+    ensures no_memory { IsErrOf read.now WordsEnd.NoMemory → result ≡ Status.NoMemory }
+    ensures unread { IfErr read.now (λ end. OnlySays (H.shown shelf.old) (H.shown shelf.new)) }
+    ensures unread_others { IfErr read.now (λ end. (out : Out) → (out ≡ Out.Say) ⊎ IsPassedOver (H.shown shelf.old) (H.shown shelf.new) out) }
     ensures said { IfSome (refusal_of result) (IsSaid (H.shown shelf.old) (H.shown shelf.new)) }
-    ensures others { IfOk read (λ command. (out : Out) → creates command out ≡ false → (out ≡ Out.Say) ⊎ IsPassedOver (H.shown shelf.old) (H.shown shelf.new) out) }
+    ensures others { IfOk read.now (λ command. (out : Out) → creates command out ≡ false → (out ≡ Out.Say) ⊎ IsPassedOver (H.shown shelf.old) (H.shown shelf.new) out) }
     ensures kept { IsKept (H.shown shelf.old) (H.shown shelf.new) }
 {
     match read {
-        Ok(command) => {
-            let outcome = follow::<P, H>(alloc, &command, shelf);
-            say(shelf, outcome)
-        }
+        Ok(command) => commanded::<P, H>(alloc, command, shelf),
         Err(WordsEnd::Usage) => refuse(shelf, Status::Usage),
         Err(WordsEnd::NoMemory) => refuse(shelf, Status::NoMemory),
     }

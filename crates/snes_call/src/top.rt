@@ -61,5 +61,5 @@ pub fn snes<P: Player, R: AllocGlobal, H: Shelf>(rt: &R, words: &Argv, shelf: &m
 {
     let alloc = rt.alloc();
     let read = read_command(alloc, words);
-    called::<P, H>(alloc, read, shelf)
+    called::<P, H>(alloc, &read, shelf)
 }

@@ -2,7 +2,7 @@ ghost use Rattle.std.specs.Prelude.{◌≡◌, ◌≤◌, ◌⊎◌, [], OnOk, O
 ghost use Rattle.snes_defs.specs.declared.cart.Job.{Job};
 ghost use Rattle.file_shelf.specs.Told.{Holds, HasRisen};
 ghost use Rattle.file_shelf.specs.Shown.{IsUntouched, IsCreated, OnlyCreates, OnlyRuns};
-ghost use Rattle.run_drive.specs.Outputs.{OnlyFills};
+ghost use Rattle.run_drive.specs.Outputs.{OnlyFills, output_of};
 ghost use Rattle.snes_call.specs.Played.{PlayedWhole, PlayedFirst};
 ghost use Rattle.snes_call.specs.Outputs.{taken_by, HoldsRun, EndsRun};
 
@@ -10,7 +10,7 @@ use crate::player::Player;
 use file_shelf::{Failed, Out, Shelf};
 use run_drive::out_of;
 use run_io::{Files, Name};
-use snes_defs::Job;
+use snes_defs::{Job, Side};
 use std::alloc::Global;
 
 /// How the two machines of a run are stepped. What they emit is the same.
@@ -41,6 +41,22 @@ pub(crate) fn create<H: Shelf>(shelf: &mut H, out: Out, name: &Name) -> Result<(
     shelf.create(out, name.text())
 }
 
+/// Plays one way or the other.
+fn play_by<P: Player, H: Shelf>(player: P, way: Way, shelf: &mut H) -> Result<(), Side>
+    requires at_start { (job : Job) × P.plays player job }
+    requires video_created { Holds ((H.shown shelf.old).written Out.Video) [] }
+    requires sound_created { Holds ((H.shown shelf.old).written Out.Sound) [] }
+    ensures whole { OnOk result ((job : Job) → P.plays player job → PlayedWhole (P.emits job) (taken_by (H.shown shelf.new))) }
+    ensures first { (job : Job) → P.plays player job → PlayedFirst (P.emits job) (taken_by (H.shown shelf.new)) }
+    ensures failed { IfErr result (λ side. HasRisen ((H.shown shelf.old).write_faults (output_of side)) ((H.shown shelf.new).write_faults (output_of side))) }
+    ensures only { OnlyFills (H.shown shelf.old) (H.shown shelf.new) }
+{
+    match way {
+        Way::Serial => player.play_serial(shelf),
+        Way::Turns => player.play_turns(shelf),
+    }
+}
+
 /// Plays into two outputs that were created. Err names the one that was not written.
 fn play<P: Player, H: Shelf>(player: P, way: Way, shelf: &mut H) -> Result<(), Out>
     requires at_start { (job : Job) × P.plays player job }
@@ -52,11 +68,7 @@ fn play<P: Player, H: Shelf>(player: P, way: Way, shelf: &mut H) -> Result<(), O
     ensures failed { IfErr result (λ out. HasRisen ((H.shown shelf.old).write_faults out) ((H.shown shelf.new).write_faults out)) }
     ensures only { OnlyFills (H.shown shelf.old) (H.shown shelf.new) }
 {
-    let end = match way {
-        Way::Serial => player.play_serial(shelf),
-        Way::Turns => player.play_turns(shelf),
-    };
-    match end {
+    match play_by(player, way, shelf) {
         Ok(()) => Ok(()),
         Err(side) => Err(out_of(side)),
     }

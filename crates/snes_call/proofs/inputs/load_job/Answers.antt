@@ -1,4 +1,4 @@
-use Rattle.std.proofs.Common.{◌≡◌, refl}
+use Rattle.std.proofs.Common.{◌≡◌, refl, rules}
 use Rattle.file_shelf.specs.declared.shelves.Input.TheVariants.{Cart, Boot, Table, Script}
 use Rattle.input_files.specs.Table.{IsTableFile}
 use Rattle.snes_call.specs.Readers.{AreAccepted, IsScriptIn}
@@ -9,13 +9,15 @@ pub returns-in_err-cart-clause-ends : goal.returns-in_err-cart-clause-ends
 returns-in_err-cart-clause-ends g c =
     let before = g.H.Shelf.shown c.args.shelf.now in
     let files = c.args.files.now in
-    one_ends before before _ files Cart _ (loads_none before) (before_cart before files) c.in_err-cart.ensures.ends
+    let ends = one_ends before before (g.H.Shelf.shown c.load_cart.new.shelf) files Cart _ (loads_none before) (before_cart before files) c.in_err-cart.ensures.ends in
+    search rules
 
 pub returns-in_err-boot-clause-ends : goal.returns-in_err-boot-clause-ends
 returns-in_err-boot-clause-ends g c =
     let before = g.H.Shelf.shown c.args.shelf.now in
     let files = c.args.files.now in
-    one_ends before _ _ files Boot _ c.load_cart.ensures.only (before_boot before files c.in_ok-cart.ensures.accepted) c.in_err-boot.ensures.ends
+    let ends = one_ends before (g.H.Shelf.shown c.load_cart.new.shelf) (g.H.Shelf.shown c.load_boot.new.shelf) files Boot _ c.load_cart.ensures.only (before_boot before files c.in_ok-cart.ensures.accepted) c.in_err-boot.ensures.ends in
+    search rules
 
 pub returns-in_err-table-clause-ends : goal.returns-in_err-table-clause-ends
 returns-in_err-table-clause-ends g c =
@@ -23,9 +25,10 @@ returns-in_err-table-clause-ends g c =
     let files = c.args.files.now in
     let first = c.load_cart.ensures.only in
     let second = loads_then _ _ _ first c.load_boot.ensures.only in
-    one_ends before _ _ files Table _ second
+    let ends = one_ends before (g.H.Shelf.shown c.load_boot.new.shelf) (g.H.Shelf.shown c.load_table.new.shelf) files Table _ second
     (before_table before files c.in_ok-cart.ensures.accepted (shows_still before _ files Boot (AreAccepted Boot) first c.in_ok-boot.ensures.accepted))
-    c.in_err-table.ensures.ends
+        c.in_err-table.ensures.ends in
+    search rules
 
 pub returns-in_err-script-clause-ends : goal.returns-in_err-script-clause-ends
 returns-in_err-script-clause-ends g c =
@@ -34,11 +37,12 @@ returns-in_err-script-clause-ends g c =
     let first = c.load_cart.ensures.only in
     let second = loads_then _ _ _ first c.load_boot.ensures.only in
     let third = loads_then _ _ _ second c.load_table.ensures.only in
-    one_ends before _ _ files Script _ third
+    let ends = one_ends before (g.H.Shelf.shown c.load_table.new.shelf) (g.H.Shelf.shown c.load_script.new.shelf) files Script _ third
     (before_script before files c.in_ok-cart.ensures.accepted
     (shows_still before _ files Boot (AreAccepted Boot) first c.in_ok-boot.ensures.accepted)
     (shows_still before _ files Table (AreAccepted Table) second c.in_ok-table.ensures.accepted))
-    c.in_err-script.ensures.ends
+        c.in_err-script.ensures.ends in
+    search rules
 
 pub returns-clause-job : goal.returns-clause-job
 returns-clause-job g c =
@@ -57,5 +61,5 @@ returns-clause-job g c =
       table = shows_still before _ files Table (λ bytes. IsTableFile bytes c.in_ok-table.table) second c.in_ok-table.ensures.read;
       script = shows_still before _ files Script (λ bytes. IsScriptIn bytes c.in_ok-script.script) third c.in_ok-script.ensures.read;
       frames = refl;
-      region = c.region.ensures;
+      region = c.region-region.ensures;
     }

@@ -26,3 +26,12 @@ returns-in-Ok-play-clause-whole g c =
     (still_created _ _ _ _ (c.create-2.ensures.only.others Video (λ e. cc)) c.in-Ok-create.ensures.created)
     c.in-Ok-create-2.ensures.created first c.play.ensures.only
     (c.in-Ok-play.ensures.whole c.args.job.now c.in-Ok.ensures.starts)
+
+pub returns-in-Err-clause-ends : goal.returns-in-Err-clause-ends
+returns-in-Err-clause-ends g c =
+    let first = only_runs_then _ _ _ (creates_video _ _ c.create.ensures.only) (creates_sound _ _ c.create-2.ensures.only) in
+    run_fails g.P.Player.emits c.args.job.now c.args.files.now _ _ _
+    (still_created _ _ _ _ (c.create-2.ensures.only.others Video (λ e. cc)) c.in-Ok-create.ensures.created)
+    c.in-Ok-create-2.ensures.created first c.play.ensures.only
+    c.in-Err.out c.in-Err.ensures.of_run c.in-Err.ensures.failed
+    (c.play.ensures.first c.args.job.now c.in-Ok.ensures.starts)
