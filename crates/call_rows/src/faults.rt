@@ -45,7 +45,10 @@ fn each_failed_creation_is_named(rt: HostRuntime) -> Result<(), Fail> {
 fn a_line_that_is_not_said_is_a_fault_only_of_ok(rt: HostRuntime) -> Result<(), Fail> {
     let mut shelf = planned(&rt)?;
     shelf.fail(ShelfCall::Put(None), 1)?;
-    assert_eq!(rt; called(&rt, &RUN, &mut shelf)?, Status::WriteFault(Out::Say));
+    assert_eq!(rt;
+        called(&rt, &RUN, &mut shelf)?,
+        Status::WriteFault(Out::Say)
+    );
     assert_eq!(rt; shelf.written(Out::Say).len(), 0);
     let mut shelf = planned(&rt)?;
     shelf.hold("boot", &[])?;
@@ -62,10 +65,16 @@ fn an_image_is_made_whole_or_its_fault_is_named(rt: HostRuntime) -> Result<(), F
     assert_eq!(rt; called(&rt, &words, &mut shelf)?, Status::Ok);
     assert_eq!(rt; shelf.written(Out::Say), b"image 524288\n".as_slice());
     assert_eq!(rt; shelf.named(Out::Image), "made");
-    assert_eq!(rt; shelf.written(Out::Image).get(..4), Some([0x78u8, 0x18, 0xfb, 0xe2].as_slice()));
+    assert_eq!(rt;
+        shelf.written(Out::Image).get(..4),
+        Some([0x78u8, 0x18, 0xfb, 0xe2].as_slice())
+    );
     let mut shelf = planned(&rt)?;
     shelf.fail(ShelfCall::Create, 1)?;
-    assert_eq!(rt; called(&rt, &words, &mut shelf)?, Status::WriteFault(Out::Image));
+    assert_eq!(rt;
+        called(&rt, &words, &mut shelf)?,
+        Status::WriteFault(Out::Image)
+    );
     assert_eq!(rt; shelf.written(Out::Say), b"cannot write image\n".as_slice());
     Ok(())
 }

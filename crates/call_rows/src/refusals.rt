@@ -34,7 +34,10 @@ fn a_cartridge_is_refused_with_its_cause(rt: HostRuntime) -> Result<(), Fail> {
 fn a_cartridge_may_be_too_long(rt: HostRuntime) -> Result<(), Fail> {
     let long = vec![in rt.alloc(); 0u8; 4_194_817]?;
     let line = "cart refused: too long\n";
-    assert_eq!(rt; said(&rt, "cart", &long.as_slice()[..4_194_305], line)?, (3, true));
+    assert_eq!(rt;
+        said(&rt, "cart", &long.as_slice()[..4_194_305], line)?,
+        (3, true)
+    );
     assert_eq!(rt; said(&rt, "cart", long.as_slice(), line)?, (3, true));
     Ok(())
 }
@@ -43,7 +46,10 @@ fn a_cartridge_may_be_too_long(rt: HostRuntime) -> Result<(), Fail> {
 fn a_boot_rom_has_64_bytes(rt: HostRuntime) -> Result<(), Fail> {
     for count in [0usize, 63, 65] {
         let boot = vec![in rt.alloc(); 0xefu8; count]?;
-        assert_eq!(rt; said(&rt, "boot", boot.as_slice(), "boot refused\n")?, (3, true));
+        assert_eq!(rt;
+            said(&rt, "boot", boot.as_slice(), "boot refused\n")?,
+            (3, true)
+        );
     }
     Ok(())
 }
@@ -58,7 +64,10 @@ fn a_table_is_refused_at_a_place(rt: HostRuntime) -> Result<(), Fail> {
         assert_eq!(rt; said(&rt, "table", &table[..count], line)?, (3, true));
     }
     table[1023] = 8;
-    assert_eq!(rt; said(&rt, "table", &table[..1024], "table refused at 511\n")?, (3, true));
+    assert_eq!(rt;
+        said(&rt, "table", &table[..1024], "table refused at 511\n")?,
+        (3, true)
+    );
     Ok(())
 }
 
@@ -66,14 +75,20 @@ fn a_table_is_refused_at_a_place(rt: HostRuntime) -> Result<(), Fail> {
 fn a_script_is_refused_at_a_line(rt: HostRuntime) -> Result<(), Fail> {
     for (script, line) in [
         ("1 80 0", "script refused at line 1\n"),
-        ("20000 0000 0000\n20000 0000 0000\n", "script refused at line 2\n"),
+        (
+            "20000 0000 0000\n20000 0000 0000\n",
+            "script refused at line 2\n",
+        ),
         ("version 2 ntsc\nreset\n", "script refused at line 2\n"),
         ("reset", "script refused at line 1\n"),
     ] {
         assert_eq!(rt; said(&rt, "script", script.as_bytes(), line)?, (3, true));
     }
     let long = vec![in rt.alloc(); b'\n'; 1_048_577]?;
-    assert_eq!(rt; said(&rt, "script", long.as_slice(), "script refused at line 0\n")?, (3, true));
+    assert_eq!(rt;
+        said(&rt, "script", long.as_slice(), "script refused at line 0\n")?,
+        (3, true)
+    );
     Ok(())
 }
 

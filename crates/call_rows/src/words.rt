@@ -7,10 +7,12 @@ fn is_usage(rt: &HostRuntime, words: &[&str]) -> Result<bool, Fail> {
     let mut shelf = sure(rt, "script", &[])?;
     let status = called(rt, words, &mut shelf)?;
     let line = b"usage: snes run, serial, make or demo\n";
-    Ok(status.exit() == 1
-        && shelf.written(Out::Say) == line.as_slice()
-        && shelf.named(Out::Video).is_empty()
-        && shelf.named(Out::Image).is_empty())
+    Ok(
+        status.exit() == 1
+            && shelf.written(Out::Say) == line.as_slice()
+            && shelf.named(Out::Video).is_empty()
+            && shelf.named(Out::Image).is_empty(),
+    )
 }
 
 /// The words of a run with another word at one place.
@@ -60,7 +62,10 @@ fn pairs_may_stand_in_any_order(rt: HostRuntime) -> Result<(), Fail> {
 #[test]
 fn a_demo_says_its_sums(rt: HostRuntime) -> Result<(), Fail> {
     let mut shelf = sure(&rt, "script", &[])?;
-    assert_eq!(rt; called(&rt, &["demo", "0", "--frames", "1"], &mut shelf)?.exit(), 0);
+    assert_eq!(rt;
+        called(&rt, &["demo", "0", "--frames", "1"], &mut shelf)?.exit(),
+        0
+    );
     let line = b"frames 1 samples 532 video 0 sound 0\n";
     assert_eq!(rt; shelf.written(Out::Say), line.as_slice());
     assert_eq!(rt; shelf.named(Out::Video), "");

@@ -21,8 +21,8 @@ first_of a rest b e = ap (take (length a)) (sym e) ∙ take-append_seam a rest
 some_begins : (had more rest b : List ℕ) (count : ℕ) → (had ++ more) ++ rest ≡ b → (had ++ take count more) ++ (drop count more ++ rest) ≡ b
 some_begins had more rest b count e =
     sym (append_assoc (had ++ take count more) (drop count more) rest)
-        ∙ ap (λ v. v ++ rest) (append_assoc had (take count more) (drop count more) ∙ ap (λ v. had ++ v) (take-append-drop {A = ℕ} count more))
-        ∙ e
+    ∙ ap (λ v. v ++ rest) (append_assoc had (take count more) (drop count more) ∙ ap (λ v. had ++ v) (take-append-drop {A = ℕ} count more))
+    ∙ e
 
 first_held : (Holds : List ℕ → Type 0) (had more rest b : List ℕ) (count : ℕ) → (had ++ more) ++ rest ≡ b → Holds (had ++ take count more)
     → Holds (take (length (had ++ take count more)) b)

@@ -24,16 +24,16 @@ one_refusal r a b p q = cc
 one_entry : (bytes : List ℕ) (a b : ℕ) → IsRefusedAt bytes a → IsRefusedAt bytes b → a ≡ b
 one_entry bytes a b =
     elim (nat_eq (length bytes) 1024) as (λ right. MatchBool right (IsFirstLarge bytes a) (a ≡ 512) → MatchBool right (IsFirstLarge bytes b) (b ≡ 512) → a ≡ b) [
-      true ↦ λ h k. ⊎_elim (λ e. e) (⊎_elim (λ lt. absurd (omega (arith, k.first a lt, h.large))) (λ lt. absurd (omega (arith, h.first b lt, k.large)))) (cases_order a b)
-    | false ↦ λ h k. h ∙ sym k
+      | true ↦ λ h k. ⊎_elim (λ e. e) (⊎_elim (λ lt. absurd (omega (arith, k.first a lt, h.large))) (λ lt. absurd (omega (arith, h.first b lt, k.large)))) (cases_order a b)
+      | false ↦ λ h k. h ∙ sym k
     ]
 
 -- a script is refused at one line
 one_line : (bytes : List ℕ) (a b : ℕ) → AreRefused bytes (why.Script a) → AreRefused bytes (why.Script b) → a ≡ b
 one_line bytes a b =
     elim (nat_lt 1048576 (length bytes)) as (λ long. MatchBool long (a ≡ 0) (script_of bytes ≡ Err a) → MatchBool long (b ≡ 0) (script_of bytes ≡ Err b) → a ≡ b) [
-      true ↦ λ h k. h ∙ sym k
-    | false ↦ λ h k. one_refusal (script_of bytes) a b h k
+      | true ↦ λ h k. h ∙ sym k
+      | false ↦ λ h k. one_refusal (script_of bytes) a b h k
     ]
 
 -- the bytes of an input are refused for one cause
@@ -107,7 +107,7 @@ module _ (before : Shown) (files : Files) where
   refused_first cause other told h =
       ⊎_elim
       (λ e. told_causes (told_of before files (input_of other)) other cause (same_place (input_of other) (input_of cause) e) h.refused
-          (subst (λ (i : Input). IsSomeAnd (told_of before files i) (λ bytes. AreRefused bytes cause)) (sym (same_place (input_of other) (input_of cause) e)) told.refused))
+      (subst (λ (i : Input). IsSomeAnd (told_of before files i) (λ bytes. AreRefused bytes cause)) (sym (same_place (input_of other) (input_of cause) e)) told.refused))
       (⊎_elim
       (λ lt. absurd (not_refused other (told.earlier (input_of other) lt) h.refused))
       (λ lt. absurd (not_accepted cause told (h.earlier (input_of cause) lt))))

@@ -27,8 +27,8 @@ image_long : (file : List ℕ) → length file ≤ length (image_of file) + 512
 unfolding image_of
 image_long file =
     elim (nat_eq (length file % 1024) 512) as (λ front. length file ≤ length (if front then drop 512 file else file) + 512) [
-      true ↦ omega (arith, length-drop 512 file)
-    | false ↦ omega arith
+      | true ↦ omega (arith, length-drop 512 file)
+      | false ↦ omega arith
     ]
 
 -- what is longer than the limit of an input is refused

@@ -35,8 +35,8 @@ number_few : (digits most : ℕ) (word : List ℕ) (n : ℕ) → number_in digit
 unfolding number_in
 number_few digits most word n =
     elim (nat_le 1 (length word) && nat_le (length word) digits) as (λ b. (if b then number_up_to most (number_of word) else None) ≡ Some n → n ≤ most) [
-      true ↦ up_to most (number_of word) n
-    | false ↦ λ h. absurd cc
+      | true ↦ up_to most (number_of word) n
+      | false ↦ λ h. absurd cc
     ]
 
 frames_few : (word : Option (List ℕ)) (n : ℕ) → given word frame_count_in ≡ Some n → n ≤ 36000
@@ -75,7 +75,7 @@ files_few : (pairs : List (List ℕ)) (files : Files) → files_in pairs ≡ Som
 unfolding files_in
 files_few pairs files h =
     let read = frames_read (nat_eq (length pairs) 14) (value_of pairs (codes "--cart")) (value_of pairs (codes "--boot")) (value_of pairs (codes "--table")) (value_of pairs (codes "--script"))
-        (given (value_of pairs (codes "--frames")) frame_count_in) (value_of pairs (codes "--video")) (value_of pairs (codes "--audio")) files h in
+    (given (value_of pairs (codes "--frames")) frame_count_in) (value_of pairs (codes "--video")) (value_of pairs (codes "--audio")) files h in
     subst (λ n. n ≤ 36000) (sym read.2) (frames_few (value_of pairs (codes "--frames")) read.0 read.1)
 
 make_read : (size : Bool) (number : Option ℕ) (out : Option (List ℕ)) (command : Command)

@@ -22,8 +22,8 @@ returns-in_default-clause-first g c = λ m n console sound.
     let of_sound = g.met.S.Machine g.world.𝓛 g.world.𝓜 g.world.𝓡 ((λ s x. x), (λ x. x), (λ x. x), λ x. x) in
     let region = C.region_of c.args.console in
     let output = run_ends region (C.valid region) (S.valid region) C.MOST S.MOST C.moves S.moves (of_console.lawful region) (of_sound.lawful region) (serial_of m n) c.args.end
-        (serving_at_first (C.valid region) (S.valid region) m n (of_console.stands_valid c.args.console m console)
-        (subst (λ r. S.valid r n) (sym c.requires.region) (of_sound.stands_valid c.args.sound n sound))) in
+    (serving_at_first (C.valid region) (S.valid region) m n (of_console.stands_valid c.args.console m console)
+    (subst (λ r. S.valid r n) (sym c.requires.region) (of_sound.stands_valid c.args.sound n sound))) in
     console_failed C.moves S.moves C.stands S.stands c.args.end m n _ c.console_turns.new.self c.console.result.now c.console.result.now C.waiting
     (g.K.Sink.holds c.loop-serial.sink) (g.K.Sink.holds c.pour.new.sink) (c.loop-serial.invariant.running m n console sound)
     c.console_turns.ensures.turned c.console.ensures.value (λ had. c.pour.ensures.other Sound had (λ e. cc)) c.in_default.ensures.some output
@@ -36,11 +36,11 @@ returns-in_default-pour-clause-first g c = λ m n console sound.
     let of_sound = g.met.S.Machine g.world.𝓛 g.world.𝓜 g.world.𝓡 ((λ s x. x), (λ x. x), (λ x. x), λ x. x) in
     let region = C.region_of c.args.console in
     let output = run_ends region (C.valid region) (S.valid region) C.MOST S.MOST C.moves S.moves (of_console.lawful region) (of_sound.lawful region) (serial_of m n) c.args.end
-        (serving_at_first (C.valid region) (S.valid region) m n (of_console.stands_valid c.args.console m console)
-        (subst (λ r. S.valid r n) (sym c.requires.region) (of_sound.stands_valid c.args.sound n sound))) in
+    (serving_at_first (C.valid region) (S.valid region) m n (of_console.stands_valid c.args.console m console)
+    (subst (λ r. S.valid r n) (sym c.requires.region) (of_sound.stands_valid c.args.sound n sound))) in
     let mid = console_taken C.moves S.moves C.stands S.stands c.args.end m n _ c.console_turns.new.self c.console.result.now c.pour.new.machine C.waiting
-        (g.K.Sink.holds c.loop-serial.sink) (g.K.Sink.holds c.pour.new.sink) (c.loop-serial.invariant.running m n console sound)
-        c.console_turns.ensures.turned c.console.ensures.value (λ had. c.pour.ensures.other Sound had (λ e. cc)) c.pour.ensures.state c.in-Ok.ensures.whole in
+    (g.K.Sink.holds c.loop-serial.sink) (g.K.Sink.holds c.pour.new.sink) (c.loop-serial.invariant.running m n console sound)
+    c.console_turns.ensures.turned c.console.ensures.value (λ had. c.pour.ensures.other Sound had (λ e. cc)) c.pour.ensures.state c.in-Ok.ensures.whole in
     sound_failed C.moves S.moves C.stands S.stands c.args.end m n _ c.sound_turns.new.self c.sound.result.now c.sound.result.now S.waiting
     (g.K.Sink.holds c.pour.new.sink) (g.K.Sink.holds c.pour-in-loop-serial.new.sink) mid
     c.sound_turns.ensures.turned c.sound.ensures.value (λ had. c.pour-in-loop-serial.ensures.other Console had (λ e. cc)) c.in_default-pour.ensures.some output
@@ -51,8 +51,8 @@ loop-serial-preserved g c = record {
       let C = g.C.Machine in
       let S = g.S.Machine in
       let mid = console_taken C.moves S.moves C.stands S.stands c.args.end m n _ c.console_turns.new.self c.console.result.now c.pour.new.machine C.waiting
-          (g.K.Sink.holds c.loop-serial.sink) (g.K.Sink.holds c.pour.new.sink) (c.loop-serial.invariant.running m n console sound)
-          c.console_turns.ensures.turned c.console.ensures.value (λ had. c.pour.ensures.other Sound had (λ e. cc)) c.pour.ensures.state c.in-Ok.ensures.whole in
+      (g.K.Sink.holds c.loop-serial.sink) (g.K.Sink.holds c.pour.new.sink) (c.loop-serial.invariant.running m n console sound)
+      c.console_turns.ensures.turned c.console.ensures.value (λ had. c.pour.ensures.other Sound had (λ e. cc)) c.pour.ensures.state c.in-Ok.ensures.whole in
       sound_taken C.moves S.moves C.stands S.stands c.args.end m n _ c.sound_turns.new.self c.sound.result.now c.pour-in-loop-serial.new.machine S.waiting
       (g.K.Sink.holds c.pour.new.sink) (g.K.Sink.holds c.pour-in-loop-serial.new.sink) mid
       c.sound_turns.ensures.turned c.sound.ensures.value (λ had. c.pour-in-loop-serial.ensures.other Console had (λ e. cc)) c.pour-in-loop-serial.ensures.state c.in-Ok-pour.ensures.whole;

@@ -27,7 +27,7 @@ returns-in_err-table-clause-ends g c =
     let second = loads_then _ _ _ first c.load_boot.ensures.only in
     let ends = one_ends before (g.H.Shelf.shown c.load_boot.new.shelf) (g.H.Shelf.shown c.load_table.new.shelf) files Table _ second
     (before_table before files c.in_ok-cart.ensures.accepted (shows_still before _ files Boot (AreAccepted Boot) first c.in_ok-boot.ensures.accepted))
-        c.in_err-table.ensures.ends in
+    c.in_err-table.ensures.ends in
     search rules
 
 pub returns-in_err-script-clause-ends : goal.returns-in_err-script-clause-ends
@@ -41,7 +41,7 @@ returns-in_err-script-clause-ends g c =
     (before_script before files c.in_ok-cart.ensures.accepted
     (shows_still before _ files Boot (AreAccepted Boot) first c.in_ok-boot.ensures.accepted)
     (shows_still before _ files Table (AreAccepted Table) second c.in_ok-table.ensures.accepted))
-        c.in_err-script.ensures.ends in
+    c.in_err-script.ensures.ends in
     search rules
 
 pub returns-clause-job : goal.returns-clause-job

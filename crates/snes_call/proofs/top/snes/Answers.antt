@@ -9,21 +9,21 @@ pub returns-clause-refused_always : goal.returns-clause-refused_always
 returns-clause-refused_always g c = λ command files cause asked own told.
     let shows = g.H.Shelf.shown in
     let h = ended g.P.Player.emits c.args.words.now (shows c.args.shelf.now) (shows c.called.new.shelf) c.called.result c.read_command-read.result command
-        c.read_command-read.ensures.command c.read_command-read.ensures.usage c.called.ensures.ends c.called.ensures.no_memory c.called.ensures.unread asked in
+    c.read_command-read.ensures.command c.read_command-read.ensures.usage c.called.ensures.ends c.called.ensures.no_memory c.called.ensures.unread asked in
     clause.refused_always g.P.Player.emits (shows c.args.shelf.now) (shows c.called.new.shelf) files cause told command own c.called.result h
 
 pub returns-clause-left : goal.returns-clause-left
 returns-clause-left g c = λ command out asked made.
     let shows = g.H.Shelf.shown in
     let h = ended g.P.Player.emits c.args.words.now (shows c.args.shelf.now) (shows c.called.new.shelf) c.called.result c.read_command-read.result command
-        c.read_command-read.ensures.command c.read_command-read.ensures.usage c.called.ensures.ends c.called.ensures.no_memory c.called.ensures.unread asked in
+    c.read_command-read.ensures.command c.read_command-read.ensures.usage c.called.ensures.ends c.called.ensures.no_memory c.called.ensures.unread asked in
     clause.left g.P.Player.emits (shows c.args.shelf.now) (shows c.called.new.shelf) command c.called.result h out made
 
 pub returns-clause-begun : goal.returns-clause-begun
 returns-clause-begun g c = λ command out asked made late.
     let shows = g.H.Shelf.shown in
     let h = ended g.P.Player.emits c.args.words.now (shows c.args.shelf.now) (shows c.called.new.shelf) c.called.result c.read_command-read.result command
-        c.read_command-read.ensures.command c.read_command-read.ensures.usage c.called.ensures.ends c.called.ensures.no_memory c.called.ensures.unread asked in
+    c.read_command-read.ensures.command c.read_command-read.ensures.usage c.called.ensures.ends c.called.ensures.no_memory c.called.ensures.unread asked in
     clause.begun g.P.Player.emits (shows c.args.shelf.now) (shows c.called.new.shelf) command c.called.result h out made late
 
 pub returns-clause-others : goal.returns-clause-others
