@@ -1,2 +1,3 @@
 pub mod Timers
 pub mod Addresses
+pub mod Zeros

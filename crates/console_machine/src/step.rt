@@ -1,0 +1,99 @@
+ghost use Rattle.std.specs.Prelude.{◌≡◌, ◌+◌, ◌<◌, ◌≤◌, ◌++◌, ℕ, Option, Some, IsTrue, length};
+ghost use Rattle.cpu_modes.specs.Plan.{gets_byte, is_write, is_inner};
+ghost use Rattle.cpu_tables.specs.declared.access.Access.{Access};
+ghost use Rattle.cpu65816.specs.Instruction.{Standing, next_of};
+ghost use Rattle.cpu65816.specs.Stands.{Stands, access_of};
+ghost use Rattle.console_steps.specs.World.{World, Accesses, access_clocks, due_of, due_clocks, rest_after, processor_after, with_lines, world_after, bytes_after};
+ghost use Rattle.console_steps.specs.Stands.{IsAt};
+ghost use Rattle.cart_map.specs.Clocks.{clocks_of};
+ghost use Rattle.console_machine.specs.Dues.{due_from};
+
+use cart_map::clocks;
+use circular_buffer::HeapCircularBuffer;
+use console_bus::Bus;
+use console_steps::{give_lines, make_inner, make_move, make_read, make_reset, make_write, pass};
+use cpu_tables::Access;
+use cpu65816::Cpu;
+
+/// How many clocks an access at an address lasts.
+#[inline(always)]
+#[tactic(auto, using(crate::proofs::Few::few_clocks))]
+fn lasts(bus: &Bus, addr: u32) -> u8
+    requires { addr < 16777216 }
+    ensures clocks { result ≡ clocks_of addr bus.now.io.fast }
+    ensures few { result ≤ 40 }
+{
+    clocks(addr, bus.fast())
+}
+
+/// Makes the processor's next access, and answers how many clocks it lasts.
+#[inline(always)]
+fn make_access(cpu: &mut Cpu, bus: &mut Bus, got: u8) -> u8
+    ensures rest { bus.new ≡ rest_after bus.old (Accesses (access_of cpu.old)) got }
+    ensures processor { (s : Standing) → Stands cpu.old s → Stands cpu.new (with_lines (processor_after s bus.old (Accesses (access_of cpu.old)) got) bus.new) }
+    ensures clocks { result ≡ access_clocks (access_of cpu.old) bus.old.io.fast }
+    ensures few { result ≤ 40 }
+{
+    match cpu.next() {
+        Access::Fetch(addr) => {
+            let clocks = lasts(bus, addr);
+            make_read(cpu, bus, addr, got);
+            clocks
+        }
+        Access::Read(addr) => {
+            let clocks = lasts(bus, addr);
+            make_read(cpu, bus, addr, got);
+            clocks
+        }
+        Access::Write(addr, v) => {
+            let clocks = lasts(bus, addr);
+            make_write(cpu, bus, addr, v);
+            clocks
+        }
+        Access::Inner => {
+            make_inner(cpu, bus);
+            6
+        }
+    }
+}
+
+/// Makes the effect of the step that is due, and answers how many clocks the step lasts.
+#[inline(always)]
+pub(crate) fn make_effect(cpu: &mut Cpu, bus: &mut Bus, got: u8) -> u8
+    ensures rest { (s : Standing) → Stands cpu.old s → bus.new ≡ rest_after bus.old (due_from s bus.old) got }
+    ensures processor { (s : Standing) → Stands cpu.old s → Stands cpu.new (with_lines (processor_after s bus.old (due_from s bus.old) got) bus.new) }
+    ensures clocks { (s : Standing) → Stands cpu.old s → result ≡ due_clocks (due_from s bus.old) bus.old.io.fast }
+    ensures few { result ≤ 40 }
+{
+    if bus.resets() {
+        make_reset(cpu, bus);
+        return 6;
+    }
+    if bus.refreshes() {
+        bus.refreshed();
+        give_lines(cpu, bus);
+        return 40;
+    }
+    if let Some(due) = bus.transfer() {
+        make_move(bus, due, got);
+        give_lines(cpu, bus);
+        return 8;
+    }
+    make_access(cpu, bus, got)
+}
+
+/// Makes the step that is due.
+#[inline(always)]
+pub(crate) fn make_step(cpu: &mut Cpu, bus: &mut Bus, waiting: &mut HeapCircularBuffer<u8>, got: u8) -> u8
+    requires room { length waiting.old.items + 1024 ≤ waiting.old.capacity }
+    ensures at { (w : World) → IsAt cpu.old bus.old w → IsAt cpu.new bus.new (world_after w (due_of w) got) }
+    ensures bytes { (w : World) → IsAt cpu.old bus.old w → waiting.new.items ≡ waiting.old.items ++ bytes_after w (due_of w) got }
+    ensures clocks { (w : World) → IsAt cpu.old bus.old w → result ≡ due_clocks (due_of w) w.rest.io.fast }
+    ensures few { result ≤ 40 }
+    ensures size { length waiting.new.items ≤ length waiting.old.items + 1024 }
+    ensures capacity { waiting.new.capacity ≡ waiting.old.capacity }
+{
+    let clocks = make_effect(cpu, bus, got);
+    pass(cpu, bus, waiting, clocks as u16);
+    clocks
+}
