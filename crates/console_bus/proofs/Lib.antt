@@ -1,2 +1,4 @@
 pub mod Timers
 pub mod Addresses
+pub mod Zeros
+pub mod Starts

@@ -1,9 +1,9 @@
 -- What the beam's events do to the console, what a reset does, and what a row of the picture puts out.
-use Rattle.std.specs.Prelude.{ℕ, zero, suc, ◌+◌, ◌-◌, ◌*◌, ◌/◌, ◌%◌, ◌==◌, Bool, true, false, not, ◌&&◌, ◌||◌, nat_le, List, [], ◌∷◌, ◌++◌, map, if◌then◌else◌}
+use Rattle.std.specs.Prelude.{ℕ, zero, suc, ◌-◌, ◌/◌, ◌%◌, ◌==◌, Bool, true, false, not, ◌&&◌, ◌||◌, nat_le, List, [], ◌∷◌, ◌++◌, map, if◌then◌else◌}
 use Rattle.snes_defs.specs.Script.{pads_at, is_reset}
 use Rattle.beam.specs.declared.events.Event.{Event}
 use Rattle.beam.specs.declared.events.Event.TheVariants.{Line, Blank, HdmaFrame, Refresh, Draw, HdmaLine, Timer}
-use Rattle.io_math.specs.Registers.{registers_start, framed, blanked, timed}
+use Rattle.io_math.specs.Registers.{registers_start, blanked, timed}
 use Rattle.dma_hdma.specs.Channel.{framed as channel_framed, lined}
 use Rattle.ppu_regs.specs.Picture.{Picture}
 use Rattle.ppu_regs.specs.Writes.{after_write, after_over, after_frame, after_blank}

@@ -1,10 +1,9 @@
 -- Reads and writes of one byte: at the places of the address map, and at the registers of the B bus (2100
 -- to 21FF). After fullsnes ("SNES I/O Map", "SNES Memory Work RAM Access").
-use Rattle.std.specs.Prelude.{ℕ, ◌+◌, ◌*◌, ◌/◌, ◌%◌, ◌==◌, Bool, true, false, not, ◌&&◌, ◌||◌, nat_le, nat_lt, List, slice_index, slice_set, if◌then◌else◌}
+use Rattle.std.specs.Prelude.{ℕ, ◌+◌, ◌*◌, ◌/◌, ◌%◌, ◌==◌, Bool, ◌&&◌, nat_le, nat_lt, slice_index, slice_set, if◌then◌else◌}
 use Rattle.cart_map.specs.declared.places.Place.{Place}
 use Rattle.cart_map.specs.declared.places.Place.TheVariants.{Wram, Rom, Ram, BBus, Cpu, Open}
 use Rattle.cart_map.specs.Place.{bank_place_of}
-use Rattle.io_math.specs.declared.registers.IoRegisters.{IoRegisters}
 use Rattle.io_math.specs.Registers as io
 use Rattle.dma_hdma.specs.Channel as channel
 use Rattle.dma_hdma.specs.Channels.{channel_at, channel_number, register_number, by_bits}

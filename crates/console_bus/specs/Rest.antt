@@ -1,6 +1,6 @@
 -- The console without its processor: what it keeps, and how it starts. Start contents, and that memories
 -- start as zeros, are this project's own.
-use Rattle.std.specs.Prelude.{ℕ, ◌+◌, ◌*◌, ◌/◌, ◌%◌, ◌==◌, Bool, true, false, not, List, replicate, ◌++◌, length, if◌then◌else◌}
+use Rattle.std.specs.Prelude.{ℕ, ◌+◌, ◌==◌, Bool, false, List, replicate, ◌++◌, length, if◌then◌else◌}
 use Rattle.snes_defs.specs.declared.region.Region.{Region}
 use Rattle.snes_defs.specs.declared.spot.IrqTime.{IrqTime}
 use Rattle.snes_defs.specs.declared.spot.Spot.{Spot}

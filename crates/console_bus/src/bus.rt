@@ -17,7 +17,7 @@ use std::marker::Model;
 use tile_cache::TileCache;
 
 /// The bytes of work RAM.
-const WORK_RAM: usize = 131_072;
+pub(crate) const WORK_RAM: usize = 131_072;
 
 /// The console without its processor, seen in contracts as a `Rest`.
 #[derive(Drop)]

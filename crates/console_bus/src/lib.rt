@@ -9,6 +9,7 @@
 mod board;
 mod bus;
 mod happenings;
+mod start;
 
 pub use board::Board;
 pub use bus::Bus;

@@ -1,13 +1,17 @@
 -- A console side stays a console in the world that its step leads to.
-use Rattle.std.proofs.Common.{◌≡◌, ℕ, ◌+◌, ◌*◌, sym, ap, subst, ◌∙◌, arith}
+use Rattle.std.proofs.Common.{◌≡◌, ℕ, ◌+◌, ◌*◌, refl, sym, ap, subst, ◌∙◌, arith}
 use Rattle.snes_defs.specs.declared.region.Region.{Region}
 use Rattle.snes_defs.specs.declared.region.Region.TheVariants.{Ntsc, Pal}
 use Rattle.snes_defs.specs.declared.ports.Act.{Act}
+use Rattle.snes_defs.specs.declared.cart.Cart.{Cart}
+use Rattle.snes_defs.specs.Script.{Script}
+use Rattle.cpu65816.specs.Instruction.{at_reset}
+use Rattle.cpu65816.specs.Stands.{Stands}
 use Rattle.snes_defs.specs.declared.ports.Side.TheVariants.{Console}
 use Rattle.clock_ratio.specs.Stamp.{rate_of, stamp_of}
 use Rattle.side_law.specs.Moves.{taken}
-use Rattle.console_bus.specs.Rest.{Rest}
-use Rattle.console_steps.specs.World.{World, due_of, act_of, due_clocks, world_after, console_moves}
+use Rattle.console_bus.specs.Rest.{Rest, rest_start}
+use Rattle.console_steps.specs.World.{World, due_of, act_of, due_clocks, world_after, console_moves, console_start}
 use Rattle.console_steps.specs.Stands.{IsAt}
 use Rattle.console_machine.specs.Dues.{due_from}
 use Rattle.console_machine.specs.Side.{ConsoleValue, StandsAt}
@@ -45,3 +49,17 @@ pub act_at : (rest : Rest) (w : World) (act : Act) → rest ≡ w.rest → act �
 act_at rest w act e h =
     let P : Rest → Type 0 = λ r. act ≡ act_of r (due_from w.processor r) in
     sym (subst P e h)
+
+-- ---- at its start
+
+no_stamp : (region : Region) → 0 ≡ rate_of region Console * 0
+no_stamp Ntsc = refl
+no_stamp Pal = refl
+
+pub starts_at : (v : ConsoleValue) (cart : Cart) (script : Script) (region : Region) → Stands v.cpu at_reset
+    → v.rest ≡ rest_start cart script region → v.region ≡ region → v.stamp ≡ 0 → StandsAt v (console_start cart script region)
+starts_at v cart script region s r e z = record {
+  at = record { processor = s; rest = r };
+  stamp = z ∙ no_stamp v.region;
+  console = record { region = sym e; line = omega arith };
+}

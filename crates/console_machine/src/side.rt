@@ -1,10 +1,18 @@
-ghost use Rattle.std.specs.Prelude.{◌≡◌, ◌≤◌};
-ghost use Rattle.console_machine.specs.Side.{IsSome};
+ghost use Rattle.std.specs.Prelude.{◌≡◌, ◌≤◌, [], IfOk};
+ghost use Rattle.console_steps.specs.World.{console_start};
+ghost use Rattle.console_machine.specs.Side.{IsSome, StandsAt};
 
 use crate::parts::Parts;
+use circular_buffer::HeapCircularBuffer;
+use console_bus::Bus;
+use cpu65816::Cpu;
 use side_law::Machine;
-use snes_defs::{Act, Region};
+use snes_defs::{Act, Job, NoMemory, Region};
+use std::alloc::Global;
 use std::marker::Model;
+
+/// How many emitted bytes can wait.
+const ROOM: usize = 65_536;
 
 /// The console side of a console.
 #[derive(Drop)]
@@ -25,6 +33,27 @@ impl Model for ConsoleSide {
 }
 
 impl ConsoleSide {
+    /// The console side of a job before its first step. It takes all its memory here, and refuses only for
+    /// want of it.
+    pub fn new(alloc: Global, job: &Job) -> Result<ConsoleSide, NoMemory>
+        ensures starts { IfOk result (λ c. StandsAt c (console_start job.now.cart job.now.script job.now.region)) }
+        ensures empty { IfOk result (λ c. c.waiting ≡ []) }
+    {
+        let bus = Bus::new(alloc, &job.cart, &job.script, job.region)?;
+        let Ok(waiting) = HeapCircularBuffer::with_capacity(alloc, ROOM) else {
+            return Err(NoMemory);
+        };
+        Ok(ConsoleSide {
+            parts: Parts {
+                cpu: Cpu::new(),
+                bus,
+                region: job.region,
+                stamp: 0,
+                waiting,
+            },
+        })
+    }
+
     /// The value stands for some world.
     #[inline(always)]
     fn standing(&self)

@@ -32,6 +32,11 @@ fn boot_rom(program: &[u8]) -> [u8; 64] {
     boot
 }
 
+/// An interpolation table of zeros.
+fn empty_table() -> Table {
+    Table::of([0; 512])
+}
+
 /// A job of one cartridge byte, a table of zeros, and a script that may press reset in frame 1.
 fn job(alloc: Global, boot: [u8; 64], region: Region, with_reset: bool) -> io::Result<Job> {
     let resets = if with_reset {
@@ -46,7 +51,7 @@ fn job(alloc: Global, boot: [u8; 64], region: Region, with_reset: bool) -> io::R
             ram: 0,
         },
         boot,
-        table: Table::of([0; 512]),
+        table: empty_table(),
         script: Spans::versioned(Vec::new(alloc), region, resets),
         frames: 2,
         region,

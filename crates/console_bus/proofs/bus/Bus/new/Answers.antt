@@ -1,0 +1,18 @@
+use Rattle.std.proofs.Common.{ℕ, List, refl, sym, ap, subst, ◌∙◌, arith}
+use Rattle.tile_cache.specs.Planes.{IsInStep}
+use Rattle.console_bus.proofs.Starts.{sized, has_rom, beam_starts, same_start}
+use Rattle.console_bus.proofs.bus.Bus.new.Goals as goal
+
+pub invariant_of-result : goal.invariant_of-result
+invariant_of-result c = (
+  sized c.in_ok-memory.memory.items c.board.result c.args.cart.now c.board.ensures c.in_ok-memory.ensures,
+  has_rom c.board.result c.args.cart.now c.board.ensures c.args.cart.now.has_rom,
+  omega arith,
+  ap (λ b. b.timer) c.aim.ensures ∙ c.irq_time.ensures,
+  (let P : List ℕ → Type 0 = λ v. IsInStep c.in_ok-tiles.tiles v in subst P (sym (ap (λ p. p.vram) c.in_ok-ppu.ensures.start)) c.in_ok-tiles.ensures.start),
+)
+
+pub returns : goal.returns
+returns c =
+    same_start _ _ _ _ _ _ _ _ _ _ _ _ _ _ c.board.ensures c.in_ok-copied.ensures c.in_ok-memory.ensures c.first_io-io.ensures c.no_transfers.ensures c.in_ok-ppu.ensures.start
+    (beam_starts _ _ _ _ _ _ _ _ _ c.aim.ensures c.new-beam.ensures refl c.irq_time.ensures c.first_io-io.ensures)
