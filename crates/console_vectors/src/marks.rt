@@ -1,0 +1,91 @@
+use file_shelf::Failed;
+use run_drive::Sink;
+use snes_defs::Side;
+
+/// Where the hash of a frame begins: 64-bit FNV-1a.
+const START: u64 = 0xCBF2_9CE4_8422_2325;
+
+/// The bytes that one side emits in a frame: how many, and their hash.
+#[derive(Clone, Copy, Debug, PartialEq, Eq)]
+pub struct Frame {
+    pub size: u64,
+    pub hash: u64,
+}
+
+/// The frames that are expected of one side, and how many of those that came agree.
+#[derive(Drop)]
+pub struct Track {
+    pub frames: Vec<Frame>,
+    pub agree: usize,
+    next: usize,
+    size: u64,
+    hash: u64,
+}
+
+impl Track {
+    pub fn of(frames: Vec<Frame>) -> Track {
+        Track {
+            frames,
+            agree: 0,
+            next: 0,
+            size: 0,
+            hash: START,
+        }
+    }
+
+    /// Whether every expected frame came and agrees.
+    pub fn agrees(&self) -> bool {
+        self.agree == self.frames.len()
+    }
+
+    /// One byte more.
+    fn add(&mut self, byte: u8) {
+        self.hash = (self.hash ^ byte as u64).wrapping_mul(0x100_0000_01B3);
+        self.size = self.size.saturating_add(1);
+        if let Some(frame) = self.frames.get(self.next) {
+            if frame.size == self.size {
+                if frame.hash == self.hash {
+                    self.agree = self.agree.saturating_add(1);
+                }
+                self.next = self.next.saturating_add(1);
+                self.size = 0;
+                self.hash = START;
+            }
+        }
+    }
+
+    fn add_all(&mut self, bytes: &[u8]) {
+        for byte in bytes {
+            self.add(*byte);
+        }
+    }
+}
+
+/// Both sides' frames. What it took is nobody's question, so it may have taken anything.
+#[derive(Drop)]
+pub struct Marks {
+    pub video: Track,
+    pub sound: Track,
+}
+
+impl Sink for Marks {
+    ghost holds = { λ marks side bytes. Unit {0} };
+
+    ghost only_takes = { λ a b. Unit {0} };
+
+    ghost failed = { λ a b side. Unit {0} };
+
+    fn take(&mut self, side: Side, bytes: &[u8]) -> Result<(), Failed> {
+        match side {
+            Side::Console => self.video.add_all(bytes),
+            Side::Sound => self.sound.add_all(bytes),
+        }
+        Ok(())
+    }
+
+    ghost takes_none = { λ a. tt };
+
+    ghost takes_more = { λ a b c first then. tt };
+
+    ghost failed_since = { λ a b c side first then. tt };
+}
