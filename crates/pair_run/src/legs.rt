@@ -6,8 +6,7 @@ ghost use Rattle.pair_run.specs.Tried.{call_of};
 
 use crate::attempt::attempt;
 use crate::ends::{LegEnd, held_back};
-use crate::gate::Gate;
-use port_wire::Wire;
+use port_wire::{Gate, Wire};
 use side_law::Machine;
 
 /// Lets a machine run by itself over its pass, until it has come to `end`, has no room for the bytes of

@@ -12,10 +12,8 @@
 
 mod attempt;
 mod ends;
-mod gate;
 mod legs;
 
 pub use ends::LegEnd;
-pub use gate::Gate;
 pub use legs::leg;
-pub use port_wire::{CallName, PassLate, Wire};
+pub use port_wire::{CallName, Gate, PassLate, Wire};

@@ -2,6 +2,7 @@ ghost use Rattle.std.specs.Prelude.{◌≡◌, ◌+◌, ◌<◌, ◌≤◌};
 ghost use Rattle.snes_defs.specs.declared.region.Region.{Region};
 ghost use Rattle.clock_ratio.specs.Stamp.{least_of, window_of};
 ghost use Rattle.port_wire.specs.Seen.{Seen, Both, Half, parted, AreReunited, half_of, with_half};
+ghost use Rattle.port_wire.specs.Whole.{other_of, IsOwn, EndsReadWhole, EndsClearWhole, EndsWriteWhole, AdvancesWhole};
 ghost use Rattle.port_wire.specs.Answers.{HearsOn, EndsRead, EndsClear, EndsWrite, EndsAdvance};
 
 use crate::late::PassLate;
@@ -112,4 +113,63 @@ pub trait Wire: Sync {
         ensures side { (seen pass.new).side ≡ (seen pass.old).side }
         ensures hears { HearsOn (seen pass.old).half (seen pass.new).half }
         ensures ends { EndsAdvance (window_of (region_of self.now)) at result (seen pass.old).half (seen pass.new).half };
+
+    /// The incoming byte of a port of a side at a stamp, while no pass is out. It is refused as
+    /// `PassLate::Behind` alone.
+    fn read_whole(
+        &self,
+        whole: &mut Self::Whole,
+        side: Side,
+        at: u64,
+        port: u8,
+    ) -> Result<u8, PassLate>
+        requires of { is_whole_of self.now whole.old }
+        requires port { port < 4 }
+        requires own_clock { (half_of side (both whole.old)).at ≤ at }
+        ensures still_of { is_whole_of self.now whole.new }
+        ensures own { IsOwn side (both whole.old) (both whole.new) }
+        ensures ends { EndsReadWhole side at port result (half_of side (both whole.old)) (half_of (other_of side) (both whole.old)) (half_of side (both whole.new)) };
+
+    /// Zeroes the own incoming bytes of a mask at a stamp. It is refused as `PassLate::Behind` alone.
+    fn clear_whole(
+        &self,
+        whole: &mut Self::Whole,
+        side: Side,
+        at: u64,
+        mask: u8,
+    ) -> Result<(), PassLate>
+        requires of { is_whole_of self.now whole.old }
+        requires mask { (1 ≤ mask) × (mask ≤ 15) }
+        requires own_clock { (half_of side (both whole.old)).at ≤ at }
+        ensures still_of { is_whole_of self.now whole.new }
+        ensures own { IsOwn side (both whole.old) (both whole.new) }
+        ensures ends { EndsClearWhole side at mask result (half_of side (both whole.old)) (half_of (other_of side) (both whole.old)) (half_of side (both whole.new)) };
+
+    /// Writes a byte to an outgoing port of a side at a stamp, and publishes the clock `next` with it. It
+    /// is refused as `PassLate::Ahead` alone.
+    fn write_whole(
+        &self,
+        whole: &mut Self::Whole,
+        side: Side,
+        at: u64,
+        port: u8,
+        v: u8,
+        next: u64,
+    ) -> Result<(), PassLate>
+        requires of { is_whole_of self.now whole.old }
+        requires port { port < 4 }
+        requires own_clock { (half_of side (both whole.old)).at ≤ at }
+        requires rises { at + least_of (region_of self.now) ≤ next }
+        ensures still_of { is_whole_of self.now whole.new }
+        ensures own { IsOwn side (both whole.old) (both whole.new) }
+        ensures ends { EndsWriteWhole (window_of (region_of self.now)) at port v next result (half_of side (both whole.old)) (half_of (other_of side) (both whole.old)) (half_of side (both whole.new)) };
+
+    /// Publishes a clock of a side, and answers the other side's.
+    fn advance_whole(&self, whole: &mut Self::Whole, side: Side, at: u64) -> u64
+        requires of { is_whole_of self.now whole.old }
+        requires own_clock { (half_of side (both whole.old)).at ≤ at }
+        ensures still_of { is_whole_of self.now whole.new }
+        ensures own { IsOwn side (both whole.old) (both whole.new) }
+        ensures told { result ≡ (half_of (other_of side) (both whole.old)).at }
+        ensures advances { AdvancesWhole at (half_of side (both whole.old)) (half_of side (both whole.new)) };
 }

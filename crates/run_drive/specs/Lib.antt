@@ -1,3 +1,4 @@
 pub mod OutputLaws
 pub mod Outputs
+pub mod Played
 pub mod Run

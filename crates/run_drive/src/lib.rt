@@ -10,11 +10,13 @@
 // rules.
 #![tactic(auto)]
 
+mod player;
 mod pour;
 mod serial_run;
 mod shelf_sink;
 mod sink;
 
+pub use player::Player;
 pub use serial_run::run_serial;
 pub use shelf_sink::out_of;
 pub use sink::Sink;
