@@ -99,10 +99,16 @@ back Sound v here idle =
     ap (λ (p : Part). let w : LockKnown = record v { console = p; sound = Here } in w) (let-go-idle v.console idle)
     ∙ ap (λ (p : Part). let w : LockKnown = record v { sound = p } in w) (sym here)
 
+-- a side that logs leaves the other side's clock
+pub other-clock : (side : Side) (es : List Entry) (clock : ℕ) (b : Book)
+    → clock_in (other_side side) (logged side es clock b) ≡ clock_in (other_side side) b
+other-clock Console es clock b = refl
+other-clock Sound es clock b = refl
+
 -- a call that took the log and gave it back
 pub told : (region : Region) (side : Side) (before mid after : Seats) (log : LogValue) (es : List Entry) (clock : ℕ)
     (Answers : Book → Type 0) → AreIdle side before → Enters region side before mid log
-    → Leaves mid after (logged side es clock (book_in mid.list.me.0)) → Answers (book_in mid.list.me.0)
+    → Leaves side clock mid after (logged side es clock (book_in mid.list.me.0)) → Answers (book_in mid.list.me.0)
     → IsTold side before after es clock Answers
 told region side before mid after log es clock Answers idle en le answers =
     let b = book_in mid.list.me.0 in
@@ -120,6 +126,8 @@ told region side before mid after log es clock Answers idle en le answers =
           ∙ ap (λ v. (v, [])) (back side before.lock.me.0 idle.here idle.other);
       list_table = le.list_table ∙ en.list_table;
       lock_table = le.lock_table ∙ en.lock_table;
+      own = le.own;
+      told = le.known ∙ other-clock side es clock b;
     }
 
 -- a log after one more entry of a side, and a clock of it

@@ -1,29 +1,40 @@
 -- What a call over two seats does to a pass.
-use Rattle.std.proofs.Common.{◌≡◌, ℕ, ◌+◌, List, ◌++◌, Option, Some, None, refl, ap, sym, ◌∙◌, arith}
+use Rattle.std.proofs.Common.{◌≡◌, ℕ, ◌+◌, ◌<◌, ◌≤◌, List, [], ◌∷◌, ◌++◌, Option, Some, None, Result, Ok, Err, refl, ap, sym, ◌∙◌, subst, arith, append-nil}
 use Rattle.std.specs.Prelude.{unwrap_or, option_map}
 use Rattle.atomic_table.specs.Seated.{TableId}
 use Rattle.snes_defs.specs.declared.region.Region.{Region}
 use Rattle.snes_defs.specs.declared.ports.Side.{Side}
 use Rattle.snes_defs.specs.declared.ports.Side.TheVariants.{Console, Sound}
-use Rattle.port_entries.specs.Entry.{Entry}
+use Rattle.port_entries.specs.Entry.{Entry, WriteAt, ClearAt}
+use Rattle.port_entries.specs.LastValue.{last_value}
+use Rattle.port_entries.specs.Window.{IsSettled, IsWithinWindow}
 use Rattle.port_log.specs.Kept.{other_side}
+use Rattle.port_log.specs.Refused.{IsBehind, IsAhead}
+use Rattle.port_wire.specs.Seen as seen
+use Rattle.port_wire.specs.Tally.{Tally}
+use Rattle.port_wire.specs.Answers.{HearsOn, IsRefused, HasRead, HasCleared, HasWritten, HasAdvanced, EndsRead, EndsClear, EndsWrite, EndsAdvance}
+use Rattle.port_wire.specs.declared.late.PassLate.{PassLate}
+use Rattle.port_wire.specs.declared.late.PassLate.TheVariants.{Behind, Ahead, Held}
+use Rattle.port_wire.specs.declared.late.CallName.TheVariants.{Read, Clear, Write, Advance}
 use Rattle.port_lock.specs.Known.{LockKnown, Half, Book, ListKnown}
+use Rattle.port_lock.specs.Counts.{tally_of, tally_after, counted_as}
 use Rattle.port_lock.specs.PortsKnown.{PortsKnown}
 use Rattle.port_lock.specs.Sums.{count_of}
 use Rattle.port_lock.specs.LockRule.{part_in, holding, missed_once}
 use Rattle.port_lock.specs.ListRule.{list_in, clock_in, IsTrueHalf, logged, half_by, told_by, without_book}
 use Rattle.port_lock.specs.Seating.{no_half, half_option, half_in, MissesOnce}
-use Rattle.port_lock.specs.Called.{IsTold}
-use Rattle.port_lock.specs.Passes.{PassValue, pass_of, StandFor, IsHeardOn}
+use Rattle.port_lock.specs.Called.{IsTold, IfHeld, IfTold, ReadAnswers, ClearAnswers, WriteAnswers, AdvanceAnswers, logged_by, clock_by}
+use Rattle.port_lock.specs.Passes.{PassValue, shown, ports_of, pass_of, StandFor, IsMissed, WasTold}
+use Rattle.port_lock.specs.declared.counts.Counts.{Counts}
 use Rattle.port_lock.specs.declared.seats.Seats.{Seats}
-use Rattle.port_lock.proofs.Calling.{half-true}
+use Rattle.port_lock.proofs.Calling.{half-true, other-clock}
 
 -- the half of a view that was told
 mapped : (h : Half) (o : Option Half) → count_of o ≡ 1 → unwrap_or (option_map (λ _. h) o) no_half ≡ h
 mapped h None e = absurd (omega arith)
 mapped h (Some x) e = refl
 
-told-half : (side : Side) (b : Book) (v : ListKnown) → count_of (half_option side v) ≡ 1
+pub told-half : (side : Side) (b : Book) (v : ListKnown) → count_of (half_option side v) ≡ 1
     → half_in side (without_book (told_by b v)) ≡ half_by side b
 told-half Console b v e = mapped (half_by Console b) v.console e
 told-half Sound b v e = mapped (half_by Sound b) v.sound e
@@ -32,7 +43,7 @@ count-mapped : (h : Half) (o : Option Half) → count_of (option_map (λ _. h) o
 count-mapped h None = refl
 count-mapped h (Some x) = refl
 
-still-half : (side : Side) (b : Book) (v : ListKnown)
+pub still-half : (side : Side) (b : Book) (v : ListKnown)
     → count_of (half_option side (without_book (told_by b v))) ≡ count_of (half_option side v)
 still-half Console b v = count-mapped (half_by Console b) v.console
 still-half Sound b v = count-mapped (half_by Sound b) v.sound
@@ -42,7 +53,7 @@ still-none : (side : Side) (b : Book) (v : ListKnown) → half_option side v ≡
 still-none Console b v e = ap (λ (o : Option Half). option_map (λ _. half_by Console b) o) e
 still-none Sound b v e = ap (λ (o : Option Half). option_map (λ _. half_by Sound b) o) e
 
--- a side that logs leaves the other side's list and clock, and its own list gains what it logged
+-- a side that logs leaves the other side's list, and its own gains what it logged
 mine-logged : (side : Side) (es : List Entry) (clock : ℕ) (b : Book)
     → list_in side (logged side es clock b) ≡ list_in side b ++ es
 mine-logged Console es clock b = refl
@@ -52,19 +63,35 @@ clock-logged : (side : Side) (es : List Entry) (clock : ℕ) (b : Book) → cloc
 clock-logged Console es clock b = refl
 clock-logged Sound es clock b = refl
 
-pub other-list : (side : Side) (es : List Entry) (clock : ℕ) (b : Book)
+other-list : (side : Side) (es : List Entry) (clock : ℕ) (b : Book)
     → list_in (other_side side) (logged side es clock b) ≡ list_in (other_side side) b
 other-list Console es clock b = refl
 other-list Sound es clock b = refl
 
-pub other-clock : (side : Side) (es : List Entry) (clock : ℕ) (b : Book)
-    → clock_in (other_side side) (logged side es clock b) ≡ clock_in (other_side side) b
-other-clock Console es clock b = refl
-other-clock Sound es clock b = refl
-
 -- a call that had the log
 module _ {side : Side} {before after : Seats} {es : List Entry} {clock : ℕ} {Answers : Book → Type 0} (s : StandFor side before) (t : IsTold side before after es clock Answers) where
-  pub stand-told : StandFor side after
+  half-now : half_in side after.list.me.0 ≡ half_by side (logged side es clock t.found)
+  half-now =
+      ap (λ m. half_in side m.0) t.list
+      ∙ told-half side (logged side es clock t.found) before.list.me.0 s.idle.has_half
+
+  was : IsTrueHalf side t.found (half_in side before.list.me.0)
+  was = half-true side t.found before.list.me.0 t.known s.idle.has_half
+
+  upto-now : (half_in side after.list.me.0).upto ≡ clock_in (other_side side) t.found
+  upto-now = ap (λ h. h.upto) half-now ∙ other-clock side es clock t.found
+
+  at-now : (half_in side after.list.me.0).at ≡ clock
+  at-now = ap (λ h. h.at) half-now ∙ clock-logged side es clock t.found
+
+  heard-now : (half_in side after.list.me.0).heard ≡ list_in (other_side side) t.found
+  heard-now = ap (λ h. h.heard) half-now ∙ other-list side es clock t.found
+
+  mine-now : (half_in side after.list.me.0).mine ≡ (half_in side before.list.me.0).mine ++ es
+  mine-now =
+      ap (λ h. h.mine) half-now ∙ mine-logged side es clock t.found ∙ ap (λ (l : List Entry). l ++ es) (sym was.mine)
+
+  stand-told : StandFor side after
   stand-told = record {
     idle = record {
       here = ap (λ m. part_in side m.0) t.lock ∙ s.idle.here;
@@ -81,47 +108,18 @@ module _ {side : Side} {before after : Seats} {es : List Entry} {clock : ℕ} {A
         ap (λ m. half_option (other_side side) m.0) t.list
         ∙ still-none (other_side side) (logged side es clock t.found) before.list.me.0 s.no_other;
     names_list = ap (λ m. m.0.list) t.lock ∙ s.names_list ∙ sym t.list_table;
+    own = t.own ∙ sym at-now;
+    known = t.told ∙ sym upto-now;
   }
 
-  half-now : half_in side after.list.me.0 ≡ half_by side (logged side es clock t.found)
-  half-now =
-      ap (λ m. half_in side m.0) t.list
-      ∙ told-half side (logged side es clock t.found) before.list.me.0 s.idle.has_half
-
-  was : IsTrueHalf side t.found (half_in side before.list.me.0)
-  was = half-true side t.found before.list.me.0 t.known s.idle.has_half
-
-  pub upto-now : (pass_of side after).upto ≡ clock_in (other_side side) t.found
-  upto-now = ap (λ h. h.upto) half-now ∙ other-clock side es clock t.found
-
-  pub heard-now : (pass_of side after).heard ≡ list_in (other_side side) t.found
-  heard-now = ap (λ h. h.heard) half-now ∙ other-list side es clock t.found
-
-  pub mine-was : (pass_of side before).mine ≡ list_in side t.found
-  mine-was = was.mine
-
-  pub mine-now : (pass_of side after).mine ≡ (pass_of side before).mine ++ es
-  mine-now =
-      ap (λ h. h.mine) half-now ∙ mine-logged side es clock t.found ∙ ap (λ (l : List Entry). l ++ es) (sym was.mine)
-
-  pub heard-on : IsHeardOn es clock (pass_of side before) (pass_of side after)
-  heard-on =
-      let lock = ap (λ m. m.0.region) t.lock in
-      record {
-        ports =
-            ap (λ (i : TableId). let p : PortsKnown = record { lock = i; list = after.list.table_id; region = after.lock.me.0.region } in p) t.lock_table
-            ∙ ap (λ (i : TableId). let p : PortsKnown = record { lock = before.lock.table_id; list = i; region = after.lock.me.0.region } in p) t.list_table
-            ∙ ap (λ (r : Region). let p : PortsKnown = record { lock = before.lock.table_id; list = before.list.table_id; region = r } in p) lock;
-        side = refl;
-        mine = mine-now;
-        at = ap (λ h. h.at) half-now ∙ clock-logged side es clock t.found;
-        more = was.heard.rest;
-        heard = was.heard.whole_is ∙ sym heard-now;
-        later = was.heard.later;
-        upto = omega (arith, was.upto, upto-now);
-        told = ap (λ m. m.0.told) t.list;
-        missed = ap (λ m. m.0.missed) t.lock;
-      }
+  hears-told : (c d : Counts) → HearsOn (shown (half_in side before.list.me.0) c) (shown (half_in side after.list.me.0) d)
+  hears-told c d = record {
+    more = was.heard.rest;
+    heard = was.heard.whole_is ∙ sym heard-now;
+    later = was.heard.later;
+    upto = omega (arith, was.upto, upto-now);
+    known = omega (arith, was.upto, upto-now);
+  }
 
 -- a seat that counts a miss has the parts that it had
 same-part : (side : Side) (v : LockKnown) → part_in side (missed_once v) ≡ part_in side v
@@ -130,7 +128,10 @@ same-part Sound v = refl
 
 -- a call that missed the log
 module _ {side : Side} {before after : Seats} (s : StandFor side before) (m : MissesOnce side before after) where
-  pub stand-missed : StandFor side after
+  known-still : half_in side after.list.me.0 ≡ half_in side before.list.me.0
+  known-still = ap (λ x. half_in side x.0) m.list
+
+  stand-missed : StandFor side after
   stand-missed = record {
     idle = record {
       here = ap (λ x. part_in side x.0) m.lock ∙ same-part side before.lock.me.0 ∙ s.idle.here;
@@ -145,30 +146,36 @@ module _ {side : Side} {before after : Seats} (s : StandFor side before) (m : Mi
     away = ap (λ x. part_in (other_side side) x.0) m.lock ∙ same-part (other_side side) before.lock.me.0 ∙ s.away;
     no_other = ap (λ x. half_option (other_side side) x.0) m.list ∙ s.no_other;
     names_list = ap (λ x. x.0.list) m.lock ∙ s.names_list ∙ sym m.list_table;
+    own = ap (λ k. k.own) m.clocks ∙ s.own ∙ sym (ap (λ h. h.at) known-still);
+    known = ap (λ k. k.known) m.clocks ∙ s.known ∙ sym (ap (λ h. h.upto) known-still);
   }
 
--- what is seen of a pass, by what its seats know
-value : Side → TableId → TableId → Region → ListKnown → ℕ → PassValue
-value side lock list region v missed = record {
-  ports = record { lock = lock; list = list; region = region };
-  side = side;
-  mine = (half_in side v).mine;
-  at = (half_in side v).at;
-  heard = (half_in side v).heard;
-  upto = (half_in side v).upto;
-  told = v.told;
-  missed = missed;
-}
+  hears-missed : (c d : Counts) → HearsOn (shown (half_in side before.list.me.0) c) (shown (half_in side after.list.me.0) d)
+  hears-missed c d =
+      let H : Half → Type 0 = λ h. HearsOn (shown (half_in side before.list.me.0) c) (shown h d) in
+      subst H (sym known-still)
+      (record {
+        more = [];
+        heard = append-nil _;
+        later = tt;
+        upto = omega arith;
+        known = omega arith;
+      })
 
-pub missed-is : (side : Side) (before after : Seats) → MissesOnce side before after
-    → pass_of side after ≡ record (pass_of side before) { missed = (pass_of side before).missed + 1 }
-unfolding value
-missed-is side before after m =
-    let region = ap (λ x. x.0.region) m.lock in
-    let missed = ap (λ x. x.0.missed) m.lock in
-    let known = ap (λ x. x.0) m.list in
-    ap (λ i. value side i after.list.table_id after.lock.me.0.region after.list.me.0 after.lock.me.0.missed) m.lock_table
-    ∙ ap (λ i. value side before.lock.table_id i after.lock.me.0.region after.list.me.0 after.lock.me.0.missed) m.list_table
-    ∙ ap (λ i. value side before.lock.table_id before.list.table_id i after.list.me.0 after.lock.me.0.missed) region
-    ∙ ap (λ i. value side before.lock.table_id before.list.table_id before.lock.me.0.region i after.lock.me.0.missed) known
-    ∙ ap (λ i. value side before.lock.table_id before.list.table_id before.lock.me.0.region before.list.me.0 i) missed
+-- any call over a pass, by its answer
+module _ {A : Type 0} {side : Side} {before : Seats} (after : Seats) (es : List Entry) (clock : ℕ) (Answers : Book → Type 0) (s : StandFor side before) where
+  pub stands : (r : Result A PassLate) → IfHeld r (λ by. (by ≡ other_side side) × MissesOnce side before after)
+      → IfTold r (IsTold side before after es clock Answers) → StandFor side after
+  stands (Ok x) h t = stand-told s t
+  stands (Err (Behind need other)) h t = stand-told s t
+  stands (Err (Ahead at other)) h t = stand-told s t
+  stands (Err (Held by)) h t = stand-missed s h.1
+
+  pub hears : (r : Result A PassLate) (c d : Counts)
+      → IfHeld r (λ by. (by ≡ other_side side) × MissesOnce side before after)
+      → IfTold r (IsTold side before after es clock Answers)
+      → HearsOn (shown (half_in side before.list.me.0) c) (shown (half_in side after.list.me.0) d)
+  hears (Ok x) c d h t = hears-told s t c d
+  hears (Err (Behind need other)) c d h t = hears-told s t c d
+  hears (Err (Ahead at other)) c d h t = hears-told s t c d
+  hears (Err (Held by)) c d h t = hears-missed s h.1 c d

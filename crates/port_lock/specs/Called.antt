@@ -9,8 +9,8 @@ use Rattle.port_log.specs.Refused.{IsBehind, IsAhead}
 use Rattle.port_lock.specs.Known.{Book}
 use Rattle.port_lock.specs.ListRule.{clock_in, IsTrueTo, IsOrderly, logged, told_by, without_book}
 use Rattle.port_lock.specs.declared.seats.Seats.{Seats}
-use Rattle.port_lock.specs.declared.late.PassLate.{PassLate}
-use Rattle.port_lock.specs.declared.late.PassLate.TheVariants.{Behind, Ahead, Held}
+use Rattle.port_wire.specs.declared.late.PassLate.{PassLate}
+use Rattle.port_wire.specs.declared.late.PassLate.TheVariants.{Behind, Ahead, Held}
 
 -- a call had the log: the seats know what the book says after it, and its answer is that of the log
 -- call on the book as it found it
@@ -23,6 +23,8 @@ pub record IsTold (side : Side) (before after : Seats) (es : List Entry) (clock 
   pub lock : after.lock.me ≡ (before.lock.me.0, [])
   pub list_table : after.list.table_id ≡ before.list.table_id
   pub lock_table : after.lock.table_id ≡ before.lock.table_id
+  pub own : after.clocks.own ≡ clock
+  pub told : after.clocks.known ≡ clock_in (other_side side) found
 
 -- a fact of each answer: that the other side had the log, or not
 abbrev pub IfHeld : {A : Type 0} → Result A PassLate → (Side → Type 0) → Type 0

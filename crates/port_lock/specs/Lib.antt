@@ -10,6 +10,4 @@ pub mod Events
 pub mod Seating
 pub mod Called
 pub mod Passes
-pub mod PassCode
-pub mod Wholes
-pub mod WholeCode
+pub mod Counts

@@ -1,5 +1,5 @@
 -- What two seats know, and what a call does to them. This project's own profile.
-use Rattle.std.specs.Prelude.{◌≡◌, ◌+◌, [], ◌∷◌, Option, Some, None, unwrap_or}
+use Rattle.std.specs.Prelude.{◌≡◌, ◌+◌, [], ◌∷◌, Option, Some, None, unwrap_or, ℕ}
 use Rattle.snes_defs.specs.declared.ports.Side.{Side}
 use Rattle.snes_defs.specs.declared.ports.Side.TheVariants.{Console, Sound}
 use Rattle.snes_defs.specs.declared.region.Region.{Region}
@@ -7,7 +7,7 @@ use Rattle.port_log.specs.Kept.{LogValue, other_side}
 use Rattle.port_lock.specs.Known.{Here, Half, Book, ListKnown}
 use Rattle.port_lock.specs.Sums.{count_of}
 use Rattle.port_lock.specs.LockRule.{side_number, part_in, holding, holding_as, missed_once, given_back}
-use Rattle.port_lock.specs.ListRule.{IsTrueTo, IsOrderly, told_by, book_in, without_book}
+use Rattle.port_lock.specs.ListRule.{IsTrueTo, IsOrderly, told_by, book_in, without_book, clock_in}
 use Rattle.port_lock.specs.KeptBook.{StandsForBook}
 use Rattle.port_lock.specs.PortsKnown.{PortsKnown}
 use Rattle.port_lock.specs.declared.seats.Seats.{Seats}
@@ -47,6 +47,7 @@ pub record MissesOnce (side : Side) (before after : Seats) : Type 0 where
   pub list : after.list.me ≡ before.list.me
   pub list_table : after.list.table_id ≡ before.list.table_id
   pub not_both : part_in (other_side side) before.lock.me.0 ≡ Here → ⊥
+  pub clocks : after.clocks ≡ before.clocks
 
 -- a call has taken the log, and knows the book
 pub record Enters (region : Region) (side : Side) (before after : Seats) (log : LogValue) : Type 0 where
@@ -68,8 +69,10 @@ pub record AreOut (side : Side) (seats : Seats) : Type 0 where
   pub book : seats.list.me.0.book ≡ Some (book_in seats.list.me.0)
 
 -- a call has given the log back, and the seats know what the book says
-pub record Leaves (before after : Seats) (b : Book) : Type 0 where
+pub record Leaves (side : Side) (clock : ℕ) (before after : Seats) (b : Book) : Type 0 where
   pub lock : after.lock.me ≡ (given_back before.lock.me.0, [])
   pub lock_table : after.lock.table_id ≡ before.lock.table_id
   pub list : after.list.me ≡ (without_book (told_by b before.list.me.0), [])
   pub list_table : after.list.table_id ≡ before.list.table_id
+  pub own : after.clocks.own ≡ clock
+  pub known : after.clocks.known ≡ clock_in (other_side side) b

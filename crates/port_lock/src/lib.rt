@@ -13,17 +13,14 @@
 // or it finds the other side's number in the turn word and changes nothing. `docs/TWO-WORKERS.md` tells it.
 #![tactic(auto)]
 
+mod counts;
 mod event;
 mod kept;
-mod late;
 mod pass;
 mod plays;
 mod ports;
 mod seats;
 mod views;
-mod whole;
 
-pub use late::PassLate;
 pub use pass::Pass;
 pub use ports::Ports;
-pub use whole::Whole;

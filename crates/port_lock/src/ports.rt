@@ -14,14 +14,14 @@ ghost use Rattle.port_log.specs.Kept.{other_side};
 
 use crate::event::Event;
 use crate::kept::Kept;
-use crate::late::PassLate;
 use crate::plays::{
     Give, Joined, ListRule, ListSeat, LockKey, LockRule, Look, Note, Take, Tell, Telling,
 };
-use crate::seats::Seats;
+use crate::seats::{Clocks, Seats};
 use crate::views::{ListView, LockView};
 use atomic_table::Table;
 use port_log::{Late, PortLog};
+use port_wire::PassLate;
 use snes_defs::{Region, Side};
 use std::alloc::Global;
 use std::marker::{Brand, Model};
@@ -90,6 +90,14 @@ impl Model for Ports {
 }
 
 impl Ports {
+    /// The region of the two machines.
+    #[inline(always)]
+    pub fn region(&self) -> Region
+        ensures { result ≡ self.now.region }
+    {
+        self.region
+    }
+
     /// Tries once to take the log for a side. Where it can, it has the log and the book; else the
     /// other side had it.
     #[inline(always)]
@@ -156,9 +164,10 @@ impl Ports {
         requires rises { clock_in side (book_in seats.old.list.me.0) ≤ clock }
         requires later { AllByRecursion
             (λ e. clock_in side (book_in seats.old.list.me.0) ≤ entry_stamp e) (entries_of event) }
-        ensures { Leaves seats.old seats.new
+        ensures { Leaves side clock seats.old seats.new
             (logged side (entries_of event) clock (book_in seats.old.list.me.0)) }
     {
+        let known = log.clock(across(side));
         self.tell::<Brand>(side, &mut seats.list, event, clock);
         let note = self
             .list
@@ -168,6 +177,7 @@ impl Ports {
         let kept = Kept { log, note };
         let _empty = self.lock.shared.exchange(&mut seats.lock, 0, Some(kept));
         self.lock.shared.store::<Give>(&mut seats.lock, 0, 0);
+        seats.clocks = Clocks { own: clock, known };
     }
 
     /// A read of a side, over its seats.

@@ -1,10 +1,12 @@
 // The worked cases of the port log and of the passes over it, run.
 //
-// The contracts of `port_log` and `port_lock` are proved for every call; what stands here are cases with numbers from
-// outside the code. It has no code of its own.
+// The contracts of `port_log` and `port_lock` are proved for every call; what stands here are cases with
+// numbers from outside the code, one of them run by two threads. It has no code of its own.
 #![tactic(auto)]
 
 #[cfg(test)]
 mod lock;
 #[cfg(test)]
 mod log;
+#[cfg(test)]
+mod threads;
