@@ -4,3 +4,5 @@ pub mod Listing
 pub mod Leaving
 pub mod Calling
 pub mod Passing
+pub mod Wholing
+pub mod Wiring

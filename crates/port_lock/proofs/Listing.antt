@@ -78,7 +78,7 @@ none-of None P e = tt
 none-of (Some x) P e = absurd (omega arith)
 
 -- the halves of the other views stay true
-other-sound : (b : Book) (es : List Entry) (clock : ℕ) (o : Option Half) → b.console_clock ≤ clock
+pub other-sound : (b : Book) (es : List Entry) (clock : ℕ) (o : Option Half) → b.console_clock ≤ clock
     → AllByRecursion (λ e. b.console_clock ≤ entry_stamp e) es → IfSome o (IsTrueHalf Sound b)
     → IfSome o (IsTrueHalf Sound (logged Console es clock b))
 other-sound b es clock None h later p = tt
@@ -89,7 +89,7 @@ other-sound b es clock (Some x) h later p = record {
   upto = omega (arith, p.upto);
 }
 
-other-console : (b : Book) (es : List Entry) (clock : ℕ) (o : Option Half) → b.sound_clock ≤ clock
+pub other-console : (b : Book) (es : List Entry) (clock : ℕ) (o : Option Half) → b.sound_clock ≤ clock
     → AllByRecursion (λ e. b.sound_clock ≤ entry_stamp e) es → IfSome o (IsTrueHalf Console b)
     → IfSome o (IsTrueHalf Console (logged Sound es clock b))
 other-console b es clock None h later p = tt

@@ -68,6 +68,15 @@ other-list : (side : Side) (es : List Entry) (clock : ℕ) (b : Book)
 other-list Console es clock b = refl
 other-list Sound es clock b = refl
 
+-- seats of the same tables and region
+pub same-ports : (before after : Seats) → after.lock.table_id ≡ before.lock.table_id
+    → after.list.table_id ≡ before.list.table_id → after.lock.me.0.region ≡ before.lock.me.0.region
+    → ports_of after ≡ ports_of before
+same-ports before after lock list region =
+    ap (λ (i : TableId). let p : PortsKnown = record { lock = i; list = after.list.table_id; region = after.lock.me.0.region } in p) lock
+    ∙ ap (λ (i : TableId). let p : PortsKnown = record { lock = before.lock.table_id; list = i; region = after.lock.me.0.region } in p) list
+    ∙ ap (λ (r : Region). let p : PortsKnown = record { lock = before.lock.table_id; list = before.list.table_id; region = r } in p) region
+
 -- a call that had the log
 module _ {side : Side} {before after : Seats} {es : List Entry} {clock : ℕ} {Answers : Book → Type 0} (s : StandFor side before) (t : IsTold side before after es clock Answers) where
   half-now : half_in side after.list.me.0 ≡ half_by side (logged side es clock t.found)

@@ -72,10 +72,10 @@ AdvanceAnswers side (Err (Ahead stamp other)) b = ⊥
 AdvanceAnswers side (Err (Held by)) b = Unit {0}
 
 -- what a call logs, and the clock that it leaves, where it may be refused
-abbrev pub logged_by : {A : Type 0} → Result A PassLate → Entry → List Entry
+abbrev pub logged_by : {A E : Type 0} → Result A E → Entry → List Entry
 logged_by (Ok x) e = e ∷ []
 logged_by (Err late) e = []
 
-abbrev pub clock_by : {A : Type 0} → Result A PassLate → ℕ → ℕ → ℕ
+abbrev pub clock_by : {A E : Type 0} → Result A E → ℕ → ℕ → ℕ
 clock_by (Ok x) next at = next
 clock_by (Err late) next at = at

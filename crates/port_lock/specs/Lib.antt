@@ -11,3 +11,5 @@ pub mod Seating
 pub mod Called
 pub mod Passes
 pub mod Counts
+pub mod Wholes
+pub mod WholeCalls

@@ -21,6 +21,10 @@ mod plays;
 mod ports;
 mod seats;
 mod views;
+mod whole;
+mod whole_calls;
+mod wire;
 
 pub use pass::Pass;
 pub use ports::Ports;
+pub use whole::Whole;

@@ -1,0 +1,23 @@
+use Rattle.port_lock.proofs.Wholing.{told-always, stand-both, whole-told, both-hear, writes, same-logged, same-clock, own-at}
+use Rattle.port_lock.proofs.ports.Ports.write_whole.Goals as goal
+
+pub invariant_of-whole : goal.invariant_of-whole
+invariant_of-whole c =
+    let t = told-always _ _ c.args.side _ c.whole.invariant c.write_by-answer.ensures.held c.write_by-answer.ensures.told in
+    let met = c.meet-whole-inside.ensures in
+    stand-both c.whole.invariant t _ _ met.console met.sound
+
+pub returns-clause-answer : goal.returns-clause-answer
+returns-clause-answer c =
+    let t = told-always _ _ c.args.side _ c.whole.invariant c.write_by-answer.ensures.held c.write_by-answer.ensures.told in
+    rw (← c.whole.view_is) (writes c.whole.invariant t _ _ _ _ _ _ c.as_of_log.ensures t.answers)
+
+pub returns-clause-whole : goal.returns-clause-whole
+returns-clause-whole c =
+    let t = told-always _ _ c.args.side _ c.whole.invariant c.write_by-answer.ensures.held c.write_by-answer.ensures.told in
+    rw (← c.whole.view_is) (whole-told c.whole.invariant t _ _ _ _ (same-logged _ _ _ c.as_of_log.ensures) (same-clock _ _ _ _ _ c.as_of_log.ensures (own-at c.args.side c.whole.inside.seats _ _)))
+
+pub returns-clause-hears : goal.returns-clause-hears
+returns-clause-hears c =
+    let t = told-always _ _ c.args.side _ c.whole.invariant c.write_by-answer.ensures.held c.write_by-answer.ensures.told in
+    rw (← c.whole.view_is) (both-hear c.whole.invariant t _ _ ? ?)
