@@ -170,14 +170,19 @@ hears-now Sound Console b es clock h c p rises later =
     record { more = q.heard.rest; heard = q.heard.whole_is; later = q.heard.later; upto = q.upto; known = q.upto }
 
 -- what a call logs is as late as its stamp, and the clock that it leaves is not earlier
-pub later-logged : {A : Type 0} (r : Result A Late) (e : Entry) (n : ℕ) → n ≤ entry_stamp e
+pub later-logged : {A E : Type 0} (r : Result A E) (e : Entry) (n : ℕ) → n ≤ entry_stamp e
     → AllByRecursion (λ x. n ≤ entry_stamp x) (logged_by r e)
 later-logged (Ok x) e n h = (h, tt)
 later-logged (Err late) e n h = tt
 
-pub rises-by : {A : Type 0} (r : Result A Late) (next at : ℕ) → at ≤ next → at ≤ clock_by r next at
+pub rises-by : {A E : Type 0} (r : Result A E) (next at : ℕ) → at ≤ next → at ≤ clock_by r next at
 rises-by (Ok x) next at h = h
 rises-by (Err late) next at h = omega arith
+
+pub own-le : (side : Side) (v : Seats) (c d : Counts) (n : ℕ) → (own_half side (whole_of v c d)).at ≤ n
+    → (half_in side v.list.me.0).at ≤ n
+own-le Console v c d n h = h
+own-le Sound v c d n h = h
 
 pub own-at : (side : Side) (v : Seats) (c d : Counts) → (half_in side v.list.me.0).at ≡ (own_half side (whole_of v c d)).at
 own-at Console v c d = refl

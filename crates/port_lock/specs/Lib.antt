@@ -1,7 +1,5 @@
 pub mod Known
-pub mod Codes
 pub mod PortsKnown
-pub mod PortsCode
 pub mod Sums
 pub mod LockRule
 pub mod ListRule

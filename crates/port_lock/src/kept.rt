@@ -14,11 +14,8 @@ pub struct Kept {
 
 impl Model for Kept {
     ghost use Rattle.port_lock.specs.Known.{KeptValue};
-    ghost use Rattle.port_lock.specs.Codes.{kept_code};
 
     ghost Value = { KeptValue };
-
-    ghost coded = { kept_code };
 
     ghost use Rattle.port_lock.specs.KeptBook.{book_on, IsNoted};
 

@@ -71,11 +71,8 @@ pub struct Ports {
 impl Model for Ports {
     ghost use Rattle.std.specs.Prelude.{◌≡◌};
     ghost use Rattle.port_lock.specs.PortsKnown.{PortsKnown};
-    ghost use Rattle.port_lock.specs.PortsCode.{ports_code};
 
     ghost Value = { PortsKnown };
-
-    ghost coded = { ports_code };
 
     ghost view = { λ p. record {
       lock = p.lock.shared.table_id;

@@ -9,11 +9,8 @@ pub struct LockView {
 
 impl Model for LockView {
     ghost use Rattle.port_lock.specs.Known.{LockKnown, spent_lock};
-    ghost use Rattle.port_lock.specs.Codes.{lock_known_code};
 
     ghost Value = { LockKnown };
-
-    ghost coded = { lock_known_code };
 
     ghost view = { λ _. spent_lock };
 }
@@ -26,11 +23,8 @@ pub struct ListView {
 
 impl Model for ListView {
     ghost use Rattle.port_lock.specs.Known.{ListKnown, spent_list};
-    ghost use Rattle.port_lock.specs.Codes.{list_known_code};
 
     ghost Value = { ListKnown };
-
-    ghost coded = { list_known_code };
 
     ghost view = { λ _. spent_list };
 }

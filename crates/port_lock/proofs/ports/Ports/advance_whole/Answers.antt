@@ -1,5 +1,5 @@
 use Rattle.std.proofs.Common.{◌∙◌, sym, refl}
-use Rattle.port_lock.proofs.Wholing.{told-always, stand-both, whole-told, both-hear, clock-is}
+use Rattle.port_lock.proofs.Wholing.{told-always, stand-both, whole-told, both-hear, clock-is, own-le}
 use Rattle.port_lock.proofs.ports.Ports.advance_whole.Goals as goal
 
 pub invariant_of-whole : goal.invariant_of-whole
@@ -20,4 +20,5 @@ returns-clause-whole c =
 pub returns-clause-hears : goal.returns-clause-hears
 returns-clause-hears c =
     let t = c.in-Ok.ensures.told in
-    rw (← c.whole.view_is) (both-hear c.whole.invariant t _ _ ? ?)
+    let own = own-le _ c.whole.inside.seats _ _ _ (rw (← c.whole.view_is) at c.requires.own_clock) in
+    rw (← c.whole.view_is) (both-hear c.whole.invariant t _ _ own tt)

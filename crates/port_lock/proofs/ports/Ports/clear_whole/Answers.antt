@@ -1,4 +1,5 @@
-use Rattle.port_lock.proofs.Wholing.{told-always, stand-both, whole-told, both-hear, clears, same-logged, own-at}
+use Rattle.std.proofs.Common.{arith, ◌+◌, ◌≤◌}
+use Rattle.port_lock.proofs.Wholing.{told-always, stand-both, whole-told, both-hear, clears, same-logged, own-at, later-logged, own-le}
 use Rattle.port_lock.proofs.ports.Ports.clear_whole.Goals as goal
 
 pub invariant_of-whole : goal.invariant_of-whole
@@ -20,4 +21,5 @@ returns-clause-whole c =
 pub returns-clause-hears : goal.returns-clause-hears
 returns-clause-hears c =
     let t = told-always _ _ c.args.side _ c.whole.invariant c.clear_by-answer.ensures.held c.clear_by-answer.ensures.told in
-    rw (← c.whole.view_is) (both-hear c.whole.invariant t _ _ ? ?)
+    let own = own-le _ c.whole.inside.seats _ _ _ (rw (← c.whole.view_is) at c.requires.own_clock) in
+    rw (← c.whole.view_is) (both-hear c.whole.invariant t _ _ (omega arith) (later-logged _ _ _ own))

@@ -1,4 +1,4 @@
-use Rattle.std.proofs.Common.{refl}
+use Rattle.std.proofs.Common.{arith, refl}
 use Rattle.port_lock.proofs.Wholing.{told-always, stand-both, whole-told, both-hear, reads, own-at}
 use Rattle.port_lock.proofs.ports.Ports.read_whole.Goals as goal
 
@@ -21,4 +21,4 @@ returns-clause-whole c =
 pub returns-clause-hears : goal.returns-clause-hears
 returns-clause-hears c =
     let t = told-always _ _ c.args.side _ c.whole.invariant c.read_by-answer.ensures.held c.read_by-answer.ensures.told in
-    rw (← c.whole.view_is) (both-hear c.whole.invariant t _ _ ? ?)
+    rw (← c.whole.view_is) (both-hear c.whole.invariant t _ _ (omega arith) tt)

@@ -1,4 +1,6 @@
-use Rattle.port_lock.proofs.Wholing.{told-always, stand-both, whole-told, both-hear, writes, same-logged, same-clock, own-at}
+use Rattle.std.proofs.Common.{arith, ◌+◌, ◌≤◌}
+use Rattle.port_lock.specs.Seating.{half_in}
+use Rattle.port_lock.proofs.Wholing.{told-always, stand-both, whole-told, both-hear, writes, same-logged, same-clock, own-at, later-logged, rises-by, own-le}
 use Rattle.port_lock.proofs.ports.Ports.write_whole.Goals as goal
 
 pub invariant_of-whole : goal.invariant_of-whole
@@ -20,4 +22,6 @@ returns-clause-whole c =
 pub returns-clause-hears : goal.returns-clause-hears
 returns-clause-hears c =
     let t = told-always _ _ c.args.side _ c.whole.invariant c.write_by-answer.ensures.held c.write_by-answer.ensures.told in
-    rw (← c.whole.view_is) (both-hear c.whole.invariant t _ _ ? ?)
+    let own = own-le _ c.whole.inside.seats _ _ _ (rw (← c.whole.view_is) at c.requires.own_clock) in
+    let rise : (half_in c.args.side c.whole.inside.seats.list.me.0).at ≤ c.args.next = omega (arith, c.requires.rises, own) in
+    rw (← c.whole.view_is) (both-hear c.whole.invariant t _ _ (rises-by _ _ _ rise) (later-logged _ _ _ own))
