@@ -21,9 +21,10 @@ use Rattle.port_lock.specs.LockRule.{holding}
 use Rattle.port_lock.specs.ListRule.{list_in, clock_in, IsTrueHalf, logged, half_by}
 use Rattle.port_lock.specs.Seating.{AreIdle, MissesOnce, half_in}
 use Rattle.port_lock.specs.Called.{IsTold, IfHeld, IfTold, logged_by, clock_by, ReadAnswers, ClearAnswers, WriteAnswers}
+use Rattle.port_lock.specs.Lateness.{IsAsOfLog}
 use Rattle.port_lock.specs.Passes.{shown, ports_of}
 use Rattle.port_lock.specs.Wholes.{WholeValue, whole_of, AreKnown, StandForBoth}
-use Rattle.port_lock.specs.WholeCalls.{own_half, other_half, whole_after, HearBoth, IsLateLook, ReadsWhole, ClearsWhole, WritesWhole, IsAsOfLog, console_clocks, sound_clocks}
+use Rattle.port_lock.specs.WholeCalls.{own_half, other_half, whole_after, HearBoth, IsLateLook, ReadsWhole, ClearsWhole, WritesWhole, console_clocks, sound_clocks}
 use Rattle.port_lock.specs.declared.counts.Counts.{Counts}
 use Rattle.port_lock.specs.declared.seats.Seats.{Seats}
 use Rattle.port_lock.specs.declared.seats.Clocks.{Clocks}

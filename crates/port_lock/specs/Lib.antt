@@ -7,6 +7,7 @@ pub mod KeptBook
 pub mod Events
 pub mod Seating
 pub mod Called
+pub mod Lateness
 pub mod Passes
 pub mod Counts
 pub mod Wholes

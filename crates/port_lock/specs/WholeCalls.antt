@@ -77,13 +77,6 @@ abbrev pub WritesWhole : {A : Type 0} → ℕ → Side → ℕ → Result A Late
 WritesWhole window side at (Ok done) w = IsWithinWindow window at (other_half side w).at
 WritesWhole window side at (Err late) w = IsLateWrite window side at late w
 
--- the answer over a whole, which is never held, as one of the log
-abbrev pub IsAsOfLog : {A : Type 0} → Result A PassLate → Result A Late → Type 0
-IsAsOfLog (Ok x) r = r ≡ Ok x
-IsAsOfLog (Err (pass.Behind need other)) r = r ≡ Err (Behind need other)
-IsAsOfLog (Err (pass.Ahead at other)) r = r ≡ Err (Ahead at other)
-IsAsOfLog (Err (pass.Held by)) r = ⊥
-
 -- the clocks of each side after a call of a side, which was told the other's: so each knows the other's
 abbrev pub console_clocks : Side → Clocks → Clocks
 console_clocks Console told = told
@@ -92,8 +85,3 @@ console_clocks Sound told = record { own = told.known; known = told.own }
 abbrev pub sound_clocks : Side → Clocks → Clocks
 sound_clocks Console told = record { own = told.known; known = told.own }
 sound_clocks Sound told = told
-
--- a refusal of the log, among those of a call over a pass
-abbrev pub as_over_pass : Late → PassLate
-as_over_pass (Behind need other) = pass.Behind need other
-as_over_pass (Ahead at other) = pass.Ahead at other

@@ -16,6 +16,7 @@
 mod counts;
 mod event;
 mod kept;
+mod late;
 mod pass;
 mod plays;
 mod ports;

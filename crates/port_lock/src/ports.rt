@@ -14,13 +14,14 @@ ghost use Rattle.port_log.specs.Kept.{other_side};
 
 use crate::event::Event;
 use crate::kept::Kept;
+use crate::late::over_pass;
 use crate::plays::{
     Give, Joined, ListRule, ListSeat, LockKey, LockRule, Look, Note, Take, Tell, Telling,
 };
 use crate::seats::{Clocks, Seats};
 use crate::views::{ListView, LockView};
 use atomic_table::Table;
-use port_log::{Late, PortLog};
+use port_log::PortLog;
 use port_wire::PassLate;
 use snes_defs::{Region, Side};
 use std::alloc::Global;
@@ -203,8 +204,7 @@ impl Ports {
                 self.leave(side, seats, log, Event::Nothing, clock);
                 match answer {
                     Ok(byte) => Ok(byte),
-                    Err(Late::Behind { need, other }) => Err(PassLate::Behind { need, other }),
-                    Err(Late::Ahead { at, other }) => Err(PassLate::Ahead { at, other }),
+                    Err(late) => Err(over_pass(late)),
                 }
             }
         }
@@ -238,11 +238,10 @@ impl Ports {
                         self.leave(side, seats, log, Event::Cleared { at, mask }, clock);
                         Ok(())
                     }
-                    Err(Late::Behind { need, other }) => {
+                    Err(late) => {
                         self.leave(side, seats, log, Event::Nothing, clock);
-                        Err(PassLate::Behind { need, other })
+                        Err(over_pass(late))
                     }
-                    Err(Late::Ahead { .. }) => unreachable!(),
                 }
             }
         }
@@ -281,11 +280,10 @@ impl Ports {
                         self.leave(side, seats, log, event, next);
                         Ok(())
                     }
-                    Err(Late::Ahead { at, other }) => {
+                    Err(late) => {
                         self.leave(side, seats, log, Event::Nothing, clock);
-                        Err(PassLate::Ahead { at, other })
+                        Err(over_pass(late))
                     }
-                    Err(Late::Behind { .. }) => unreachable!(),
                 }
             }
         }

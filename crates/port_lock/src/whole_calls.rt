@@ -3,15 +3,15 @@
 ghost use Rattle.std.specs.Prelude.{◌≡◌, ◌+◌, ◌<◌, ◌≤◌, []};
 ghost use Rattle.clock_ratio.specs.Stamp.{least_of, window_of};
 ghost use Rattle.port_entries.specs.Entry.{WriteAt, ClearAt};
-ghost use Rattle.port_lock.specs.Called.{IfHeld, logged_by, clock_by};
+ghost use Rattle.port_lock.specs.Called.{logged_by, clock_by};
 ghost use Rattle.port_lock.specs.Wholes.{IsWholeOf};
-ghost use Rattle.port_lock.specs.WholeCalls.{own_half, other_half, whole_after, HearBoth, ReadsWhole, ClearsWhole, WritesWhole, IsAsOfLog, console_clocks, sound_clocks};
+ghost use Rattle.port_lock.specs.WholeCalls.{own_half, other_half, whole_after, HearBoth, ReadsWhole, ClearsWhole, WritesWhole, console_clocks, sound_clocks};
 
+use crate::late::as_of_log;
 use crate::ports::Ports;
 use crate::seats::Clocks;
 use crate::whole::Whole;
 use port_log::Late;
-use port_wire::PassLate;
 use snes_defs::Side;
 
 /// After a call of a side over a whole each side knows the other's clock. The clocks that the call left
@@ -32,20 +32,6 @@ fn meet(side: Side, clocks: &mut Clocks) -> Clocks
             *clocks = across;
             told
         }
-    }
-}
-
-/// The answer of a call that was not held, as the log gave it.
-#[inline(always)]
-fn as_of_log<T>(answer: Result<T, PassLate>) -> Result<T, Late>
-    requires { IfHeld answer (λ _. ⊥) }
-    ensures { IsAsOfLog answer result }
-{
-    match answer {
-        Ok(x) => Ok(x),
-        Err(PassLate::Behind { need, other }) => Err(Late::Behind { need, other }),
-        Err(PassLate::Ahead { at, other }) => Err(Late::Ahead { at, other }),
-        Err(PassLate::Held { .. }) => unreachable!(),
     }
 }
 

@@ -1,26 +1,13 @@
 // The ports as the wire between two workers.
-ghost use Rattle.std.specs.Prelude.{◌≡◌};
 ghost use Rattle.port_lock.specs.Passes.{seen_of, IsPassOf};
 ghost use Rattle.port_lock.specs.Wholes.{both_of, IsWholeOf};
-ghost use Rattle.port_lock.specs.WholeCalls.{as_over_pass};
 
+use crate::late::over_pass;
 use crate::pass::Pass;
 use crate::ports::Ports;
 use crate::whole::Whole;
-use port_log::Late;
 use port_wire::{PassLate, Wire};
 use snes_defs::{Region, Side};
-
-/// A refusal of the log, among those of a call over a pass.
-#[inline(always)]
-pub(crate) fn over_pass(late: Late) -> PassLate
-    ensures { result ≡ as_over_pass late }
-{
-    match late {
-        Late::Behind { need, other } => PassLate::Behind { need, other },
-        Late::Ahead { at, other } => PassLate::Ahead { at, other },
-    }
-}
 
 impl Wire for Ports {
     type Pass = Pass;

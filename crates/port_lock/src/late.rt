@@ -1,0 +1,32 @@
+// Refusals of the log, and of a call over a pass.
+ghost use Rattle.std.specs.Prelude.{◌≡◌};
+ghost use Rattle.port_lock.specs.Called.{IfHeld};
+ghost use Rattle.port_lock.specs.Lateness.{over_pass_of, IsAsOfLog};
+
+use port_log::Late;
+use port_wire::PassLate;
+
+/// A refusal of the log, as that of a call over a pass.
+#[inline(always)]
+pub fn over_pass(late: Late) -> PassLate
+    ensures { result ≡ over_pass_of late }
+{
+    match late {
+        Late::Behind { need, other } => PassLate::Behind { need, other },
+        Late::Ahead { at, other } => PassLate::Ahead { at, other },
+    }
+}
+
+/// The answer of a call that was not held, as the log gave it.
+#[inline(always)]
+pub fn as_of_log<T>(answer: Result<T, PassLate>) -> Result<T, Late>
+    requires { IfHeld answer (λ _. ⊥) }
+    ensures { IsAsOfLog answer result }
+{
+    match answer {
+        Ok(x) => Ok(x),
+        Err(PassLate::Behind { need, other }) => Err(Late::Behind { need, other }),
+        Err(PassLate::Ahead { at, other }) => Err(Late::Ahead { at, other }),
+        Err(PassLate::Held { .. }) => unreachable!(),
+    }
+}
