@@ -1,30 +1,23 @@
 -- What a call over two seats does to a pass.
-use Rattle.std.proofs.Common.{◌≡◌, ℕ, ◌+◌, ◌<◌, ◌≤◌, List, [], ◌∷◌, ◌++◌, Option, Some, None, Result, Ok, Err, refl, ap, sym, ◌∙◌, subst, arith, append-nil}
+use Rattle.std.proofs.Common.{◌≡◌, ℕ, List, [], Option, Some, None, Result, Ok, Err, refl, ap, sym, ◌∙◌, subst, arith, append-nil}
 use Rattle.std.specs.Prelude.{unwrap_or, option_map}
 use Rattle.atomic_table.specs.Seated.{TableId}
 use Rattle.snes_defs.specs.declared.region.Region.{Region}
 use Rattle.snes_defs.specs.declared.ports.Side.{Side}
 use Rattle.snes_defs.specs.declared.ports.Side.TheVariants.{Console, Sound}
-use Rattle.port_entries.specs.Entry.{Entry, WriteAt, ClearAt}
-use Rattle.port_entries.specs.LastValue.{last_value}
-use Rattle.port_entries.specs.Window.{IsSettled, IsWithinWindow}
+use Rattle.port_entries.specs.Entry.{Entry}
 use Rattle.port_log.specs.Kept.{other_side}
-use Rattle.port_log.specs.Refused.{IsBehind, IsAhead}
-use Rattle.port_wire.specs.Seen as seen
-use Rattle.port_wire.specs.Tally.{Tally}
-use Rattle.port_wire.specs.Answers.{HearsOn, IsRefused, HasRead, HasCleared, HasWritten, HasAdvanced, EndsRead, EndsClear, EndsWrite, EndsAdvance}
+use Rattle.port_wire.specs.Answers.{HearsOn}
 use Rattle.port_wire.specs.declared.late.PassLate.{PassLate}
 use Rattle.port_wire.specs.declared.late.PassLate.TheVariants.{Behind, Ahead, Held}
-use Rattle.port_wire.specs.declared.late.CallName.TheVariants.{Read, Clear, Write, Advance}
 use Rattle.port_lock.specs.Known.{LockKnown, Half, Book, ListKnown}
-use Rattle.port_lock.specs.Counts.{tally_of, tally_after, counted_as}
 use Rattle.port_lock.specs.PortsKnown.{PortsKnown}
 use Rattle.port_lock.specs.Sums.{count_of}
 use Rattle.port_lock.specs.LockRule.{part_in, holding, missed_once}
 use Rattle.port_lock.specs.ListRule.{list_in, clock_in, IsTrueHalf, logged, half_by, told_by, without_book}
 use Rattle.port_lock.specs.Seating.{no_half, half_option, half_in, MissesOnce}
-use Rattle.port_lock.specs.Called.{IsTold, IfHeld, IfTold, ReadAnswers, ClearAnswers, WriteAnswers, AdvanceAnswers, logged_by, clock_by}
-use Rattle.port_lock.specs.Passes.{PassValue, shown, ports_of, pass_of, StandFor, IsMissed, WasTold}
+use Rattle.port_lock.specs.Called.{IsTold, IfHeld, IfTold}
+use Rattle.port_lock.specs.Passes.{shown, ports_of, StandFor}
 use Rattle.port_lock.specs.declared.counts.Counts.{Counts}
 use Rattle.port_lock.specs.declared.seats.Seats.{Seats}
 use Rattle.port_lock.proofs.Calling.{half-true, other-clock}
@@ -53,12 +46,7 @@ still-none : (side : Side) (b : Book) (v : ListKnown) → half_option side v ≡
 still-none Console b v e = ap (λ (o : Option Half). option_map (λ _. half_by Console b) o) e
 still-none Sound b v e = ap (λ (o : Option Half). option_map (λ _. half_by Sound b) o) e
 
--- a side that logs leaves the other side's list, and its own gains what it logged
-mine-logged : (side : Side) (es : List Entry) (clock : ℕ) (b : Book)
-    → list_in side (logged side es clock b) ≡ list_in side b ++ es
-mine-logged Console es clock b = refl
-mine-logged Sound es clock b = refl
-
+-- a side that logs publishes its clock, and leaves the other side's list
 clock-logged : (side : Side) (es : List Entry) (clock : ℕ) (b : Book) → clock_in side (logged side es clock b) ≡ clock
 clock-logged Console es clock b = refl
 clock-logged Sound es clock b = refl
@@ -95,10 +83,6 @@ module _ {side : Side} {before after : Seats} {es : List Entry} {clock : ℕ} {A
 
   heard-now : (half_in side after.list.me.0).heard ≡ list_in (other_side side) t.found
   heard-now = ap (λ h. h.heard) half-now ∙ other-list side es clock t.found
-
-  mine-now : (half_in side after.list.me.0).mine ≡ (half_in side before.list.me.0).mine ++ es
-  mine-now =
-      ap (λ h. h.mine) half-now ∙ mine-logged side es clock t.found ∙ ap (λ (l : List Entry). l ++ es) (sym was.mine)
 
   stand-told : StandFor side after
   stand-told = record {

@@ -11,8 +11,6 @@ use Rattle.port_log.specs.declared.late.Late.{Late}
 use Rattle.port_log.specs.declared.late.Late.TheVariants.{Behind, Ahead}
 use Rattle.port_wire.specs.Seen.{Half}
 use Rattle.port_wire.specs.Answers.{HearsOn}
-use Rattle.port_wire.specs.declared.late.PassLate.{PassLate}
-use Rattle.port_wire.specs.declared.late.PassLate.TheVariants as pass
 use Rattle.port_lock.specs.declared.seats.Clocks.{Clocks}
 use Rattle.port_lock.specs.Wholes.{WholeValue}
 

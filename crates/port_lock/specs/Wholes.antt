@@ -1,6 +1,5 @@
 -- What contracts see of a whole, which is both passes in one. This project's own profile.
 use Rattle.std.specs.Prelude.{◌≡◌, ℕ, ◌≤◌, [], None}
-use Rattle.snes_defs.specs.declared.ports.Side.{Side}
 use Rattle.snes_defs.specs.declared.ports.Side.TheVariants.{Console, Sound}
 use Rattle.port_entries.specs.Entry.{CarryBytes}
 use Rattle.port_wire.specs.Seen.{Both, parted}
@@ -9,7 +8,7 @@ use Rattle.port_wire.specs.Tally.{no_tally}
 use Rattle.port_lock.specs.Known.{Here, Half}
 use Rattle.port_lock.specs.PortsKnown.{PortsKnown}
 use Rattle.port_lock.specs.Sums.{count_of}
-use Rattle.port_lock.specs.ListRule.{IsHeard, no_book}
+use Rattle.port_lock.specs.ListRule.{IsHeard}
 use Rattle.port_lock.specs.Seating.{half_in}
 use Rattle.port_lock.specs.Passes.{PassValue, shown, ports_of}
 use Rattle.port_lock.specs.declared.counts.Counts.{Counts}

@@ -1,4 +1,4 @@
-use Rattle.std.proofs.Common.{arith, ◌+◌, ◌≤◌}
+use Rattle.std.proofs.Common.{arith}
 use Rattle.port_lock.proofs.Wholing.{told-always, stand-both, whole-told, both-hear, clears, same-logged, own-at, later-logged, own-le}
 use Rattle.port_lock.proofs.ports.Ports.clear_whole.Goals as goal
 

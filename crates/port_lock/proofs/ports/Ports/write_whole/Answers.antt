@@ -1,4 +1,4 @@
-use Rattle.std.proofs.Common.{arith, ◌+◌, ◌≤◌}
+use Rattle.std.proofs.Common.{arith, ◌≤◌}
 use Rattle.port_lock.specs.Seating.{half_in}
 use Rattle.port_lock.proofs.Wholing.{told-always, stand-both, whole-told, both-hear, writes, same-logged, same-clock, own-at, later-logged, rises-by, own-le}
 use Rattle.port_lock.proofs.ports.Ports.write_whole.Goals as goal
