@@ -1,7 +1,7 @@
 // The tally of refused calls that a pass keeps.
 ghost use Rattle.std.specs.Prelude.{◌≡◌};
 ghost use Rattle.clock_ratio.specs.Stamp.{window_of};
-ghost use Rattle.port_wire.specs.Tally.{same_name, counted_on, no_tally, after_refusal, after_answer};
+ghost use Rattle.port_wire.specs.Tally.{counted_on, no_tally, after_refusal, after_answer};
 ghost use Rattle.port_lock.specs.Counts.{tally_of, is_again_by, tally_after, counted_as};
 
 use clock_ratio::window;
@@ -25,13 +25,6 @@ pub(crate) struct Counts {
     pub(crate) last: Option<Refusal>,
 }
 
-/// Whether two names of calls are the same.
-fn same(a: CallName, b: CallName) -> bool
-    ensures { result ≡ same_name a b }
-{
-    a == b
-}
-
 /// One more, but at the end of the range no more.
 fn one_more(n: u64) -> u64
     ensures { result ≡ counted_on n }
@@ -45,10 +38,7 @@ fn goes_on(last: Option<Refusal>, name: CallName, at: u64) -> bool
 {
     match last {
         None => false,
-        Some(refusal) => {
-            let named = same(refusal.name, name);
-            named && refusal.at == at
-        }
+        Some(refusal) => refusal.name == name && refusal.at == at,
     }
 }
 

@@ -1,7 +1,8 @@
 // The worked cases of the port log and of the passes over it, run.
 //
 // The contracts of `port_log` and `port_lock` are proved for every call; what stands here are cases with
-// numbers from outside the code, one of them run by two threads. It has no code of its own.
+// numbers from outside the code: calls over passes and over a whole, the ports through the trait of the
+// wire, and a thousand writes in one thread against reads in another. It has no code of its own.
 #![tactic(auto)]
 
 #[cfg(test)]
@@ -10,3 +11,5 @@ mod lock;
 mod log;
 #[cfg(test)]
 mod threads;
+#[cfg(test)]
+mod wire;

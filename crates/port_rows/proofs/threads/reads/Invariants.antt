@@ -5,5 +5,5 @@ abbrev pub invariant-loop-k : goal.invariant-loop-k
 invariant-loop-k l = record {
   of : l.sound.ports ≡ l.ports;
   side : l.sound.side ≡ l.fn.sound.side;
-  clock : l.sound.at ≡ 0;
+  clock : l.sound.half.at ≡ 0;
 }

@@ -1,0 +1,42 @@
+ghost use Rattle.std.specs.Prelude.{◌≡◌, ◌≤◌};
+ghost use Rattle.snes_defs.specs.declared.region.Region.TheVariants.{Ntsc};
+
+use port_lock::Ports;
+use port_wire::{PassLate, Wire};
+use snes_defs::{Region, Side};
+use std::test::Fail;
+
+// What becomes of a byte that the console writes to port 0 at 0, over any wire of new ports: what the sound
+// side reads there over its pass, and then over the whole.
+fn carried<W: Wire>(
+    wire: &W,
+    whole: W::Whole,
+) -> (
+    Result<(), PassLate>,
+    Result<u8, PassLate>,
+    Result<u8, PassLate>,
+)
+where
+    W::Whole: Drop,
+    requires of { W.is_whole_of wire.now whole }
+    requires region { W.region_of wire.now ≡ Ntsc }
+    requires console { (W.both whole).console.at ≡ 0 }
+    requires sound { (W.both whole).sound.at ≡ 0 }
+{
+    let (mut console, mut sound) = wire.part(whole);
+    let written = wire.write(&mut console, 0, 0, 5, 33_792);
+    let heard = wire.read(&mut sound, 0, 0);
+    let mut whole = wire.reunite(console, sound);
+    (
+        written,
+        heard,
+        wire.read_whole(&mut whole, Side::Sound, 0, 0),
+    )
+}
+
+#[test]
+fn the_ports_are_a_wire(rt: HostRuntime) -> Result<(), Fail> {
+    let (ports, whole) = Ports::open(rt.alloc(), Region::Ntsc)?;
+    assert_eq!(rt; carried(&ports, whole), (Ok(()), Ok(5), Ok(5)));
+    Ok(())
+}
