@@ -1,0 +1,12 @@
+pub mod Accepting
+pub mod Adding
+pub mod Calls
+pub mod Changing
+pub mod Clauses
+pub mod Files
+pub mod InputLemmas
+pub mod Making
+pub mod Reading
+pub mod Saying
+pub mod Words
+pub mod Writes
