@@ -45,7 +45,11 @@ puts_others a b out.Video h = inr (h.others out.Video (λ e. cc))
 puts_others a b out.Sound h = inr (h.others out.Sound (λ e. cc))
 puts_others a b out.Image h = inr (h.others out.Image (λ e. cc))
 
-pub ruleset unread = (puts_only_say, puts_kept, puts_others)
+-- the lines go out under the name that they had
+pub puts_unnamed : (a b : Shown) → OnlyPuts a b out.Say → b.named out.Say ≡ a.named out.Say
+puts_unnamed a b h = ap (λ (n : Out → Option (List ℕ)). n out.Say) h.named
+
+pub ruleset unread = (puts_kept, puts_unnamed)
 
 module _ (emits : Job → List ℕ → List ℕ → Type 0) (command : Command) (before mid after : Shown) (over : IsPassedOver before mid out.Say) (puts : OnlyPuts mid after out.Say) where
   since : (line : List ℕ) (status : Status) → Says mid after line status → Says before after line status

@@ -17,8 +17,8 @@ use Rattle.snes_call.specs.declared.run_files.CommandEnd.TheVariants as end
 use Rattle.snes_call.specs.declared.status.Why.{Why}
 use Rattle.snes_call.specs.declared.status.Status.{Status}
 use Rattle.snes_call.specs.declared.status.Status.TheVariants.{Ok, Usage, LoadFault, Refused, WriteFault, NoMemory}
-use Rattle.snes_call.specs.Stage.{Stage, Words, Create, Running, place_of, stage_of, order_of, input_of, Passed}
-use Rattle.snes_call.specs.Inputs.{name_of, TellsAccepted, TellsRefused, IsLoadFault, IsRefused}
+use Rattle.snes_call.specs.Stage.{Accept, Create, Running, place_of, stage_of, order_of, input_of, Passed}
+use Rattle.snes_call.specs.Inputs.{ShowsJob, TellsAccepted, TellsRefused, IsLoadFault, IsRefused}
 use Rattle.snes_call.specs.Outputs.{IsFilled, IsVideoBegun, IsSoundBegun}
 use Rattle.snes_call.specs.RunFiles.{OnlySays, MakesJob, IsRun, EndsFiles}
 use Rattle.snes_call.specs.Made.{EndsMake}
@@ -324,6 +324,40 @@ module _ (emits : Job → List ℕ → List ℕ → Type 0) (before after : Show
     refused_always (Serial own) is status h = serial_due status (subst (λ (f : Files). EndsCall emits (Serial f) before after status) (some_is own files is) h)
     refused_always (Make number name) is status h = absurd cc
     refused_always (Demo number frames) is status h = absurd cc
+
+  -- what has run files, or failed to write them, had a job of theirs
+  abbrev HasJob : Files → Type 0
+  HasJob files = (job : Job) × ShowsJob before files job
+
+  files_job : (files : Files) (failed : Out) → EndsFiles emits files before after (end.WriteFault failed) → HasJob files
+  files_job files out.Video h = (h.job, h.shows)
+  files_job files out.Sound h = (h.job, h.shows)
+  files_job files out.Image h = absurd h
+  files_job files out.Say h = absurd h
+
+  write_job : (command : Command) (failed : Out) → EndsCommand emits command before after (end.WriteFault failed) → (files : Files) → files_of command ≡ Some files → HasJob files
+  write_job (Run own) failed h files is = subst HasJob (some_is own files is) (files_job own failed h)
+  write_job (Serial own) failed h files is = subst HasJob (some_is own files is) (files_job own failed h)
+  write_job (Make number name) failed h files is = absurd cc
+  write_job (Demo number frames) failed h files is = absurd cc
+
+  done_job : (command : Command) (line : List ℕ) → IsDone emits command before after line → (files : Files) → files_of command ≡ Some files → HasJob files
+  done_job (Run own) line h files is = subst HasJob (some_is own files is) (h.job, h.shows)
+  done_job (Serial own) line h files is = subst HasJob (some_is own files is) (h.job, h.shows)
+  done_job (Make number name) line h files is = absurd cc
+  done_job (Demo number frames) line h files is = absurd cc
+
+  pub accepted : (command : Command) (status : Status) → EndsCall emits command before after status → (files : Files) → files_of command ≡ Some files
+      → Passed (Accept input.Script) status → HasJob files
+  accepted command Ok h files is late = done_job command h.line h.done files is
+  accepted command (WriteFault out.Say) h files is late = done_job command h.line h.done files is
+  accepted command (WriteFault out.Video) h files is late = write_job command out.Video h files is
+  accepted command (WriteFault out.Sound) h files is late = write_job command out.Sound h files is
+  accepted command (WriteFault out.Image) h files is late = write_job command out.Image h files is
+  accepted command (LoadFault i) h files is late = absurd (few_inputs i (omega arith))
+  accepted command (Refused cause) h files is late = absurd (few_inputs (input_of cause) (omega arith))
+  accepted command NoMemory h files is late = absurd (omega arith)
+  accepted command Usage h files is late = absurd h
 
   -- with all accepted and no fault counted, the answer is Ok or want of memory
   module _ (command : Command) (clean : IsClean command before after) where

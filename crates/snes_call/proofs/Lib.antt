@@ -3,6 +3,7 @@ pub mod Adding
 pub mod Calls
 pub mod Changing
 pub mod Clauses
+pub mod DemoCartridge
 pub mod Files
 pub mod InputLemmas
 pub mod Making

@@ -11,14 +11,14 @@ use Rattle.std.specs.Prelude.{◌⊎◌}
 use Rattle.snes_defs.specs.declared.cart.Job.{Job}
 use Rattle.file_shelf.specs.declared.shelves.Out.{Out}
 use Rattle.file_shelf.specs.declared.shelves.Out.TheVariants as out
-use Rattle.file_shelf.specs.Shown.{Shown, IsPassedOver}
+use Rattle.file_shelf.specs.Shown.{Shown, IsPassedOver, OnlyPuts}
 use Rattle.run_io.specs.declared.order.WordsEnd.{WordsEnd}
 use Rattle.run_io.specs.declared.order.WordsEnd.TheVariants.{Usage, NoMemory}
 use Rattle.snes_call.specs.declared.status.Status.{Status}
-use Rattle.snes_call.specs.declared.status.Status.TheVariants as status
-use Rattle.snes_call.specs.RunFiles.{OnlySays}
+use Rattle.snes_call.specs.declared.status.Status.TheVariants as answer
 use Rattle.snes_call.specs.Call.{EndsCall}
 use Rattle.snes_call.specs.Commands.{HasFewFrames, creates}
+use Rattle.snes_call.proofs.Calls.{puts_only_say, puts_others}
 
 some_is : {A : Type 0} (a b : A) → Some a ≡ Some b → a ≡ b
 some_is a b e = cc
@@ -134,20 +134,20 @@ read_few words (Err end) h = tt
 -- the command that was read is the one that the words ask for, and the call ended as it did
 pub ended : (emits : Job → List ℕ → List ℕ → Type 0) (words : List (List ℕ)) (before after : Shown) (status : Status) (read : Result Command WordsEnd) (command : Command)
     → IfOk read (λ c. command_of words ≡ Some c) → (IsErrOf read Usage ↔ (command_of words ≡ None))
-    → IfOk read (λ c. EndsCall emits c before after status) → (IsErrOf read NoMemory → status ≡ status.NoMemory) → IfErr read (λ end. OnlySays before after)
+    → IfOk read (λ c. EndsCall emits c before after status) → (IsErrOf read NoMemory → status ≡ answer.NoMemory) → IfErr read (λ end. OnlyPuts before after out.Say)
     → command_of words ≡ Some command → EndsCall emits command before after status
 ended emits words before after status (Ok c) command is usage ends memory says asked =
     subst (λ (k : Command). EndsCall emits k before after status) (some_is c command (sym is ∙ asked)) ends
 ended emits words before after status (Err Usage) command is usage ends memory says asked = absurd (let none : None ≡ Some command = sym (usage.0 refl) ∙ asked in cc)
 ended emits words before after status (Err NoMemory) command is usage ends memory says asked =
-    subst (λ (s : Status). EndsCall emits command before after s) (sym (memory refl)) says
+    subst (λ (s : Status). EndsCall emits command before after s) (sym (memory refl)) (puts_only_say before after says)
 
 -- what a command doesn't create is passed over
 pub passed : (words : List (List ℕ)) (before after : Shown) (read : Result Command WordsEnd) (command : Command) (any : Out)
     → IfOk read (λ c. command_of words ≡ Some c) → (IsErrOf read Usage ↔ (command_of words ≡ None))
     → IfOk read (λ c. (o : Out) → creates c o ≡ false → (o ≡ out.Say) ⊎ IsPassedOver before after o)
-    → IfErr read (λ end. (o : Out) → (o ≡ out.Say) ⊎ IsPassedOver before after o)
+    → IfErr read (λ end. OnlyPuts before after out.Say)
     → command_of words ≡ Some command → creates command any ≡ false → (any ≡ out.Say) ⊎ IsPassedOver before after any
-passed words before after (Ok c) command any is usage others none asked made =
+passed words before after (Ok c) command any is usage others says asked made =
     others any (subst (λ (k : Command). creates k any ≡ false) (sym (some_is c command (sym is ∙ asked))) made)
-passed words before after (Err end) command any is usage others none asked made = none any
+passed words before after (Err end) command any is usage others says asked made = puts_others before after any says

@@ -1,7 +1,6 @@
 -- What `make` and `demo` do: the image of a number, and the job that is run on it.
 use Rattle.std.specs.Prelude.{◌≡◌, ℕ, ◌*◌, ◌%◌, ◌^◌, ◌<◌, ◌⊎◌, List, [], length, take, sum, slice_index}
 use Rattle.snes_defs.specs.declared.cart.Job.{Job}
-use Rattle.snes_defs.specs.declared.cart.MapKind.TheVariants.{LoRom}
 use Rattle.snes_defs.specs.declared.region.Region.TheVariants.{Ntsc}
 use Rattle.clock_ratio.specs.Stamp.{end_stamp_of, samples_before_of}
 use Rattle.demo_files.specs.Image.{byte_of}
@@ -14,6 +13,7 @@ use Rattle.run_io.specs.Line.{line_of, image_text, demo_text}
 use Rattle.snes_call.specs.declared.run_files.CommandEnd.{CommandEnd}
 use Rattle.snes_call.specs.declared.run_files.CommandEnd.TheVariants.{LoadFault, Refused, WriteFault, NoMemory}
 use Rattle.snes_call.specs.Outputs.{IsFilled}
+use Rattle.snes_call.specs.Readers.{IsCartIn}
 use Rattle.snes_call.specs.RunFiles.{OnlySays}
 
 -- the 524,288 bytes of the cartridge that a number makes
@@ -51,12 +51,12 @@ module _ (number : ℕ) (name : List ℕ) (before after : Shown) where
   EndsMake (LoadFault input) = ⊥
   EndsMake (Refused cause) = ⊥
 
--- the job of a demo: the image of a number as a LoROM cartridge without RAM, the demo's boot ROM, a
--- table whose entry i is 2 i, and the empty script of Ntsc
+-- the job of a demo: the cartridge that is read of the image of a number, the demo's boot ROM, a table
+-- whose entry i is 2 i, and the empty script, in Ntsc
 pub record IsDemoJob (number frames : ℕ) (job : Job) : Type 0 where
-  pub map : job.cart.map ≡ LoRom
-  pub rom : IsImage number job.cart.rom
-  pub ram : job.cart.ram ≡ 0
+  pub image : List ℕ
+  pub of_number : IsImage number image
+  pub cart : IsCartIn image job.cart
   pub boot : job.boot ≡ demo_boot
   pub table_size : length job.table ≡ 512
   pub table : (i : ℕ) → i < 512 → slice_index job.table i ≡ 2 * i

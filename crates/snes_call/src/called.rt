@@ -1,8 +1,7 @@
 ghost use Rattle.std.specs.Prelude.{◌≡◌, ◌⊎◌, false, IfOk, IfErr, IfSome, IsErrOf};
 ghost use Rattle.file_shelf.specs.declared.shelves.Out.{Out};
-ghost use Rattle.file_shelf.specs.Shown.{IsPassedOver, IsKept};
+ghost use Rattle.file_shelf.specs.Shown.{IsPassedOver, IsKept, OnlyPuts};
 ghost use Rattle.snes_call.specs.Commands.{HasFewFrames, creates};
-ghost use Rattle.snes_call.specs.RunFiles.{OnlySays};
 ghost use Rattle.snes_call.specs.Status.{refusal_of};
 ghost use Rattle.snes_call.specs.Said.{IsSaid};
 ghost use Rattle.snes_call.specs.Call.{EndsCall};
@@ -28,6 +27,7 @@ fn commanded<P: Player, R: AllocGlobal + Threads, H: Shelf, G: Gate>(
     ensures others { (out : Out) → creates command.now out ≡ false → (out ≡ Out.Say) ⊎ IsPassedOver (H.shown shelf.old) (H.shown shelf.new) out }
     ensures said { IfSome (refusal_of result) (IsSaid (H.shown shelf.old) (H.shown shelf.new)) }
     ensures kept { IsKept (H.shown shelf.old) (H.shown shelf.new) }
+    ensures unnamed { (H.shown shelf.new).named Out.Say ≡ (H.shown shelf.old).named Out.Say }
 {
     let outcome = follow::<P, R, H, G>(rt, command, shelf, gate);
     say(shelf, outcome)
@@ -45,11 +45,11 @@ pub(crate) fn called<P: Player, R: AllocGlobal + Threads, H: Shelf, G: Gate>(
     ensures ends { IfOk read.now (λ command. EndsCall P.emits command (H.shown shelf.old) (H.shown shelf.new) result) }
     ensures usage { IsErrOf read.now WordsEnd.Usage → result ≡ Status.Usage }
     ensures no_memory { IsErrOf read.now WordsEnd.NoMemory → result ≡ Status.NoMemory }
-    ensures unread { IfErr read.now (λ end. OnlySays (H.shown shelf.old) (H.shown shelf.new)) }
-    ensures unread_others { IfErr read.now (λ end. (out : Out) → (out ≡ Out.Say) ⊎ IsPassedOver (H.shown shelf.old) (H.shown shelf.new) out) }
+    ensures unread { IfErr read.now (λ end. OnlyPuts (H.shown shelf.old) (H.shown shelf.new) Out.Say) }
     ensures said { IfSome (refusal_of result) (IsSaid (H.shown shelf.old) (H.shown shelf.new)) }
     ensures others { IfOk read.now (λ command. (out : Out) → creates command out ≡ false → (out ≡ Out.Say) ⊎ IsPassedOver (H.shown shelf.old) (H.shown shelf.new) out) }
     ensures kept { IsKept (H.shown shelf.old) (H.shown shelf.new) }
+    ensures unnamed { (H.shown shelf.new).named Out.Say ≡ (H.shown shelf.old).named Out.Say }
 {
     match read {
         Ok(command) => commanded::<P, R, H, G>(rt, command, shelf, gate),

@@ -25,13 +25,10 @@ pub(crate) fn follow<P: Player, R: AllocGlobal + Threads, H: Shelf, G: Gate>(
     ensures ends { IfErr result (EndsCommand P.emits command.now (H.shown shelf.old) (H.shown shelf.new)) }
     ensures only { OnlyCommanded command.now (H.shown shelf.old) (H.shown shelf.new) }
 {
-    let alloc = rt.alloc();
     match command {
-        Command::Run(files) => {
-            run_files::<P, R, G, H>(alloc, files, Way::Turns { rt, gate }, shelf)
-        }
-        Command::Serial(files) => run_files::<P, R, G, H>(alloc, files, Way::Serial, shelf),
-        Command::Make { number, out } => make_image(alloc, *number, out, shelf),
+        Command::Run(files) => run_files::<P, R, H, G>(rt, files, Way::Turns, shelf, gate),
+        Command::Serial(files) => run_files::<P, R, H, G>(rt, files, Way::Serial, shelf, gate),
+        Command::Make { number, out } => make_image(rt.alloc(), *number, out, shelf),
         Command::Demo { number, frames } => {
             match play_demo::<P, R, G>(rt, *number, *frames, gate) {
                 Ok(line) => Ok(line),

@@ -11,7 +11,7 @@ use snes_defs::{Bytes, Cart, Job, MapKind, NoMemory, Region, Spans};
 use std::alloc::Global;
 use std::thread::Threads;
 
-/// The job of a demo.
+/// The job of a demo. Its image is a LoROM cartridge without RAM, and taken as it is.
 fn demo_job(alloc: Global, number: u32, frames: u32) -> Result<Job, NoMemory>
     ensures { IfOk result (IsDemoJob number frames) }
 {

@@ -12,7 +12,6 @@ use port_wire::Gate;
 use run_drive::Player;
 use run_io::{Files, Line, frames_line};
 use snes_defs::Job;
-use std::alloc::Global;
 use std::thread::Threads;
 
 /// Why a command was not done.
@@ -59,22 +58,23 @@ fn line_of_run(job: &Job) -> Line
 }
 
 /// Loads files, runs the job that they make, and gives the line to say.
-pub(crate) fn run_files<P: Player, R: Threads, G: Gate, H: Shelf>(
-    alloc: Global,
+pub(crate) fn run_files<P: Player, R: AllocGlobal + Threads, H: Shelf, G: Gate>(
+    rt: &R,
     files: &Files,
-    way: Way<'_, R, G>,
+    way: Way,
     shelf: &mut H,
+    gate: &G,
 ) -> Result<Line, CommandEnd>
     requires { files.now.frames ≤ 36000 }
     ensures made { IfOk result (IsRun P.emits files.now (H.shown shelf.old) (H.shown shelf.new)) }
     ensures ends { IfErr result (EndsFiles P.emits files.now (H.shown shelf.old) (H.shown shelf.new)) }
     ensures only { OnlyRunsFiles (H.shown shelf.old) (H.shown shelf.new) }
 {
-    let job = match load_job(alloc, files, shelf) {
+    let job = match load_job(rt.alloc(), files, shelf) {
         Ok(job) => job,
         Err(end) => return Err(unloaded(end)),
     };
-    match write_run::<P, R, G, H>(alloc, &job, files, way, shelf) {
+    match write_run::<P, R, H, G>(rt, &job, files, way, shelf, gate) {
         Ok(()) => Ok(line_of_run(&job)),
         Err(end) => Err(unwritten(end)),
     }

@@ -1,17 +1,18 @@
 ghost use Rattle.std.specs.Prelude.{◌≡◌, ◌<◌, ◌⊎◌, ℕ, true, false, Some, None, IfSome, IsSomeAnd};
+ghost use Rattle.snes_defs.specs.declared.cart.Job.{Job};
 ghost use Rattle.file_shelf.specs.declared.shelves.Input.{Input};
 ghost use Rattle.file_shelf.specs.declared.shelves.Out.{Out};
 ghost use Rattle.file_shelf.specs.Told.{HasRisen};
-ghost use Rattle.file_shelf.specs.Shown.{IsPassedOver, IsKept};
+ghost use Rattle.file_shelf.specs.Shown.{IsPassedOver, IsKept, OnlyPuts};
 ghost use Rattle.run_io.specs.declared.order.Files.{Files};
 ghost use Rattle.run_io.specs.declared.commands.Command.{Command};
 ghost use Rattle.run_io.specs.Command.{command_of};
 ghost use Rattle.snes_call.specs.declared.status.Why.{Why};
-ghost use Rattle.snes_call.specs.Stage.{Create, Running, place_of, stage_of, input_of, Passed};
+ghost use Rattle.snes_call.specs.Stage.{Accept, Create, Running, place_of, stage_of, input_of, Passed};
 ghost use Rattle.snes_call.specs.Status.{refusal_of};
 ghost use Rattle.snes_call.specs.Said.{IsSaid};
 ghost use Rattle.snes_call.specs.RunFiles.{OnlySays};
-ghost use Rattle.snes_call.specs.Inputs.{TellsRefused, IsLoadFault, IsRefused};
+ghost use Rattle.snes_call.specs.Inputs.{ShowsJob, TellsRefused, IsLoadFault, IsRefused};
 ghost use Rattle.snes_call.specs.Commands.{files_of, creates, IsBegun};
 ghost use Rattle.snes_call.specs.Call.{IsAnswered};
 ghost use Rattle.snes_call.specs.Snes.{OrNoMemory, IsLoadFaultUpTo, IsLeft, IsClean};
@@ -46,7 +47,7 @@ pub fn snes<P: Player, R: AllocGlobal + Threads, H: Shelf, G: Gate>(
     // Usage: exactly where the words are in no form.
     ensures usage { result ≡ Status.Usage → command_of words.now ≡ None }
     ensures usage_always { command_of words.now ≡ None → OrNoMemory result Status.Usage }
-    ensures formless { command_of words.now ≡ None → OnlySays (H.shown shelf.old) (H.shown shelf.new) }
+    ensures formless { command_of words.now ≡ None → OnlyPuts (H.shown shelf.old) (H.shown shelf.new) Out.Say }
 
     // Faults: only where a count of that input's name, or of that output, rose in this call.
     ensures load_fault { (command : Command) (input : Input) → command_of words.now ≡ Some command → result ≡ Status.LoadFault input → IsSomeAnd (files_of command) (λ files. IsLoadFault files (H.shown shelf.old) (H.shown shelf.new) input) }
@@ -56,6 +57,9 @@ pub fn snes<P: Player, R: AllocGlobal + Threads, H: Shelf, G: Gate>(
     ensures refused { (command : Command) (cause : Why) → command_of words.now ≡ Some command → result ≡ Status.Refused cause → IsSomeAnd (files_of command) (λ files. IsRefused files (H.shown shelf.old) cause) }
     ensures refused_always { (command : Command) (files : Files) (cause : Why) → command_of words.now ≡ Some command → files_of command ≡ Some files → TellsRefused (H.shown shelf.old) files cause → (result ≡ Status.Refused cause) ⊎ IsLoadFaultUpTo (input_of cause) result }
 
+    // Accepted: once an answer is later than the inputs, they make a job.
+    ensures accepted { (command : Command) (files : Files) → command_of words.now ≡ Some command → files_of command ≡ Some files → Passed (Accept Input.Script) result → (job : Job) × ShowsJob (H.shown shelf.old) files job }
+
     // What is left in the outputs that the command creates, after any answer.
     ensures untouched { (command : Command) → command_of words.now ≡ Some command → place_of (stage_of result) < place_of (Create Out.Video) → OnlySays (H.shown shelf.old) (H.shown shelf.new) }
     ensures left { (command : Command) (out : Out) → command_of words.now ≡ Some command → creates command out ≡ true → IsLeft P.emits command (H.shown shelf.old) (H.shown shelf.new) out }
@@ -64,6 +68,7 @@ pub fn snes<P: Player, R: AllocGlobal + Threads, H: Shelf, G: Gate>(
     // What stays, and what is said.
     ensures kept { IsKept (H.shown shelf.old) (H.shown shelf.new) }
     ensures others { (command : Command) (out : Out) → command_of words.now ≡ Some command → creates command out ≡ false → (out ≡ Out.Say) ⊎ IsPassedOver (H.shown shelf.old) (H.shown shelf.new) out }
+    ensures unnamed { (H.shown shelf.new).named Out.Say ≡ (H.shown shelf.old).named Out.Say }
     ensures refusal { IfSome (refusal_of result) (IsSaid (H.shown shelf.old) (H.shown shelf.new)) }
 {
     let read = read_command(rt.alloc(), words);

@@ -11,16 +11,15 @@ use port_wire::Gate;
 use run_drive::{Player, out_of};
 use run_io::{Files, Name};
 use snes_defs::{Job, Side};
-use std::alloc::Global;
 use std::thread::Threads;
 
 /// How the two machines of a run are stepped. What they emit is the same.
-#[derive(Drop)]
-pub(crate) enum Way<'a, R: Threads, G: Gate> {
+#[derive(Clone, Copy, Debug, PartialEq, Eq)]
+pub(crate) enum Way {
     /// By the serial console.
     Serial,
     /// By two workers, turn by turn, each of which passes the gate.
-    Turns { rt: &'a R, gate: &'a G },
+    Turns,
 }
 
 /// Why a run was not written whole.
@@ -43,10 +42,12 @@ pub(crate) fn create<H: Shelf>(shelf: &mut H, out: Out, name: &Name) -> Result<(
 }
 
 /// Plays one way or the other.
-fn play_by<P: Player, R: Threads, G: Gate, H: Shelf>(
+fn play_by<P: Player, R: Threads, H: Shelf, G: Gate>(
+    rt: &R,
     player: P,
-    way: Way<'_, R, G>,
+    way: Way,
     shelf: &mut H,
+    gate: &G,
 ) -> Result<(), Side>
     requires at_start { (job : Job) × P.plays player job }
     requires video_created { Holds ((H.shown shelf.old).written Out.Video) [] }
@@ -58,15 +59,17 @@ fn play_by<P: Player, R: Threads, G: Gate, H: Shelf>(
 {
     match way {
         Way::Serial => player.play_serial(shelf),
-        Way::Turns { rt, gate } => player.play_turns(rt, gate, shelf),
+        Way::Turns => player.play_turns(rt, gate, shelf),
     }
 }
 
 /// Plays into two outputs that were created. Err names the one that was not written.
-fn play<P: Player, R: Threads, G: Gate, H: Shelf>(
+fn play<P: Player, R: Threads, H: Shelf, G: Gate>(
+    rt: &R,
     player: P,
-    way: Way<'_, R, G>,
+    way: Way,
     shelf: &mut H,
+    gate: &G,
 ) -> Result<(), Out>
     requires at_start { (job : Job) × P.plays player job }
     requires video_created { Holds ((H.shown shelf.old).written Out.Video) [] }
@@ -77,26 +80,27 @@ fn play<P: Player, R: Threads, G: Gate, H: Shelf>(
     ensures failed { IfErr result (λ out. HasRisen ((H.shown shelf.old).write_faults out) ((H.shown shelf.new).write_faults out)) }
     ensures only { OnlyFills (H.shown shelf.old) (H.shown shelf.new) }
 {
-    match play_by(player, way, shelf) {
+    match play_by(rt, player, way, shelf, gate) {
         Ok(()) => Ok(()),
         Err(side) => Err(out_of(side)),
     }
 }
 
 /// Takes the memory of a run, creates its two outputs, video first, and plays it into them.
-pub(crate) fn write_run<P: Player, R: Threads, G: Gate, H: Shelf>(
-    alloc: Global,
+pub(crate) fn write_run<P: Player, R: AllocGlobal + Threads, H: Shelf, G: Gate>(
+    rt: &R,
     job: &Job,
     files: &Files,
-    way: Way<'_, R, G>,
+    way: Way,
     shelf: &mut H,
+    gate: &G,
 ) -> Result<(), RunEnd>
     requires { job.now.frames ≤ 36000 }
     ensures whole { OnOk result (HoldsRun P.emits job.now files.now (H.shown shelf.new)) }
     ensures ends { IfErr result (EndsRun P.emits job.now files.now (H.shown shelf.old) (H.shown shelf.new)) }
     ensures only { OnlyRuns (H.shown shelf.old) (H.shown shelf.new) }
 {
-    let Ok(player) = P::ready(alloc, job) else {
+    let Ok(player) = P::ready(rt.alloc(), job) else {
         return Err(RunEnd::NoMemory);
     };
     let Ok(()) = create(shelf, Out::Video, &files.video) else {
@@ -105,7 +109,7 @@ pub(crate) fn write_run<P: Player, R: Threads, G: Gate, H: Shelf>(
     let Ok(()) = create(shelf, Out::Sound, &files.audio) else {
         return Err(RunEnd::WriteFault(Out::Sound));
     };
-    match play(player, way, shelf) {
+    match play(rt, player, way, shelf, gate) {
         Ok(()) => Ok(()),
         Err(out) => Err(RunEnd::WriteFault(out)),
     }

@@ -1,4 +1,5 @@
-use Rattle.snes_call.proofs.Calls.{say_over, kept_then, call_ends, call_says, call_passes}
+use Rattle.std.proofs.Common.{◌∙◌}
+use Rattle.snes_call.proofs.Calls.{say_over, kept_then, puts_unnamed, call_ends, call_says, call_passes}
 use Rattle.snes_call.proofs.called.commanded.Goals as goal
 
 pub returns-clause-ends : goal.returns-clause-ends
@@ -17,3 +18,6 @@ returns-clause-others g c = λ out none.
 
 pub returns-clause-kept : goal.returns-clause-kept
 returns-clause-kept g c = kept_then _ _ _ c.follow-outcome.ensures.only.kept c.say.ensures.only
+
+pub returns-clause-unnamed : goal.returns-clause-unnamed
+returns-clause-unnamed g c = puts_unnamed _ _ c.say.ensures.only ∙ (say_over _ _ _ c.follow-outcome.ensures.only).named

@@ -12,6 +12,13 @@ returns-clause-refused_always g c = λ command files cause asked own told.
     c.read_command-read.ensures.command c.read_command-read.ensures.usage c.called.ensures.ends c.called.ensures.no_memory c.called.ensures.unread asked in
     clause.refused_always g.P.Player.emits (shows c.args.shelf.now) (shows c.called.new.shelf) files cause told command own c.called.result h
 
+pub returns-clause-accepted : goal.returns-clause-accepted
+returns-clause-accepted g c = λ command files asked own late.
+    let shows = g.H.Shelf.shown in
+    let h = ended g.P.Player.emits c.args.words.now (shows c.args.shelf.now) (shows c.called.new.shelf) c.called.result c.read_command-read.result command
+    c.read_command-read.ensures.command c.read_command-read.ensures.usage c.called.ensures.ends c.called.ensures.no_memory c.called.ensures.unread asked in
+    clause.accepted g.P.Player.emits (shows c.args.shelf.now) (shows c.called.new.shelf) command c.called.result h files own late
+
 pub returns-clause-left : goal.returns-clause-left
 returns-clause-left g c = λ command out asked made.
     let shows = g.H.Shelf.shown in
@@ -30,4 +37,4 @@ pub returns-clause-others : goal.returns-clause-others
 returns-clause-others g c = λ command out asked none.
     let shows = g.H.Shelf.shown in
     passed c.args.words.now (shows c.args.shelf.now) (shows c.called.new.shelf) c.read_command-read.result command out
-    c.read_command-read.ensures.command c.read_command-read.ensures.usage c.called.ensures.others c.called.ensures.unread_others asked none
+    c.read_command-read.ensures.command c.read_command-read.ensures.usage c.called.ensures.others c.called.ensures.unread asked none
