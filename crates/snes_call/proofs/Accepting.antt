@@ -1,10 +1,8 @@
 -- The first input that isn't accepted decides the answer.
-use Rattle.std.proofs.Common.{◌≡◌, ℕ, ◌<◌, ◌≤◌, List, Option, None, Some, IfSome, IsSomeAnd, true, false, nat_lt, nat_eq, length, Result, Err, MatchBool, refl, sym, ap, ◌∙◌, subst, inl, inr, ⊎_elim, arith}
-use Rattle.std.specs.Prelude.{◌⊎◌}
-use Rattle.std.proofs.lemmas.Bool.{cases_order, lt-ltb}
+use Rattle.std.proofs.Common.{◌≡◌, ℕ, ◌≤◌, List, Option, None, Some, IfSome, IsSomeAnd, true, false, nat_lt, nat_eq, length, Result, Err, MatchBool, refl, sym, ap, ◌∙◌, subst, ⊎_elim, arith}
+use Rattle.std.proofs.lemmas.Bool.{cases_order}
 use Rattle.cart_map.specs.Accept.{verdict}
-use Rattle.cart_map.specs.declared.refused.CartRefused.{CartRefused}
-use Rattle.input_files.specs.Table.{entry_of, IsFirstLarge, IsRefusedAt}
+use Rattle.input_files.specs.Table.{IsFirstLarge, IsRefusedAt}
 use Rattle.input_files.specs.Script.{script_of}
 use Rattle.file_shelf.specs.declared.shelves.Input.{Input}
 use Rattle.file_shelf.specs.declared.shelves.Input.TheVariants as input

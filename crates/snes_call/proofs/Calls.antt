@@ -1,5 +1,5 @@
 -- How a call ends, from how its command ended and what was said.
-use Rattle.std.proofs.Common.{◌≡◌, ◌≢◌, ℕ, ◌≤◌, List, Option, None, Some, IfSome, Result, Ok as good, Err, IfOk, IfErr, refl, sym, ap, ◌∙◌, subst, inl, inr, ⊎_elim, arith}
+use Rattle.std.proofs.Common.{◌≡◌, ◌≢◌, ℕ, List, Option, None, Some, IfSome, Result, Ok as good, Err, IfOk, IfErr, refl, sym, ap, ◌∙◌, subst, inl, inr, ⊎_elim, arith}
 use Rattle.std.specs.Prelude.{◌⊎◌}
 use Rattle.snes_defs.specs.declared.cart.Job.{Job}
 use Rattle.file_shelf.specs.declared.shelves.Out.{Out}
@@ -11,13 +11,12 @@ use Rattle.run_io.specs.declared.commands.Command.TheVariants.{Run, Serial, Make
 use Rattle.snes_call.specs.declared.run_files.CommandEnd.{CommandEnd}
 use Rattle.snes_call.specs.declared.run_files.CommandEnd.TheVariants as end
 use Rattle.snes_call.specs.declared.status.Status.{Status}
-use Rattle.snes_call.specs.declared.status.Status.TheVariants.{Ok, Usage, LoadFault, Refused, WriteFault, NoMemory}
 use Rattle.snes_call.specs.RunFiles.{OnlySays}
-use Rattle.snes_call.specs.Commands.{creates, IsDone, EndsCommand, OnlyCommanded}
+use Rattle.snes_call.specs.Commands.{IsDone, EndsCommand, OnlyCommanded}
 use Rattle.snes_call.specs.Status.{status_of, refusal_of}
-use Rattle.snes_call.specs.Said.{IsSaid, IsSaidWhole, IsSaidInPart, Says}
+use Rattle.snes_call.specs.Said.{IsSaid, Says}
 use Rattle.snes_call.specs.Call.{IsAnswered, EndsCall}
-use Rattle.snes_call.proofs.Saying.{done_after, ends_after, says_after}
+use Rattle.snes_call.proofs.Saying.{done_after, ends_after}
 
 -- no command creates the output of the lines
 pub say_over : (command : Command) (a b : Shown) → OnlyCommanded command a b → IsPassedOver a b out.Say

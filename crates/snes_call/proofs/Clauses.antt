@@ -1,5 +1,5 @@
 -- The clauses of `snes`, each from how the call ended.
-use Rattle.std.proofs.Common.{◌≡◌, ◌≢◌, ℕ, ◌+◌, ◌*◌, ◌<◌, ◌≤◌, List, length, take, Option, None, Some, IfSome, IsSomeAnd, true, false, refl, sym, ap, ◌∙◌, subst, inl, inr, ⊎_elim, arith}
+use Rattle.std.proofs.Common.{◌≡◌, ◌≢◌, ℕ, ◌+◌, ◌*◌, ◌<◌, ◌≤◌, List, length, take, Option, None, Some, IsSomeAnd, true, refl, sym, ap, ◌∙◌, subst, inl, inr, ⊎_elim, arith}
 use Rattle.std.specs.Prelude.{◌⊎◌}
 use Rattle.std.proofs.lemmas.List.{take_all}
 use Rattle.snes_defs.specs.declared.cart.Job.{Job}
@@ -7,7 +7,7 @@ use Rattle.file_shelf.specs.declared.shelves.Input.{Input}
 use Rattle.file_shelf.specs.declared.shelves.Input.TheVariants as input
 use Rattle.file_shelf.specs.declared.shelves.Out.{Out}
 use Rattle.file_shelf.specs.declared.shelves.Out.TheVariants as out
-use Rattle.file_shelf.specs.Told.{Appends, HasRisen}
+use Rattle.file_shelf.specs.Told.{HasRisen}
 use Rattle.file_shelf.specs.Shown.{Shown, IsUntouched}
 use Rattle.run_io.specs.declared.order.Files.{Files}
 use Rattle.run_io.specs.declared.commands.Command.{Command}
@@ -18,12 +18,11 @@ use Rattle.snes_call.specs.declared.status.Why.{Why}
 use Rattle.snes_call.specs.declared.status.Status.{Status}
 use Rattle.snes_call.specs.declared.status.Status.TheVariants.{Ok, Usage, LoadFault, Refused, WriteFault, NoMemory}
 use Rattle.snes_call.specs.Stage.{Accept, Create, Running, place_of, stage_of, order_of, input_of, Passed}
-use Rattle.snes_call.specs.Inputs.{ShowsJob, TellsAccepted, TellsRefused, IsLoadFault, IsRefused}
-use Rattle.snes_call.specs.Outputs.{IsFilled, IsVideoBegun, IsSoundBegun}
+use Rattle.snes_call.specs.Inputs.{ShowsJob, TellsRefused, IsLoadFault, IsRefused}
+use Rattle.snes_call.specs.Outputs.{IsFilled}
 use Rattle.snes_call.specs.RunFiles.{OnlySays, MakesJob, IsRun, EndsFiles}
 use Rattle.snes_call.specs.Made.{EndsMake}
 use Rattle.snes_call.specs.Commands.{files_of, creates, IsRunBegun, IsBegun, IsDone, EndsCommand}
-use Rattle.snes_call.specs.Said.{Says}
 use Rattle.snes_call.specs.Status.{status_of}
 use Rattle.snes_call.specs.Call.{IsAnswered, EndsCall}
 use Rattle.snes_call.specs.Snes.{OrNoMemory, IsLoadFaultUpTo, IsLeft, IsClean}

@@ -1,11 +1,10 @@
 -- The image of a number is a cartridge: LoROM without RAM, and whole pages, so that nothing is filled up.
-use Rattle.std.proofs.Common.{◌≡◌, ℕ, ◌%◌, Bool, true, false, not, ◌&&◌, nat_eq, nat_lt, if◌then◌else◌, List, ◌++◌, length, drop, replicate, slice_index, Option, Some, None, Ok, refl, sym, ap, ◌∙◌, subst, arith}
+use Rattle.std.proofs.Common.{◌≡◌, ℕ, Bool, true, false, not, ◌&&◌, if◌then◌else◌, List, ◌++◌, replicate, slice_index, Some, None, Ok, refl, sym, ap, ◌∙◌, arith}
 use Rattle.std.proofs.lemmas.List.{append-nil}
 use Rattle.snes_defs.specs.declared.cart.Cart.{Cart}
-use Rattle.snes_defs.specs.declared.cart.MapKind.{MapKind}
 use Rattle.snes_defs.specs.declared.cart.MapKind.TheVariants.{LoRom, HiRom}
-use Rattle.cart_map.specs.Accept.{image_of, missing, rom_of, is_map_byte, sums_add, stands, chosen, judged_by, judged, judged_image, verdict}
-use Rattle.demo_files.specs.Image.{head_of, header, byte_of}
+use Rattle.cart_map.specs.Accept.{image_of, missing, rom_of, is_map_byte, sums_add, stands, chosen, judged, verdict}
+use Rattle.demo_files.specs.Image.{head_of, header}
 use Rattle.snes_call.specs.Readers.{IsCartIn}
 use Rattle.snes_call.specs.Made.{IsImage}
 

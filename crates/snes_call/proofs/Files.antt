@@ -1,6 +1,5 @@
 -- How a command to run files ends, from how its inputs and its run ended.
-use Rattle.std.proofs.Common.{◌≡◌, ◌≢◌, ℕ, ◌≤◌, List, Option, refl, sym, ap, ◌∙◌, subst, inl, inr, ⊎_elim, arith}
-use Rattle.std.specs.Prelude.{◌⊎◌}
+use Rattle.std.proofs.Common.{ℕ, List, Option, refl, ap, ◌∙◌, subst, inl, inr, ⊎_elim, arith}
 use Rattle.snes_defs.specs.declared.cart.Job.{Job}
 use Rattle.file_shelf.specs.declared.shelves.Out.{Out}
 use Rattle.file_shelf.specs.declared.shelves.Out.TheVariants.{Video, Sound, Image, Say}
@@ -14,8 +13,8 @@ use Rattle.snes_call.specs.declared.writing.RunEnd.TheVariants as run
 use Rattle.snes_call.specs.Ends.{of_inputs, of_run}
 use Rattle.snes_call.specs.Changes.{OnlyRunsFiles}
 use Rattle.snes_call.specs.Inputs.{ShowsJob, EndsInputs}
-use Rattle.snes_call.specs.Outputs.{HoldsRun, IsVideoBegun, IsSoundBegun, IsVideoLeft, IsSoundLeft, EndsRun}
-use Rattle.snes_call.specs.RunFiles.{OnlySays, IsRun, EndsFiles, run_line}
+use Rattle.snes_call.specs.Outputs.{EndsRun}
+use Rattle.snes_call.specs.RunFiles.{OnlySays, EndsFiles}
 
 -- loads change no output
 pub loads_say : (a b : Shown) → OnlyLoads a b → OnlySays a b

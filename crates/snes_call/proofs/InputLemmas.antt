@@ -5,8 +5,6 @@ use Rattle.file_shelf.specs.declared.shelves.Input.{Input}
 use Rattle.file_shelf.specs.declared.shelves.Input.TheVariants.{Cart, Boot, Table, Script}
 use Rattle.file_shelf.specs.Told.{Holds}
 use Rattle.cart_map.specs.Accept.{image_of}
-use Rattle.cart_map.specs.Accept.{verdict}
-use Rattle.cart_map.specs.declared.refused.CartRefused.TheVariants.{TooLong}
 use Rattle.input_files.specs.Table.{IsFirstLarge}
 use Rattle.input_files.specs.Script.{script_of}
 use Rattle.snes_call.specs.Readers.{AreRefused}
@@ -15,7 +13,6 @@ use Rattle.run_drive.specs.OutputLaws.{risen_since}
 use Rattle.run_io.specs.declared.order.Files.{Files}
 use Rattle.snes_call.specs.declared.inputs.InputEnd.{InputEnd}
 use Rattle.snes_call.specs.declared.inputs.InputEnd.TheVariants.{LoadFault, Refused, NoMemory}
-use Rattle.snes_call.specs.Stage.{input_of}
 use Rattle.snes_call.specs.Inputs.{name_of, told_of, limit_of, too_long_of, ShowsAccepted, ShowsAcceptedBefore, EndsInput, EndsInputs, IsLoadFault}
 
 -- a greater number is another

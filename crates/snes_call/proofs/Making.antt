@@ -1,12 +1,11 @@
 -- How the making of an image ends.
-use Rattle.std.proofs.Common.{◌≡◌, ◌≢◌, ℕ, ◌≤◌, List, [], ◌++◌, take, Option, refl, sym, ap, ◌∙◌, subst, inl, inr, arith}
+use Rattle.std.proofs.Common.{◌≡◌, ℕ, List, [], Option, sym, ap, ◌∙◌, subst, inr, arith}
 use Rattle.file_shelf.specs.declared.shelves.Out.{Out}
-use Rattle.file_shelf.specs.declared.shelves.Out.TheVariants.{Video, Sound, Image, Say}
+use Rattle.file_shelf.specs.declared.shelves.Out.TheVariants.{Image}
 use Rattle.file_shelf.specs.Told.{Holds, Appends, AppendsSome, HasRisen}
-use Rattle.file_shelf.specs.Shown.{Shown, IsUntouched, IsCreated, OnlyCreates, OnlyPuts}
+use Rattle.file_shelf.specs.Shown.{Shown, IsCreated, OnlyCreates, OnlyPuts}
 use Rattle.run_drive.specs.OutputLaws.{risen_since}
 use Rattle.snes_call.specs.Outputs.{IsFilled}
-use Rattle.snes_call.specs.RunFiles.{OnlySays}
 use Rattle.snes_defs.specs.declared.cart.Job.{Job}
 use Rattle.snes_defs.specs.declared.region.Region.TheVariants.{Ntsc}
 use Rattle.clock_ratio.specs.Stamp.{end_stamp_of, samples_before_of}
@@ -14,7 +13,7 @@ use Rattle.run_io.specs.Line.{line_of, demo_text}
 use Rattle.snes_call.specs.declared.sums.Sums.{Sums}
 use Rattle.run_drive.specs.Played.{PlayedWhole}
 use Rattle.snes_call.specs.Sums.{HasTaken}
-use Rattle.snes_call.specs.Made.{IsImage, IsImageFault, IsImageBegun, IsMade, IsDemoJob, IsDemo, sum_in}
+use Rattle.snes_call.specs.Made.{IsImage, IsImageFault, IsDemoJob, IsDemo, sum_in}
 
 -- a creation and a put of one output change that one alone
 pub creates_then_puts : (a b c : Shown) (out : Out) → OnlyCreates a b out → OnlyPuts b c out → OnlyCreates a c out

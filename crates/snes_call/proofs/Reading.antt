@@ -1,13 +1,11 @@
 -- What is read is accepted, and what is refused is refused for one cause.
-use Rattle.std.proofs.Common.{◌≡◌, ℕ, ◌<◌, ◌≤◌, true, false, nat_lt, nat_eq, List, length, Result, Ok, Err, MatchBool, refl, sym, ap, ◌∙◌, subst, ⊎_elim, arith}
-use Rattle.std.proofs.lemmas.Bool.{lt-ltb, le-ltb, cases_order}
+use Rattle.std.proofs.Common.{◌≡◌, ℕ, ◌≤◌, true, false, nat_lt, nat_eq, List, length, Result, Ok, Err, MatchBool, sym, ap, subst, arith}
+use Rattle.std.proofs.lemmas.Bool.{le-ltb}
 use Rattle.snes_defs.specs.declared.cart.Cart.{Cart}
 use Rattle.snes_defs.specs.Script.{Script}
 use Rattle.cart_map.specs.Accept.{verdict}
-use Rattle.cart_map.specs.declared.refused.CartRefused.{CartRefused}
-use Rattle.input_files.specs.Table.{entry_of, IsTableFile, IsFirstLarge, IsRefusedAt}
+use Rattle.input_files.specs.Table.{IsTableFile, IsFirstLarge, IsRefusedAt}
 use Rattle.input_files.specs.Script.{script_of}
-use Rattle.file_shelf.specs.declared.shelves.Input.{Input}
 use Rattle.file_shelf.specs.declared.shelves.Input.TheVariants as input
 use Rattle.snes_call.specs.declared.status.Why.{Why}
 use Rattle.snes_call.specs.declared.status.Why.TheVariants as why

@@ -1,8 +1,6 @@
 -- What a command has done stands when its line is said, since a put to the lines changes nothing else.
-use Rattle.std.proofs.Common.{◌≡◌, ◌≢◌, ℕ, ◌≤◌, List, Option, Some, None, refl, sym, ap, ◌∙◌, subst, inl, inr, ⊎_elim, arith}
-use Rattle.std.specs.Prelude.{◌⊎◌}
+use Rattle.std.proofs.Common.{◌≢◌, ℕ, List, Option, sym, ◌∙◌, subst, inl, inr, ⊎_elim}
 use Rattle.snes_defs.specs.declared.cart.Job.{Job}
-use Rattle.file_shelf.specs.declared.shelves.Input.{Input}
 use Rattle.file_shelf.specs.declared.shelves.Out.{Out}
 use Rattle.file_shelf.specs.declared.shelves.Out.TheVariants as out
 use Rattle.file_shelf.specs.Told.{Holds, HasRisen}
@@ -13,9 +11,9 @@ use Rattle.run_io.specs.declared.commands.Command.TheVariants.{Run, Serial, Make
 use Rattle.snes_call.specs.declared.run_files.CommandEnd.{CommandEnd}
 use Rattle.snes_call.specs.declared.run_files.CommandEnd.TheVariants.{LoadFault, Refused, WriteFault, NoMemory}
 use Rattle.snes_call.specs.Inputs.{name_of}
-use Rattle.snes_call.specs.Outputs.{IsFilled, HoldsRun, IsVideoBegun, IsSoundBegun, IsVideoFault, IsSoundFault}
-use Rattle.snes_call.specs.RunFiles.{OnlySays, MakesJob, IsRun, EndsFiles}
-use Rattle.snes_call.specs.Made.{IsMade, IsImageBegun, IsImageFault, EndsMake}
+use Rattle.snes_call.specs.Outputs.{IsFilled, HoldsRun, IsVideoBegun, IsSoundBegun}
+use Rattle.snes_call.specs.RunFiles.{OnlySays, IsRun, EndsFiles}
+use Rattle.snes_call.specs.Made.{IsImageBegun, EndsMake}
 use Rattle.snes_call.specs.Commands.{IsDone, EndsCommand}
 
 module _ (before mid after : Shown) (puts : OnlyPuts mid after out.Say) where

@@ -1,5 +1,5 @@
 -- How a run ends that creates its two outputs first.
-use Rattle.std.proofs.Common.{◌≡◌, ◌≢◌, ℕ, ◌≤◌, List, [], take, Option, sym, ◌∙◌, subst, refl, inl, inr, ⊎_elim, arith}
+use Rattle.std.proofs.Common.{◌≡◌, ℕ, List, [], take, Option, sym, ◌∙◌, subst, inl, inr, ⊎_elim}
 use Rattle.std.specs.Prelude.{◌⊎◌}
 use Rattle.snes_defs.specs.declared.cart.Job.{Job}
 use Rattle.file_shelf.specs.declared.shelves.Out.{Out}
@@ -7,10 +7,9 @@ use Rattle.file_shelf.specs.declared.shelves.Out.TheVariants.{Video, Sound}
 use Rattle.file_shelf.specs.Told.{Holds, HasRisen}
 use Rattle.file_shelf.specs.Shown.{Shown, IsUntouched, IsPassedOver, IsCreated, OnlyCreates, OnlyRuns}
 use Rattle.run_drive.specs.Outputs.{OnlyFills}
-use Rattle.run_drive.specs.OutputLaws.{only_runs_then, risen_since}
+use Rattle.run_drive.specs.OutputLaws.{risen_since}
 use Rattle.run_io.specs.declared.order.Files.{Files}
-use Rattle.snes_call.specs.declared.writing.RunEnd.{RunEnd}
-use Rattle.snes_call.specs.declared.writing.RunEnd.TheVariants.{WriteFault, NoMemory}
+use Rattle.snes_call.specs.declared.writing.RunEnd.TheVariants.{WriteFault}
 use Rattle.run_drive.specs.Played.{IsPlayable, PlayedWhole, PlayedFirst}
 use Rattle.snes_call.specs.Outputs.{taken_by, IsFilled, HoldsRun, IsVideoBegun, IsSoundBegun, IsVideoFault, IsSoundFault, EndsRun}
 

@@ -1,12 +1,8 @@
 -- How a call of the program has ended whose words ask for a command, by its answer.
-use Rattle.std.specs.Prelude.{◌≡◌, ◌⊎◌, ℕ, List, Option, Some, None, IsSomeAnd}
+use Rattle.std.specs.Prelude.{ℕ, List}
 use Rattle.snes_defs.specs.declared.cart.Job.{Job}
-use Rattle.file_shelf.specs.declared.shelves.Input.{Input}
-use Rattle.file_shelf.specs.declared.shelves.Out.{Out}
 use Rattle.file_shelf.specs.declared.shelves.Out.TheVariants as out
 use Rattle.file_shelf.specs.Shown.{Shown}
-use Rattle.file_shelf.specs.Told.{HasRisen}
-use Rattle.run_io.specs.declared.order.Files.{Files}
 use Rattle.run_io.specs.declared.commands.Command.{Command}
 use Rattle.snes_call.specs.declared.run_files.CommandEnd.TheVariants as end
 use Rattle.snes_call.specs.declared.status.Status.{Status}

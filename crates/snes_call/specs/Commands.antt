@@ -1,9 +1,9 @@
 -- What any command has done, by its answer, and what it changes of a shelf.
-use Rattle.std.specs.Prelude.{◌≡◌, ℕ, ◌≤◌, ◌⊎◌, Bool, true, false, List, Option, Some, None}
+use Rattle.std.specs.Prelude.{◌≡◌, ℕ, ◌≤◌, Bool, true, false, List, Option, Some, None}
 use Rattle.snes_defs.specs.declared.cart.Job.{Job}
 use Rattle.file_shelf.specs.declared.shelves.Out.{Out}
 use Rattle.file_shelf.specs.declared.shelves.Out.TheVariants.{Video, Sound, Image, Say}
-use Rattle.file_shelf.specs.Shown.{Shown, IsUntouched, IsPassedOver, IsKept}
+use Rattle.file_shelf.specs.Shown.{Shown, IsPassedOver, IsKept}
 use Rattle.run_io.specs.declared.order.Files.{Files}
 use Rattle.run_io.specs.declared.commands.Command.{Command}
 use Rattle.run_io.specs.declared.commands.Command.TheVariants.{Run, Serial, Make, Demo}

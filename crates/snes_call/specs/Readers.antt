@@ -5,7 +5,7 @@ use Rattle.std.specs.Prelude.{◌≡◌, ◌≢◌, ℕ, nat_lt, List, length, O
 use Rattle.snes_defs.specs.declared.cart.Cart.{Cart}
 use Rattle.snes_defs.specs.Script.{Script}
 use Rattle.cart_map.specs.Accept.{verdict, image_of, rom_of}
-use Rattle.input_files.specs.Table.{IsTableFile, IsRefusedAt}
+use Rattle.input_files.specs.Table.{IsRefusedAt}
 use Rattle.input_files.specs.Script.{script_of}
 use Rattle.file_shelf.specs.declared.shelves.Input.{Input}
 use Rattle.snes_call.specs.declared.status.Why.{Why}

@@ -1,5 +1,5 @@
 -- Words of the contract of `snes`, over the answer, the words and what the shelf shows before and after.
-use Rattle.std.specs.Prelude.{◌≡◌, ◌⊎◌, ℕ, ◌≤◌, ◌<◌, true, false, List, Option, Some, None, IsSomeAnd}
+use Rattle.std.specs.Prelude.{◌≡◌, ◌⊎◌, ℕ, ◌≤◌, true, List, Some}
 use Rattle.snes_defs.specs.declared.cart.Job.{Job}
 use Rattle.file_shelf.specs.declared.shelves.Input.{Input}
 use Rattle.file_shelf.specs.declared.shelves.Out.{Out}
@@ -8,10 +8,9 @@ use Rattle.file_shelf.specs.Told.{HasRisen}
 use Rattle.file_shelf.specs.Shown.{Shown, IsUntouched}
 use Rattle.run_io.specs.declared.order.Files.{Files}
 use Rattle.run_io.specs.declared.commands.Command.{Command}
-use Rattle.snes_call.specs.declared.status.Why.{Why}
 use Rattle.snes_call.specs.declared.status.Status.{Status}
 use Rattle.snes_call.specs.declared.status.Status.TheVariants.{Ok, Usage, LoadFault, Refused, WriteFault, NoMemory}
-use Rattle.snes_call.specs.Stage.{order_of, input_of}
+use Rattle.snes_call.specs.Stage.{order_of}
 use Rattle.snes_call.specs.Inputs.{name_of, TellsAccepted}
 use Rattle.snes_call.specs.Commands.{files_of, creates, IsBegun}
 

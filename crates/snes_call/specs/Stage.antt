@@ -1,6 +1,5 @@
 -- The order in which the program does its work, and where in it each answer comes.
 use Rattle.std.specs.Prelude.{ℕ, ◌+◌, ◌*◌, ◌<◌}
-use Rattle.cart_map.specs.declared.refused.CartRefused.{CartRefused}
 use Rattle.file_shelf.specs.declared.shelves.Input.{Input}
 use Rattle.file_shelf.specs.declared.shelves.Input.TheVariants as input
 use Rattle.file_shelf.specs.declared.shelves.Out.{Out}

@@ -1,9 +1,10 @@
+use Rattle.std.proofs.Common.{rules}
 use Rattle.snes_call.proofs.Words.{read_few, ended, passed}
 use Rattle.snes_call.proofs.Clauses as clause
 use Rattle.snes_call.proofs.top.snes.Goals as goal
 
 pub called-requires : goal.called-requires
-called-requires g c = read_few c.args.words.now _ c.read_command-read.ensures.command
+called-requires g c = let few = read_few c.args.words.now _ c.read_command-read.ensures.command in search rules
 
 pub returns-clause-refused_always : goal.returns-clause-refused_always
 returns-clause-refused_always g c = λ command files cause asked own told.
