@@ -1,0 +1,70 @@
+use crate::still::{Open, Still};
+use file_shelf::{MemShelf, Out, Shelf, SureShelf};
+use run_io::Argv;
+use snes_call::{Status, snes};
+use std::test::Fail;
+
+/// The words of a run of one frame.
+pub(crate) const RUN: [&str; 15] = [
+    "run", "--cart", "cart", "--boot", "boot", "--table", "table", "--script", "script",
+    "--frames", "1", "--video", "video", "--audio", "audio",
+];
+
+/// How many bytes a shelf keeps of each output here.
+const ROOM: usize = 4096;
+
+/// A LoROM cartridge of 32,768 zeros but for its map byte and the RESET vector.
+pub(crate) fn cartridge(rt: &HostRuntime) -> Result<Vec<u8>, Fail> {
+    let mut image = vec![in rt.alloc(); 0u8; 32768]?;
+    let bytes = image.as_mut_slice();
+    bytes[0x7fd5] = 0x20;
+    bytes[0x7ffd] = 0x80;
+    Ok(image)
+}
+
+/// A shelf that never fails and holds the files of a run, of which one has other bytes.
+pub(crate) fn sure(rt: &HostRuntime, name: &str, bytes: &[u8]) -> Result<SureShelf, Fail> {
+    let mut shelf = SureShelf::new(rt.alloc(), ROOM)?;
+    shelf.hold("cart", cartridge(rt)?.as_slice())?;
+    shelf.hold("boot", &[0xefu8; 64])?;
+    shelf.hold("table", &[0u8; 1024])?;
+    shelf.hold(name, bytes)?;
+    Ok(shelf)
+}
+
+/// A shelf that holds the files of a run, and fails where it is planned.
+pub(crate) fn planned(rt: &HostRuntime) -> Result<MemShelf, Fail> {
+    let mut shelf = MemShelf::new(rt.alloc(), ROOM)?;
+    shelf.hold("cart", cartridge(rt)?.as_slice())?;
+    shelf.hold("boot", &[0xefu8; 64])?;
+    shelf.hold("table", &[0u8; 1024])?;
+    shelf.hold("script", &[])?;
+    Ok(shelf)
+}
+
+/// Calls the program with these words.
+pub(crate) fn called<H: Shelf>(
+    rt: &HostRuntime,
+    words: &[&str],
+    shelf: &mut H,
+) -> Result<Status, Fail> {
+    let mut argv = Argv::new(rt.alloc());
+    for word in words {
+        argv.push(word)?;
+    }
+    Ok(snes::<Still, HostRuntime, H, Open>(rt, &argv, shelf, &Open))
+}
+
+/// What is said of a run whose file of this name has these bytes, and the exit status.
+pub(crate) fn said(
+    rt: &HostRuntime,
+    name: &str,
+    bytes: &[u8],
+    line: &str,
+) -> Result<(u8, bool), Fail> {
+    let mut shelf = sure(rt, name, bytes)?;
+    let status = called(rt, &RUN, &mut shelf)?;
+    let is_said = shelf.written(Out::Say) == line.as_bytes();
+    let untouched = shelf.named(Out::Video).is_empty() && shelf.named(Out::Sound).is_empty();
+    Ok((status.exit(), is_said && untouched))
+}
