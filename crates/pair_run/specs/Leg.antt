@@ -1,5 +1,5 @@
 -- What a leg has done, and why it has ended. This project's own profile.
-use Rattle.std.specs.Prelude.{◌≡◌, ℕ, ◌+◌, ◌≤◌, List, ◌++◌, Option, Some}
+use Rattle.std.specs.Prelude.{◌≡◌, ℕ, ◌+◌, ◌≤◌, List, ◌++◌, Some}
 use Rattle.snes_defs.specs.declared.ports.Side.{Side}
 use Rattle.side_law.specs.Moves.{Moves}
 use Rattle.commute_laws.specs.History.{History}

@@ -10,9 +10,11 @@
 // then stand on the serial run.
 #![tactic(auto)]
 
+mod again;
 mod attempt;
 mod ends;
 mod legs;
+mod lone;
 
 pub use ends::LegEnd;
 pub use legs::leg;
