@@ -1,7 +1,6 @@
 ghost use Rattle.std.specs.Prelude.{◌≡◌, ◌+◌, ◌*◌, ◌^◌, ◌<◌, ◌≤◌, ◌↔◌, ℕ, length};
 ghost use Rattle.clock_ratio.specs.Stamp.{window_of};
-ghost use Rattle.commute_laws.specs.History.{History};
-ghost use Rattle.pair_run.specs.Leg.{LegRan, IfHeldBack, IsSpent};
+ghost use Rattle.pair_run.specs.Leg.{HasRun, IfHeldBack, IsSpent};
 ghost use Rattle.pair_run.specs.Tried.{call_of};
 
 use crate::again::{publish, step_by_call};
@@ -35,7 +34,7 @@ pub fn leg<W: Wire, M: Machine, G: Gate>(
     ensures clock { (W.seen pass.new).half.at ≤ M.stamp_of machine.new }
     ensures same_region { M.region_of machine.new ≡ M.region_of machine.old }
     ensures room { length (M.waiting machine.new) + M.MOST ≤ M.CAP }
-    ensures ran { (before : History M.State) → M.stands machine.old before.now → before.entries ≡ (W.seen pass.old).half.mine → LegRan (W.seen pass.old).side M.moves (window_of (W.region_of wire.now)) end (M.stands machine.new) (W.seen pass.new).half (M.waiting machine.old) (M.waiting machine.new) before }
+    ensures ran { HasRun (W.seen pass.old).side M.moves (window_of (W.region_of wire.now)) end (M.stands machine.old) (M.stands machine.new) (W.seen pass.old).half (W.seen pass.new).half (M.waiting machine.old) (M.waiting machine.new) }
     ensures done { (result ≡ LegEnd.Done) ↔ (end ≤ M.stamp_of machine.new) }
     ensures drain { (result ≡ LegEnd.Drain) ↔ ((M.stamp_of machine.new < end) × (¬ (length (M.waiting machine.new) + 2 * M.MOST ≤ M.CAP))) }
     ensures spent { (m : M.State) → M.stands machine.new m → IfHeldBack result (λ late. IsSpent (call_of (M.moves.act m)) (M.stamp_of machine.new) late tries (W.seen pass.old).half (W.seen pass.new).half) }

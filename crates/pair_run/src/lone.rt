@@ -4,7 +4,7 @@ ghost use Rattle.snes_defs.specs.declared.ports.Side.{Side};
 ghost use Rattle.clock_ratio.specs.Stamp.{least_of, window_of};
 ghost use Rattle.commute_laws.specs.History.{History};
 ghost use Rattle.port_wire.specs.Seen.{Half};
-ghost use Rattle.pair_run.specs.Leg.{LegRan};
+ghost use Rattle.pair_run.specs.Leg.{HasRun};
 ghost use Rattle.pair_run.specs.Tried.{Tried};
 
 use clock_ratio::window;
@@ -48,7 +48,7 @@ pub(crate) fn run_alone<W: Wire, M: Machine>(wire: &W, pass: &W::Pass, machine: 
     ensures forward { M.stamp_of machine.old ≤ M.stamp_of machine.new }
     ensures same_region { M.region_of machine.new ≡ M.region_of machine.old }
     ensures room { length (M.waiting machine.new) + M.MOST ≤ M.CAP }
-    ensures ran { (before : History M.State) → M.stands machine.old before.now → before.entries ≡ (W.seen pass.now).half.mine → LegRan (W.seen pass.now).side M.moves (window_of (W.region_of wire.now)) end (M.stands machine.new) (W.seen pass.now).half (M.waiting machine.old) (M.waiting machine.new) before }
+    ensures ran { HasRun (W.seen pass.now).side M.moves (window_of (W.region_of wire.now)) end (M.stands machine.old) (M.stands machine.new) (W.seen pass.now).half (W.seen pass.now).half (M.waiting machine.old) (M.waiting machine.new) }
 {
     let until = alone_until(wire, pass, end);
     'steps: while machine.stamp() < until && machine.ready() {

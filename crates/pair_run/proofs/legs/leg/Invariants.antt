@@ -1,8 +1,7 @@
 use Rattle.std.proofs.Common.{◌≡◌, ◌+◌, ◌-◌, ◌≤◌, ℕ, length}
 use Rattle.clock_ratio.specs.Stamp.{window_of}
-use Rattle.commute_laws.specs.History.{History}
 use Rattle.port_wire.specs.Tally.{HasRisenBy}
-use Rattle.pair_run.specs.Leg.{LegRan}
+use Rattle.pair_run.specs.Leg.{HasRun}
 use Rattle.pair_run.proofs.legs.leg.Given as goal
 
 abbrev pub invariant-steps : goal.invariant-steps
@@ -15,8 +14,7 @@ invariant-steps g l =
       clock : (wire.seen l.pass).half.at ≤ machine.stamp_of l.machine;
       region : machine.region_of l.machine ≡ machine.region_of l.fn.machine;
       room : length (machine.waiting l.machine) + machine.MOST ≤ machine.CAP;
-      ran : (before : History machine.State) → machine.stands l.fn.machine before.now → before.entries ≡ (wire.seen l.fn.pass).half.mine
-          → LegRan (wire.seen l.fn.pass).side machine.moves (window_of (wire.region_of l.wire)) l.end (machine.stands l.machine) (wire.seen l.pass).half (machine.waiting l.fn.machine) (machine.waiting l.machine) before;
+      ran : HasRun (wire.seen l.fn.pass).side machine.moves (window_of (wire.region_of l.wire)) l.end (machine.stands l.fn.machine) (machine.stands l.machine) (wire.seen l.fn.pass).half (wire.seen l.pass).half (machine.waiting l.fn.machine) (machine.waiting l.machine);
       counted : (before : ℕ) → HasRisenBy 0 before (wire.seen l.fn.pass).half.tally.refused → HasRisenBy 0 before (wire.seen l.pass).half.tally.refused;
     }
 

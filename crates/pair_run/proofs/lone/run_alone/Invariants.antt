@@ -1,7 +1,6 @@
 use Rattle.std.proofs.Common.{◌≡◌, ◌+◌, ◌-◌, ◌≤◌, length}
 use Rattle.clock_ratio.specs.Stamp.{window_of}
-use Rattle.commute_laws.specs.History.{History}
-use Rattle.pair_run.specs.Leg.{LegRan}
+use Rattle.pair_run.specs.Leg.{HasRun}
 use Rattle.pair_run.proofs.lone.run_alone.Given as goal
 
 abbrev pub invariant-steps : goal.invariant-steps
@@ -12,8 +11,7 @@ invariant-steps g l =
       forward : machine.stamp_of l.initial.machine ≤ machine.stamp_of l.machine;
       region : machine.region_of l.machine ≡ machine.region_of l.initial.machine;
       room : length (machine.waiting l.machine) + machine.MOST ≤ machine.CAP;
-      ran : (before : History machine.State) → machine.stands l.initial.machine before.now → before.entries ≡ (wire.seen l.pass).half.mine
-          → LegRan (wire.seen l.pass).side machine.moves (window_of (wire.region_of l.wire)) l.end (machine.stands l.machine) (wire.seen l.pass).half (machine.waiting l.initial.machine) (machine.waiting l.machine) before;
+      ran : HasRun (wire.seen l.pass).side machine.moves (window_of (wire.region_of l.wire)) l.end (machine.stands l.initial.machine) (machine.stands l.machine) (wire.seen l.pass).half (wire.seen l.pass).half (machine.waiting l.initial.machine) (machine.waiting l.machine);
     }
 
 abbrev pub decreases-steps : goal.decreases-steps
