@@ -21,7 +21,7 @@ use Rattle.port_wire.specs.declared.late.PassLate.{PassLate}
 use Rattle.pair_run.specs.Leg.{LegRan, IfHeldBack, IsSpent}
 use Rattle.pair_run.specs.Tried.{Tried, call_of, as_heard}
 use Rattle.pair_run.specs.Turn.{StandsBy, IsStepped, HasStepped, HasTurned, tries_of_turn}
-use Rattle.pair_run.proofs.Meets.{Met, legs_meet, console_goes, sound_goes}
+use Rattle.pair_run.proofs.Meets.{legs_meet, console_goes, sound_goes}
 
 -- what was emitted and waits, one after the other
 emits_then : (a b c d e : List ℕ) → a ++ b ≡ c → c ++ d ≡ e → a ++ (b ++ d) ≡ e

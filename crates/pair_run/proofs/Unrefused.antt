@@ -1,8 +1,8 @@
 -- What the earlier side asks of a whole is settled.
-use Rattle.std.proofs.Common.{◌≡◌, ℕ, ◌+◌, ◌<◌, ◌≤◌, arith}
+use Rattle.std.proofs.Common.{ℕ, ◌≤◌, arith}
 use Rattle.snes_defs.specs.declared.ports.Side.{Side}
 use Rattle.snes_defs.specs.declared.ports.Side.TheVariants.{Console, Sound}
-use Rattle.port_entries.specs.Window.{IsSettled, IsWithinWindow}
+use Rattle.port_entries.specs.Window.{IsSettled}
 use Rattle.port_wire.specs.declared.late.PassLate.{PassLate}
 use Rattle.port_wire.specs.declared.late.PassLate.TheVariants.{Behind, Ahead, Held}
 use Rattle.port_wire.specs.Whole.{IsUnsettled, IsBeyond}

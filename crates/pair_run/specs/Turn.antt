@@ -1,6 +1,5 @@
 -- What a turn has done to a pair of machines on the serial run. This project's own profile.
 use Rattle.std.specs.Prelude.{◌≡◌, ℕ, ◌+◌, ◌<◌, ◌≤◌, List, ◌++◌}
-use Rattle.snes_defs.specs.declared.ports.Side.{Side}
 use Rattle.snes_defs.specs.declared.ports.Side.TheVariants.{Console, Sound}
 use Rattle.side_law.specs.Moves.{Moves}
 use Rattle.commute_laws.specs.History.{History}

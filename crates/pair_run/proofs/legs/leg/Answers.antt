@@ -36,34 +36,38 @@ steps-preserved g c =
       clock = omega (arith, ok.clock, alone.forward);
       region = alone.same_region ∙ ok.same_region ∙ before_it.region;
       room = alone.room;
-      ran = record { from = λ before stands entries.
-          let was = before_it.ran.from before stands entries in
-          let early : machine.moves.stamp was.after.now < c.args.end =
-          omega (arith, law.stands_stamp c.steps.machine was.after.now was.now_stands, c.steps-test.true, c.stamp.ensures.stamp) in
-          let made = leg_steps side machine.moves window c.args.end (machine.stands c.steps.machine) (machine.stands c.step_by_call.new.machine) old new
-          waited (machine.waiting c.steps.machine) (machine.waiting c.step_by_call.new.machine) before was ok.hears early
-          (subst (λ s. Tried s machine.moves window (machine.stands c.step_by_call.new.machine) new (machine.waiting c.steps.machine) (machine.waiting c.step_by_call.new.machine) was.after)
-          before_it.side (ok.steps was.after was.now_stands was.entries)) in
-          leg_runs side machine.moves window c.args.end (machine.stands c.step_by_call.new.machine) (machine.stands c.run_alone-in-Ok.new.machine) new
-          waited (machine.waiting c.step_by_call.new.machine) (machine.waiting c.run_alone-in-Ok.new.machine) before made
-          (subst (λ s. LegRan s machine.moves window c.args.end (machine.stands c.run_alone-in-Ok.new.machine) new (machine.waiting c.step_by_call.new.machine) (machine.waiting c.run_alone-in-Ok.new.machine) made.after)
-          (ok.side ∙ before_it.side) (alone.ran.from made.after made.now_stands made.entries)) };
+      ran = record {
+        from = λ before stands entries.
+            let was = before_it.ran.from before stands entries in
+            let early : machine.moves.stamp was.after.now < c.args.end =
+            omega (arith, law.stands_stamp c.steps.machine was.after.now was.now_stands, c.steps-test.true, c.stamp.ensures.stamp) in
+            let made = leg_steps side machine.moves window c.args.end (machine.stands c.steps.machine) (machine.stands c.step_by_call.new.machine) old new
+            waited (machine.waiting c.steps.machine) (machine.waiting c.step_by_call.new.machine) before was ok.hears early
+            (subst (λ s. Tried s machine.moves window (machine.stands c.step_by_call.new.machine) new (machine.waiting c.steps.machine) (machine.waiting c.step_by_call.new.machine) was.after)
+            before_it.side (ok.steps was.after was.now_stands was.entries)) in
+            leg_runs side machine.moves window c.args.end (machine.stands c.step_by_call.new.machine) (machine.stands c.run_alone-in-Ok.new.machine) new
+            waited (machine.waiting c.step_by_call.new.machine) (machine.waiting c.run_alone-in-Ok.new.machine) before made
+            (subst (λ s. LegRan s machine.moves window c.args.end (machine.stands c.run_alone-in-Ok.new.machine) new (machine.waiting c.step_by_call.new.machine) (machine.waiting c.run_alone-in-Ok.new.machine) made.after)
+            (ok.side ∙ before_it.side) (alone.ran.from made.after made.now_stands made.entries));
+      };
       counted = λ before risen. ok.counted before (before_it.counted before risen);
     }
 
 pub returns-in-Err-clause-ran : goal.returns-in-Err-clause-ran
-returns-in-Err-clause-ran g c = record { from = λ before stands entries.
-    let wire = g.W.Wire in
-    let machine = g.M.Machine in
-    let late = c.in-Err.ensures in
-    let old = (wire.seen c.steps.pass).half in
-    let new = (wire.seen c.step_by_call.new.pass).half in
-    let side = (wire.seen c.args.pass.now).side in
-    let window = window_of (wire.region_of c.args.wire.now) in
-    let waited = machine.waiting c.args.machine.now in
-    subst (λ x. LegRan side machine.moves window c.args.end (machine.stands x) new waited (machine.waiting x) before) (sym late.stays)
-    (leg_waits side machine.moves window c.args.end (machine.stands c.steps.machine) old new waited (machine.waiting c.steps.machine) before
-    (c.steps.invariant.ran.from before stands entries) late.hears late.mine_stays) }
+returns-in-Err-clause-ran g c = record {
+  from = λ before stands entries.
+      let wire = g.W.Wire in
+      let machine = g.M.Machine in
+      let late = c.in-Err.ensures in
+      let old = (wire.seen c.steps.pass).half in
+      let new = (wire.seen c.step_by_call.new.pass).half in
+      let side = (wire.seen c.args.pass.now).side in
+      let window = window_of (wire.region_of c.args.wire.now) in
+      let waited = machine.waiting c.args.machine.now in
+      subst (λ x. LegRan side machine.moves window c.args.end (machine.stands x) new waited (machine.waiting x) before) (sym late.stays)
+      (leg_waits side machine.moves window c.args.end (machine.stands c.steps.machine) old new waited (machine.waiting c.steps.machine) before
+      (c.steps.invariant.ran.from before stands entries) late.hears late.mine_stays);
+}
 
 pub returns-in-Err-clause-spent : goal.returns-in-Err-clause-spent
 returns-in-Err-clause-spent g c = λ m stands.
@@ -79,17 +83,21 @@ returns-in-Err-clause-spent g c = λ m stands.
     (c.in-Err.ensures.spent m there first (c.steps.invariant.counted first.tally.refused (none_risen first.tally.refused)))))
 
 pub returns-then-stamp-end-clause-ran : goal.returns-then-stamp-end-clause-ran
-returns-then-stamp-end-clause-ran g c = record { from = λ before stands entries.
-    let wire = g.W.Wire in
-    let machine = g.M.Machine in
-    leg_waits (wire.seen c.args.pass.now).side machine.moves (window_of (wire.region_of c.args.wire.now)) c.args.end (machine.stands c.steps.machine)
-    (wire.seen c.steps.pass).half (wire.seen c.publish.new.pass).half (machine.waiting c.args.machine.now) (machine.waiting c.steps.machine) before
-    (c.steps.invariant.ran.from before stands entries) c.publish.ensures.hears c.publish.ensures.mine }
+returns-then-stamp-end-clause-ran g c = record {
+  from = λ before stands entries.
+      let wire = g.W.Wire in
+      let machine = g.M.Machine in
+      leg_waits (wire.seen c.args.pass.now).side machine.moves (window_of (wire.region_of c.args.wire.now)) c.args.end (machine.stands c.steps.machine)
+      (wire.seen c.steps.pass).half (wire.seen c.publish.new.pass).half (machine.waiting c.args.machine.now) (machine.waiting c.steps.machine) before
+      (c.steps.invariant.ran.from before stands entries) c.publish.ensures.hears c.publish.ensures.mine;
+}
 
 pub returns-else-stamp-end-clause-ran : goal.returns-else-stamp-end-clause-ran
-returns-else-stamp-end-clause-ran g c = record { from = λ before stands entries.
-    let wire = g.W.Wire in
-    let machine = g.M.Machine in
-    leg_waits (wire.seen c.args.pass.now).side machine.moves (window_of (wire.region_of c.args.wire.now)) c.args.end (machine.stands c.steps.machine)
-    (wire.seen c.steps.pass).half (wire.seen c.publish.new.pass).half (machine.waiting c.args.machine.now) (machine.waiting c.steps.machine) before
-    (c.steps.invariant.ran.from before stands entries) c.publish.ensures.hears c.publish.ensures.mine }
+returns-else-stamp-end-clause-ran g c = record {
+  from = λ before stands entries.
+      let wire = g.W.Wire in
+      let machine = g.M.Machine in
+      leg_waits (wire.seen c.args.pass.now).side machine.moves (window_of (wire.region_of c.args.wire.now)) c.args.end (machine.stands c.steps.machine)
+      (wire.seen c.steps.pass).half (wire.seen c.publish.new.pass).half (machine.waiting c.args.machine.now) (machine.waiting c.steps.machine) before
+      (c.steps.invariant.ran.from before stands entries) c.publish.ensures.hears c.publish.ensures.mine;
+}

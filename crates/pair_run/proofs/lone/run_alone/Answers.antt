@@ -27,13 +27,15 @@ steps-preserved g c =
       forward = omega (arith, c.steps.invariant.forward, did.rises refl);
       region = search rules;
       room = search rules;
-      ran = record { from = λ before stands entries.
-          let was = c.steps.invariant.ran.from before stands entries in
-          let below : machine.stamp_of c.steps.machine < c.alone_until-until.result = omega (arith, c.steps-test.true, c.stamp.ensures.stamp) in
-          let early : machine.moves.stamp was.after.now < c.args.end =
-          omega (arith, law.stands_stamp c.steps.machine was.after.now was.now_stands, below, c.alone_until-until.ensures.by_end) in
-          let within : machine.stamp_of c.steps.machine ≤ half.known + window = omega (arith, below, c.alone_until-until.ensures.within) in
-          leg_steps side machine.moves window c.args.end (machine.stands c.steps.machine) (machine.stands c.step_alone.new.machine) half half
-          (machine.waiting c.args.machine.now) (machine.waiting c.steps.machine) (machine.waiting c.step_alone.new.machine) before was (hears_nothing half) early
-          (did.steps refl side window half was.after was.now_stands was.entries within) };
+      ran = record {
+        from = λ before stands entries.
+            let was = c.steps.invariant.ran.from before stands entries in
+            let below : machine.stamp_of c.steps.machine < c.alone_until-until.result = omega (arith, c.steps-test.true, c.stamp.ensures.stamp) in
+            let early : machine.moves.stamp was.after.now < c.args.end =
+            omega (arith, law.stands_stamp c.steps.machine was.after.now was.now_stands, below, c.alone_until-until.ensures.by_end) in
+            let within : machine.stamp_of c.steps.machine ≤ half.known + window = omega (arith, below, c.alone_until-until.ensures.within) in
+            leg_steps side machine.moves window c.args.end (machine.stands c.steps.machine) (machine.stands c.step_alone.new.machine) half half
+            (machine.waiting c.args.machine.now) (machine.waiting c.steps.machine) (machine.waiting c.step_alone.new.machine) before was (hears_nothing half) early
+            (did.steps refl side window half was.after was.now_stands was.entries within);
+      };
     }

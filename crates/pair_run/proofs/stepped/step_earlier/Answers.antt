@@ -1,4 +1,4 @@
-use Rattle.std.proofs.Common.{◌≡◌, ◌+◌, ◌<◌, ◌≤◌, rules, arith}
+use Rattle.std.proofs.Common.{◌<◌, ◌≤◌, rules, arith}
 use Rattle.std.proofs.lemmas.Grind.{common_steps}
 use Rattle.clock_ratio.specs.Stamp.{window_of}
 use Rattle.pair_run.proofs.TurnGoesOn.{console_made, sound_made, both_ended}
