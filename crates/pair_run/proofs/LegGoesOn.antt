@@ -1,19 +1,50 @@
 -- How a leg over a pass goes on: by a try that was answered, and by one that was held back.
-use Rattle.std.proofs.Common.{◌≡◌, ℕ, zero, suc, ◌+◌, ◌<◌, ◌≤◌, List, [], ◌++◌, refl, ap, sym, ◌∙◌, arith, append_assoc}
+use Rattle.std.proofs.Common.{◌≡◌, ℕ, zero, suc, ◌+◌, ◌<◌, ◌≤◌, List, [], ◌++◌, ap, sym, ◌∙◌, subst, arith, append_assoc}
 use Rattle.std.proofs.lemmas.List.{append-nil}
 use Rattle.snes_defs.specs.declared.ports.Side.{Side}
-use Rattle.port_entries.specs.Entry.{Entry}
+use Rattle.port_entries.specs.Entry.{Entry, entry_stamp}
 use Rattle.side_law.specs.Moves.{Moves}
 use Rattle.commute_laws.specs.History.{History}
-use Rattle.commute_laws.specs.Heard.{IsHeard, StepsBelow, heard_step}
+use Rattle.commute_laws.specs.Heard.{IsHeard, LooksSettled, StepsBelow, heard_step, after_heard}
 use Rattle.commute_laws.specs.Leg.{IsLeg}
+use Rattle.commute_laws.proofs.Ports.{All_append, All_map}
 use Rattle.commute_laws.proofs.Legs.{leg_at_once, leg_on, leg_longer}
 use Rattle.port_wire.specs.Seen.{Half}
 use Rattle.port_wire.specs.Answers.{HearsOn}
 use Rattle.pair_run.specs.Tried.{Tried}
 use Rattle.pair_run.specs.Leg.{LegRan}
 
+-- what was heard by one call after another
+pub hears_then : (old mid new : Half) → HearsOn old mid → HearsOn mid new → HearsOn old new
+hears_then old mid new first then = record {
+  more = first.more ++ then.more;
+  heard = sym (append_assoc old.heard first.more then.more) ∙ ap (λ l. l ++ then.more) first.heard ∙ then.heard;
+  later = All_append (λ e. old.upto ≤ entry_stamp e) first.more then.more first.later
+      (All_map (λ e. mid.upto ≤ entry_stamp e) (λ e. old.upto ≤ entry_stamp e) (λ e le. omega (arith, le, first.upto)) then.more then.later);
+  upto = omega (arith, first.upto, then.upto);
+  known = omega (arith, first.known, then.known);
+}
+
+-- a pass that made no call has heard what it had
+pub hears_nothing : (half : Half) → HearsOn half half
+hears_nothing half = record { more = []; heard = append-nil half.heard; later = tt; upto = omega arith; known = omega arith }
+
 module _ {State : Type 0} (side : Side) (moves : Moves State) where
+  -- a leg, and the steps of another one after it
+  leg_then : (heard : List Entry) (upto end k : ℕ) (before after : History State) → IsLeg side moves heard upto end before after
+      → LooksSettled side moves heard upto k after → StepsBelow side moves heard end k after
+      → IsLeg side moves heard upto end before (after_heard side moves heard k after)
+  leg_then heard upto end zero before after leg settled below = leg
+  leg_then heard upto end (suc k) before after leg settled below =
+      leg_then heard upto end k before (heard_step side moves heard after)
+      (leg_on side moves heard upto end before after leg below.0 settled.0) settled.1 below.1
+
+  legs_join : (heard : List Entry) (upto end : ℕ) (before mid after : History State) → IsLeg side moves heard upto end before mid
+      → IsLeg side moves heard upto end mid after → IsLeg side moves heard upto end before after
+  legs_join heard upto end before mid after first then =
+      subst (λ (q : History State). IsLeg side moves heard upto end before q) then.ran.after_is
+      (leg_then heard upto end then.ran.steps before mid first then.ran.settled then.below)
+
   below_later : (heard : List Entry) (end later k : ℕ) (h : History State) → end ≤ later
       → StepsBelow side moves heard end k h → StepsBelow side moves heard later k h
   below_later heard end later zero h le below = tt
@@ -83,3 +114,19 @@ module _ {State : Type 0} (side : Side) (moves : Moves State) where
             (leg_longer side moves old.heard new.heard old.upto new.upto (old.known + window + 1) before ran.after ran.within heard hears.upto))
             (omega (arith, step.within)) step.settled;
       }
+
+  -- a leg went on by another one, with nothing heard between
+  pub leg_runs : (window end : ℕ) (stands next : State → Type 0) (half : Half) (waited mid waits : List ℕ) (before : History State)
+      → (ran : LegRan side moves window end stands half waited mid before)
+      → LegRan side moves window end next half mid waits ran.after
+      → LegRan side moves window end next half waited waits before
+  leg_runs window end stands next half waited mid waits before ran then = record {
+    after = then.after;
+    leg = legs_join half.heard half.upto end before ran.after then.after ran.leg then.leg;
+    now_stands = then.now_stands;
+    entries = then.entries;
+    emitted = ran.emitted ++ then.emitted;
+    emitted_is = sym (append_assoc before.emitted ran.emitted then.emitted) ∙ ap (λ l. l ++ then.emitted) ran.emitted_is ∙ then.emitted_is;
+    waits_is = sym (append_assoc waited ran.emitted then.emitted) ∙ ap (λ l. l ++ then.emitted) ran.waits_is ∙ then.waits_is;
+    within = legs_join half.heard half.upto (half.known + window + 1) before ran.after then.after ran.within then.within;
+  }

@@ -1,13 +1,16 @@
 -- How the tally counts: refusals of one call in a row, and how the stamps and tries run out.
-use Rattle.std.proofs.Common.{◌≡◌, ℕ, zero, suc, ◌+◌, ◌-◌, ◌*◌, ◌^◌, ◌<◌, ◌≤◌, ◌⊎◌, inl, inr, true, Some, refl, ap, sym, ◌∙◌, subst, arith}
-use Rattle.std.proofs.Math.Nat.{mul-le-mul_right}
-use Rattle.std.specs.Prelude.{if◌then◌else◌}
+use Rattle.std.proofs.Common.{◌≡◌, ℕ, zero, suc, ◌+◌, ◌^◌, ◌<◌, ◌≤◌, inl, inr, ⊎_elim, true, Result, Ok, Err, refl, ap, sym, ◌∙◌, subst, arith}
+use Rattle.std.proofs.lemmas.Bool.{cases_lt}
+use Rattle.std.specs.Prelude.{OnErr, IfErr, if◌then◌else◌}
 use Rattle.port_wire.specs.declared.late.PassLate.{PassLate}
+use Rattle.port_wire.specs.declared.late.PassLate.TheVariants.{Behind, Ahead, Held}
 use Rattle.port_wire.specs.declared.late.CallName.{CallName}
 use Rattle.port_wire.specs.declared.late.CallName.TheVariants.{Read, Clear, Write, Advance}
 use Rattle.port_wire.specs.Seen.{Half}
+use Rattle.port_wire.specs.Answers.{IsRefused, HasAdvanced}
 use Rattle.port_wire.specs.Tally.{Tally, same_name, is_again, counted_on, after_refusal, HasRisenBy}
-use Rattle.pair_run.specs.Leg.{IsSpent}
+use Rattle.pair_run.specs.Leg.{IfHeldBack, IsSpent, end_of}
+use Rattle.pair_run.specs.Tried.{IsHeldBack}
 
 -- the last calls, so many, were all of this name at this stamp, and each was refused
 pub record InRow (name : CallName) (at k : ℕ) (tally : Tally) : Type 0 where
@@ -65,10 +68,38 @@ row_is_spent name at k tries late old mid new h few all risen is = record {
   last = ap (λ (t : Tally). t.last) is;
 }
 
-runs_out : (a b tries refused : ℕ) → a + 1 ≤ b → a * (tries + 1) + (tries - 0) < b * (tries + 1) + (tries - refused)
-runs_out a b tries refused less = omega (arith, mul-le-mul_right (tries + 1) less)
+-- those that were refused before have risen still
+pub counted_once : (before after later : ℕ) → HasRisenBy 0 before after → later ≡ counted_on after → HasRisenBy 0 before later
+counted_once before after later h is = risen_less 1 before later later (risen_on 0 before after later h is) refl
 
--- a step below the end leaves fewer stamps, however many tries it gives back
-pub stamps_run_out : (end at next tries refused : ℕ) → at < end → at < next
-    → (end - next) * (tries + 1) + (tries - 0) < (end - at) * (tries + 1) + (tries - refused)
-stamps_run_out end at next tries refused below rises = runs_out (end - next) (end - at) tries refused (omega (arith, below, rises))
+-- publishing a clock counts one refusal or none
+pub advance_counts : (window at other before : ℕ) (old new : Half) → HasAdvanced window at other old new
+    → HasRisenBy 0 before old.tally.refused → HasRisenBy 0 before new.tally.refused
+advance_counts window at other before old new h risen =
+    ⊎_elim
+    (λ lt. counted_once before old.tally.refused new.tally.refused risen (ap (λ (t : Tally). t.refused) (h.late (λ within. omega (arith, lt, within)))))
+    (λ le. risen_less 0 before old.tally.refused new.tally.refused risen (ap (λ (t : Tally). t.refused) (h.soon le)))
+    (cases_lt (other + window) at)
+
+pub refusal_counts : (name : CallName) (at before : ℕ) (late : PassLate) (old new : Half) → IsRefused name at late old new
+    → HasRisenBy 0 before old.tally.refused → HasRisenBy 0 before new.tally.refused
+refusal_counts name at before late old new h risen =
+    counted_once before old.tally.refused new.tally.refused risen (ap (λ (t : Tally). t.refused) h.tally)
+
+-- the last try of a row, whatever it answered
+pub row_ends : {X : Type 0} (stands : X → Type 0) (name : X → CallName) (at k tries first : ℕ) (mid new : Half) (r : Result (Unit {0}) PassLate)
+    → ((x : X) → stands x → InRow (name x) at k mid.tally) → k < 2 ^ 32 → k + 1 ≡ tries
+    → ((before : ℕ) → HasRisenBy 0 before first → HasRisenBy k before mid.tally.refused)
+    → OnErr r (new.tally.refused ≡ counted_on mid.tally.refused)
+    → IfErr r (λ late. (x : X) → stands x → IsHeldBack (name x) at late mid new)
+    → IfErr r (λ late. (x : X) → stands x → (before : Half) → HasRisenBy 0 before.tally.refused first → IsSpent (name x) at late tries before new)
+row_ends stands name at k tries first mid new (Ok done) row few all risen counted held = tt
+row_ends stands name at k tries first mid new (Err late) row few all risen counted held = λ x is before rose.
+    row_is_spent (name x) at k tries late before mid new (row x is) few all
+    (risen_on k before.tally.refused mid.tally.refused new.tally.refused (risen before.tally.refused rose) counted) (held x is).tally
+
+-- what is said of the refusal by which a leg was held back
+pub of_refusal : (late : PassLate) (P : PassLate → Type 0) → P late → IfHeldBack (end_of late) P
+of_refusal (Behind need other) P h = h
+of_refusal (Ahead at other) P h = h
+of_refusal (Held by) P h = h

@@ -5,7 +5,7 @@ use Rattle.snes_defs.specs.declared.ports.Act.{Act}
 use Rattle.port_entries.specs.Window.{IsSettled}
 use Rattle.side_law.specs.Moves.{Moves, taken}
 use Rattle.commute_laws.specs.History.{History, entry_of}
-use Rattle.commute_laws.specs.Heard.{OnLook, heard_got, heard_step}
+use Rattle.commute_laws.specs.Heard.{OnLook, heard_got}
 use Rattle.port_wire.specs.Seen.{Half}
 use Rattle.pair_run.specs.Tried.{Tried}
 

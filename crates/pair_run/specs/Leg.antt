@@ -1,5 +1,5 @@
 -- What a leg has done, and why it has ended. This project's own profile.
-use Rattle.std.specs.Prelude.{◌≡◌, ℕ, ◌+◌, ◌≤◌, List, ◌++◌, Option, Some}
+use Rattle.std.specs.Prelude.{◌≡◌, ℕ, ◌+◌, ◌≤◌, List, ◌++◌, Some}
 use Rattle.snes_defs.specs.declared.ports.Side.{Side}
 use Rattle.side_law.specs.Moves.{Moves}
 use Rattle.commute_laws.specs.History.{History}
@@ -24,6 +24,11 @@ pub record LegRan {State : Type 0} (side : Side) (moves : Moves State) (window e
   pub waits_is : waited ++ emitted ≡ waits
   -- no step was further ahead than the window of a clock that the pass was told
   pub within : IsLeg side moves new.heard new.upto (new.known + window + 1) before after
+
+-- so from each history in which the machine can have stood before, and whose entries are the pass's
+pub record HasRun {State : Type 0} (side : Side) (moves : Moves State) (window end : ℕ) (stood stands : State → Type 0) (old new : Half) (waited waits : List ℕ) : Type 0 where
+  pub from : (before : History State) → stood before.now → before.entries ≡ old.mine
+      → LegRan side moves window end stands new waited waits before
 
 -- the end of a leg that was held back for too long
 abbrev pub end_of : PassLate → LegEnd

@@ -1,2 +1,3 @@
 pub mod Leg
 pub mod Tried
+pub mod Turn

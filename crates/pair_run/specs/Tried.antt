@@ -36,3 +36,7 @@ pub record Tried {State : Type 0} (side : Side) (moves : Moves State) (window : 
 pub record IsHeldBack (name : CallName) (at : ℕ) (late : PassLate) (old new : Half) : Type 0 where
   pub mine : new.mine ≡ old.mine
   pub tally : new.tally ≡ after_refusal old.tally name at late
+
+-- a half of a whole beside the other one: all that the other logged is heard, up to its clock
+abbrev pub as_heard : Half → Half → Half
+as_heard own other = record own { heard = other.mine; upto = other.at; known = other.at }

@@ -1,16 +1,56 @@
-ghost use Rattle.std.specs.Prelude.{◌≡◌, ◌+◌, ◌^◌, ◌<◌, ◌≤◌, ℕ, OnOk, OnErr, IfErr, length};
+ghost use Rattle.std.specs.Prelude.{◌≡◌, ◌+◌, ◌^◌, ◌<◌, ◌≤◌, ◌↔◌, ℕ, IsTrue, OnOk, OnErr, IfErr, length};
 ghost use Rattle.clock_ratio.specs.Stamp.{least_of, window_of};
 ghost use Rattle.commute_laws.specs.History.{History};
 ghost use Rattle.port_wire.specs.Answers.{HearsOn};
-ghost use Rattle.port_wire.specs.Tally.{counted_on};
+ghost use Rattle.port_wire.specs.Tally.{counted_on, HasRisenBy, after_refusal};
 ghost use Rattle.pair_run.specs.Tried.{Tried, IsHeldBack, call_of};
 
 use clock_ratio::{least, window};
-use port_wire::{PassLate, Wire};
+use port_wire::{CallName, PassLate, Wire};
 use side_law::Machine;
 use snes_defs::Act;
 
-/// A quiet step, where an advance tells a clock that is not too early for it.
+/// Whether a step is further ahead of the other side's clock than the window.
+#[inline(always)]
+fn is_ahead(at: u64, other: u64, window: u64) -> bool
+    ensures { IsTrue result ↔ (other + window < at) }
+{
+    at > other && at - other > window
+}
+
+/// Publishes the clock of a side that stands before a quiet step, and answers whether it may make it: by the
+/// other side's clock that it was told, or by the one that it knew where the ports were held.
+#[inline(always)]
+#[tactic(auto, using(crate::proofs::Refusals::advance_counts, crate::proofs::Refusals::refusal_counts))]
+fn tell_before<W: Wire>(wire: &W, pass: &mut W::Pass, at: u64) -> Result<(), PassLate>
+    requires of { W.is_pass_of wire.now pass.old }
+    requires clock { (W.seen pass.old).half.at ≤ at }
+    ensures still_of { W.is_pass_of wire.now pass.new }
+    ensures side { (W.seen pass.new).side ≡ (W.seen pass.old).side }
+    ensures hears { HearsOn (W.seen pass.old).half (W.seen pass.new).half }
+    ensures mine { (W.seen pass.new).half.mine ≡ (W.seen pass.old).half.mine }
+    ensures clock { (W.seen pass.new).half.at ≤ at }
+    ensures within { OnOk result (at ≤ (W.seen pass.new).half.known + window_of (W.region_of wire.now)) }
+    ensures counted { (before : ℕ) → HasRisenBy 0 before (W.seen pass.old).half.tally.refused → HasRisenBy 0 before (W.seen pass.new).half.tally.refused }
+    ensures held_back { IfErr result (λ late. (W.seen pass.new).half.tally ≡ after_refusal (W.seen pass.old).half.tally CallName.Advance at late) }
+{
+    let window = window(wire.region());
+    match wire.advance(pass, at) {
+        Ok(other) => {
+            if is_ahead(at, other, window) {
+                return Err(PassLate::Ahead { at, other });
+            }
+        }
+        Err(late) => {
+            if is_ahead(at, wire.known(pass), window) {
+                return Err(late);
+            }
+        }
+    }
+    Ok(())
+}
+
+/// A quiet step, where the clock that an advance tells, or that was known, is not too early for it.
 #[inline(always)]
 fn try_quiet<W: Wire, M: Machine>(
     wire: &W,
@@ -32,15 +72,13 @@ fn try_quiet<W: Wire, M: Machine>(
     ensures rises { OnOk result (M.stamp_of machine.old + least_of (M.region_of machine.old) ≤ M.stamp_of machine.new) }
     ensures emits_at_most { length (M.waiting machine.new) ≤ length (M.waiting machine.old) + M.MOST }
     ensures stays { OnErr result (machine.new ≡ machine.old) }
-    ensures none_refused { OnOk result ((W.seen pass.new).half.tally.refused ≡ (W.seen pass.old).half.tally.refused) }
+    ensures mine_stays { OnErr result ((W.seen pass.new).half.mine ≡ (W.seen pass.old).half.mine) }
+    ensures counted { (before : ℕ) → HasRisenBy 0 before (W.seen pass.old).half.tally.refused → HasRisenBy 0 before (W.seen pass.new).half.tally.refused }
     ensures one_refused { OnErr result ((W.seen pass.new).half.tally.refused ≡ counted_on (W.seen pass.old).half.tally.refused) }
     ensures held_back { IfErr result (λ late. (m : M.State) → M.stands machine.old m → IsHeldBack (call_of (M.moves.act m)) (M.stamp_of machine.old) late (W.seen pass.old).half (W.seen pass.new).half) }
 {
     let at = machine.stamp();
-    let other = wire.advance(pass, at)?;
-    if at > other && at - other > window(wire.region()) {
-        return Err(PassLate::Ahead { at, other });
-    }
+    tell_before(wire, pass, at)?;
     machine.step(0);
     Ok(())
 }
@@ -69,7 +107,8 @@ fn try_read<W: Wire, M: Machine>(
     ensures rises { OnOk result (M.stamp_of machine.old + least_of (M.region_of machine.old) ≤ M.stamp_of machine.new) }
     ensures emits_at_most { length (M.waiting machine.new) ≤ length (M.waiting machine.old) + M.MOST }
     ensures stays { OnErr result (machine.new ≡ machine.old) }
-    ensures none_refused { OnOk result ((W.seen pass.new).half.tally.refused ≡ (W.seen pass.old).half.tally.refused) }
+    ensures mine_stays { OnErr result ((W.seen pass.new).half.mine ≡ (W.seen pass.old).half.mine) }
+    ensures counted { (before : ℕ) → HasRisenBy 0 before (W.seen pass.old).half.tally.refused → HasRisenBy 0 before (W.seen pass.new).half.tally.refused }
     ensures one_refused { OnErr result ((W.seen pass.new).half.tally.refused ≡ counted_on (W.seen pass.old).half.tally.refused) }
     ensures held_back { IfErr result (λ late. (m : M.State) → M.stands machine.old m → IsHeldBack (call_of (M.moves.act m)) (M.stamp_of machine.old) late (W.seen pass.old).half (W.seen pass.new).half) }
 {
@@ -103,7 +142,8 @@ fn try_clear<W: Wire, M: Machine>(
     ensures rises { OnOk result (M.stamp_of machine.old + least_of (M.region_of machine.old) ≤ M.stamp_of machine.new) }
     ensures emits_at_most { length (M.waiting machine.new) ≤ length (M.waiting machine.old) + M.MOST }
     ensures stays { OnErr result (machine.new ≡ machine.old) }
-    ensures none_refused { OnOk result ((W.seen pass.new).half.tally.refused ≡ (W.seen pass.old).half.tally.refused) }
+    ensures mine_stays { OnErr result ((W.seen pass.new).half.mine ≡ (W.seen pass.old).half.mine) }
+    ensures counted { (before : ℕ) → HasRisenBy 0 before (W.seen pass.old).half.tally.refused → HasRisenBy 0 before (W.seen pass.new).half.tally.refused }
     ensures one_refused { OnErr result ((W.seen pass.new).half.tally.refused ≡ counted_on (W.seen pass.old).half.tally.refused) }
     ensures held_back { IfErr result (λ late. (m : M.State) → M.stands machine.old m → IsHeldBack (call_of (M.moves.act m)) (M.stamp_of machine.old) late (W.seen pass.old).half (W.seen pass.new).half) }
 {
@@ -138,7 +178,8 @@ fn try_write<W: Wire, M: Machine>(
     ensures rises { OnOk result (M.stamp_of machine.old + least_of (M.region_of machine.old) ≤ M.stamp_of machine.new) }
     ensures emits_at_most { length (M.waiting machine.new) ≤ length (M.waiting machine.old) + M.MOST }
     ensures stays { OnErr result (machine.new ≡ machine.old) }
-    ensures none_refused { OnOk result ((W.seen pass.new).half.tally.refused ≡ (W.seen pass.old).half.tally.refused) }
+    ensures mine_stays { OnErr result ((W.seen pass.new).half.mine ≡ (W.seen pass.old).half.mine) }
+    ensures counted { (before : ℕ) → HasRisenBy 0 before (W.seen pass.old).half.tally.refused → HasRisenBy 0 before (W.seen pass.new).half.tally.refused }
     ensures one_refused { OnErr result ((W.seen pass.new).half.tally.refused ≡ counted_on (W.seen pass.old).half.tally.refused) }
     ensures held_back { IfErr result (λ late. (m : M.State) → M.stands machine.old m → IsHeldBack (call_of (M.moves.act m)) (M.stamp_of machine.old) late (W.seen pass.old).half (W.seen pass.new).half) }
 {
@@ -169,7 +210,8 @@ pub(crate) fn attempt<W: Wire, M: Machine>(
     ensures rises { OnOk result (M.stamp_of machine.old + least_of (M.region_of machine.old) ≤ M.stamp_of machine.new) }
     ensures emits_at_most { length (M.waiting machine.new) ≤ length (M.waiting machine.old) + M.MOST }
     ensures stays { OnErr result (machine.new ≡ machine.old) }
-    ensures none_refused { OnOk result ((W.seen pass.new).half.tally.refused ≡ (W.seen pass.old).half.tally.refused) }
+    ensures mine_stays { OnErr result ((W.seen pass.new).half.mine ≡ (W.seen pass.old).half.mine) }
+    ensures counted { (before : ℕ) → HasRisenBy 0 before (W.seen pass.old).half.tally.refused → HasRisenBy 0 before (W.seen pass.new).half.tally.refused }
     ensures one_refused { OnErr result ((W.seen pass.new).half.tally.refused ≡ counted_on (W.seen pass.old).half.tally.refused) }
     ensures held_back { IfErr result (λ late. (m : M.State) → M.stands machine.old m → IsHeldBack (call_of (M.moves.act m)) (M.stamp_of machine.old) late (W.seen pass.old).half (W.seen pass.new).half) }
 {

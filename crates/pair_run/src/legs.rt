@@ -1,16 +1,19 @@
 ghost use Rattle.std.specs.Prelude.{◌≡◌, ◌+◌, ◌*◌, ◌^◌, ◌<◌, ◌≤◌, ◌↔◌, ℕ, length};
 ghost use Rattle.clock_ratio.specs.Stamp.{window_of};
-ghost use Rattle.commute_laws.specs.History.{History};
-ghost use Rattle.pair_run.specs.Leg.{LegRan, IfHeldBack, IsSpent};
+ghost use Rattle.pair_run.specs.Leg.{HasRun, IfHeldBack, IsSpent};
 ghost use Rattle.pair_run.specs.Tried.{call_of};
 
-use crate::attempt::attempt;
+use crate::again::{publish, step_by_call};
 use crate::ends::{LegEnd, held_back};
+use crate::lone::run_alone;
 use port_wire::{Gate, Wire};
 use side_law::Machine;
 
 /// Lets a machine run by itself over its pass, until it has come to `end`, has no room for the bytes of
 /// two more steps, or the call of its next step was refused `tries` times in a row.
+///
+/// Quiet steps call nothing, as far as the clock that the pass was told allows them. The own clock is
+/// published every four lines, with each write, at a step that was refused, and as the leg ends.
 pub fn leg<W: Wire, M: Machine, G: Gate>(
     wire: &W,
     pass: &mut W::Pass,
@@ -31,24 +34,20 @@ pub fn leg<W: Wire, M: Machine, G: Gate>(
     ensures clock { (W.seen pass.new).half.at ≤ M.stamp_of machine.new }
     ensures same_region { M.region_of machine.new ≡ M.region_of machine.old }
     ensures room { length (M.waiting machine.new) + M.MOST ≤ M.CAP }
-    ensures ran { (before : History M.State) → M.stands machine.old before.now → before.entries ≡ (W.seen pass.old).half.mine → LegRan (W.seen pass.old).side M.moves (window_of (W.region_of wire.now)) end (M.stands machine.new) (W.seen pass.new).half (M.waiting machine.old) (M.waiting machine.new) before }
+    ensures ran { HasRun (W.seen pass.old).side M.moves (window_of (W.region_of wire.now)) end (M.stands machine.old) (M.stands machine.new) (W.seen pass.old).half (W.seen pass.new).half (M.waiting machine.old) (M.waiting machine.new) }
     ensures done { (result ≡ LegEnd.Done) ↔ (end ≤ M.stamp_of machine.new) }
     ensures drain { (result ≡ LegEnd.Drain) ↔ ((M.stamp_of machine.new < end) × (¬ (length (M.waiting machine.new) + 2 * M.MOST ≤ M.CAP))) }
     ensures spent { (m : M.State) → M.stands machine.new m → IfHeldBack result (λ late. IsSpent (call_of (M.moves.act m)) (M.stamp_of machine.new) late tries (W.seen pass.old).half (W.seen pass.new).half) }
 {
     gate.arrive(wire.side(pass), turn);
-    let mut refused = 0;
+    run_alone(wire, pass, machine, end);
     'steps: while machine.stamp() < end && machine.ready() {
-        match attempt(wire, pass, machine) {
-            Ok(()) => refused = 0,
-            Err(late) => {
-                refused += 1;
-                if refused == tries {
-                    return held_back(late);
-                }
-            }
+        match step_by_call(wire, pass, machine, tries) {
+            Ok(()) => run_alone(wire, pass, machine, end),
+            Err(late) => return held_back(late),
         }
     }
+    publish(wire, pass, machine.stamp());
     if machine.stamp() < end {
         LegEnd::Drain
     } else {

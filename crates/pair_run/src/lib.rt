@@ -10,10 +10,17 @@
 // then stand on the serial run.
 #![tactic(auto)]
 
+mod again;
 mod attempt;
+mod earlier;
 mod ends;
 mod legs;
+mod lone;
+mod stepped;
+mod turns;
 
 pub use ends::LegEnd;
 pub use legs::leg;
 pub use port_wire::{CallName, Gate, PassLate, Wire};
+pub use stepped::Stepped;
+pub use turns::{Turned, turn};

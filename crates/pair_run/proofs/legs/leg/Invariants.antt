@@ -1,10 +1,7 @@
-use Rattle.std.proofs.Common.{◌≡◌, ◌+◌, ◌-◌, ◌*◌, ◌<◌, ◌≤◌, ℕ, length}
+use Rattle.std.proofs.Common.{◌≡◌, ◌+◌, ◌-◌, ◌≤◌, ℕ, length}
 use Rattle.clock_ratio.specs.Stamp.{window_of}
-use Rattle.commute_laws.specs.History.{History}
 use Rattle.port_wire.specs.Tally.{HasRisenBy}
-use Rattle.pair_run.specs.Leg.{LegRan}
-use Rattle.pair_run.specs.Tried.{call_of}
-use Rattle.pair_run.proofs.Refusals.{InRow}
+use Rattle.pair_run.specs.Leg.{HasRun}
 use Rattle.pair_run.proofs.legs.leg.Given as goal
 
 abbrev pub invariant-steps : goal.invariant-steps
@@ -13,18 +10,14 @@ invariant-steps g l =
     let machine = g.M.Machine in
     record {
       still_of : wire.is_pass_of l.wire l.pass;
-      side : (wire.seen l.pass).side ≡ (wire.seen l.initial.pass).side;
+      side : (wire.seen l.pass).side ≡ (wire.seen l.fn.pass).side;
       clock : (wire.seen l.pass).half.at ≤ machine.stamp_of l.machine;
-      region : machine.region_of l.machine ≡ machine.region_of l.initial.machine;
+      region : machine.region_of l.machine ≡ machine.region_of l.fn.machine;
       room : length (machine.waiting l.machine) + machine.MOST ≤ machine.CAP;
-      few : l.refused < l.tries;
-      ran : (before : History machine.State) → machine.stands l.initial.machine before.now → before.entries ≡ (wire.seen l.initial.pass).half.mine
-          → LegRan (wire.seen l.initial.pass).side machine.moves (window_of (wire.region_of l.wire)) l.end (machine.stands l.machine) (wire.seen l.pass).half (machine.waiting l.initial.machine) (machine.waiting l.machine) before;
-      risen : HasRisenBy l.refused (wire.seen l.initial.pass).half.tally.refused (wire.seen l.pass).half.tally.refused;
-      in_row : (m : machine.State) → machine.stands l.machine m
-          → InRow (call_of (machine.moves.act m)) (machine.stamp_of l.machine) l.refused (wire.seen l.pass).half.tally;
+      ran : HasRun (wire.seen l.fn.pass).side machine.moves (window_of (wire.region_of l.wire)) l.end (machine.stands l.fn.machine) (machine.stands l.machine) (wire.seen l.fn.pass).half (wire.seen l.pass).half (machine.waiting l.fn.machine) (machine.waiting l.machine);
+      counted : (before : ℕ) → HasRisenBy 0 before (wire.seen l.fn.pass).half.tally.refused → HasRisenBy 0 before (wire.seen l.pass).half.tally.refused;
     }
 
--- the stamps to the end, and the tries that are left
+-- the stamps to the end
 abbrev pub decreases-steps : goal.decreases-steps
-decreases-steps g l = (l.end - g.M.Machine.stamp_of l.machine) * (l.tries + 1) + (l.tries - l.refused)
+decreases-steps g l = l.end - g.M.Machine.stamp_of l.machine

@@ -1,0 +1,68 @@
+use Rattle.std.proofs.Common.{inl, inr, ⊎_elim, List, ap, sym, ◌∙◌, subst, arith}
+use Rattle.clock_ratio.specs.Stamp.{window_of}
+use Rattle.port_entries.specs.Entry.{Entry}
+use Rattle.port_wire.specs.Tally.{Tally}
+use Rattle.port_wire.specs.Seen.{Half, Seen, parted}
+use Rattle.pair_run.specs.Leg.{LegRan, IfHeldBack, IsSpent}
+use Rattle.pair_run.specs.Tried.{call_of}
+use Rattle.pair_run.specs.Turn.{tries_of_turn}
+use Rattle.pair_run.proofs.TurnGoesOn.{has_turned, held_still}
+use Rattle.pair_run.proofs.turns.turn.Goals as goal
+
+pub returns-clause-turned : goal.returns-clause-turned
+returns-clause-turned g c = λ c0 s0 c0_valid s0_valid a b on a_stands b_stands a_is b_is.
+    let wire = g.W.Wire in
+    let console = g.C.Machine in
+    let sound = g.S.Machine in
+    let region = wire.region_of c.args.wire.now in
+    let window = window_of region in
+    let end = c.args.end in
+    let of_console = g.met.C.Machine g.world.𝓛 g.world.𝓜 g.world.𝓡 ((λ s x. x), (λ x. x), (λ x. x), λ x. x) in
+    let of_sound = g.met.S.Machine g.world.𝓛 g.world.𝓜 g.world.𝓡 ((λ s x. x), (λ x. x), (λ x. x), λ x. x) in
+    let parts = c.part-console_pass.ensures in
+    let legs = c.both_legs-console_end.ensures in
+    let ran = c.both_legs-console_end.new in
+    let met = c.reunite-whole.ensures in
+    let told = c.advance_whole.ensures in
+    let told_too = c.advance_whole-2.ensures in
+    let step = c.step_earlier-stepped.ensures in
+    let old = wire.both c.args.whole in
+    let new = wire.both c.step_earlier-stepped.new.whole in
+    let first = (wire.seen ran.console_pass).half in
+    let second = (wire.seen ran.sound_pass).half in
+    let console_mid = console.stands ran.console in
+    let sound_mid = sound.stands ran.sound in
+    let mine : Half → List Entry = λ h. h.mine in
+    let tally : Half → Tally = λ h. h.tally in
+    let by_console = subst (λ side. LegRan side console.moves window end console_mid first (console.waiting c.args.console.now) (console.waiting ran.console) a)
+    (ap (λ (q : Seen). q.side) parts.console)
+    (legs.console_ran.from a a_stands (a_is ∙ sym (ap (λ (q : Seen). q.half.mine) parts.console))) in
+    let by_sound = subst (λ side. LegRan side sound.moves window end sound_mid second (sound.waiting c.args.sound.now) (sound.waiting ran.sound) b)
+    (ap (λ (q : Seen). q.side) parts.sound)
+    (legs.sound_ran.from b b_stands (b_is ∙ sym (ap (λ (q : Seen). q.half.mine) parts.sound))) in
+    has_turned region (console.valid region) (sound.valid region) console.MOST sound.MOST console.moves sound.moves
+    (of_console.lawful region) (of_sound.lawful region) c0 s0 c0_valid s0_valid
+    window end console_mid (console.stands c.step_earlier-stepped.new.console) sound_mid (sound.stands c.step_earlier-stepped.new.sound)
+    old (record { console = first; sound = second }) new
+    (console.waiting c.args.console.now) (console.waiting ran.console) (console.waiting c.step_earlier-stepped.new.console)
+    (sound.waiting c.args.sound.now) (sound.waiting ran.sound) (sound.waiting c.step_earlier-stepped.new.sound)
+    c.both_legs-console_end.result.0 c.both_legs-console_end.result.1 c.step_earlier-stepped.result a b on by_console by_sound met.heard
+    (λ m stands. omega (arith, legs.console_clock, of_console.stands_stamp ran.console m stands))
+    (λ m stands. omega (arith, legs.sound_clock, of_sound.stands_stamp ran.sound m stands))
+    (λ p q p_stands q_stands p_is q_is. step.stepped p q p_stands q_stands
+    (p_is ∙ sym (ap mine met.console) ∙ sym told.advances.mine ∙ sym (ap mine told_too.own.other))
+    (q_is ∙ sym (ap mine met.sound) ∙ sym (ap mine told.own.other) ∙ sym told_too.advances.mine))
+    (⊎_elim (λ lt. inl (omega (arith, lt, of_console.stands_stamp c.args.console.now a.now a_stands)))
+    (λ lt. inr (omega (arith, lt, of_sound.stands_stamp c.args.sound.now b.now b_stands))) c.requires.before_end)
+    (λ m stands. held_still c.both_legs-console_end.result.0 (call_of (console.moves.act m)) (console.stamp_of ran.console) (console.moves.stamp m) tries_of_turn
+    (parted old.console) first new.console
+    (subst (λ (q : Seen). IfHeldBack c.both_legs-console_end.result.0 (λ late. IsSpent (call_of (console.moves.act m)) (console.stamp_of ran.console) late tries_of_turn q.half first))
+    parts.console (legs.console_spent m stands))
+    (of_console.stands_stamp ran.console m stands)
+    (step.console_tally ∙ ap tally told_too.own.other ∙ told.own.tally ∙ ap tally met.console))
+    (λ m stands. held_still c.both_legs-console_end.result.1 (call_of (sound.moves.act m)) (sound.stamp_of ran.sound) (sound.moves.stamp m) tries_of_turn
+    (parted old.sound) second new.sound
+    (subst (λ (q : Seen). IfHeldBack c.both_legs-console_end.result.1 (λ late. IsSpent (call_of (sound.moves.act m)) (sound.stamp_of ran.sound) late tries_of_turn q.half second))
+    parts.sound (legs.sound_spent m stands))
+    (of_sound.stands_stamp ran.sound m stands)
+    (step.sound_tally ∙ told_too.own.tally ∙ ap tally told.own.other ∙ ap tally met.sound))
