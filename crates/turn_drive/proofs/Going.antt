@@ -107,7 +107,7 @@ module _ {C S : Type 0} (region : Region) (console_valid : C → Type 0) (sound_
   }
 
   module _ (near turns : ℕ) (console_stands console_turned : C → Type 0) (sound_stands sound_turned : S → Type 0) (both new : Both)
-      (holds later : Side → List ℕ → Type 0) (console_waited console_waits sound_waited sound_waits : List ℕ)
+      (holds : Side → List ℕ → Type 0) (console_waited console_waits sound_waited sound_waits : List ℕ)
       (console_end sound_end : LegEnd) (stepped : Stepped)
       (going : IsGoing cm sm c0 s0 near turns console_stands sound_stands both holds)
       (turned : HasTurned cm sm c0 s0 near console_turned sound_turned both new console_waited console_waits sound_waited sound_waits console_end sound_end stepped going.c going.s) where
@@ -122,7 +122,7 @@ module _ {C S : Type 0} (region : Region) (console_valid : C → Type 0) (sound_
               near turned.after_c turned.after_s turned.on (turned.below going.below),
         )
 
-    module _ (no_console : console_waited ≡ []) (no_sound : sound_waited ≡ []) where
+    module _ (later : Side → List ℕ → Type 0) (no_console : console_waited ≡ []) (no_sound : sound_waited ≡ []) where
       -- a turn whose bytes were all taken
       pub going_on : (console_after : C → Type 0) (sound_after : S → Type 0) → ((m : C) → console_turned m → console_after m) → ((m : S) → sound_turned m → sound_after m)
           → Adds (holds Console) (later Console) console_waits → Adds (holds Sound) (later Sound) sound_waits

@@ -19,7 +19,7 @@ pub(crate) struct Ends {
     region: Region,
     /// The line of the near end in its frame, 0 at the frame's end.
     line: u64,
-    near: u64,
+    pub(crate) near: u64,
     end: u64,
     ghost line_in_frame: { line ≤ 186 },
     ghost within: { near ≤ end },
@@ -50,14 +50,6 @@ impl Ends {
         };
         ends.go_on();
         ends
-    }
-
-    /// The near end.
-    #[inline(always)]
-    pub(crate) fn near(&self) -> u64
-        ensures { result ≡ self.now.near }
-    {
-        self.near
     }
 
     /// Goes on to the next near end, and stays at the end of the run.

@@ -65,11 +65,19 @@ where
     let mut ends = Ends::new(wire.region(), begin, end);
     let mut turns = 0;
     while !both_at(&console, &sound, end) {
-        let near = ends.near();
-        if both_at(&console, &sound, near) {
+        if both_at(&console, &sound, ends.near) {
             ends.go_on();
         } else {
-            let turned = turn(rt, wire, whole, &mut console, &mut sound, gate, turns, near);
+            let turned = turn(
+                rt,
+                wire,
+                whole,
+                &mut console,
+                &mut sound,
+                gate,
+                turns,
+                ends.near,
+            );
             let Turned {
                 whole: again,
                 console: _,
