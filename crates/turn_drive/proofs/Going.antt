@@ -1,5 +1,5 @@
 -- A run by turns on its way, of which all that was emitted was taken.
-use Rattle.std.proofs.Common.{◌≡◌, ℕ, ◌+◌, ◌*◌, ◌<◌, ◌≤◌, List, [], ◌++◌, length, take, refl, ap, sym, ◌∙◌, subst, arith}
+use Rattle.std.proofs.Common.{◌≡◌, ℕ, ◌+◌, ◌*◌, ◌≤◌, List, [], ◌++◌, length, take, refl, ap, sym, ◌∙◌, subst, arith}
 use mathlib.Core.Logic.{∥∥₁_elim}
 use Rattle.std.proofs.Math.Bridge.{le_prop}
 use Rattle.snes_defs.specs.declared.region.Region.{Region}
@@ -7,7 +7,7 @@ use Rattle.snes_defs.specs.declared.ports.Side.{Side}
 use Rattle.snes_defs.specs.declared.ports.Side.TheVariants.{Console, Sound}
 use Rattle.side_law.specs.Moves.{Moves, IsLawful}
 use Rattle.side_law.specs.Serial.{serial_of}
-use Rattle.side_law.specs.SerialRun.{RunsFor, IsOutput}
+use Rattle.side_law.specs.SerialRun.{RunsFor}
 use Rattle.side_law.proofs.SerialKeeps.{serving_at_first}
 use Rattle.side_law.proofs.SerialRuns.{run_ends}
 use Rattle.commute_laws.specs.History.{History, history_of}
@@ -18,6 +18,10 @@ use Rattle.port_wire.specs.Seen.{Half, Both}
 use Rattle.pair_run.specs.declared.ends.LegEnd.{LegEnd}
 use Rattle.pair_run.specs.declared.stepped.Stepped.{Stepped}
 use Rattle.pair_run.specs.Turn.{HasTurned, StandsBy}
+use Rattle.clock_ratio.specs.Stamp.{end_stamp_of}
+use Rattle.run_laws.specs.TurnBound.{most_turns}
+use Rattle.run_laws.proofs.RunBound.{run_bounded}
+use Rattle.turn_drive.specs.Cycle.{StepsByCycle}
 use Rattle.run_drive.specs.Run.{Adds, AddsSome, TookRun, TookFirst}
 use Rattle.run_drive.proofs.Running.{first_held}
 use Rattle.turn_drive.proofs.Counted.{steps_below, steps_of_run}
@@ -165,6 +169,20 @@ module _ {C S : Type 0} (region : Region) (console_valid : C → Type 0) (sound_
             audio_taken = first_held (later Sound) going.s.emitted sound_waits begins.1.0 out.1 audio.0
                 (ap (λ l. l ++ begins.1.0) (emits_waiting sound_turned new.sound sound_waited sound_waits going.s turned.after_s turned.sound no_sound) ∙ begins.1.1) audio.1;
           }
+
+  -- turns to the end of so many frames are at most those of the serial run
+  pub going_is_bounded : (by_a_cycle : StepsByCycle region sound_valid sm) (near end turns frames : ℕ) (console_stands : C → Type 0) (sound_stands : S → Type 0) (both : Both)
+      (holds : Side → List ℕ → Type 0) → near ≤ end → IsGoing cm sm c0 s0 near turns console_stands sound_stands both holds
+      → cm.stamp c0 ≡ 0 → sm.stamp s0 ≡ 0 → end ≡ end_stamp_of region frames → turns ≤ most_turns region frames
+  going_is_bounded by_a_cycle near end turns frames console_stands sound_stands both holds le going console_first sound_first e =
+      let out = run_ends region console_valid sound_valid console_most sound_most cm sm console_lawful sound_lawful (serial_of c0 s0) end
+      (serving_at_first console_valid sound_valid c0 s0 c0_valid s0_valid) in
+      omega (
+        arith,
+        going_is_short cm sm c0 s0 near end turns out.2.turns console_stands sound_stands both holds le going out.2.runs,
+        run_bounded region console_valid sound_valid console_most sound_most cm sm console_lawful sound_lawful by_a_cycle c0 s0 c0_valid s0_valid
+            frames out.2.turns (subst (λ at. RunsFor cm sm (serial_of c0 s0) at out.2.turns) e out.2.runs),
+      )
 
   -- a run that has come to its end
   pub going_is_whole : (near end turns : ℕ) (console_stands : C → Type 0) (sound_stands : S → Type 0) (both : Both) (holds : Side → List ℕ → Type 0)

@@ -1,5 +1,5 @@
 -- Bytes of one side that a sink took, before it took, or failed to take, some of the other.
-use Rattle.std.proofs.Common.{◌≡◌, ℕ, List, ◌++◌, length, take, ap, sym, subst, arith}
+use Rattle.std.proofs.Common.{ℕ, List, ◌++◌, length, sym, subst, arith}
 use Rattle.std.proofs.lemmas.List.{take_all}
 use Rattle.run_drive.specs.Run.{Adds, AddsSome}
 

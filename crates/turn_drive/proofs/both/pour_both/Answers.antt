@@ -1,4 +1,4 @@
-use Rattle.snes_defs.specs.declared.ports.Side.TheVariants.{Console, Sound}
+use Rattle.snes_defs.specs.declared.ports.Side.TheVariants.{Console}
 use Rattle.turn_drive.proofs.Taken.{all_is_some}
 use Rattle.turn_drive.proofs.both.pour_both.Goals as goal
 

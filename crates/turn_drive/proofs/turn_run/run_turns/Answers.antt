@@ -1,6 +1,6 @@
 use Rattle.std.proofs.Common.{◌+◌, ◌*◌, ◌≤◌, subst, rules, arith}
 use Rattle.run_drive.proofs.Running.{whole_is_first}
-use Rattle.turn_drive.proofs.Going.{bound_of, going_starts, going_nearer, going_is_short, turns_are_few, going_on, going_stops, going_is_whole}
+use Rattle.turn_drive.proofs.Going.{bound_of, going_starts, going_nearer, going_is_short, going_is_bounded, turns_are_few, going_on, going_stops, going_is_whole}
 use Rattle.turn_drive.proofs.turn_run.run_turns.Given.{Over}
 use Rattle.turn_drive.proofs.turn_run.run_turns.Goals as goal
 
@@ -129,6 +129,15 @@ returns-clause-whole g c = λ m n console sound.
 
 pub returns-clause-first : goal.returns-clause-first
 returns-clause-first g c = λ m n console sound.
+    whole_is_first g.C.Machine.moves g.S.Machine.moves g.C.Machine.stands g.S.Machine.stands c.args.end m n _ (returns-clause-whole g c m n console sound)
+
+pub returns-clause-turns : goal.returns-clause-turns
+returns-clause-turns g c = λ m n most console sound runs.
+    going_is_short g.C.Machine.moves g.S.Machine.moves m n _ c.args.end _ most _ _ _ _ (omega (arith, c.loop-ends.ends.within, c.loop-ends.invariant.to_end))
+    (c.loop-ends.invariant.going m n console sound) runs
+
+pub returns-clause-bounded : goal.returns-clause-bounded
+returns-clause-bounded g c = λ m n frames console sound console_first sound_first by_a_cycle e.
     let C = g.C.Machine in
     let S = g.S.Machine in
     let of_console = g.met.C.Machine g.world.𝓛 g.world.𝓜 g.world.𝓡 ((λ s x. x), (λ x. x), (λ x. x), λ x. x) in
@@ -136,13 +145,6 @@ returns-clause-first g c = λ m n console sound.
     let region = g.W.Wire.region_of c.args.wire.now in
     let console_ok = subst (λ r. C.valid r m) c.requires.console_region (of_console.stands_valid c.args.console m console) in
     let sound_ok = subst (λ r. S.valid r n) c.requires.sound_region (of_sound.stands_valid c.args.sound n sound) in
-    let going = c.loop-ends.invariant.going m n console sound in
-    whole_is_first C.moves S.moves C.stands S.stands c.args.end m n _ (going_is_whole region (C.valid region) (S.valid region) C.MOST S.MOST C.moves S.moves (of_console.lawful region) (of_sound.lawful region) m n console_ok sound_ok
-    _ _ _ _ _ _ _ (omega (arith, c.loop-ends.ends.within, c.loop-ends.invariant.to_end)) going
-    (search (rules, of_console.stands_stamp c.loop-ends.console going.c.now going.console_now))
-    (search (rules, of_sound.stands_stamp c.loop-ends.sound going.s.now going.sound_now)))
-
-pub returns-clause-turns : goal.returns-clause-turns
-returns-clause-turns g c = λ m n most console sound runs.
-    going_is_short g.C.Machine.moves g.S.Machine.moves m n _ c.args.end _ most _ _ _ _ (omega (arith, c.loop-ends.ends.within, c.loop-ends.invariant.to_end))
-    (c.loop-ends.invariant.going m n console sound) runs
+    going_is_bounded region (C.valid region) (S.valid region) C.MOST S.MOST C.moves S.moves (of_console.lawful region) (of_sound.lawful region) m n console_ok sound_ok by_a_cycle
+    _ c.args.end _ frames _ _ _ _ (omega (arith, c.loop-ends.ends.within, c.loop-ends.invariant.to_end))
+    (c.loop-ends.invariant.going m n console sound) console_first sound_first e
