@@ -24,7 +24,7 @@ some_begins had more rest b count e =
     ∙ ap (λ v. v ++ rest) (append_assoc had (take count more) (drop count more) ∙ ap (λ v. had ++ v) (take-append-drop {A = ℕ} count more))
     ∙ e
 
-first_held : (Holds : List ℕ → Type 0) (had more rest b : List ℕ) (count : ℕ) → (had ++ more) ++ rest ≡ b → Holds (had ++ take count more)
+pub first_held : (Holds : List ℕ → Type 0) (had more rest b : List ℕ) (count : ℕ) → (had ++ more) ++ rest ≡ b → Holds (had ++ take count more)
     → Holds (take (length (had ++ take count more)) b)
 first_held Holds had more rest b count e h =
     subst Holds (sym (first_of (had ++ take count more) (drop count more ++ rest) b (some_begins had more rest b count e))) h

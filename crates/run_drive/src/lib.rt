@@ -11,12 +11,13 @@
 #![tactic(auto)]
 
 mod player;
-mod pour;
+mod pours;
 mod serial_run;
 mod shelf_sink;
 mod sink;
 
 pub use player::Player;
+pub use pours::pour;
 pub use serial_run::run_serial;
 pub use shelf_sink::out_of;
 pub use sink::Sink;

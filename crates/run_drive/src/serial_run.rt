@@ -1,7 +1,7 @@
 ghost use Rattle.std.specs.Prelude.{◌≡◌, ◌^◌, ◌≤◌, [], length, OnOk, IfErr};
 ghost use Rattle.run_drive.specs.Run.{TookRun, TookFirst};
 
-use crate::pour::pour;
+use crate::pours::pour;
 use crate::sink::Sink;
 use serial_console::Serial;
 use side_law::Machine;

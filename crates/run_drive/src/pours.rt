@@ -9,7 +9,7 @@ use snes_defs::Side;
 
 /// Moves the bytes that wait in a machine to the sink, all at once. Where none waits nothing is taken.
 #[inline(always)]
-pub(crate) fn pour<M: Machine, K: Sink>(
+pub fn pour<M: Machine, K: Sink>(
     machine: &mut M,
     side: Side,
     buffer: &mut [u8],
