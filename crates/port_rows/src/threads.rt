@@ -76,6 +76,7 @@ fn reads(ports: &Ports, sound: &mut Pass) -> u32
     requires start { sound.old.half.at ≡ 0 }
     ensures of { IsPassOf ports.now sound.new }
     ensures side { sound.new.side ≡ sound.old.side }
+    ensures clock { sound.new.half.at ≡ 0 }
 {
     let mut wrong = 0u32;
     for k in 0..READS {
@@ -97,6 +98,7 @@ fn race<R: Threads>(rt: &R, ports: &Ports, console: &mut Pass, sound: &mut Pass)
     ensures sound_of { IsPassOf ports.now sound.new }
     ensures console { console.new.side ≡ console.old.side }
     ensures sound { sound.new.side ≡ sound.old.side }
+    ensures sound_clock { sound.new.half.at ≡ 0 }
 {
     join_mut(
         rt,

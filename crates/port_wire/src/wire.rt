@@ -12,7 +12,8 @@ use snes_defs::{Region, Side};
 /// and writes its ports and publishes its clock; both passes together are a whole.
 ///
 /// Each call over a pass tries once, and is answered or refused. In every answer the pass has heard all
-/// that was in its `heard` before, and more only of what is stamped at its `upto` or later.
+/// that was in its `heard` before, and more only of what is stamped at its `upto` or later. So have both
+/// sides after a call over a whole.
 pub trait Wire: Sync {
     type Pass: Send;
 
