@@ -1,5 +1,5 @@
 -- A turn: two legs that meet, and the step of the earlier side.
-use Rattle.std.proofs.Common.{◌≡◌, ℕ, zero, suc, ◌+◌, ◌<◌, ◌≤◌, ◌⊎◌, List, [], ◌++◌, Some, refl, ap, sym, ◌∙◌, subst, ⊎_elim, arith, append_assoc}
+use Rattle.std.proofs.Common.{◌≡◌, ℕ, zero, suc, ◌+◌, ◌*◌, ◌<◌, ◌≤◌, ◌⊎◌, List, [], ◌++◌, Some, refl, ap, sym, ◌∙◌, subst, ⊎_elim, arith, append_assoc, length, length-append}
 use Rattle.std.proofs.lemmas.List.{append-nil}
 use Rattle.snes_defs.specs.declared.region.Region.{Region}
 use Rattle.snes_defs.specs.declared.ports.Side.{Side}
@@ -240,3 +240,9 @@ module _ {C S : Type 0} (cm : Moves C) (sm : Moves S) (end window : ℕ) (consol
     console = stands_still console_stands old.console console_waits c console_now console_is;
     sound = stands_still sound_stands old.sound sound_waits s sound_now sound_is;
   }
+
+-- a side without room for two steps has none after another step
+pub still_full : {State : Type 0} (stands : State → Type 0) (half : Half) (kept waits : List ℕ) (before after : History State) (most cap : ℕ)
+    → StandsBy stands half kept waits before after → ¬ (length kept + 2 * most ≤ cap) → ¬ (length waits + 2 * most ≤ cap)
+still_full stands half kept waits before after most cap by full room =
+    full (omega (arith, ap length by.waits_is, length-append kept by.emitted, room))

@@ -109,6 +109,8 @@ pub fn turn<R: Threads, W: Wire, C: Machine, S: Machine, G: Gate>(
     ensures turned { (console_start : C.State) (sound_start : S.State) → C.valid (W.region_of wire.now) console_start → S.valid (W.region_of wire.now) sound_start → (c : History C.State) (s : History S.State) → IsOnRun C.moves S.moves console_start sound_start c s → C.stands console.old c.now → S.stands sound.old s.now → c.entries ≡ (W.both whole).console.mine → s.entries ≡ (W.both whole).sound.mine → HasTurned C.moves S.moves console_start sound_start end (C.stands console.new) (S.stands sound.new) (W.both whole) (W.both result.whole) (C.waiting console.old) (C.waiting console.new) (S.waiting sound.old) (S.waiting sound.new) result.console result.sound result.stepped c s }
     ensures console_done { result.console ≡ LegEnd.Done → end ≤ C.stamp_of console.new }
     ensures sound_done { result.sound ≡ LegEnd.Done → end ≤ S.stamp_of sound.new }
+    ensures console_drain { result.console ≡ LegEnd.Drain → ¬ (length (C.waiting console.new) + 2 * C.MOST ≤ C.CAP) }
+    ensures sound_drain { result.sound ≡ LegEnd.Drain → ¬ (length (S.waiting sound.new) + 2 * S.MOST ≤ S.CAP) }
 {
     let (mut console_pass, mut sound_pass) = wire.part(whole);
     let (console_end, sound_end) = both_legs(

@@ -1,12 +1,14 @@
-use Rattle.std.proofs.Common.{inl, inr, ⊎_elim, List, ap, sym, ◌∙◌, subst, arith}
+use mathlib.Core.Logic.{∥∥₁_elim}
+use Rattle.std.proofs.Common.{[], refl, inl, inr, ⊎_elim, List, ap, sym, ◌∙◌, subst, arith}
 use Rattle.clock_ratio.specs.Stamp.{window_of}
 use Rattle.port_entries.specs.Entry.{Entry}
 use Rattle.port_wire.specs.Tally.{Tally}
 use Rattle.port_wire.specs.Seen.{Half, Seen, parted}
+use Rattle.commute_laws.specs.History.{History}
 use Rattle.pair_run.specs.Leg.{LegRan, IfHeldBack, IsSpent}
 use Rattle.pair_run.specs.Tried.{call_of}
 use Rattle.pair_run.specs.Turn.{tries_of_turn}
-use Rattle.pair_run.proofs.TurnGoesOn.{has_turned, held_still}
+use Rattle.pair_run.proofs.TurnGoesOn.{has_turned, held_still, still_full}
 use Rattle.pair_run.proofs.turns.turn.Goals as goal
 
 pub returns-clause-turned : goal.returns-clause-turned
@@ -66,3 +68,29 @@ returns-clause-turned g c = λ c0 s0 c0_valid s0_valid a b on a_stands b_stands 
     parts.sound (legs.sound_spent m stands))
     (of_sound.stands_stamp ran.sound m stands)
     (step.sound_tally ∙ told_too.own.tally ∙ ap tally told.own.other ∙ ap tally met.sound))
+
+pub returns-clause-console_drain : goal.returns-clause-console_drain
+returns-clause-console_drain g c = λ is room.
+    let console = g.C.Machine in
+    let ran = c.both_legs-console_end.new in
+    let new = c.step_earlier-stepped.new in
+    let told = g.W.Wire.both c.advance_whole-2.new.whole in
+    ∥∥₁_elim c.stamp.ensures.stands (λ x y. absurd x) (λ p. ∥∥₁_elim c.stamp-2.ensures.stands (λ x y. absurd x) (λ q.
+    let before_c : History g.C.Machine.State = record { now = p.0; steps = 0; entries = told.console.mine; emitted = [] } in
+    let before_s : History g.S.Machine.State = record { now = q.0; steps = 0; entries = told.sound.mine; emitted = [] } in
+    let then = c.step_earlier-stepped.ensures.stepped before_c before_s p.1 q.1 refl refl in
+    still_full (console.stands new.console) (g.W.Wire.both new.whole).console (console.waiting ran.console) (console.waiting new.console) before_c then.after_c console.MOST console.CAP
+    then.console (c.both_legs-console_end.ensures.console_drain.0 is).1 room))
+
+pub returns-clause-sound_drain : goal.returns-clause-sound_drain
+returns-clause-sound_drain g c = λ is room.
+    let sound = g.S.Machine in
+    let ran = c.both_legs-console_end.new in
+    let new = c.step_earlier-stepped.new in
+    let told = g.W.Wire.both c.advance_whole-2.new.whole in
+    ∥∥₁_elim c.stamp.ensures.stands (λ x y. absurd x) (λ p. ∥∥₁_elim c.stamp-2.ensures.stands (λ x y. absurd x) (λ q.
+    let before_c : History g.C.Machine.State = record { now = p.0; steps = 0; entries = told.console.mine; emitted = [] } in
+    let before_s : History g.S.Machine.State = record { now = q.0; steps = 0; entries = told.sound.mine; emitted = [] } in
+    let then = c.step_earlier-stepped.ensures.stepped before_c before_s p.1 q.1 refl refl in
+    still_full (sound.stands new.sound) (g.W.Wire.both new.whole).sound (sound.waiting ran.sound) (sound.waiting new.sound) before_s then.after_s sound.MOST sound.CAP
+    then.sound (c.both_legs-console_end.ensures.sound_drain.0 is).1 room))
