@@ -1,5 +1,6 @@
-use crate::still::{Open, Still};
+use crate::players::{Open, Short};
 use file_shelf::{MemShelf, Out, Shelf, SureShelf};
+use run_drive::Player;
 use run_io::Argv;
 use snes_call::{Status, snes};
 use std::test::Fail;
@@ -42,8 +43,8 @@ pub(crate) fn planned(rt: &HostRuntime) -> Result<MemShelf, Fail> {
     Ok(shelf)
 }
 
-/// Calls the program with these words.
-pub(crate) fn called<H: Shelf>(
+/// Calls the program with these words and a player.
+pub(crate) fn called_with<P: Player, H: Shelf>(
     rt: &HostRuntime,
     words: &[&str],
     shelf: &mut H,
@@ -52,19 +53,55 @@ pub(crate) fn called<H: Shelf>(
     for word in words {
         argv.push(word)?;
     }
-    Ok(snes::<Still, HostRuntime, H, Open>(rt, &argv, shelf, &Open))
+    Ok(snes::<P, HostRuntime, H, Open>(rt, &argv, shelf, &Open))
 }
 
-/// What is said of a run whose file of this name has these bytes, and the exit status.
-pub(crate) fn said(
+/// Calls the program with these words and the player of short runs.
+pub(crate) fn called<H: Shelf>(
+    rt: &HostRuntime,
+    words: &[&str],
+    shelf: &mut H,
+) -> Result<Status, Fail> {
+    called_with::<Short, H>(rt, words, shelf)
+}
+
+/// The words of a run with another word at one place.
+pub(crate) fn changed(at: usize, word: &'static str) -> [&'static str; 15] {
+    let mut words = RUN;
+    if let Some(place) = words.get_mut(at) {
+        *place = word;
+    }
+    words
+}
+
+/// Whether a run whose file of this name has these bytes is refused with this line, and nothing is
+/// created.
+pub(crate) fn is_refused(
     rt: &HostRuntime,
     name: &str,
     bytes: &[u8],
     line: &str,
-) -> Result<(u8, bool), Fail> {
+) -> Result<bool, Fail> {
     let mut shelf = sure(rt, name, bytes)?;
     let status = called(rt, &RUN, &mut shelf)?;
-    let is_said = shelf.written(Out::Say) == line.as_bytes();
-    let untouched = shelf.named(Out::Video).is_empty() && shelf.named(Out::Sound).is_empty();
-    Ok((status.exit(), is_said && untouched))
+    Ok(
+        status.exit() == 3
+            && shelf.written(Out::Say) == line.as_bytes()
+            && shelf.named(Out::Video).is_empty()
+            && shelf.named(Out::Sound).is_empty(),
+    )
+}
+
+/// Whether a run whose file of this name has these bytes is made whole.
+pub(crate) fn is_made(rt: &HostRuntime, name: &str, bytes: &[u8]) -> Result<bool, Fail> {
+    let mut shelf = sure(rt, name, bytes)?;
+    let status = called(rt, &RUN, &mut shelf)?;
+    Ok(
+        status.exit() == 0
+            && shelf.written(Out::Say) == b"frames 1 samples 532\n".as_slice()
+            && shelf.written(Out::Video) == [1u8, 2, 4].as_slice()
+            && shelf.written(Out::Sound) == [3u8].as_slice()
+            && shelf.named(Out::Video) == "video"
+            && shelf.named(Out::Sound) == "audio",
+    )
 }
