@@ -57,9 +57,27 @@ fn each_failed_creation_is_named(rt: HostRuntime) -> Result<(), Fail> {
 fn a_failed_put_leaves_the_first_bytes(rt: HostRuntime) -> Result<(), Fail> {
     let bytes = [1u8, 2, 4, 3];
     for (nth, status, video, sound, line) in [
-        (1, Status::WriteFault(Out::Video), 0, 3, "cannot write video\n"),
-        (2, Status::WriteFault(Out::Sound), 2, 3, "cannot write sound\n"),
-        (3, Status::WriteFault(Out::Video), 2, 4, "cannot write video\n"),
+        (
+            1,
+            Status::WriteFault(Out::Video),
+            0,
+            3,
+            "cannot write video\n",
+        ),
+        (
+            2,
+            Status::WriteFault(Out::Sound),
+            2,
+            3,
+            "cannot write sound\n",
+        ),
+        (
+            3,
+            Status::WriteFault(Out::Video),
+            2,
+            4,
+            "cannot write video\n",
+        ),
         (4, Status::WriteFault(Out::Say), 3, 4, ""),
         (5, Status::Ok, 3, 4, "frames 1 samples 532\n"),
     ] {

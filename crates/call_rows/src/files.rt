@@ -5,7 +5,7 @@ use snes_call::Status;
 use std::test::Fail;
 
 /// The cartridge with one byte of its header changed.
-fn with_byte(rt: &HostRuntime, place: usize, byte: u8) -> Result<Vec<u8>, Fail> {
+fn with_byte<R: AllocGlobal>(rt: &R, place: usize, byte: u8) -> Result<Vec<u8>, Fail> {
     let mut image = cartridge(rt)?;
     if let Some(place) = image.as_mut_slice().get_mut(place) {
         *place = byte;
@@ -39,11 +39,17 @@ fn a_cartridge_may_be_too_short(rt: HostRuntime) -> Result<(), Fail> {
     let zeros = vec![in rt.alloc(); 0u8; 33279]?;
     for count in [0usize, 512, 32767, 33279 - 512] {
         let bytes = &zeros.as_slice()[..count];
-        assert!(rt; is_refused(&rt, "cart", bytes, "cart refused: too short\n")?, "{count}");
+        assert!(rt;
+            is_refused(&rt, "cart", bytes, "cart refused: too short\n")?,
+            "{count}"
+        );
     }
     for count in [32768usize, 33279] {
         let bytes = &zeros.as_slice()[..count];
-        assert!(rt; is_refused(&rt, "cart", bytes, "cart refused: no header\n")?, "{count}");
+        assert!(rt;
+            is_refused(&rt, "cart", bytes, "cart refused: no header\n")?,
+            "{count}"
+        );
     }
     Ok(())
 }
@@ -53,7 +59,10 @@ fn a_cartridge_may_be_too_long(rt: HostRuntime) -> Result<(), Fail> {
     let mut long = vec![in rt.alloc(); 0u8; 4_194_817]?;
     for count in [4_194_305usize, 4_194_817] {
         let bytes = &long.as_slice()[..count];
-        assert!(rt; is_refused(&rt, "cart", bytes, "cart refused: too long\n")?, "{count}");
+        assert!(rt;
+            is_refused(&rt, "cart", bytes, "cart refused: too long\n")?,
+            "{count}"
+        );
     }
     // 512 bytes in front of the longest image
     if let Some(map) = long.as_mut_slice().get_mut(512 + 0x7fd5) {
@@ -67,7 +76,10 @@ fn a_cartridge_may_be_too_long(rt: HostRuntime) -> Result<(), Fail> {
 fn a_boot_rom_has_64_bytes(rt: HostRuntime) -> Result<(), Fail> {
     let boot = [0xefu8; 1000];
     for count in [0usize, 63, 65, 1000] {
-        assert!(rt; is_refused(&rt, "boot", &boot[..count], "boot refused\n")?, "{count}");
+        assert!(rt;
+            is_refused(&rt, "boot", &boot[..count], "boot refused\n")?,
+            "{count}"
+        );
     }
     assert!(rt; is_made(&rt, "boot", &[0u8; 64])?);
     Ok(())
@@ -78,7 +90,10 @@ fn a_table_is_refused_at_its_first_large_entry(rt: HostRuntime) -> Result<(), Fa
     let mut table = [0xffu8; 1025];
     for count in [0usize, 1023, 1025] {
         let bytes = &table[..count];
-        assert!(rt; is_refused(&rt, "table", bytes, "table refused at 512\n")?, "{count}");
+        assert!(rt;
+            is_refused(&rt, "table", bytes, "table refused at 512\n")?,
+            "{count}"
+        );
     }
     assert!(rt; is_refused(&rt, "table", &table[..1024], "table refused at 0\n")?);
     table = [0u8; 1025];

@@ -4,6 +4,7 @@ use run_drive::Player;
 use run_io::Argv;
 use snes_call::{Status, snes};
 use std::test::Fail;
+use std::thread::Threads;
 
 /// The words of a run of one frame.
 pub(crate) const RUN: [&str; 15] = [
@@ -15,7 +16,7 @@ pub(crate) const RUN: [&str; 15] = [
 const ROOM: usize = 4096;
 
 /// A LoROM cartridge of 32,768 zeros but for its map byte and the RESET vector.
-pub(crate) fn cartridge(rt: &HostRuntime) -> Result<Vec<u8>, Fail> {
+pub(crate) fn cartridge<R: AllocGlobal>(rt: &R) -> Result<Vec<u8>, Fail> {
     let mut image = vec![in rt.alloc(); 0u8; 32768]?;
     let bytes = image.as_mut_slice();
     bytes[0x7fd5] = 0x20;
@@ -24,7 +25,7 @@ pub(crate) fn cartridge(rt: &HostRuntime) -> Result<Vec<u8>, Fail> {
 }
 
 /// A shelf that never fails and holds the files of a run, of which one has other bytes.
-pub(crate) fn sure(rt: &HostRuntime, name: &str, bytes: &[u8]) -> Result<SureShelf, Fail> {
+pub(crate) fn sure<R: AllocGlobal>(rt: &R, name: &str, bytes: &[u8]) -> Result<SureShelf, Fail> {
     let mut shelf = SureShelf::new(rt.alloc(), ROOM)?;
     shelf.hold("cart", cartridge(rt)?.as_slice())?;
     shelf.hold("boot", &[0xefu8; 64])?;
@@ -34,7 +35,7 @@ pub(crate) fn sure(rt: &HostRuntime, name: &str, bytes: &[u8]) -> Result<SureShe
 }
 
 /// A shelf that holds the files of a run, and fails where it is planned.
-pub(crate) fn planned(rt: &HostRuntime) -> Result<MemShelf, Fail> {
+pub(crate) fn planned<R: AllocGlobal>(rt: &R) -> Result<MemShelf, Fail> {
     let mut shelf = MemShelf::new(rt.alloc(), ROOM)?;
     shelf.hold("cart", cartridge(rt)?.as_slice())?;
     shelf.hold("boot", &[0xefu8; 64])?;
@@ -44,8 +45,8 @@ pub(crate) fn planned(rt: &HostRuntime) -> Result<MemShelf, Fail> {
 }
 
 /// Calls the program with these words and a player.
-pub(crate) fn called_with<P: Player, H: Shelf>(
-    rt: &HostRuntime,
+pub(crate) fn called_with<P: Player, R: AllocGlobal + Threads, H: Shelf>(
+    rt: &R,
     words: &[&str],
     shelf: &mut H,
 ) -> Result<Status, Fail> {
@@ -53,16 +54,16 @@ pub(crate) fn called_with<P: Player, H: Shelf>(
     for word in words {
         argv.push(word)?;
     }
-    Ok(snes::<P, HostRuntime, H, Open>(rt, &argv, shelf, &Open))
+    Ok(snes::<P, R, H, Open>(rt, &argv, shelf, &Open))
 }
 
 /// Calls the program with these words and the player of short runs.
-pub(crate) fn called<H: Shelf>(
-    rt: &HostRuntime,
+pub(crate) fn called<R: AllocGlobal + Threads, H: Shelf>(
+    rt: &R,
     words: &[&str],
     shelf: &mut H,
 ) -> Result<Status, Fail> {
-    called_with::<Short, H>(rt, words, shelf)
+    called_with::<Short, R, H>(rt, words, shelf)
 }
 
 /// The words of a run with another word at one place.
@@ -76,8 +77,8 @@ pub(crate) fn changed(at: usize, word: &'static str) -> [&'static str; 15] {
 
 /// Whether a run whose file of this name has these bytes is refused with this line, and nothing is
 /// created.
-pub(crate) fn is_refused(
-    rt: &HostRuntime,
+pub(crate) fn is_refused<R: AllocGlobal + Threads>(
+    rt: &R,
     name: &str,
     bytes: &[u8],
     line: &str,
@@ -93,7 +94,11 @@ pub(crate) fn is_refused(
 }
 
 /// Whether a run whose file of this name has these bytes is made whole.
-pub(crate) fn is_made(rt: &HostRuntime, name: &str, bytes: &[u8]) -> Result<bool, Fail> {
+pub(crate) fn is_made<R: AllocGlobal + Threads>(
+    rt: &R,
+    name: &str,
+    bytes: &[u8],
+) -> Result<bool, Fail> {
     let mut shelf = sure(rt, name, bytes)?;
     let status = called(rt, &RUN, &mut shelf)?;
     Ok(

@@ -6,7 +6,16 @@ use std::test::Fail;
 
 #[test]
 fn a_number_is_1_to_10_digits_up_to_4294967295(rt: HostRuntime) -> Result<(), Fail> {
-    for number in ["4294967296", "04294967295", "9999999999", "", "-1", "+7", "7a", "--out"] {
+    for number in [
+        "4294967296",
+        "04294967295",
+        "9999999999",
+        "",
+        "-1",
+        "+7",
+        "7a",
+        "--out",
+    ] {
         for words in [
             ["make", number, "--out", "made"],
             ["demo", number, "--frames", "1"],
@@ -51,8 +60,11 @@ fn an_image_is_made_whole_under_its_name(rt: HostRuntime) -> Result<(), Fail> {
     assert_eq!(rt; image.len(), 524_288);
     assert_eq!(rt; image.get(..4), Some([0x78u8, 0x18, 0xfb, 0xe2].as_slice()));
     assert_eq!(rt; image.get(0x7fc0..0x7fc9), Some(b"SNES DEMO".as_slice()));
-    assert_eq!(rt; image.get(0x7fd5..0x7fd9), Some([0x20u8, 0, 9, 0].as_slice()));
-    assert_eq!(rt; image.get(0x8000), Some(0x3cu8));
+    assert_eq!(rt;
+        image.get(0x7fd5..0x7fd9),
+        Some([0x20u8, 0, 9, 0].as_slice())
+    );
+    assert_eq!(rt; image.get(0x8000..0x8001), Some([0x3cu8].as_slice()));
     Ok(())
 }
 

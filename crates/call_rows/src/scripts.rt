@@ -30,7 +30,10 @@ fn a_script_is_refused_at_its_first_bad_line(rt: HostRuntime) -> Result<(), Fail
         ("\nversion 2 pal", "script refused at line 2\n"),
         ("version 3 pal", "script refused at line 1\n"),
     ] {
-        assert!(rt; is_refused(&rt, "script", script.as_bytes(), line)?, "{script}");
+        assert!(rt;
+            is_refused(&rt, "script", script.as_bytes(), line)?,
+            "{script}"
+        );
     }
     assert!(rt; is_refused(&rt, "script", &[0xffu8, 0], "script refused at line 1\n")?);
     Ok(())
@@ -54,7 +57,14 @@ fn a_script_in_the_form_is_taken(rt: HostRuntime) -> Result<(), Fail> {
 #[test]
 fn a_script_has_up_to_1048576_bytes(rt: HostRuntime) -> Result<(), Fail> {
     let lines = vec![in rt.alloc(); b'\n'; 1_048_577]?;
-    assert!(rt; is_refused(&rt, "script", lines.as_slice(), "script refused at line 0\n")?);
+    assert!(rt;
+        is_refused(
+            &rt,
+            "script",
+            lines.as_slice(),
+            "script refused at line 0\n"
+        )?
+    );
     assert!(rt; is_made(&rt, "script", &lines.as_slice()[..1_048_576])?);
     Ok(())
 }
@@ -64,7 +74,10 @@ fn the_region_of_the_script_counts_the_samples(rt: HostRuntime) -> Result<(), Fa
     for (script, line) in [
         ("version 2 ntsc", "frames 1 samples 532\n"),
         ("version 2 pal", "frames 1 samples 639\n"),
-        ("version 2 pal\r\n9 0000 0000\nreset", "frames 1 samples 639\n"),
+        (
+            "version 2 pal\r\n9 0000 0000\nreset",
+            "frames 1 samples 639\n",
+        ),
     ] {
         for command in ["run", "serial"] {
             let mut words = RUN;

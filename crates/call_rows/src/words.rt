@@ -2,9 +2,10 @@
 use crate::fixtures::{RUN, called, changed, is_made, sure};
 use file_shelf::Out;
 use std::test::Fail;
+use std::thread::Threads;
 
 /// Whether these words are in no form: it is said, and nothing is created.
-fn is_usage(rt: &HostRuntime, words: &[&str]) -> Result<bool, Fail> {
+fn is_usage<R: AllocGlobal + Threads>(rt: &R, words: &[&str]) -> Result<bool, Fail> {
     let mut shelf = sure(rt, "script", &[])?;
     let status = called(rt, words, &mut shelf)?;
     let line = b"usage: snes run, serial, make or demo\n";
@@ -76,7 +77,9 @@ fn each_pair_stands_once(rt: HostRuntime) -> Result<(), Fail> {
 fn a_value_has_up_to_4096_bytes(rt: HostRuntime) -> Result<(), Fail> {
     let text = vec![in rt.alloc(); b'v'; 4097]?;
     let long = std::str::from_utf8(text.as_slice()).ok().ok_or("no text")?;
-    let fits = std::str::from_utf8(&text.as_slice()[..4096]).ok().ok_or("no text")?;
+    let fits = std::str::from_utf8(&text.as_slice()[..4096])
+        .ok()
+        .ok_or("no text")?;
     let mut words: [&str; 15] = RUN;
     words[12] = long;
     assert!(rt; is_usage(&rt, &words)?);
@@ -96,7 +99,10 @@ fn pairs_may_stand_in_any_order(rt: HostRuntime) -> Result<(), Fail> {
         ];
         let mut shelf = sure(&rt, "script", &[])?;
         assert_eq!(rt; called(&rt, &words, &mut shelf)?.exit(), 0);
-        assert_eq!(rt; shelf.written(Out::Say), b"frames 1 samples 532\n".as_slice());
+        assert_eq!(rt;
+            shelf.written(Out::Say),
+            b"frames 1 samples 532\n".as_slice()
+        );
         assert_eq!(rt; shelf.written(Out::Video), [1u8, 2, 4].as_slice());
         assert_eq!(rt; shelf.named(Out::Video), "video");
         assert_eq!(rt; shelf.named(Out::Sound), "audio");
