@@ -1,3 +1,4 @@
 pub mod Rest
 pub mod Places
+pub mod Memory
 pub mod Happenings

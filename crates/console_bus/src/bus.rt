@@ -1,12 +1,13 @@
-ghost use Rattle.std.specs.Prelude.{◌≡◌, ◌<◌, ◌≤◌, ◌+◌, ◌++◌, length, IfOk, List};
+ghost use Rattle.std.specs.Prelude.{◌≡◌, ◌<◌, ◌≤◌, ◌+◌, ◌^◌, ◌++◌, length, IfOk, IfSome, List, slice_index};
 ghost use Rattle.snes_defs.specs.declared.cart.Cart.{Cart};
 ghost use Rattle.cart_map.specs.Place.{IsInside};
 ghost use Rattle.io_math.specs.Registers.{written as io_written};
 ghost use Rattle.ppu_regs.specs.Writes.{after_write};
 ghost use Rattle.console_bus.specs.Rest.{Rest, rest_start, with_pads, with_io};
+ghost use Rattle.console_bus.specs.Memory.{IsMemoryAt, stored};
 ghost use Rattle.console_bus.specs.Places.{place_at, a_side, taken_from, register_byte, register_read, register_written, chip_byte, chip_read, chip_written, place_byte, place_read, place_written, on_bus};
 
-use crate::board::Board;
+use crate::address_map::{AddressMap, MemoryAccess};
 use beam::Beam;
 use cart_map::{Place, place_in};
 use dma_hdma::Dma;
@@ -22,7 +23,7 @@ pub(crate) const WORK_RAM: usize = 131_072;
 /// The console without its processor, seen in contracts as a `Rest`.
 #[derive(Drop)]
 pub struct Bus {
-    pub(crate) board: Board,
+    pub(crate) map: AddressMap,
     pub(crate) script: Spans,
     pub(crate) memory: Vec<u8>,
     pub(crate) port: u32,
@@ -44,9 +45,9 @@ impl Model for Bus {
 
     ghost Value = { Rest };
 
-    ghost view = { λ b. record { board = b.board; script = b.script; memory = b.memory.items; port = b.port; io = b.io; channels = b.dma; picture = b.ppu; beam = b.beam; frame = b.frame; last = b.last; refresh = b.refresh; reset = b.reset } };
+    ghost view = { λ b. record { board = b.map; script = b.script; memory = b.memory.items; port = b.port; io = b.io; channels = b.dma; picture = b.ppu; beam = b.beam; frame = b.frame; last = b.last; refresh = b.refresh; reset = b.reset } };
 
-    ghost invariant = { λ b. (length b.memory.items ≡ 131072 + b.board.ram + b.board.rom) × (0 < b.board.rom) × (b.port < 131072) × (b.beam.timer ≡ timer_of b.io) × IsInStep b.tiles b.ppu.vram };
+    ghost invariant = { λ b. (length b.memory.items ≡ 131072 + b.map.ram + b.map.rom) × (0 < b.map.rom) × (b.port < 131072) × (b.beam.timer ≡ timer_of b.io) × IsInStep b.tiles b.ppu.vram };
 }
 
 impl Bus {
@@ -57,12 +58,38 @@ impl Bus {
         ensures place { result ≡ place_at self.now.board addr }
         ensures inside { IsInside self.now.board.rom self.now.board.ram result }
     {
-        place_in(
-            self.board.map,
-            self.board.rom,
-            self.board.ram,
-            addr % 0x100_0000,
-        )
+        let board = self.map.board();
+        place_in(board.map, board.rom, board.ram, addr % 0x100_0000)
+    }
+
+    /// Which byte of the memory lies at a 24-bit address, and how many clocks an access there lasts, where the
+    /// page of the address is memory.
+    #[inline(always)]
+    pub fn memory_at(&self, addr: u32) -> Option<MemoryAccess>
+        requires { addr < 2 ^ 24 }
+        ensures { IfSome result (λ access. IsMemoryAt self.now.board self.now.io.fast addr access.at access.clocks) }
+    {
+        self.map.memory_at(addr, self.io.fast())
+    }
+
+    /// A byte of the memory.
+    #[inline(always)]
+    pub fn load(&self, at: usize) -> u8
+        requires { at < 131072 + self.now.board.ram + self.now.board.rom }
+        ensures { result ≡ slice_index self.now.memory at }
+    {
+        self.memory[at]
+    }
+
+    /// Writes a byte of the memory. ROM stays as it is.
+    #[inline(always)]
+    pub fn store(&mut self, at: usize, v: u8)
+        requires { at < 131072 + self.old.board.ram + self.old.board.rom }
+        ensures { self.new ≡ stored self.old at v }
+    {
+        if at < WORK_RAM + self.map.board().ram as usize {
+            self.memory[at] = v;
+        }
     }
 
     /// The byte that a transfer takes from the A side, at a 24-bit address.
@@ -73,7 +100,7 @@ impl Bus {
         match self.place(addr) {
             Place::Wram(i) => self.memory[i as usize],
             Place::Ram(i) => self.memory[WORK_RAM + i as usize],
-            Place::Rom(i) => self.memory[WORK_RAM + self.board.ram as usize + i as usize],
+            Place::Rom(i) => self.memory[WORK_RAM + self.map.board().ram as usize + i as usize],
             Place::BBus(_) => self.last,
             Place::Cpu(_) => self.last,
             Place::Open => self.last,
@@ -106,7 +133,7 @@ impl Bus {
         match place {
             Place::Wram(i) => self.memory[i as usize],
             Place::Ram(i) => self.memory[WORK_RAM + i as usize],
-            Place::Rom(i) => self.memory[WORK_RAM + self.board.ram as usize + i as usize],
+            Place::Rom(i) => self.memory[WORK_RAM + self.map.board().ram as usize + i as usize],
             Place::BBus(register) => self.read_register(register, got),
             Place::Cpu(register) => self.read_chip(register),
             Place::Open => self.last,

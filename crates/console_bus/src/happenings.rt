@@ -1,4 +1,4 @@
-ghost use Rattle.std.specs.Prelude.{◌≡◌, ℕ, ◌+◌, ◌==◌, if◌then◌else◌, ◌<◌, ◌≤◌, ◌-◌, Bool, true, false, [], IsSome, map, slice_index};
+ghost use Rattle.std.specs.Prelude.{◌≡◌, ℕ, ◌+◌, ◌==◌, if◌then◌else◌, ◌<◌, ◌≤◌, ◌-◌, Bool, true, false, [], None, IsSome, map, slice_index};
 ghost use Rattle.beam.specs.Events.{happens_next, beam_next, beam_after, passed};
 ghost use Rattle.beam.specs.Places.{clocks_left};
 ghost use Rattle.dma_hdma.specs.Channel.{framed as channel_framed, lined};
@@ -30,6 +30,16 @@ impl Bus {
         ensures { result ≡ due_of self.now.channels }
     {
         self.dma.next()
+    }
+
+    /// Whether a reset, a refresh or a byte of a transfer is due, and not an access of the processor.
+    #[inline(always)]
+    pub fn is_busy(&self) -> bool
+        ensures reset { result ≡ false → self.now.reset ≡ false }
+        ensures refresh { result ≡ false → self.now.refresh ≡ false }
+        ensures transfer { result ≡ false → due_of self.now.channels ≡ None }
+    {
+        self.reset || self.refresh || self.dma.next().is_some()
     }
 
     /// The byte of a transfer that was due has been moved.

@@ -6,10 +6,12 @@
 //! knows no steps and no clocks: the machine above says what comes when.
 #![tactic(auto)]
 
+mod address_map;
 mod board;
 mod bus;
 mod happenings;
 mod start;
 
+pub use address_map::MemoryAccess;
 pub use board::Board;
 pub use bus::Bus;

@@ -2,6 +2,7 @@ ghost use Rattle.std.specs.Prelude.{◌≡◌, ◌+◌, ◌++◌, All, IfOk, len
 ghost use Rattle.console_bus.specs.Rest.{board_of, beam_start, channels_start, memory_start, rest_start, with_pads};
 ghost use Rattle.io_math.specs.Registers.{registers_start};
 
+use crate::address_map::AddressMap;
 use crate::board::Board;
 use crate::bus::{Bus, WORK_RAM};
 use beam::Beam;
@@ -19,6 +20,7 @@ impl Bus {
         ensures { IfOk result (λ bus. bus ≡ rest_start cart.now script.now region) }
     {
         let memory = memory_of(alloc, cart)?;
+        let map = AddressMap::new(alloc, board(cart))?;
         let ppu = Ppu::new(alloc)?;
         let tiles = TileCache::new(alloc)?;
         let copied = script.copied(alloc)?;
@@ -26,7 +28,7 @@ impl Bus {
         let mut beam = Beam::new(region);
         beam.aim(io.irq_time());
         Ok(Bus {
-            board: board(cart),
+            map,
             script: copied,
             memory,
             port: 0,

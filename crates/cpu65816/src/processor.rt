@@ -159,6 +159,9 @@ impl Cpu {
     pub fn signal(&mut self, nmi: bool, irq: bool)
         ensures { (s : Standing) → Stands self.old s → Stands self.new (signalled s nmi irq) }
     {
+        if nmi == self.nmi_level && irq == self.irq_level {
+            return;
+        }
         if nmi && !self.nmi_level {
             self.kept = true;
         }

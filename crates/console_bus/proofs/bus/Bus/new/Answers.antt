@@ -5,8 +5,8 @@ use Rattle.console_bus.proofs.bus.Bus.new.Goals as goal
 
 pub invariant_of-result : goal.invariant_of-result
 invariant_of-result c = (
-  sized c.in_ok-memory.memory.items c.board.result c.args.cart.now c.board.ensures c.in_ok-memory.ensures,
-  has_rom c.board.result c.args.cart.now c.board.ensures c.args.cart.now.has_rom,
+  sized c.in_ok-memory.memory.items c.in_ok-map.map c.args.cart.now (c.in_ok-map.ensures ∙ c.board.ensures) c.in_ok-memory.ensures,
+  has_rom c.in_ok-map.map c.args.cart.now (c.in_ok-map.ensures ∙ c.board.ensures) c.args.cart.now.has_rom,
   omega arith,
   ap (λ b. b.timer) c.aim.ensures ∙ c.irq_time.ensures,
   (let P : List ℕ → Type 0 = λ v. IsInStep c.in_ok-tiles.tiles v in subst P (sym (ap (λ p. p.vram) c.in_ok-ppu.ensures.start)) c.in_ok-tiles.ensures.start),
@@ -14,5 +14,5 @@ invariant_of-result c = (
 
 pub returns : goal.returns
 returns c =
-    same_start _ _ _ _ _ _ _ _ _ _ _ _ _ _ c.board.ensures c.in_ok-copied.ensures c.in_ok-memory.ensures c.first_io-io.ensures c.no_transfers.ensures c.in_ok-ppu.ensures.start
+    same_start _ _ _ _ _ _ _ _ _ _ _ _ _ _ (c.in_ok-map.ensures ∙ c.board.ensures) c.in_ok-copied.ensures c.in_ok-memory.ensures c.first_io-io.ensures c.no_transfers.ensures c.in_ok-ppu.ensures.start
     (beam_starts _ _ _ _ _ _ _ _ _ c.aim.ensures c.new-beam.ensures refl c.irq_time.ensures c.first_io-io.ensures)

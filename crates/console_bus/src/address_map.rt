@@ -1,0 +1,180 @@
+// What lies at an address, and at which byte of the memory, by pages that are made once.
+ghost use Rattle.std.specs.Prelude.{◌≡◌, ℕ, ◌<◌, ◌≤◌, ◌+◌, ◌*◌, ◌^◌, false, IfOk, IfSome, IsTrue, length};
+ghost use Rattle.cart_map.specs.Place.{IsInside};
+ghost use Rattle.console_bus.specs.declared.board.Board.{Board};
+ghost use Rattle.console_bus.specs.Memory.{index_of, IsWhole, IsMemoryAt, IsPageOf, ArePages};
+
+use crate::board::Board;
+use crate::bus::WORK_RAM;
+use cart_map::{Place, clocks, place_in};
+use snes_defs::NoMemory;
+use std::alloc::Global;
+use std::marker::Model;
+
+/// The addresses of a page.
+const PAGE: u32 = 0x2000;
+
+/// How many pages there are.
+const PAGES: u32 = 2048;
+
+/// An access to the memory: to which byte, and how many clocks it lasts.
+#[derive(Clone, Copy, Debug, PartialEq, Eq)]
+pub struct MemoryAccess {
+    pub at: usize,
+    pub clocks: u8,
+}
+
+/// Eight KiB of addresses.
+#[derive(Clone, Copy, Debug, PartialEq, Eq)]
+pub(crate) struct Page {
+    /// Whether they are memory, one byte after another.
+    memory: bool,
+    /// The byte of the memory at the first address.
+    at: u32,
+    /// How many clocks an access lasts.
+    slow: u8,
+    /// The same where MEMSEL makes ROM fast.
+    fast: u8,
+}
+
+/// A cartridge's board with its pages, seen in contracts as the board.
+#[derive(Drop)]
+pub(crate) struct AddressMap {
+    board: Board,
+    pages: Vec<Page>,
+}
+
+impl Model for AddressMap {
+    ghost use Rattle.std.specs.Prelude.{◌≡◌, ℕ, ◌<◌, length};
+    ghost use Rattle.console_bus.specs.declared.board.Board.{Board};
+    ghost use Rattle.console_bus.specs.Memory.{ArePages};
+
+    ghost Value = { Board };
+
+    ghost view = { λ m. m.board };
+
+    ghost invariant = { λ m. (length m.pages.items ≡ 2048) × ArePages m.board m.pages.items };
+}
+
+impl AddressMap {
+    /// The map of a board. It takes the memory for its pages, and refuses only for want of it.
+    pub(crate) fn new(alloc: Global, board: Board) -> Result<AddressMap, NoMemory>
+        requires { 0 < board.rom }
+        ensures { IfOk result (λ map. map ≡ board) }
+    {
+        let pages = pages_of(alloc, &board)?;
+        Ok(AddressMap { board, pages })
+    }
+
+    /// The board.
+    #[inline(always)]
+    pub(crate) fn board(&self) -> &Board
+        ensures { result.now ≡ self.now }
+    {
+        &self.board
+    }
+
+    /// The byte of the memory at an address, where the page of the address is memory.
+    #[inline(always)]
+    pub(crate) fn memory_at(&self, addr: u32, fast: bool) -> Option<MemoryAccess>
+        requires { addr < 2 ^ 24 }
+        ensures { IfSome result (λ access. IsMemoryAt self.now fast addr access.at access.clocks) }
+    {
+        let page = self.pages[(addr / PAGE) as usize];
+        access(page, addr % PAGE, fast)
+    }
+}
+
+/// The byte so many addresses after a page's first, where the page is memory.
+#[inline(always)]
+fn access(page: Page, offset: u32, fast: bool) -> Option<MemoryAccess>
+    requires { offset < 8192 }
+    ensures { (board : Board) (number : ℕ) → (IsTrue page.memory → IsPageOf board number page)
+        → IfSome result (λ access. IsMemoryAt board fast (8192 * number + offset) access.at access.clocks) }
+{
+    if !page.memory {
+        return None;
+    }
+    Some(MemoryAccess {
+        at: page.at as usize + offset as usize,
+        clocks: if fast { page.fast } else { page.slow },
+    })
+}
+
+/// The pages of a board.
+#[tactic(auto, using(crate::proofs::Pages::one_more))]
+fn pages_of(alloc: Global, board: &Board) -> Result<Vec<Page>, NoMemory>
+    requires { 0 < board.now.rom }
+    ensures count { IfOk result (λ pages. length pages.items ≡ 2048) }
+    ensures pages { IfOk result (λ pages. ArePages board.now pages.items) }
+{
+    let mut pages = Vec::new(alloc);
+    'pages: for number in 0..PAGES {
+        match pages.push(page_from(board, number)) {
+            Ok(()) => {}
+            Err(_) => return Err(NoMemory),
+        }
+    }
+    Ok(pages)
+}
+
+/// A page that isn't memory, or not one byte after another.
+fn no_page() -> Page
+    ensures { result.memory ≡ false }
+{
+    Page {
+        memory: false,
+        at: 0,
+        slow: 0,
+        fast: 0,
+    }
+}
+
+/// A page of a board.
+
+fn page_from(board: &Board, number: u32) -> Page
+    requires some { 0 < board.now.rom }
+    requires number { number < 2048 }
+    ensures { IsTrue result.memory → IsPageOf board.now number result }
+{
+    let first = PAGE * number;
+    let place = place_in(board.map, board.rom, board.ram, first);
+    match first_byte(board, place) {
+        Some(at) => Page {
+            memory: true,
+            at,
+            slow: clocks(first, false),
+            fast: clocks(first, true),
+        },
+        None => no_page(),
+    }
+}
+
+/// The byte of the memory at a place where a page may begin: none for a page that would pass the end of the
+/// memory of which it is, or where that isn't made of whole pages.
+fn first_byte(board: &Board, place: Place) -> Option<u32>
+    ensures index { IfSome result (λ at. index_of board.now place ≡ Some at) }
+    ensures whole { IfSome result (λ at. IsWhole board.now place) }
+{
+    match place {
+        Place::Wram(i) => fitting(0, i, WORK_RAM),
+        Place::Ram(i) if board.ram % PAGE == 0 => fitting(WORK_RAM, i, board.ram as usize),
+        Place::Rom(i) if board.rom % PAGE as usize == 0 => {
+            fitting(WORK_RAM + board.ram as usize, i, board.rom)
+        }
+        _ => None,
+    }
+}
+
+/// The byte `i` of so many, counted from the memory's start, where a page from it on lies inside of them.
+fn fitting(before: usize, i: u32, size: usize) -> Option<u32>
+    requires { before < 2 ^ 33 }
+    ensures at { IfSome result (λ at. at ≡ before + i) }
+    ensures fits { IfSome result (λ at. i + 8192 ≤ size) }
+{
+    if i as usize + PAGE as usize <= size {
+        u32::try_from(before + i as usize).ok()
+    } else {
+        None
+    }
+}
