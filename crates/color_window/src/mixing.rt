@@ -1,10 +1,11 @@
 //! The main screen's colour: one pixel, and a row.
 
-ghost use Rattle.std.specs.Prelude.{◌≡◌, ℕ, ◌+◌, ◌*◌, ◌<◌, ◌==◌, true, false, not, slice_index, if◌then◌else◌};
+ghost use Rattle.std.specs.Prelude.{◌≡◌, ℕ, ◌+◌, ◌*◌, ◌<◌, ◌==◌, Bool, true, false, not, slice_index, if◌then◌else◌};
+ghost use Rattle.color_window.specs.Windows.{is_inside};
 ghost use Rattle.row_passes.specs.Inks.{is_named, is_found};
 ghost use Rattle.color_window.specs.Mixing.{holds_at, fixed_colour, mixed, mixed_at, is_front_named, front_colour, dot_colour};
 
-use crate::windows::inside;
+use crate::windows::{inside, mask_row};
 use ppu_regs::{ColourMath, Dot, Ppu, WindowPart};
 use row_passes::{is_found_key, join_colours};
 
@@ -164,22 +165,29 @@ pub fn mix(p: &Ppu, x: u8, front: Option<(u8, Dot)>, sub: Option<Dot>) -> u16
     )
 }
 
-/// Mixes a row: `inside` is the colour window's mask, `keys` and `main` are the main screen's keys and
-/// colours, `sub_keys` and `sub` the sub screen's.
-pub fn mix_row(
-    p: &Ppu,
+/// Mixes a row by a mixer made of these registers.
+#[inline(always)]
+fn mix_each(
+    m: &ColourMath,
+    mixer: Mixer,
     inside: &[u8; 256],
     keys: &[u8; 256],
     main: &mut [u16; 256],
     sub_keys: &[u8; 256],
     sub: &[u16; 256],
 )
+    requires black_inside { mixer.black_inside ≡ holds_at m.now.black true }
+    requires black_outside { mixer.black_outside ≡ holds_at m.now.black false }
+    requires stopped_inside { mixer.stopped_inside ≡ holds_at m.now.none true }
+    requires stopped_outside { mixer.stopped_outside ≡ holds_at m.now.none false }
+    requires by_sub { mixer.by_sub ≡ m.now.sub_screen }
+    requires subtracts { mixer.subtracts ≡ m.now.subtract }
+    requires halves { mixer.halves ≡ m.now.halve }
+    requires fixed { mixer.fixed ≡ fixed_colour m.now }
     ensures { (x : ℕ) → x < 256 → slice_index main.new x ≡
-        mixed p.now.registers.colour (not (slice_index inside.now x == 0)) (slice_index main.old x)
+        mixed m.now (not (slice_index inside.now x == 0)) (slice_index main.old x)
         (is_named (slice_index keys.now x)) (is_found (slice_index sub_keys.now x)) (slice_index sub.now x) }
 {
-    let mixer = mixer_of(p);
-    let m = &p.registers().colour;
     for x in 0..256usize {
         main[x] = mixed_by(
             m,
@@ -190,5 +198,158 @@ pub fn mix_row(
             is_found_key(sub_keys[x]),
             sub[x],
         );
+    }
+}
+
+/// The same, written out by what is done, so that each loop does one thing.
+#[inline(always)]
+fn mix_kinds(
+    m: &ColourMath,
+    mixer: Mixer,
+    inside: &[u8; 256],
+    keys: &[u8; 256],
+    main: &mut [u16; 256],
+    sub_keys: &[u8; 256],
+    sub: &[u16; 256],
+)
+    requires black_inside { mixer.black_inside ≡ holds_at m.now.black true }
+    requires black_outside { mixer.black_outside ≡ holds_at m.now.black false }
+    requires stopped_inside { mixer.stopped_inside ≡ holds_at m.now.none true }
+    requires stopped_outside { mixer.stopped_outside ≡ holds_at m.now.none false }
+    requires by_sub { mixer.by_sub ≡ m.now.sub_screen }
+    requires subtracts { mixer.subtracts ≡ m.now.subtract }
+    requires halves { mixer.halves ≡ m.now.halve }
+    requires fixed { mixer.fixed ≡ fixed_colour m.now }
+    ensures { (x : ℕ) → x < 256 → slice_index main.new x ≡
+        mixed m.now (not (slice_index inside.now x == 0)) (slice_index main.old x)
+        (is_named (slice_index keys.now x)) (is_found (slice_index sub_keys.now x)) (slice_index sub.now x) }
+{
+    match (mixer.subtracts, mixer.halves) {
+        (false, false) => {
+            let mixer = Mixer {
+                subtracts: false,
+                halves: false,
+                ..mixer
+            };
+            mix_each(m, mixer, inside, keys, main, sub_keys, sub)
+        }
+        (false, true) => {
+            let mixer = Mixer {
+                subtracts: false,
+                halves: true,
+                ..mixer
+            };
+            mix_each(m, mixer, inside, keys, main, sub_keys, sub)
+        }
+        (true, false) => {
+            let mixer = Mixer {
+                subtracts: true,
+                halves: false,
+                ..mixer
+            };
+            mix_each(m, mixer, inside, keys, main, sub_keys, sub)
+        }
+        (true, true) => {
+            let mixer = Mixer {
+                subtracts: true,
+                halves: true,
+                ..mixer
+            };
+            mix_each(m, mixer, inside, keys, main, sub_keys, sub)
+        }
+    }
+}
+
+/// Whether the colour window has no say: main is black nowhere, and arithmetic stopped nowhere.
+#[inline(always)]
+#[tactic(auto, unfolding(crate::specs::Mixing::holds_at))]
+fn is_unwindowed(m: &ColourMath) -> bool
+    ensures black { (inside : Bool) → result ≡ true → holds_at m.now.black inside ≡ false }
+    ensures none { (inside : Bool) → result ≡ true → holds_at m.now.none inside ≡ false }
+{
+    match m.black {
+        WindowPart::Never => match m.none {
+            WindowPart::Never => true,
+            _ => false,
+        },
+        _ => false,
+    }
+}
+
+/// Mixes a row where the colour window has no say.
+#[tactic(auto, using(crate::proofs::Cases::unwindowed))]
+fn mix_unwindowed(
+    p: &Ppu,
+    keys: &[u8; 256],
+    main: &mut [u16; 256],
+    sub_keys: &[u8; 256],
+    sub: &[u16; 256],
+)
+    requires black { (inside : Bool) → holds_at p.now.registers.colour.black inside ≡ false }
+    requires none { (inside : Bool) → holds_at p.now.registers.colour.none inside ≡ false }
+    ensures { (x : ℕ) → x < 256 → slice_index main.new x ≡
+        mixed p.now.registers.colour (is_inside p.now.registers 6 x) (slice_index main.old x)
+        (is_named (slice_index keys.now x)) (is_found (slice_index sub_keys.now x)) (slice_index sub.now x) }
+{
+    let mixer = Mixer {
+        black_inside: false,
+        black_outside: false,
+        stopped_inside: false,
+        stopped_outside: false,
+        ..mixer_of(p)
+    };
+    mix_kinds(
+        &p.registers().colour,
+        mixer,
+        &[0; 256],
+        keys,
+        main,
+        sub_keys,
+        sub,
+    );
+}
+
+/// Mixes a row by the colour window.
+#[tactic(auto, using(crate::proofs::Cases::masks))]
+fn mix_windowed(
+    p: &Ppu,
+    keys: &[u8; 256],
+    main: &mut [u16; 256],
+    sub_keys: &[u8; 256],
+    sub: &[u16; 256],
+)
+    ensures { (x : ℕ) → x < 256 → slice_index main.new x ≡
+        mixed p.now.registers.colour (is_inside p.now.registers 6 x) (slice_index main.old x)
+        (is_named (slice_index keys.now x)) (is_found (slice_index sub_keys.now x)) (slice_index sub.now x) }
+{
+    let mut inside = [0u8; 256];
+    mask_row(p, 6, &mut inside);
+    mix_kinds(
+        &p.registers().colour,
+        mixer_of(p),
+        &inside,
+        keys,
+        main,
+        sub_keys,
+        sub,
+    );
+}
+
+/// Mixes a row: `keys` and `main` are the main screen's keys and colours, `sub_keys` and `sub` the sub screen's.
+pub fn mix_row(
+    p: &Ppu,
+    keys: &[u8; 256],
+    main: &mut [u16; 256],
+    sub_keys: &[u8; 256],
+    sub: &[u16; 256],
+)
+    ensures { (x : ℕ) → x < 256 → slice_index main.new x ≡
+        mixed p.now.registers.colour (is_inside p.now.registers 6 x) (slice_index main.old x)
+        (is_named (slice_index keys.now x)) (is_found (slice_index sub_keys.now x)) (slice_index sub.now x) }
+{
+    if is_unwindowed(&p.registers().colour) {
+        mix_unwindowed(p, keys, main, sub_keys, sub);
+    } else {
+        mix_windowed(p, keys, main, sub_keys, sub);
     }
 }

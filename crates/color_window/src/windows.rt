@@ -1,11 +1,11 @@
-//! Windows: a truth for one pixel, and mask rows.
+//! Windows: a truth for one pixel, and mask rows made of intervals.
 
 ghost use Rattle.std.specs.Prelude.{◌≡◌, ℕ, ◌<◌, ◌≤◌, slice_index, true, false, if◌then◌else◌};
 ghost use Rattle.ppu_regs.specs.Picture.{windows_of};
 ghost use Rattle.color_window.specs.Windows.{is_within, truth_of, is_inside, mask_of};
 
 use ppu_regs::{Combine, LayerWindows, Ppu, Registers, Window};
-use row_passes::choose;
+use row_passes::fill_row;
 
 /// Whether the pixel `x` lies in the windows of a layer: 1 to 4 for BG1 to BG4, 5 for the objects, 6 for the
 /// colour window.
@@ -93,26 +93,37 @@ fn cases_of(w: &LayerWindows) -> Cases
     }
 }
 
-#[inline(always)]
-#[tactic(auto, unfolding(row_passes::specs::Inks::chosen))]
-fn case_at(cases: &Cases, in_one: bool, in_two: bool) -> u8
-    ensures { result ≡ (if in_one then (if in_two then cases.now.both else cases.now.first) else (if in_two then cases.now.second else cases.now.neither)) }
+/// Writes one value at the pixels of a window; the others stay.
+#[tactic(auto, unfolding(crate::specs::Windows::is_within))]
+fn fill_within(window: &Window, value: u8, out: &mut [u8; 256])
+    ensures { (x : ℕ) → x < 256 → slice_index out.new x ≡ (if is_within window.now x then value else slice_index out.old x) }
 {
-    let within = choose(in_two, cases.both, cases.first);
-    let without = choose(in_two, cases.second, cases.neither);
-    choose(in_one, within, without)
+    if window.left <= window.right {
+        for x in window.left as usize..window.right as usize + 1 {
+            out[x] = value;
+        }
+    }
 }
 
-/// One pixel of a mask row.
-#[inline(always)]
-fn mask_at(w: &LayerWindows, cases: &Cases, one: &Window, two: &Window, x: u8) -> u8
-    requires neither { cases.now.neither ≡ mask_of (truth_of w.now false false) }
-    requires first { cases.now.first ≡ mask_of (truth_of w.now true false) }
-    requires second { cases.now.second ≡ mask_of (truth_of w.now false true) }
-    requires both { cases.now.both ≡ mask_of (truth_of w.now true true) }
-    ensures { result ≡ mask_of (truth_of w.now (is_within one.now x) (is_within two.now x)) }
+/// Copies the pixels of a window from another row; the others stay.
+#[tactic(auto, unfolding(crate::specs::Windows::is_within))]
+fn copy_within(window: &Window, from: &[u8; 256], out: &mut [u8; 256])
+    ensures { (x : ℕ) → x < 256 → slice_index out.new x ≡ (if is_within window.now x then slice_index from.now x else slice_index out.old x) }
 {
-    case_at(cases, within(one, x), within(two, x))
+    if window.left <= window.right {
+        for x in window.left as usize..window.right as usize + 1 {
+            out[x] = from[x];
+        }
+    }
+}
+
+/// Writes one value at the pixels of a window and another at all others.
+#[inline(always)]
+fn split(window: &Window, inside: u8, outside: u8, out: &mut [u8; 256])
+    ensures { (x : ℕ) → x < 256 → slice_index out.new x ≡ (if is_within window.now x then inside else outside) }
+{
+    fill_row(outside, out);
+    fill_within(window, inside, out);
 }
 
 /// Writes FF at each pixel that lies in the windows of a layer (1 to 6, as for `inside`), and 0 at each
@@ -127,13 +138,14 @@ pub fn mask_row(p: &Ppu, layer: u8, out: &mut [u8; 256])
     masks(r.windows(layer), &r.window_one, &r.window_two, out);
 }
 
+/// The row of the pixels outside of window 1 and that of the pixels within it are intervals of window 2 each.
+#[tactic(auto, using(crate::proofs::Cases::cases))]
 fn masks(w: &LayerWindows, one: &Window, two: &Window, out: &mut [u8; 256])
     ensures { (x : ℕ) → x < 256 → slice_index out.new x ≡ mask_of (truth_of w.now (is_within one.now x) (is_within two.now x)) }
 {
     let cases = cases_of(w);
-    let one = *one;
-    let two = *two;
-    for x in 0..256usize {
-        out[x] = mask_at(w, &cases, &one, &two, x as u8);
-    }
+    let mut within_one = [0u8; 256];
+    split(two, cases.second, cases.neither, out);
+    split(two, cases.both, cases.first, &mut within_one);
+    copy_within(one, &within_one, out);
 }

@@ -1,5 +1,5 @@
 -- Inks behind masks, and inks of two planes.
-use Rattle.std.proofs.Common.{◌≡◌, ℕ, Bool, true, false, ◌&&◌, nat_lt, refl, ap, ◌∙◌, arith}
+use Rattle.std.proofs.Common.{◌≡◌, ℕ, Bool, true, false, nat_lt, refl, ap, ◌∙◌, arith}
 use Rattle.row_passes.specs.Inks.{Ink, nearest, seen, seen_key, is_nearer, chosen}
 use Rattle.color_window.specs.Windows.{mask_of}
 use Rattle.ppu_screens.specs.Screens.{standing}
@@ -14,21 +14,33 @@ ink_is key number ink k n =
 pub ruleset inks = ink_is
 
 -- an ink behind the mask of its windows
-pub seen_standing : (masked inside : Bool) (ink : Ink) → seen (mask_of (masked && inside)) ink ≡ standing true masked inside ink
+pub seen_standing : (inside : Bool) (ink : Ink) → seen (mask_of inside) ink ≡ standing true true inside ink
 unfolding seen seen_key mask_of standing
-seen_standing true true ink = refl
-seen_standing true false ink = refl
-seen_standing false inside ink = refl
+seen_standing true ink = refl
+seen_standing false ink = refl
 
-pub lay_is : (masked inside : Bool) (front ink : Ink) (hidden key number : ℕ) → hidden ≡ mask_of (masked && inside) →
+pub lay_is : (inside : Bool) (front ink : Ink) (hidden key number : ℕ) → hidden ≡ mask_of inside →
     key ≡ (nearest front (seen hidden ink)).key → number ≡ (nearest front (seen hidden ink)).number →
-    record { key = key; number = number } ≡ nearest front (standing true masked inside ink)
-lay_is masked inside front ink hidden key number h k n =
+    record { key = key; number = number } ≡ nearest front (standing true true inside ink)
+lay_is inside front ink hidden key number h k n =
     ink_is key number (nearest front (seen hidden ink)) k n
     ∙ ap (λ (v : ℕ). nearest front (seen v ink)) h
-    ∙ ap (nearest front) (seen_standing masked inside ink)
+    ∙ ap (nearest front) (seen_standing inside ink)
 
 pub ruleset lays = lay_is
+
+-- an ink that no window hides
+pub open_standing : (inside : Bool) (ink : Ink) → ink ≡ standing true false inside ink
+unfolding standing
+open_standing inside ink = refl
+
+pub lay_open_is : (inside : Bool) (front ink : Ink) (key number : ℕ) →
+    key ≡ (nearest front ink).key → number ≡ (nearest front ink).number →
+    record { key = key; number = number } ≡ nearest front (standing true false inside ink)
+lay_open_is inside front ink key number k n =
+    ink_is key number (nearest front ink) k n ∙ ap (nearest front) (open_standing inside ink)
+
+pub ruleset lays_open = lay_open_is
 
 not_below_zero : (n : ℕ) → nat_lt n 0 ≡ false
 not_below_zero n = grind arith

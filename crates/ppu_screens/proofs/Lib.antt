@@ -1,2 +1,2 @@
 pub mod FrontLemmas
-pub mod Halves
+pub mod Mixes

@@ -1,15 +1,16 @@
 //! From what stands in front on both screens to the 512 dots of a row.
 
-ghost use Rattle.std.specs.Prelude.{◌≡◌, ℕ, ◌+◌, ◌*◌, ◌<◌, ◌==◌, not, false, length, slice_index};
+ghost use Rattle.std.specs.Prelude.{◌≡◌, ℕ, ◌+◌, ◌*◌, ◌<◌, true, false, length, slice_index};
+ghost use Rattle.ppu_regs.specs.declared.registers.WindowPart.TheVariants.{Never};
 ghost use Rattle.row_passes.specs.Inks.{is_named, is_found};
 ghost use Rattle.row_passes.specs.Colours.{dimmed};
 ghost use Rattle.color_window.specs.Mixing.{fixed_colour};
 ghost use Rattle.ppu_screens.specs.Screens.{ink_at, has_direct, front_ink_colour, main_colour, sub_colour, is_halved, even_dot, odd_dot};
 
 use crate::order::rank;
-use color_window::{fixed, mask_row, mix_row};
-use ppu_regs::{Planes, Ppu, Registers};
-use row_passes::{is_found_key, look_up, write_dots};
+use color_window::{fixed, mix_row};
+use ppu_regs::{Planes, Ppu, Registers, WindowPart};
+use row_passes::{any_named, dim_row, is_found_key, look_up, write_dots, write_twice};
 
 #[inline(always)]
 #[tactic(auto, unfolding(crate::specs::Screens::has_direct))]
@@ -36,16 +37,38 @@ fn front_colours(p: &Ppu, front: &Planes, out: &mut [u16; 256])
     );
 }
 
-/// The main screen's colours before brightness.
-#[tactic(auto, unfolding(crate::specs::Screens::main_colour), using(crate::proofs::Halves::masks))]
-fn main_colours(p: &Ppu, main: &Planes, sub: &Planes, subs: &[u16; 256], out: &mut [u16; 256])
-    requires { (x : ℕ) → x < 256 → slice_index subs.now x ≡ front_ink_colour p.now (ink_at sub.now x) }
+/// Whether the main screen's colours may differ from those in front: main may be black, or arithmetic is named for an
+/// ink of the row.
+#[inline(always)]
+#[tactic(auto, using(crate::proofs::Mixes::named))]
+fn mixes(p: &Ppu, main: &Planes) -> bool
+    ensures black { result ≡ false → p.now.registers.colour.black ≡ Never }
+    ensures names { (x : ℕ) → x < 256 → result ≡ false → is_named (slice_index main.now.ranks x) ≡ false }
+{
+    match p.registers().colour.black {
+        WindowPart::Never => any_named(&main.ranks),
+        _ => true,
+    }
+}
+
+/// The main screen's colours before brightness. The sub screen's count only where they are asked for.
+#[tactic(auto, unfolding(crate::specs::Screens::main_colour), using(crate::proofs::Mixes::apart))]
+fn mixed_colours(p: &Ppu, main: &Planes, sub: &Planes, subs: &[u16; 256], out: &mut [u16; 256])
+    requires subs { p.now.registers.colour.sub_screen ≡ true → (x : ℕ) → x < 256 → slice_index subs.now x ≡ front_ink_colour p.now (ink_at sub.now x) }
     ensures { (x : ℕ) → x < 256 → slice_index out.new x ≡ main_colour p.now x (ink_at main.now x) (ink_at sub.now x) }
 {
-    let mut inside = [0u8; 256];
-    mask_row(p, 6, &mut inside);
     front_colours(p, main, out);
-    mix_row(p, &inside, &main.ranks, out, &sub.ranks, subs);
+    mix_row(p, &main.ranks, out, &sub.ranks, subs);
+}
+
+/// The same where nothing is mixed.
+#[tactic(auto, unfolding(crate::specs::Screens::main_colour), using(crate::proofs::Mixes::unmixed))]
+fn unmixed_colours(p: &Ppu, main: &Planes, sub: &Planes, out: &mut [u16; 256])
+    requires black { p.now.registers.colour.black ≡ Never }
+    requires names { (x : ℕ) → x < 256 → is_named (slice_index main.now.ranks x) ≡ false }
+    ensures { (x : ℕ) → x < 256 → slice_index out.new x ≡ main_colour p.now x (ink_at main.now x) (ink_at sub.now x) }
+{
+    front_colours(p, main, out);
 }
 
 #[inline(always)]
@@ -86,10 +109,43 @@ fn clear(out: &mut [u16])
     }
 }
 
+/// The main screen's colours, where the even dots aren't the sub screen's.
+fn whole_colours(p: &Ppu, main: &Planes, sub: &Planes, out: &mut [u16; 256])
+    ensures { (x : ℕ) → x < 256 → slice_index out.new x ≡ main_colour p.now x (ink_at main.now x) (ink_at sub.now x) }
+{
+    if mixes(p, main) {
+        let mut subs = [0u16; 256];
+        if p.registers().colour.sub_screen {
+            front_colours(p, sub, &mut subs);
+        }
+        mixed_colours(p, main, sub, &subs, out);
+    } else {
+        unmixed_colours(p, main, sub, out);
+    }
+}
+
+/// Writes the dots of a row whose dots are whole pixels.
 #[tactic(auto, unfolding(crate::specs::Screens::even_dot, crate::specs::Screens::odd_dot))]
-fn finish_shown(p: &Ppu, main: &Planes, sub: &Planes, out: &mut [u16])
+fn finish_whole(p: &Ppu, main: &Planes, sub: &Planes, out: &mut [u16])
     requires room { length out.old ≡ 512 }
     requires shown { p.now.registers.display.blanked ≡ false }
+    requires whole { is_halved p.now.registers ≡ false }
+    ensures even { (x : ℕ) → x < 256 → slice_index out.new (2 * x) ≡ even_dot p.now x (ink_at main.now x) (ink_at sub.now x) }
+    ensures odd { (x : ℕ) → x < 256 → slice_index out.new (2 * x + 1) ≡ odd_dot p.now x (ink_at main.now x) (ink_at sub.now x) }
+{
+    p.in_range();
+    let mut row = [0u16; 256];
+    whole_colours(p, main, sub, &mut row);
+    dim_row(p.registers().display.brightness, &mut row);
+    write_twice(&row, out);
+}
+
+/// Writes the dots of a row whose even dots are the sub screen's.
+#[tactic(auto, unfolding(crate::specs::Screens::even_dot, crate::specs::Screens::odd_dot))]
+fn finish_halved(p: &Ppu, main: &Planes, sub: &Planes, out: &mut [u16])
+    requires room { length out.old ≡ 512 }
+    requires shown { p.now.registers.display.blanked ≡ false }
+    requires halved { is_halved p.now.registers ≡ true }
     ensures even { (x : ℕ) → x < 256 → slice_index out.new (2 * x) ≡ even_dot p.now x (ink_at main.now x) (ink_at sub.now x) }
     ensures odd { (x : ℕ) → x < 256 → slice_index out.new (2 * x + 1) ≡ odd_dot p.now x (ink_at main.now x) (ink_at sub.now x) }
 {
@@ -98,14 +154,16 @@ fn finish_shown(p: &Ppu, main: &Planes, sub: &Planes, out: &mut [u16])
     let mut subs = [0u16; 256];
     front_colours(p, sub, &mut subs);
     let mut odd = [0u16; 256];
-    main_colours(p, main, sub, &subs, &mut odd);
-    if halved(p.registers()) {
-        let mut even = [0u16; 256];
-        sub_colours(p, sub, &subs, &mut even);
-        write_dots(brightness, &even, &odd, out);
+    if mixes(p, main) {
+        mixed_colours(p, main, sub, &subs, &mut odd);
     } else {
-        write_dots(brightness, &odd, &odd, out);
+        unmixed_colours(p, main, sub, &mut odd);
     }
+    dim_row(brightness, &mut odd);
+    let mut even = [0u16; 256];
+    sub_colours(p, sub, &subs, &mut even);
+    dim_row(brightness, &mut even);
+    write_dots(&even, &odd, out);
 }
 
 /// Writes the row's 512 dots from what stands in front on the main and on the sub screen: dots 2x and 2x + 1 are those
@@ -116,9 +174,12 @@ pub fn finish(p: &Ppu, main: &Planes, sub: &Planes, out: &mut [u16])
     ensures even { (x : ℕ) → x < 256 → slice_index out.new (2 * x) ≡ even_dot p.now x (ink_at main.now x) (ink_at sub.now x) }
     ensures odd { (x : ℕ) → x < 256 → slice_index out.new (2 * x + 1) ≡ odd_dot p.now x (ink_at main.now x) (ink_at sub.now x) }
 {
-    if p.registers().display.blanked {
+    let r = p.registers();
+    if r.display.blanked {
         clear(out);
+    } else if halved(r) {
+        finish_halved(p, main, sub, out);
     } else {
-        finish_shown(p, main, sub, out);
+        finish_whole(p, main, sub, out);
     }
 }

@@ -1,13 +1,13 @@
 //! What stands in front on the main and on the sub screen.
 
-ghost use Rattle.std.specs.Prelude.{◌≡◌, ℕ, ◌<◌, ◌≤◌, ◌&&◌, true, slice_index};
+ghost use Rattle.std.specs.Prelude.{◌≡◌, ℕ, ◌<◌, ◌≤◌, true, false, slice_index};
 ghost use Rattle.row_passes.specs.Inks.{no_ink, nearest};
-ghost use Rattle.color_window.specs.Windows.{is_inside, mask_of};
+ghost use Rattle.color_window.specs.Windows.{is_inside};
 ghost use Rattle.ppu_screens.specs.Screens.{ink_at, standing, on_main, on_sub, backdrop};
 
 use color_window::mask_row;
 use ppu_regs::{Planes, Ppu};
-use row_passes::{fill_row, lay};
+use row_passes::{fill_row, lay, lay_unmasked};
 
 #[inline(always)]
 #[tactic(auto, using(crate::proofs::FrontLemmas::inks))]
@@ -29,31 +29,16 @@ pub fn start(p: &Ppu, main: &mut Planes, sub: &mut Planes)
     fill(0, sub);
 }
 
-/// The mask of the pixels at which a layer isn't seen.
-#[inline(always)]
-#[tactic(auto, unfolding(color_window::specs::Windows::mask_of))]
-fn hidden_row(p: &Ppu, layer: u8, masked: bool, out: &mut [u8; 256])
-    requires first { 1 ≤ layer }
-    requires last { layer ≤ 5 }
-    ensures { (x : ℕ) → x < 256 → slice_index out.new x ≡ mask_of (masked && is_inside p.now.registers layer x) }
-{
-    if masked {
-        mask_row(p, layer, out);
-    } else {
-        fill_row(0, out);
-    }
-}
-
-/// Lays a layer that is on over a screen.
+/// Lays a layer that is masked by its windows over a screen.
 #[tactic(auto, using(crate::proofs::FrontLemmas::lays))]
-fn lay_seen(p: &Ppu, layer: u8, masked: bool, row: &Planes, front: &mut Planes)
+fn lay_masked(p: &Ppu, layer: u8, row: &Planes, front: &mut Planes)
     requires first { 1 ≤ layer }
     requires last { layer ≤ 5 }
     ensures { (x : ℕ) → x < 256 → ink_at front.new x ≡
-        nearest (ink_at front.old x) (standing true masked (is_inside p.now.registers layer x) (ink_at row.now x)) }
+        nearest (ink_at front.old x) (standing true true (is_inside p.now.registers layer x) (ink_at row.now x)) }
 {
     let mut hidden = [0u8; 256];
-    hidden_row(p, layer, masked, &mut hidden);
+    mask_row(p, layer, &mut hidden);
     lay(
         &row.ranks,
         &row.numbers,
@@ -61,6 +46,35 @@ fn lay_seen(p: &Ppu, layer: u8, masked: bool, row: &Planes, front: &mut Planes)
         &mut front.ranks,
         &mut front.numbers,
     );
+}
+
+/// Lays a layer that is seen everywhere over a screen.
+#[tactic(auto, using(crate::proofs::FrontLemmas::lays_open))]
+fn lay_open(p: &Ppu, layer: u8, row: &Planes, front: &mut Planes)
+    ensures { (x : ℕ) → x < 256 → ink_at front.new x ≡
+        nearest (ink_at front.old x) (standing true false (is_inside p.now.registers layer x) (ink_at row.now x)) }
+{
+    lay_unmasked(
+        &row.ranks,
+        &row.numbers,
+        &mut front.ranks,
+        &mut front.numbers,
+    );
+}
+
+/// Lays a layer that is on over a screen.
+#[inline(always)]
+fn lay_seen(p: &Ppu, layer: u8, masked: bool, row: &Planes, front: &mut Planes)
+    requires first { 1 ≤ layer }
+    requires last { layer ≤ 5 }
+    ensures { (x : ℕ) → x < 256 → ink_at front.new x ≡
+        nearest (ink_at front.old x) (standing true masked (is_inside p.now.registers layer x) (ink_at row.now x)) }
+{
+    if masked {
+        lay_masked(p, layer, row, front);
+    } else {
+        lay_open(p, layer, row, front);
+    }
 }
 
 #[inline(always)]

@@ -1,5 +1,5 @@
 -- What stands at one pixel of a screen, in two numbers, and which of two stands in front.
-use Rattle.std.specs.Prelude.{ℕ, ◌/◌, ◌%◌, ◌==◌, Bool, nat_lt, if◌then◌else◌}
+use Rattle.std.specs.Prelude.{ℕ, zero, suc, ◌/◌, ◌%◌, ◌==◌, Bool, false, ◌||◌, nat_lt, List, slice_index, if◌then◌else◌}
 
 -- An ink's key has in bits 7-4 its rank (0 nothing, else the greater the nearer to the front), in bit 3 whether colour
 -- arithmetic is named for it, and in bits 2-0 the palette bits of a direct colour. Its number is that of a colour in CGRAM, or the
@@ -47,3 +47,8 @@ seen hidden ink = record { key = seen_key hidden ink.key; number = ink.number }
 -- whether an ink with this key stands on the screen at all
 unfoldable pub is_found : ℕ → Bool
 is_found key = nat_lt 0 (rank_of key)
+
+-- whether arithmetic is named for any of the first n inks with these keys
+unfoldable pub is_any_named : List ℕ → ℕ → Bool
+is_any_named keys zero = false
+is_any_named keys (suc n) = is_any_named keys n || is_named (slice_index keys n)

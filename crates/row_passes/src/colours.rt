@@ -16,8 +16,10 @@ fn component(subtracts: bool, halves: bool, one: u16, two: u16) -> u16
     let difference = one.saturating_sub(two);
     let sum = one + two;
     let whole = if subtracts { difference } else { sum };
-    let half = whole / 2;
-    let part = if halves { half } else { whole };
+    // Of a number up to 62, 129 parts of 256 are its half and 257 parts the whole, rounded down. A choice between
+    // halves and wholes would be a shift by lanes, which the processor hasn't.
+    let weight = 257 - 128 * halves as u16;
+    let part = whole * weight / 256;
     part.min(31)
 }
 
@@ -61,7 +63,36 @@ fn colour_at(cgram: &[u16], is_direct: bool, low: u8, high: u8, key: u8, number:
     }
 }
 
+/// The colours of a row of inks, some of which may be direct.
+fn look_up_direct(
+    cgram: &[u16],
+    low: u8,
+    high: u8,
+    keys: &[u8; 256],
+    numbers: &[u8; 256],
+    out: &mut [u16; 256],
+)
+    requires { length cgram.now ≡ 256 }
+    ensures { (x : ℕ) → x < 256 → slice_index out.new x ≡
+        ink_colour cgram.now true low high (slice_index keys.now x) (slice_index numbers.now x) }
+{
+    for x in 0..256usize {
+        out[x] = colour_at(cgram, true, low, high, keys[x], numbers[x]);
+    }
+}
+
+/// The colours of CGRAM of a row of numbers.
+fn look_up_numbers(cgram: &[u16], numbers: &[u8; 256], out: &mut [u16; 256])
+    requires { length cgram.now ≡ 256 }
+    ensures { (x : ℕ) → x < 256 → slice_index out.new x ≡ slice_index cgram.now (slice_index numbers.now x) }
+{
+    for x in 0..256usize {
+        out[x] = cgram[numbers[x] as usize];
+    }
+}
+
 /// The colours of a row of inks. Where `is_direct`, those of the ranks `low` and `high` are direct colours.
+#[tactic(auto, unfolding(crate::specs::Colours::ink_colour))]
 pub fn look_up(
     cgram: &[u16],
     is_direct: bool,
@@ -75,8 +106,10 @@ pub fn look_up(
     ensures { (x : ℕ) → x < 256 → slice_index out.new x ≡
         ink_colour cgram.now is_direct low high (slice_index keys.now x) (slice_index numbers.now x) }
 {
-    for x in 0..256usize {
-        out[x] = colour_at(cgram, is_direct, low, high, keys[x], numbers[x]);
+    if is_direct {
+        look_up_direct(cgram, low, high, keys, numbers, out);
+    } else {
+        look_up_numbers(cgram, numbers, out);
     }
 }
 
@@ -97,15 +130,65 @@ fn dim(brightness: u8, colour: u16) -> u16
     red + 32 * green + 1024 * blue
 }
 
-/// Writes a row's 512 dots at a brightness of 0 to 15: dot 2x is `even[x]`, dot 2x + 1 is `odd[x]`.
-pub fn write_dots(brightness: u8, even: &[u16; 256], odd: &[u16; 256], out: &mut [u16])
-    requires brightness { brightness < 16 }
-    requires room { length out.old ≡ 512 }
-    ensures even { (x : ℕ) → x < 256 → slice_index out.new (2 * x) ≡ dimmed brightness (slice_index even.now x) }
-    ensures odd { (x : ℕ) → x < 256 → slice_index out.new (2 * x + 1) ≡ dimmed brightness (slice_index odd.now x) }
+/// Dims a row at a brightness below 15.
+fn dim_each(brightness: u8, row: &mut [u16; 256])
+    requires { brightness < 16 }
+    ensures { (x : ℕ) → x < 256 → slice_index row.new x ≡ dimmed brightness (slice_index row.old x) }
 {
     for x in 0..256usize {
-        out[2 * x] = dim(brightness, even[x]);
-        out[2 * x + 1] = dim(brightness, odd[x]);
+        row[x] = dim(brightness, row[x]);
+    }
+}
+
+#[inline(always)]
+#[tactic(auto, unfolding(crate::specs::Colours::dimmed))]
+fn at_full(colour: u16) -> u16
+    ensures { result ≡ dimmed 15 colour }
+{
+    colour % 32768
+}
+
+/// A row at full brightness: each colour stays.
+fn keep_each(row: &mut [u16; 256])
+    ensures { (x : ℕ) → x < 256 → slice_index row.new x ≡ dimmed 15 (slice_index row.old x) }
+{
+    for x in 0..256usize {
+        row[x] = at_full(row[x]);
+    }
+}
+
+/// Dims a row at a brightness of 0 to 15.
+pub fn dim_row(brightness: u8, row: &mut [u16; 256])
+    requires { brightness < 16 }
+    ensures { (x : ℕ) → x < 256 → slice_index row.new x ≡ dimmed brightness (slice_index row.old x) }
+{
+    if brightness == 15 {
+        keep_each(row);
+    } else {
+        dim_each(brightness, row);
+    }
+}
+
+/// Writes a row's 512 dots: dot 2x is `even[x]`, dot 2x + 1 is `odd[x]`.
+pub fn write_dots(even: &[u16; 256], odd: &[u16; 256], out: &mut [u16])
+    requires { length out.old ≡ 512 }
+    ensures even { (x : ℕ) → x < 256 → slice_index out.new (2 * x) ≡ slice_index even.now x }
+    ensures odd { (x : ℕ) → x < 256 → slice_index out.new (2 * x + 1) ≡ slice_index odd.now x }
+{
+    for x in 0..256usize {
+        out[2 * x] = even[x];
+        out[2 * x + 1] = odd[x];
+    }
+}
+
+/// Writes a row's 512 dots: dots 2x and 2x + 1 are both `row[x]`.
+pub fn write_twice(row: &[u16; 256], out: &mut [u16])
+    requires { length out.old ≡ 512 }
+    ensures even { (x : ℕ) → x < 256 → slice_index out.new (2 * x) ≡ slice_index row.now x }
+    ensures odd { (x : ℕ) → x < 256 → slice_index out.new (2 * x + 1) ≡ slice_index row.now x }
+{
+    for x in 0..256usize {
+        out[2 * x] = row[x];
+        out[2 * x + 1] = row[x];
     }
 }

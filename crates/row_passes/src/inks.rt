@@ -1,7 +1,7 @@
 //! Inks: what stands in front at each pixel of a row.
 
-ghost use Rattle.std.specs.Prelude.{◌≡◌, ℕ, ◌+◌, ◌*◌, ◌<◌, slice_index, if◌then◌else◌};
-ghost use Rattle.row_passes.specs.Inks.{Ink, seen_key, chosen, nearest, seen, is_found};
+ghost use Rattle.std.specs.Prelude.{◌≡◌, ℕ, ◌+◌, ◌*◌, ◌/◌, ◌%◌, ◌<◌, slice_index, if◌then◌else◌};
+ghost use Rattle.row_passes.specs.Inks.{Ink, seen_key, chosen, nearest, seen, is_found, is_any_named};
 
 #[inline(always)]
 #[tactic(auto, unfolding(crate::specs::Inks::seen_key))]
@@ -51,6 +51,47 @@ pub fn lay(
         front_keys[x] = choose(nearer, key, front_keys[x]);
         front_numbers[x] = choose(nearer, numbers[x], front_numbers[x]);
     }
+}
+
+/// The same of a layer that is hidden nowhere.
+#[tactic(auto, unfolding(crate::specs::Inks::nearest))]
+pub fn lay_unmasked(
+    keys: &[u8; 256],
+    numbers: &[u8; 256],
+    front_keys: &mut [u8; 256],
+    front_numbers: &mut [u8; 256],
+)
+    ensures keys { (x : ℕ) → x < 256 → slice_index front_keys.new x ≡
+        (nearest (record { key = slice_index front_keys.old x; number = slice_index front_numbers.old x })
+        (record { key = slice_index keys.now x; number = slice_index numbers.now x })).key }
+    ensures numbers { (x : ℕ) → x < 256 → slice_index front_numbers.new x ≡
+        (nearest (record { key = slice_index front_keys.old x; number = slice_index front_numbers.old x })
+        (record { key = slice_index keys.now x; number = slice_index numbers.now x })).number }
+{
+    for x in 0..256usize {
+        let nearer = second_is_nearer(front_keys[x], keys[x]);
+        front_keys[x] = choose(nearer, keys[x], front_keys[x]);
+        front_numbers[x] = choose(nearer, numbers[x], front_numbers[x]);
+    }
+}
+
+#[inline(always)]
+#[tactic(auto, unfolding(crate::specs::Inks::is_named))]
+fn name_bit(key: u8) -> u8
+    ensures { result ≡ key / 8 % 2 }
+{
+    key / 8 % 2
+}
+
+/// Whether arithmetic is named for any ink of a row.
+pub fn any_named(keys: &[u8; 256]) -> bool
+    ensures { result ≡ is_any_named keys.now 256 }
+{
+    let mut most = 0;
+    for x in 0..256usize {
+        most = name_bit(keys[x]).max(most);
+    }
+    most == 1
 }
 
 /// Whether an ink with this key stands on the screen at all.

@@ -10,5 +10,5 @@
 mod colours;
 mod inks;
 
-pub use colours::{join_colours, look_up, write_dots};
-pub use inks::{choose, fill_row, is_found_key, lay};
+pub use colours::{dim_row, join_colours, look_up, write_dots, write_twice};
+pub use inks::{any_named, choose, fill_row, is_found_key, lay, lay_unmasked};

@@ -2,12 +2,12 @@
 use Rattle.std.proofs.Common.{◌≡◌, ℕ, ◌<◌, ◌≤◌, ◌==◌, not, get_or}
 use Rattle.row_passes.specs.Inks.{is_named, is_found}
 use Rattle.color_window.specs.Mixing.{mixed}
-use Rattle.color_window.proofs.mixing.mix_row.Given as goal
+use Rattle.color_window.proofs.mixing.mix_each.Given as goal
 
 abbrev pub invariant-loop-x : goal.invariant-loop-x
 invariant-loop-x l = record {
   done : (k : ℕ) → k < l.x → get_or l.main k 0 ≡
-      mixed l.p.registers.colour (not (get_or l.inside k 0 == 0)) (get_or l.initial.main k 0)
+      mixed l.m (not (get_or l.inside k 0 == 0)) (get_or l.initial.main k 0)
       (is_named (get_or l.keys k 0)) (is_found (get_or l.sub_keys k 0)) (get_or l.sub k 0);
   rest : (k : ℕ) → l.x ≤ k → get_or l.main k 0 ≡ get_or l.initial.main k 0;
 }

@@ -1,0 +1,55 @@
+-- Where nothing is mixed, and where the sub screen's colours don't count.
+use Rattle.std.proofs.Common.{◌≡◌, ℕ, zero, suc, ◌<◌, Bool, true, false, ◌&&◌, ◌||◌, List, slice_index, refl, inl, inr, subst, arith, if◌then◌else◌}
+use Rattle.std.proofs.lemmas.Bool.{cases_lt}
+use Rattle.ppu_regs.specs.declared.registers.ColourMath.{ColourMath}
+use Rattle.ppu_regs.specs.declared.registers.WindowPart.TheVariants.{Never}
+use Rattle.row_passes.specs.Inks.{is_named, is_any_named}
+use Rattle.color_window.specs.Mixing.{holds_at, mixed, fixed_colour}
+
+-- where none is named, each isn't
+left_false : (a b : Bool) → (a || b) ≡ false → a ≡ false
+left_false true b h = h
+left_false false b h = refl
+
+right_false : (a b : Bool) → (a || b) ≡ false → b ≡ false
+right_false true true h = h
+right_false true false h = refl
+right_false false b h = h
+
+pub none_named : (keys : List ℕ) (n x : ℕ) → x < n → is_any_named keys n ≡ false → is_named (slice_index keys x) ≡ false
+unfolding is_any_named
+none_named keys zero x h none = absurd (omega arith)
+none_named keys (suc n) x h none = elim (cases_lt x n) [
+  | inl before ↦ none_named keys n x before (left_false (is_any_named keys n) (is_named (slice_index keys n)) none)
+  | inr here ↦ (
+      let same : n ≡ x = omega arith in
+      subst (λ k. is_named (slice_index keys k) ≡ false) same (right_false (is_any_named keys n) (is_named (slice_index keys n)) none)
+      )
+]
+
+pub ruleset named = none_named
+
+-- where main isn't black and no arithmetic is named, the colour is the one in front
+pub unmixed_is :
+    (m : ColourMath) (inside : Bool) (main : ℕ) (named found : Bool) (sub : ℕ) → m.black ≡ Never → named ≡ false →
+    main ≡ mixed m inside main named found sub
+unfolding mixed holds_at
+unmixed_is m inside main named found sub black none = rw (black, none) refl
+
+pub ruleset unmixed = unmixed_is
+
+-- where the sub screen isn't asked for, its colour doesn't count
+picked_apart :
+    (asked found : Bool) (fixed one two : ℕ) → (asked ≡ true → one ≡ two) →
+    (if asked && found then one else fixed) ≡ (if asked && found then two else fixed)
+picked_apart true true fixed one two alike = alike refl
+picked_apart true false fixed one two alike = refl
+picked_apart false found fixed one two alike = refl
+
+pub mixed_apart :
+    (m : ColourMath) (inside : Bool) (main : ℕ) (named found : Bool) (one two : ℕ) → (m.sub_screen ≡ true → one ≡ two) →
+    mixed m inside main named found one ≡ mixed m inside main named found two
+unfolding mixed
+mixed_apart m inside main named found one two alike = rw (picked_apart m.sub_screen found (fixed_colour m) one two alike) refl
+
+pub ruleset apart = mixed_apart
