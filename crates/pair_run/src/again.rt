@@ -36,7 +36,7 @@ fn tell<W: Wire>(wire: &W, pass: &mut W::Pass, at: u64) -> bool
     }
 }
 
-/// Publishes a clock, if the ports aren't held at each of so many moments.
+/// Publishes a clock, unless the ports are held at each of `TELLS` tries.
 pub(crate) fn publish<W: Wire>(wire: &W, pass: &mut W::Pass, at: u64)
     requires of { W.is_pass_of wire.now pass.old }
     requires clock { (W.seen pass.old).half.at ≤ at }

@@ -6,8 +6,9 @@
 // a run of that machine alone against what its pass has heard by then. No step is made at the end stamp or
 // later, and none further ahead of a clock of the other side that the pass was told than the window.
 //
-// A caller parts a whole, runs a leg of each side, and reunites the passes: by the laws the two machines
-// then stand on the serial run.
+// `turn` parts a whole, runs a leg of each side in two threads, reunites the passes, and makes one step of the
+// earlier side, which no call refuses. By the laws the two machines then stand on the serial run, further by
+// at least one step.
 #![tactic(auto)]
 
 mod again;
