@@ -1,11 +1,11 @@
 -- What words ask for, before anything is copied.
-use Rattle.run_io.specs.declared.order.Files.{Files}
+use Rattle.std.specs.Prelude.{ℕ, ◌≢◌, ◌<◌, ◌≤◌, List, length, slice_index}
+use Rattle.run_io.specs.declared.names.Files.{Files}
 use Rattle.run_io.specs.declared.commands.Command.{Command}
 use Rattle.run_io.specs.declared.commands.Command.TheVariants.{Run, Serial, Make, Demo}
 use Rattle.run_io.specs.declared.asked.Given.{Given}
 use Rattle.run_io.specs.declared.asked.Asked.{Asked}
 use Rattle.run_io.specs.declared.asked.Asked.TheVariants as asked
-use Rattle.run_io.specs.Form.{IsValue}
 
 -- the files whose words were found
 abbrev pub files_for : Given → Files
@@ -25,6 +25,12 @@ command_for (asked.Run g) = Run (files_for g)
 command_for (asked.Serial g) = Serial (files_for g)
 command_for (asked.Make number out) = Make number out.now
 command_for (asked.Demo number frames) = Demo number frames
+
+-- the value of an option: 1 to 4,096 bytes, of which the first is no dash
+pub record IsValue (word : List ℕ) : Type 0 where
+  pub some : 0 < length word
+  pub fits : length word ≤ 4096
+  pub no_dash : slice_index word 0 ≢ 45
 
 -- the words that were found are values
 pub record AreValues (g : Given) : Type 0 where

@@ -3,7 +3,7 @@
 use Rattle.std.specs.Prelude.{ℕ, Bool, not, ◌&&◌, nat_le, nat_eq, if◌then◌else◌, List, [], ◌∷◌, length, slice_index, codes, Option, Some, None}
 use Rattle.std.specs.Str.{bytes_eq}
 use Rattle.run_io.specs.Number.{number_of}
-use Rattle.run_io.specs.declared.order.Files.{Files}
+use Rattle.run_io.specs.declared.names.Files.{Files}
 use Rattle.run_io.specs.declared.commands.Command.{Command}
 use Rattle.run_io.specs.declared.commands.Command.TheVariants.{Run, Serial, Make, Demo}
 

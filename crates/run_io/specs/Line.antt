@@ -1,7 +1,5 @@
 -- The lines for the user.
 use Rattle.std.specs.Prelude.{ℕ, ◌+◌, ◌/◌, ◌%◌, List, [], ◌∷◌, ◌++◌, codes, decimal, Option, Some, None, nat_lt, if◌then◌else◌}
-use Rattle.unbuilt_part.specs.declared.part.Part.{Part}
-use Rattle.unbuilt_part.specs.declared.part.Part.TheVariants as part
 use Rattle.cart_map.specs.declared.refused.CartRefused.{CartRefused}
 use Rattle.cart_map.specs.declared.refused.CartRefused.TheVariants as cart
 use Rattle.file_shelf.specs.declared.shelves.Input.{Input}
@@ -20,10 +18,6 @@ hex_digit n = if nat_lt n 10 then 48 + n else 55 + n
 -- the two hexadecimal digits of a byte
 abbrev pub hex_byte : ℕ → List ℕ
 hex_byte byte = hex_digit (byte / 16) ∷ (hex_digit (byte % 16) ∷ [])
-
--- the six hexadecimal digits of a 24-bit address
-abbrev pub hex_address : ℕ → List ℕ
-hex_address address = hex_byte (address / 65536 % 256) ++ hex_byte (address / 256 % 256) ++ hex_byte (address % 256)
 
 -- a run was made
 abbrev pub frames_text : ℕ → ℕ → List ℕ
@@ -76,14 +70,3 @@ cannot_write_text out.Say = None
 -- there was no memory
 abbrev pub no_memory_text : List ℕ
 no_memory_text = codes "no memory"
-
--- a part that is not built is needed
-abbrev pub not_built_text : Part → List ℕ
-not_built_text part.Cart = codes "not built: cart"
-not_built_text part.Boot = codes "not built: boot"
-not_built_text part.Table = codes "not built: table"
-not_built_text part.Script = codes "not built: script"
-not_built_text (part.Opcode opcode) = codes "not built: opcode " ++ hex_byte opcode
-not_built_text (part.Place address) = codes "not built: address " ++ hex_address address
-not_built_text part.Picture = codes "not built: picture"
-not_built_text part.Dsp = codes "not built: dsp"

@@ -1,12 +1,12 @@
 ghost use Rattle.std.specs.Prelude.{◌≡◌, ℕ, List, ◌<◌, ◌≤◌, ◌↔◌, ◌^◌, Some, None, IfOk, IfSome, IsErrOf, MatchOption, length, codes};
 ghost use Rattle.run_io.specs.Number.{number_of};
-ghost use Rattle.run_io.specs.Form.{IsValue};
+ghost use Rattle.run_io.specs.Asked.{IsValue};
 ghost use Rattle.run_io.specs.Command.{given, value_in, value_of, number_in, frame_count_in, files_in, make_in, demo_in, command_of};
 ghost use Rattle.run_io.specs.Asked.{files_for, command_for, AreValues, NamesValues};
 
 use crate::asked::{Asked, Given};
 use crate::commands::Command;
-use crate::order::{Files, Name, WordsEnd};
+use crate::names::{Files, Name, WordsEnd};
 use crate::words::{Argv, Word};
 use std::alloc::{AllocError, Global};
 

@@ -1,6 +1,6 @@
-use crate::order::{Files, Name};
+use crate::names::{Files, Name};
 
-/// What the words of a command line ask for, in every form that the program is to have.
+/// What the words of a command line ask for.
 #[derive(Drop)]
 pub enum Command {
     /// Run a cartridge on two workers.

@@ -2,16 +2,15 @@
 // the user.
 //
 // Stands on the shelf, whose items it hands on. `read_command` reads a command line exactly by the
-// forms of `specs/Command.antt`, and refuses every other; `read_words` knows the one form that the
-// small program takes. Each line is made without memory, so that the want of memory can be told too.
+// forms of `specs/Command.antt`, and refuses every other. Each line is made without memory, so that
+// the want of memory can be told too.
 #![tactic(auto)]
 
 mod asked;
 mod command_words;
 mod commands;
 mod lines;
-mod order;
-mod read;
+mod names;
 mod words;
 
 pub use command_words::read_command;
@@ -21,11 +20,9 @@ pub use file_shelf::{
 };
 pub use lines::{
     Line, boot_refused_line, cannot_read_line, cannot_write_line, cart_refused_line, demo_line,
-    frames_line, image_line, no_memory_line, not_built_line, script_refused_line,
-    table_refused_line, usage_line,
+    frames_line, image_line, no_memory_line, script_refused_line, table_refused_line, usage_line,
 };
-pub use order::{Files, Name, Order, WordsEnd};
-pub use read::read_words;
+pub use names::{Files, Name, WordsEnd};
 pub use words::Argv;
 
 #[cfg(test)]

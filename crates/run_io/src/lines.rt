@@ -1,15 +1,13 @@
 ghost use Rattle.std.specs.Prelude.{◌≡◌, ◌+◌, ◌<◌, ◌≤◌, ◌++◌, length, decimal, []};
 ghost use Rattle.std.specs.Option.{option_map};
-ghost use Rattle.unbuilt_part.specs.declared.part.Part.{Part};
 ghost use Rattle.cart_map.specs.declared.refused.CartRefused.{CartRefused};
-ghost use Rattle.run_io.specs.Line.{line_of, hex_digit, hex_byte, frames_text, demo_text, image_text, cart_refused_text, boot_refused_text, table_refused_text, script_refused_text, usage_text, cannot_read_text, cannot_write_text, no_memory_text, not_built_text};
+ghost use Rattle.run_io.specs.Line.{line_of, hex_digit, hex_byte, frames_text, demo_text, image_text, cart_refused_text, boot_refused_text, table_refused_text, script_refused_text, usage_text, cannot_read_text, cannot_write_text, no_memory_text};
 
 use arrayvec::ArrayString;
 use cart_map::CartRefused;
 use file_shelf::{Input, Out};
 use itoa::Buffer;
 use std::marker::Model;
-use unbuilt_part::Part;
 
 /// The most bytes that a line has.
 const ROOM: usize = 256;
@@ -218,45 +216,6 @@ pub fn no_memory_line() -> Line
     ensures text { result ≡ line_of no_memory_text }
 {
     whole("no memory\n")
-}
-
-/// A part that is not built is needed: `not built: cart`, `not built: opcode 42`,
-/// `not built: address 002140` and the like. Of an address the low 24 bits are told.
-pub fn not_built_line(part: Part) -> Line
-    ensures text { result ≡ line_of (not_built_text part) }
-{
-    match part {
-        Part::Cart => whole("not built: cart\n"),
-        Part::Boot => whole("not built: boot\n"),
-        Part::Table => whole("not built: table\n"),
-        Part::Script => whole("not built: script\n"),
-        Part::Opcode(opcode) => opcode_line(opcode),
-        Part::Place(address) => address_line(address),
-        Part::Picture => whole("not built: picture\n"),
-        Part::Dsp => whole("not built: dsp\n"),
-    }
-}
-
-fn opcode_line(opcode: u8) -> Line
-    ensures text { result ≡ line_of (not_built_text (Part.Opcode opcode)) }
-{
-    let mut line = Line::new();
-    line.push("not built: opcode ");
-    line.push_hex(opcode);
-    line.push("\n");
-    line
-}
-
-fn address_line(address: u32) -> Line
-    ensures text { result ≡ line_of (not_built_text (Part.Place address)) }
-{
-    let mut line = Line::new();
-    line.push("not built: address ");
-    line.push_hex((address / 65536 % 256) as u8);
-    line.push_hex((address / 256 % 256) as u8);
-    line.push_hex((address % 256) as u8);
-    line.push("\n");
-    line
 }
 
 /// A line of this text.

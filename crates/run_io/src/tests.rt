@@ -1,111 +1,13 @@
 // Each call that may find no memory, called once with plenty of it; what an outside reader expects of
-// a command line, of planned failures and of real files; and the lines as they are printed.
+// planned failures and of real files; and the lines as they are printed.
 use crate::{
-    Argv, Failed, FileShelf, Files, Input, Line, LoadEnd, MemShelf, Order, Out, Shelf, ShelfCall,
-    SureShelf, WordsEnd, cannot_read_line, cannot_write_line, frames_line, no_memory_line,
-    not_built_line, read_words, usage_line,
+    Failed, FileShelf, Input, Line, LoadEnd, MemShelf, Out, Shelf, ShelfCall, SureShelf,
+    cannot_read_line, cannot_write_line, frames_line, no_memory_line, usage_line,
 };
 use snes_defs::NoMemory;
 use std::alloc::Global;
 use std::test::Fail;
 use std::{env, fs};
-use unbuilt_part::Part;
-
-const RUN: [&str; 15] = [
-    "run",
-    "--cart",
-    "red.sfc",
-    "--boot",
-    "ipl.rom",
-    "--table",
-    "gauss.bin",
-    "--script",
-    "pads.txt",
-    "--frames",
-    "36000",
-    "--video",
-    "red.video",
-    "--audio",
-    "red.audio",
-];
-
-fn argv(alloc: Global, words: &[&str]) -> Result<Argv, NoMemory> {
-    let mut argv = Argv::new(alloc);
-    for word in words {
-        argv.push(word)?;
-    }
-    Ok(argv)
-}
-
-fn read(alloc: Global, words: &[&str]) -> Result<Order, WordsEnd> {
-    match argv(alloc, words) {
-        Ok(argv) => read_words(alloc, &argv),
-        Err(NoMemory) => Err(WordsEnd::NoMemory),
-    }
-}
-
-/// The words of a run with another word at one place, and no word from `count` on.
-fn is_usage(alloc: Global, at: usize, word: &str, count: usize) -> bool {
-    let mut words = RUN;
-    if let Some(place) = words.get_mut(at) {
-        *place = word;
-    }
-    let Some(words) = words.get(..count) else {
-        return false;
-    };
-    matches!(&read(alloc, words), Err(WordsEnd::Usage))
-}
-
-fn names(files: &Files) -> [&str; 6] {
-    [
-        files.cart.text(),
-        files.boot.text(),
-        files.table.text(),
-        files.script.text(),
-        files.video.text(),
-        files.audio.text(),
-    ]
-}
-
-#[test]
-fn the_words_of_a_run(rt: HostRuntime) -> Result<(), Fail> {
-    let Order::Run(files) = read(rt.alloc(), &RUN)?;
-    let wanted = [
-        "red.sfc",
-        "ipl.rom",
-        "gauss.bin",
-        "pads.txt",
-        "red.video",
-        "red.audio",
-    ];
-    for (name, want) in names(&files).iter().zip(&wanted) {
-        assert_eq!(rt; *name, *want);
-    }
-    assert_eq!(rt; files.frames, 36000);
-    Ok(())
-}
-
-#[test]
-fn words_in_no_form(rt: HostRuntime) {
-    for (at, word, count) in [
-        (0, "serial", 15),
-        (3, "--cart", 15),
-        (2, "", 15),
-        (4, "-", 15),
-        (10, "36001", 15),
-        (10, "036000", 15),
-        (10, "+1", 15),
-        (14, "red.video", 15),
-        (0, "run", 0),
-        (0, "run", 1),
-        (0, "run", 14),
-    ] {
-        assert!(rt;
-            is_usage(rt.alloc(), at, word, count),
-            "{word} at {at} of {count}"
-        );
-    }
-}
 
 fn load<H: Shelf>(
     alloc: Global,
@@ -247,18 +149,6 @@ fn the_lines_as_printed(rt: HostRuntime) {
     assert!(rt; prints(&usage_line(), "usage: snes run, serial, make or demo\n"));
     assert!(rt; prints(&cannot_read_line(Input::Script), "cannot read script\n"));
     assert!(rt; prints(&no_memory_line(), "no memory\n"));
-    assert!(rt;
-        prints(
-            &not_built_line(Part::Opcode(0x42)),
-            "not built: opcode 42\n"
-        )
-    );
-    assert!(rt;
-        prints(
-            &not_built_line(Part::Place(0x2140)),
-            "not built: address 002140\n"
-        )
-    );
     assert!(rt;
         cannot_write_line(Out::Video).is_some_and(|line| prints(&line, "cannot write video\n"))
     );

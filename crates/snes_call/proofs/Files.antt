@@ -5,7 +5,7 @@ use Rattle.file_shelf.specs.declared.shelves.Out.{Out}
 use Rattle.file_shelf.specs.declared.shelves.Out.TheVariants.{Video, Sound, Image, Say}
 use Rattle.file_shelf.specs.Told.{HasRisen}
 use Rattle.file_shelf.specs.Shown.{Shown, IsUntouched, OnlyLoads, OnlyRuns}
-use Rattle.run_io.specs.declared.order.Files.{Files}
+use Rattle.run_io.specs.declared.names.Files.{Files}
 use Rattle.snes_call.specs.declared.inputs.InputEnd.{InputEnd}
 use Rattle.snes_call.specs.declared.inputs.InputEnd.TheVariants as inputs
 use Rattle.snes_call.specs.declared.writing.RunEnd.{RunEnd}

@@ -10,7 +10,7 @@ use Rattle.input_files.specs.Script.{script_of}
 use Rattle.snes_call.specs.Readers.{AreRefused}
 use Rattle.file_shelf.specs.Shown.{Shown, OnlyLoads}
 use Rattle.run_drive.specs.OutputLaws.{risen_since}
-use Rattle.run_io.specs.declared.order.Files.{Files}
+use Rattle.run_io.specs.declared.names.Files.{Files}
 use Rattle.snes_call.specs.declared.inputs.InputEnd.{InputEnd}
 use Rattle.snes_call.specs.declared.inputs.InputEnd.TheVariants.{LoadFault, Refused, NoMemory}
 use Rattle.snes_call.specs.Inputs.{name_of, told_of, limit_of, too_long_of, ShowsAccepted, ShowsAcceptedBefore, EndsInput, EndsInputs, IsLoadFault}

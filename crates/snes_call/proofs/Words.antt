@@ -4,7 +4,7 @@ use Rattle.std.proofs.lemmas.Bool.{leb-true}
 use Rattle.std.specs.Str.{bytes_eq}
 use Rattle.run_io.specs.Number.{number_of}
 use Rattle.run_io.specs.Command.{given, value_of, number_up_to, number_in, frame_count_in, image_number_in, files_in, make_in, demo_in, command_of}
-use Rattle.run_io.specs.declared.order.Files.{Files}
+use Rattle.run_io.specs.declared.names.Files.{Files}
 use Rattle.run_io.specs.declared.commands.Command.{Command}
 use Rattle.run_io.specs.declared.commands.Command.TheVariants.{Run, Serial, Make, Demo}
 use Rattle.std.specs.Prelude.{◌⊎◌}
@@ -12,8 +12,8 @@ use Rattle.snes_defs.specs.declared.cart.Job.{Job}
 use Rattle.file_shelf.specs.declared.shelves.Out.{Out}
 use Rattle.file_shelf.specs.declared.shelves.Out.TheVariants as out
 use Rattle.file_shelf.specs.Shown.{Shown, IsPassedOver, OnlyPuts}
-use Rattle.run_io.specs.declared.order.WordsEnd.{WordsEnd}
-use Rattle.run_io.specs.declared.order.WordsEnd.TheVariants.{Usage, NoMemory}
+use Rattle.run_io.specs.declared.names.WordsEnd.{WordsEnd}
+use Rattle.run_io.specs.declared.names.WordsEnd.TheVariants.{Usage, NoMemory}
 use Rattle.snes_call.specs.declared.status.Status.{Status}
 use Rattle.snes_call.specs.declared.status.Status.TheVariants as answer
 use Rattle.snes_call.specs.Call.{EndsCall}

@@ -8,7 +8,7 @@ use Rattle.file_shelf.specs.Told.{Holds, HasRisen}
 use Rattle.file_shelf.specs.Shown.{Shown, IsUntouched, IsPassedOver, IsCreated, OnlyCreates, OnlyRuns}
 use Rattle.run_drive.specs.Outputs.{OnlyFills}
 use Rattle.run_drive.specs.OutputLaws.{risen_since}
-use Rattle.run_io.specs.declared.order.Files.{Files}
+use Rattle.run_io.specs.declared.names.Files.{Files}
 use Rattle.snes_call.specs.declared.writing.RunEnd.TheVariants.{WriteFault}
 use Rattle.run_drive.specs.Played.{IsPlayable, PlayedWhole, PlayedFirst}
 use Rattle.snes_call.specs.Outputs.{taken_by, IsFilled, HoldsRun, IsVideoBegun, IsSoundBegun, IsVideoFault, IsSoundFault, EndsRun}

@@ -4,7 +4,7 @@ use Rattle.snes_defs.specs.declared.cart.Job.{Job}
 use Rattle.file_shelf.specs.declared.shelves.Out.{Out}
 use Rattle.file_shelf.specs.declared.shelves.Out.TheVariants.{Video, Sound, Image, Say}
 use Rattle.file_shelf.specs.Shown.{Shown, IsPassedOver, IsKept}
-use Rattle.run_io.specs.declared.order.Files.{Files}
+use Rattle.run_io.specs.declared.names.Files.{Files}
 use Rattle.run_io.specs.declared.commands.Command.{Command}
 use Rattle.run_io.specs.declared.commands.Command.TheVariants.{Run, Serial, Make, Demo}
 use Rattle.snes_call.specs.declared.run_files.CommandEnd.{CommandEnd}

@@ -5,7 +5,7 @@ use Rattle.file_shelf.specs.declared.shelves.Input.{Input}
 use Rattle.file_shelf.specs.declared.shelves.Input.TheVariants.{Cart, Boot, Table, Script}
 use Rattle.file_shelf.specs.Told.{HasRisen}
 use Rattle.file_shelf.specs.Shown.{Shown}
-use Rattle.run_io.specs.declared.order.Files.{Files}
+use Rattle.run_io.specs.declared.names.Files.{Files}
 use Rattle.cart_map.specs.declared.refused.CartRefused.TheVariants.{TooLong}
 use Rattle.snes_call.specs.declared.status.Why.{Why}
 use Rattle.snes_call.specs.declared.status.Why.TheVariants as why

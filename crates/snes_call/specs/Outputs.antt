@@ -7,7 +7,7 @@ use Rattle.file_shelf.specs.declared.shelves.Out.TheVariants.{Video, Sound, Imag
 use Rattle.file_shelf.specs.Told.{Holds, HasRisen}
 use Rattle.file_shelf.specs.Shown.{Shown, IsUntouched}
 use Rattle.run_drive.specs.Outputs.{output_of}
-use Rattle.run_io.specs.declared.order.Files.{Files}
+use Rattle.run_io.specs.declared.names.Files.{Files}
 use Rattle.snes_call.specs.declared.writing.RunEnd.{RunEnd}
 use Rattle.snes_call.specs.declared.writing.RunEnd.TheVariants.{WriteFault, NoMemory}
 

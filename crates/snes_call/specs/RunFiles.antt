@@ -5,7 +5,7 @@ use Rattle.clock_ratio.specs.Stamp.{end_stamp_of, samples_before_of}
 use Rattle.file_shelf.specs.declared.shelves.Out.{Out}
 use Rattle.file_shelf.specs.declared.shelves.Out.TheVariants.{Video, Sound, Image, Say}
 use Rattle.file_shelf.specs.Shown.{Shown, IsUntouched}
-use Rattle.run_io.specs.declared.order.Files.{Files}
+use Rattle.run_io.specs.declared.names.Files.{Files}
 use Rattle.run_io.specs.Line.{line_of, frames_text}
 use Rattle.snes_call.specs.declared.run_files.CommandEnd.{CommandEnd}
 use Rattle.snes_call.specs.declared.run_files.CommandEnd.TheVariants.{LoadFault, Refused, WriteFault, NoMemory}

@@ -4,7 +4,7 @@ ghost use Rattle.file_shelf.specs.declared.shelves.Input.{Input};
 ghost use Rattle.file_shelf.specs.declared.shelves.Out.{Out};
 ghost use Rattle.file_shelf.specs.Told.{HasRisen};
 ghost use Rattle.file_shelf.specs.Shown.{IsPassedOver, IsKept, OnlyPuts};
-ghost use Rattle.run_io.specs.declared.order.Files.{Files};
+ghost use Rattle.run_io.specs.declared.names.Files.{Files};
 ghost use Rattle.run_io.specs.declared.commands.Command.{Command};
 ghost use Rattle.run_io.specs.Command.{command_of};
 ghost use Rattle.snes_call.specs.declared.status.Why.{Why};

@@ -2,9 +2,9 @@ ghost use Rattle.std.specs.Prelude.{◌≡◌, ◌≢◌, ◌⊎◌, ℕ, List, 
 ghost use Rattle.unbuilt_part.specs.declared.part.Part.{Part};
 ghost use Rattle.file_shelf.specs.declared.shelves.Input.{Input};
 ghost use Rattle.file_shelf.specs.declared.shelves.Out.{Out};
-ghost use Rattle.run_io.specs.declared.order.Order.TheVariants as Order;
+ghost use Rattle.run_io.specs.declared.names.Order.TheVariants as Order;
 ghost use Rattle.file_shelf.specs.Told.{Appends, AppendsSome, HasRisen};
-ghost use Rattle.run_io.specs.declared.order.Files.{Files};
+ghost use Rattle.run_io.specs.declared.names.Files.{Files};
 ghost use Rattle.run_io.specs.Form.{IsForm};
 ghost use Rattle.snes_run.specs.Inputs.{name_of, part_of};
 ghost use Rattle.snes_run.specs.Run.{Meets};

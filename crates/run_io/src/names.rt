@@ -53,13 +53,6 @@ pub struct Files {
     pub audio: Name,
 }
 
-/// What the words of a command line ask for.
-#[derive(Drop)]
-pub enum Order {
-    /// Run a cartridge.
-    Run(Files),
-}
-
 /// Why words were not read.
 #[derive(Clone, Copy, Debug, PartialEq, Eq)]
 pub enum WordsEnd {
