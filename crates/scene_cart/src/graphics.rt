@@ -1,5 +1,7 @@
 //! Tiles, maps and colours: a picture is a colour for each of its pixels, by a rule.
 
+ghost use Rattle.std.specs.Prelude.{◌≤◌};
+
 use crate::image::{COLOURS, Image, VIDEO};
 
 /// The row of tiles where the lake begins: there a background's palette is the next one.
@@ -105,16 +107,15 @@ pub fn dots(colour: u32) -> u16 {
     (red + 32 * green + 1024 * blue) as u16
 }
 
-/// A number in each of red, green and blue: `part` parts of 64 of one colour, and the rest of another.
+/// Between two colours RRGGBB: so many parts of 64 of the second, and the rest of the first.
 pub fn blend(from: u32, to: u32, part: u32) -> u32
     requires { part ≤ 64 }
 {
     let mut sum = 0u32;
     for unit in [0x1_0000, 0x100, 1] {
         let (a, b) = (from / unit % 256, to / unit % 256);
-        sum = sum.wrapping_add(
-            (a.wrapping_mul(64 - part).wrapping_add(b.wrapping_mul(part)) / 64).wrapping_mul(unit),
-        );
+        let mixed = a.wrapping_mul(64 - part).wrapping_add(b.wrapping_mul(part)) / 64;
+        sum = sum.wrapping_add(mixed.wrapping_mul(unit));
     }
     sum
 }

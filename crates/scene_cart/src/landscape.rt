@@ -214,12 +214,10 @@ fn cloud(x: u8, y: u8) -> u8 {
     light
 }
 
-/// The greatest half width, below 100, of a circle at a distance from its middle.
-fn half_width(radius: u8, distance: u8) -> u8
-    ensures { result < 100 }
-{
+/// The greatest half width of a circle at a distance from its middle.
+fn half_width(radius: u8, distance: u8) -> u8 {
     let mut widest = 0;
-    for width in 0..100u8 {
+    for width in 0..=radius {
         if square(width) + square(distance) <= square(radius) {
             widest = width;
         }
@@ -249,7 +247,7 @@ fn put_sun(image: &mut Image) {
         let edges = if is_gap {
             [1, 0]
         } else {
-            [128 - half, 127 + half]
+            [128u8.saturating_sub(half), 127u8.saturating_add(half)]
         };
         image.put(SUN + 4 + 2 * u32::from(line), &edges);
     }

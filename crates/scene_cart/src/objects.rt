@@ -1,7 +1,5 @@
 //! The objects: four letters, a snake of balls, and glints on the lake; their pictures, their start and their paths.
 
-ghost use Rattle.std.specs.Prelude.{◌<◌, ◌≤◌};
-
 use crate::graphics::{blend, paint, put_colours};
 use crate::image::{Image, OBJECTS, PATHS};
 use crate::landscape::square;
@@ -11,25 +9,23 @@ pub const BALLS: u8 = 4;
 
 pub const GLINTS: u8 = 68;
 
-/// The tables of the paths: a byte for each angle.
-pub const BALL_X: u16 = 0;
-
-pub const BALL_Y: u16 = 1;
-
-pub const BALL_FRONT: u16 = 2;
-
-pub const LETTER_Y: u16 = 3;
-
-pub const GLINT_X: u16 = 4;
-
-pub const WAVE: u16 = 5;
+/// The tables of the paths, in their order: a byte for each angle.
+#[derive(Clone, Copy)]
+pub enum Table {
+    BallX,
+    BallY,
+    BallFront,
+    LetterY,
+    GlintX,
+    Wave,
+}
 
 /// S, N, E and S: eight lines of eight bits.
 static FONT: [[u8; 8]; 4] = [
-    [0x00, 0x3c, 0x66, 0x38, 0x1c, 0x66, 0x3c, 0x00],
+    [0x00, 0x3e, 0x60, 0x3c, 0x06, 0x06, 0x7c, 0x00],
     [0x00, 0x66, 0x76, 0x76, 0x6e, 0x6e, 0x66, 0x00],
     [0x00, 0x7e, 0x60, 0x7c, 0x60, 0x60, 0x7e, 0x00],
-    [0x00, 0x3c, 0x66, 0x38, 0x1c, 0x66, 0x3c, 0x00],
+    [0x00, 0x3e, 0x60, 0x3c, 0x06, 0x06, 0x7c, 0x00],
 ];
 
 /// Colours RRGGBB of the six kinds of balls.
@@ -113,12 +109,12 @@ fn swing(angle: u8, middle: u8, most: u8) -> u8 {
     }
 }
 
-/// Puts a path.
-fn put_path<F: Fn(u8) -> u8>(image: &mut Image, path: u16, rule: F)
+/// Puts the table of a path.
+fn put_path<F: Fn(u8) -> u8>(image: &mut Image, table: Table, rule: F)
     requires { F.IsAlwaysCallable rule }
 {
     for angle in 0..=255u8 {
-        let at = PATHS + 256 * u32::from(path) + u32::from(angle);
+        let at = PATHS + 256 * table as u32 + u32::from(angle);
         image.put(at, &[rule(angle)]);
     }
 }
@@ -155,18 +151,22 @@ pub fn put_objects(image: &mut Image) {
     }
     // Two bits for each object: the letters are large.
     image.put(OBJECTS + 512, &[0xaa]);
-    put_path(image, BALL_X, |angle| swing(angle, 120, 112));
-    put_path(image, BALL_Y, |angle| swing(angle, 104, 44));
+    put_path(image, Table::BallX, |angle| swing(angle, 120, 112));
+    put_path(image, Table::BallY, |angle| swing(angle, 104, 44));
     put_path(
         image,
-        BALL_FRONT,
+        Table::BallFront,
         |angle| if angle.wrapping_add(64) < 128 {
             0x20
         } else {
             0x10
         },
     );
-    put_path(image, LETTER_Y, |angle| swing(angle, 16, 6));
-    put_path(image, GLINT_X, |angle| 88 + angle.min(255 - angle) / 2);
-    put_path(image, WAVE, |angle| swing(angle, 8, 6));
+    put_path(image, Table::LetterY, |angle| swing(angle, 16, 6));
+    put_path(
+        image,
+        Table::GlintX,
+        |angle| 88 + angle.min(255 - angle) / 2,
+    );
+    put_path(image, Table::Wave, |angle| swing(angle, 8, 6));
 }

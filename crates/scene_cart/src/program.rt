@@ -10,7 +10,7 @@ use crate::assembler::Step::{
 use crate::assembler::{Code, Label};
 use crate::image::{COLOURS, NUMBERS, OBJECTS, PATHS, SKY, SUN, VIDEO, WAVES};
 use crate::landscape::WAVE_PAIRS;
-use crate::objects::{BALL_FRONT, BALL_X, BALL_Y, BALLS, GLINT_X, GLINTS, LETTER_Y, WAVE};
+use crate::objects::{BALLS, GLINTS, Table};
 
 /// The direct page: numbers of the sums, the frame and the slower scrolls, and two angles with a zero behind each.
 const ROUNDS: u8 = 0x10;
@@ -42,7 +42,7 @@ const SECOND: u16 = 0x1100;
 
 const SUMS: u16 = 0x1200;
 
-/// What is written to a register at the start.
+/// What the registers of the picture are given at the start.
 static PICTURE: [(u16, u8); 22] = [
     (0x2105, 0x01), // BGMODE: mode 1
     (0x2107, 0x03), // BG1SC: map at 0000, 64 by 64
@@ -51,7 +51,7 @@ static PICTURE: [(u16, u8); 22] = [
     (0x210b, 0x42), // BG12NBA: tiles at 2000 and 4000
     (0x210c, 0x06), // BG34NBA: tiles at 6000
     (0x2101, 0x63), // OBSEL: objects of 16 and 32 pixels, tiles at 6000
-    (0x210e, 0xff), // BG1VOFS: one up, as the first row is row 1
+    (0x210e, 0xff), // BG1VOFS: one up, since the first row shows row 1
     (0x210e, 0x03),
     (0x2110, 0xff), // BG2VOFS
     (0x2110, 0x03),
@@ -75,14 +75,8 @@ fn set(code: &mut Code, register: u16, byte: u8) {
 
 /// Sets up a channel of DMA: its pattern, its register of page 21, and the place in the cartridge that it reads.
 fn aim(code: &mut Code, channel: u16, pattern: u8, register: u8, from: u32) {
-    aim_at(
-        code,
-        channel,
-        pattern,
-        register,
-        (from / 0x8000 % 4) as u8,
-        (from % 0x8000) as u16 | 0x8000,
-    );
+    let (bank, at) = ((from / 0x8000 % 4) as u8, (from % 0x8000) as u16);
+    aim_at(code, channel, pattern, register, bank, 0x8000 + at);
 }
 
 /// The same by bank and address.
@@ -98,7 +92,7 @@ fn aim_at(code: &mut Code, channel: u16, pattern: u8, register: u8, bank: u8, at
 /// Moves as many bytes as channel 0 is aimed for.
 fn move_bytes(code: &mut Code, size: u16) {
     let [low, high] = size.to_le_bytes();
-    set(code, 0x4305, low);
+    set(code, 0x4305, low); // DAS0
     set(code, 0x4306, high);
     set(code, 0x420b, 1); // MDMAEN
 }
@@ -106,18 +100,18 @@ fn move_bytes(code: &mut Code, size: u16) {
 /// Moves bytes of the cartridge into work RAM.
 fn to_work_ram(code: &mut Code, to: u16, from: u32, size: u16) {
     let [low, high] = to.to_le_bytes();
-    set(code, 0x2181, low);
+    set(code, 0x2181, low); // WMADD
     set(code, 0x2182, high);
     set(code, 0x2183, 0);
-    aim(code, 0, 0, 0x80, from);
+    aim(code, 0, 0, 0x80, from); // WMDATA
     move_bytes(code, size);
 }
 
 /// Moves the objects of work RAM to OAM.
 fn show_objects(code: &mut Code) {
-    set(code, 0x2102, 0);
+    set(code, 0x2102, 0); // OAMADD
     set(code, 0x2103, 0);
-    aim_at(code, 0, 0, 0x04, 0x7e, MOVED);
+    aim_at(code, 0, 0, 0x04, 0x7e, MOVED); // OAMDATA
     move_bytes(code, 0x220);
 }
 
@@ -132,30 +126,29 @@ fn start(code: &mut Code) {
         Run(Txs),
         Sep(0x20),
     ]);
-    set(code, 0x2100, 0x80);
-    set(code, 0x420d, 1);
-    set(code, 0x2115, 0x80);
+    set(code, 0x2100, 0x80); // INIDISP: forced blank
+    set(code, 0x420d, 1); // MEMSEL: fast ROM
+    set(code, 0x2115, 0x80); // VMAIN: a step after the high byte
     for half in 0..2u8 {
-        set(code, 0x2116, 0);
+        set(code, 0x2116, 0); // VMADD
         set(code, 0x2117, 0x40 * half);
-        aim(code, 0, 1, 0x18, VIDEO + 0x8000 * u32::from(half));
+        aim(code, 0, 1, 0x18, VIDEO + 0x8000 * u32::from(half)); // VMDATA
         move_bytes(code, 0x8000);
     }
-    set(code, 0x2121, 0);
-    aim(code, 0, 0, 0x22, COLOURS);
+    set(code, 0x2121, 0); // CGADD
+    aim(code, 0, 0, 0x22, COLOURS); // CGDATA
     move_bytes(code, 0x200);
     to_work_ram(code, MOVED, OBJECTS, 0x220);
     to_work_ram(code, BENT, WAVES, 0x80);
     to_work_ram(code, FIRST, NUMBERS, 0x200);
     show_objects(code);
-    // HDMA: BG1's scroll by two writes, a colour by four, a window by two.
-    aim_at(code, 1, 2, 0x0d, 0x7e, BENT);
-    aim(code, 2, 3, 0x21, SKY);
-    aim(code, 3, 1, 0x26, SUN);
+    aim_at(code, 1, 2, 0x0d, 0x7e, BENT); // BG1HOFS, twice
+    aim(code, 2, 3, 0x21, SKY); // CGADD and CGDATA, twice each
+    aim(code, 3, 1, 0x26, SUN); // WH0 and WH1
     for (register, byte) in PICTURE {
         set(code, register, byte);
     }
-    set(code, 0x4200, 0x81);
+    set(code, 0x4200, 0x81); // NMITIMEN: NMI and the pads
 }
 
 /// The game's work without an end: sums over arrays with a call for each, a product, and port 0.
@@ -176,13 +169,13 @@ fn work(code: &mut Code, mix: Label) {
         Bne(next),
         Sep(0x20),
         Lda(Direct(FACTOR)),
-        Sta(At(0x4202)),
-        Sta(At(0x4203)),
+        Sta(At(0x4202)), // WRMPYA
+        Sta(At(0x4203)), // WRMPYB
         Run(Nop),
         Run(Nop),
-        Lda(At(0x4216)),
+        Lda(At(0x4216)), // RDMPYL
         Sta(Direct(PRODUCT)),
-        Lda(At(0x2140)),
+        Lda(At(0x2140)), // APUIO0
         Run(Ina),
         Sta(At(0x2140)),
         Jmp(round),
@@ -213,13 +206,13 @@ fn mix(code: &mut Code) -> Label {
 #[derive(Clone, Copy)]
 struct Path {
     angle: u8,
-    table: u16,
+    table: Table,
     speed: u8,
     step: u8,
 }
 
 impl Path {
-    fn of(angle: u8, table: u16, speed: u8, step: u8) -> Path {
+    fn of(angle: u8, table: Table, speed: u8, step: u8) -> Path {
         Path {
             angle,
             table,
@@ -246,13 +239,13 @@ fn follow(code: &mut Code, path: &Path) {
         Adc(Byte(path.step)),
         Sta(Direct(path.angle)),
         Ldy(Direct(path.angle)),
-        Lda(AtY(table(path.table))),
+        Lda(AtY(address_of(path.table))),
     ]);
 }
 
-/// The address of a path's table.
-fn table(path: u16) -> u16 {
-    0x8000 + PATHS as u16 + 256 * (path % 16)
+/// The address of a table.
+fn address_of(table: Table) -> u16 {
+    0x8000 + PATHS as u16 + 256 * table as u16
 }
 
 /// Moves objects by paths: each has one across, one down, or both. Those with both come to the front and go behind.
@@ -280,7 +273,7 @@ fn move_objects(
             code.write(&[
                 Lda(AtX(MOVED + 3)),
                 And(Byte(0xcf)),
-                Ora(AtY(table(BALL_FRONT))),
+                Ora(AtY(address_of(Table::BallFront))),
                 Sta(AtX(MOVED + 3)),
             ]);
         }
@@ -300,7 +293,7 @@ fn move_objects(
 /// Bends the waves: the hills scroll with the frame, and the lake by a wave as well.
 fn bend_waves(code: &mut Code) -> Label {
     let label = code.here();
-    let wave = Path::of(ACROSS, WAVE, 2, 19);
+    let wave = Path::of(ACROSS, Table::Wave, 2, 19);
     begin(code, &wave);
     code.write(&[
         Lda(Direct(FRAME)),
@@ -339,18 +332,17 @@ fn interrupt(code: &mut Code, moves: &[Label]) -> Label {
         Run(Lsr),
         Sta(Direct(QUARTER)),
         Sep(0x20),
-        Lda(At(0x4210)),
+        Lda(At(0x4210)), // RDNMI
     ]);
     show_objects(code);
-    // HDMAEN: only here, since channels that are let go in mid-frame don't begin at their tables.
+    // HDMAEN is written only here: a channel that is let go in mid-frame doesn't begin at its table.
     set(code, 0x420c, 0x0e);
-    // BG2HOFS and BG3HOFS.
     code.write(&[
         Lda(Direct(HALF)),
-        Sta(At(0x210f)),
+        Sta(At(0x210f)), // BG2HOFS
         Stz(0x210f),
         Lda(Direct(QUARTER)),
-        Sta(At(0x2111)),
+        Sta(At(0x2111)), // BG3HOFS
         Stz(0x2111),
     ]);
     for part in moves {
@@ -363,12 +355,12 @@ fn interrupt(code: &mut Code, moves: &[Label]) -> Label {
 /// Writes the program, and gives where a reset and an NMI begin.
 pub fn write_program(code: &mut Code) -> (Label, Label) {
     let mix = mix(code);
-    let bob = Path::of(DOWN, LETTER_Y, 3, 40);
+    let bob = Path::of(DOWN, Table::LetterY, 3, 40);
     let letters = move_objects(code, 0, BALLS, None, Some(bob));
-    let across = Path::of(ACROSS, BALL_X, 1, 3);
-    let down = Path::of(DOWN, BALL_Y, 3, 6);
+    let across = Path::of(ACROSS, Table::BallX, 1, 3);
+    let down = Path::of(DOWN, Table::BallY, 3, 6);
     let balls = move_objects(code, BALLS, GLINTS, Some(across), Some(down));
-    let dance = Path::of(ACROSS, GLINT_X, 2, 83);
+    let dance = Path::of(ACROSS, Table::GlintX, 2, 83);
     let glints = move_objects(code, GLINTS, 128, Some(dance), None);
     let waves = bend_waves(code);
     let nmi = interrupt(code, &[letters, balls, glints, waves]);
