@@ -1,0 +1,63 @@
+//! The bytes of the cartridge, and where its parts lie: four banks of 32 KiB, one after another.
+
+use std::alloc::{AllocError, Global};
+
+pub const SIZE: usize = 0x2_0000;
+
+/// Tables of 256 bytes in bank 0, which the program reads by Y.
+pub const PATHS: u32 = 0x7000;
+
+pub const HEADER: u32 = 0x7fc0;
+/// What goes into VRAM, CGRAM and OAM.
+pub const VIDEO: u32 = 0x8000;
+
+pub const COLOURS: u32 = 0x1_8000;
+
+pub const OBJECTS: u32 = 0x1_8200;
+/// Tables of HDMA. That of the waves is bent in work RAM.
+pub const WAVES: u32 = 0x1_8500;
+
+pub const SKY: u32 = 0x1_8600;
+
+pub const SUN: u32 = 0x1_8800;
+/// What the program's sums begin with.
+pub const NUMBERS: u32 = 0x1_8a00;
+
+/// The cartridge while it is made.
+#[derive(Drop)]
+pub struct Image {
+    bytes: Vec<u8>,
+}
+
+impl Image {
+    /// An image of zeros.
+    pub fn new(alloc: Global) -> Result<Image, AllocError> {
+        let bytes = vec![in alloc; 0u8; SIZE]?;
+        Ok(Image { bytes })
+    }
+
+    pub fn bytes(&self) -> &[u8] {
+        self.bytes.as_slice()
+    }
+
+    /// Puts bytes from a place on. What lies outside the image is left out.
+    pub fn put(&mut self, at: u32, bytes: &[u8]) {
+        for (i, byte) in bytes.iter().enumerate() {
+            if let Some(place) = self.bytes.get_mut(at as usize + i) {
+                *place = *byte;
+            }
+        }
+    }
+
+    /// Puts a word, low byte first.
+    pub fn put_word(&mut self, at: u32, word: u16) {
+        self.put(at, &word.to_le_bytes());
+    }
+
+    /// Sets bits of a byte.
+    pub fn set_bits(&mut self, at: u32, bits: u8) {
+        if let Some(place) = self.bytes.get_mut(at as usize) {
+            *place |= bits;
+        }
+    }
+}
