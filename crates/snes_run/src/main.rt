@@ -1,29 +1,27 @@
 // The program: a cartridge, a boot ROM, an interpolation table, a script and a number of frames become
 // raw frames and raw samples.
 //
-// `snes` does all that the program does, and its contract is the theorem: at Ok the two outputs hold,
-// byte for byte, what the serial console emits. `main` only hands it the words and the files of the
-// system, and ends with its exit status. Stands on all other crates.
+// `snes_call::snes` does all that the program does, and its contract is the theorem. `main` only hands it
+// the words, the files of the system and a gate that does nothing, names the two machines that play a
+// job, and ends with its exit status. Stands on all other crates of the program.
 #![tactic(auto)]
 
-mod call;
-mod inputs;
-mod order;
-mod play;
-mod pour;
-mod run;
-mod snes_call;
-mod status;
-#[cfg(test)]
-mod tests;
-mod top;
-mod turns;
-
+use audio_side::AudioSide;
+use console_machine::ConsoleSide;
+use job_player::TwoMachines;
+use port_wire::Gate;
 use run_io::{Argv, FileShelf};
-pub use snes_call::snes;
-pub use status::Status;
+use snes_call::{Status, snes};
+use snes_defs::Side;
 use std::process::ExitCode;
 use std::{env, io};
+
+/// A gate that every worker passes at once.
+struct OpenGate;
+
+impl Gate for OpenGate {
+    fn arrive(&self, _side: Side, _turn: u64) {}
+}
 
 /// Hands the words after the program's own name to `snes`. Words that are no text are no words of a
 /// form: none is handed on.
@@ -44,5 +42,8 @@ fn main(rt: HostRuntime) -> ExitCode {
         }
     }
     let mut shelf = FileShelf::new(&rt);
-    ExitCode::from(snes(&rt, &words, &mut shelf).exit())
+    let status = snes::<TwoMachines<ConsoleSide, AudioSide>, _, _, _>(
+        &rt, &words, &mut shelf, &OpenGate,
+    );
+    ExitCode::from(status.exit())
 }

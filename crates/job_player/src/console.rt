@@ -1,0 +1,114 @@
+ghost use Rattle.std.specs.Prelude.{◌≡◌, ◌≤◌, [], IfOk, IfErr, OnOk, vec_len};
+ghost use Rattle.snes_defs.specs.declared.cart.Job.{Job};
+ghost use Rattle.run_drive.specs.Played.{PlayedWhole, PlayedFirst};
+ghost use Rattle.run_laws.specs.TurnBound.{most_turns};
+ghost use Rattle.job_player.specs.Start.{Emits, IsAtStart};
+
+use audio_side::AudioSide;
+use clock_ratio::end_stamp_in;
+use console_machine::ConsoleSide;
+use port_lock::{Ports, Whole};
+use port_wire::Gate;
+use run_drive::{Player, Sink, run_serial};
+use snes_defs::{Job, NoMemory, Side};
+use std::alloc::Global;
+use std::thread::Threads;
+use turn_drive::run_turns;
+
+/// The bytes of the buffer that a run is drained through: as many as can wait in a side.
+const BUFFER: usize = 65_536;
+
+/// The console of a job: both sides at their starts, the ports between them, the end of the job's frames,
+/// and a buffer.
+#[derive(Drop)]
+pub struct Console {
+    console: ConsoleSide,
+    sound: AudioSide,
+    ports: Ports,
+    whole: Whole,
+    end: u64,
+    buffer: Vec<u8>,
+}
+
+/// Runs a job's console on two workers, and answers how many turns it made: no more than the job's frames
+/// have.
+fn play_on_two<R: Threads, G: Gate, K: Sink>(
+    player: Console,
+    rt: &R,
+    gate: &G,
+    sink: &mut K,
+) -> Result<u64, Side>
+    requires at_start { (job : Job) × IsAtStart player.console player.sound player.ports player.whole player.end (vec_len player.buffer) job }
+    requires no_video { K.holds sink.old Side.Console [] }
+    requires no_sound { K.holds sink.old Side.Sound [] }
+    ensures whole { OnOk result ((job : Job) → IsAtStart player.console player.sound player.ports player.whole player.end (vec_len player.buffer) job → PlayedWhole (Emits job) (K.holds sink.new)) }
+    ensures first { (job : Job) → IsAtStart player.console player.sound player.ports player.whole player.end (vec_len player.buffer) job → PlayedFirst (Emits job) (K.holds sink.new) }
+    ensures bounded { IfOk result (λ turns. (job : Job) → IsAtStart player.console player.sound player.ports player.whole player.end (vec_len player.buffer) job → turns ≤ most_turns job.region job.frames) }
+    ensures failed { IfErr result (K.failed sink.old sink.new) }
+    ensures only { K.only_takes sink.old sink.new }
+{
+    let Console {
+        console,
+        sound,
+        ports,
+        whole,
+        end,
+        mut buffer,
+    } = player;
+    run_turns(
+        rt,
+        &ports,
+        whole,
+        console,
+        sound,
+        gate,
+        end,
+        buffer.as_mut_slice(),
+        sink,
+    )
+}
+
+impl Player for Console {
+    ghost emits = { Emits };
+
+    ghost plays = { λ player job. IsAtStart player.console player.sound player.ports player.whole player.end (vec_len player.buffer) job };
+
+    fn ready(alloc: Global, job: &Job) -> Result<Console, NoMemory> {
+        let console = ConsoleSide::new(alloc, job)?;
+        let sound = AudioSide::new(alloc, job)?;
+        let (ports, whole) = Ports::open(alloc, job.region)?;
+        let Ok(buffer) = vec![in alloc; 0u8; BUFFER] else {
+            return Err(NoMemory);
+        };
+        Ok(Console {
+            console,
+            sound,
+            ports,
+            whole,
+            end: end_stamp_in(job.region, job.frames),
+            buffer,
+        })
+    }
+
+    fn play_serial<K: Sink>(self, sink: &mut K) -> Result<(), Side> {
+        let Console {
+            console,
+            sound,
+            ports: _,
+            whole: _,
+            end,
+            mut buffer,
+        } = self;
+        run_serial(console, sound, end, buffer.as_mut_slice(), sink)
+    }
+
+    fn play_turns<R: Threads, G: Gate, K: Sink>(
+        self,
+        rt: &R,
+        gate: &G,
+        sink: &mut K,
+    ) -> Result<(), Side> {
+        play_on_two(self, rt, gate, sink)?;
+        Ok(())
+    }
+}
