@@ -5,4 +5,3 @@ pub mod Leaving
 pub mod Calling
 pub mod Passing
 pub mod Wholing
-pub mod Wiring

@@ -12,6 +12,7 @@ use Rattle.port_log.specs.declared.late.Late.{Late}
 use Rattle.port_log.specs.declared.late.Late.TheVariants as late
 use Rattle.port_wire.specs.Seen as seen
 use Rattle.port_wire.specs.Answers.{HearsOn}
+use Rattle.port_wire.specs.Whole.{HearBoth}
 use Rattle.port_wire.specs.declared.late.PassLate.{PassLate}
 use Rattle.port_wire.specs.declared.late.PassLate.TheVariants.{Behind, Ahead, Held}
 use Rattle.port_lock.specs.Known.{Half, Book}
@@ -23,8 +24,8 @@ use Rattle.port_lock.specs.Seating.{AreIdle, MissesOnce, half_in}
 use Rattle.port_lock.specs.Called.{IsTold, IfHeld, IfTold, logged_by, clock_by, ReadAnswers, ClearAnswers, WriteAnswers}
 use Rattle.port_lock.specs.Lateness.{IsAsOfLog}
 use Rattle.port_lock.specs.Passes.{shown, ports_of}
-use Rattle.port_lock.specs.Wholes.{WholeValue, whole_of, AreKnown, StandForBoth}
-use Rattle.port_lock.specs.WholeCalls.{own_half, other_half, whole_after, HearBoth, IsLateLook, ReadsWhole, ClearsWhole, WritesWhole, console_clocks, sound_clocks}
+use Rattle.port_lock.specs.Wholes.{WholeValue, whole_of, both_of, AreKnown, StandForBoth}
+use Rattle.port_lock.specs.WholeCalls.{own_half, other_half, whole_after, IsLateLook, ReadsWhole, ClearsWhole, WritesWhole, console_clocks, sound_clocks}
 use Rattle.port_lock.specs.declared.counts.Counts.{Counts}
 use Rattle.port_lock.specs.declared.seats.Seats.{Seats}
 use Rattle.port_lock.specs.declared.seats.Clocks.{Clocks}
@@ -235,7 +236,7 @@ module _ {side : Side} {before after : Seats} {sound : Clocks} {es : List Entry}
 
   pub both-hear : (c d : Counts) → (half_in side before.list.me.0).at ≤ clock
       → AllByRecursion (λ e. (half_in side before.list.me.0).at ≤ entry_stamp e) es
-      → HearBoth (whole_of before c d) (whole_of after c d)
+      → HearBoth (both_of (whole_of before c d)) (both_of (whole_of after c d))
   both-hear c d rises later =
       let console = half-true Console t.found before.list.me.0 t.known s.has_console in
       let sound = half-true Sound t.found before.list.me.0 t.known s.has_sound in

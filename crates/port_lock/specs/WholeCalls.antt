@@ -10,7 +10,6 @@ use Rattle.port_log.specs.Refused.{IsBehind, IsAhead}
 use Rattle.port_log.specs.declared.late.Late.{Late}
 use Rattle.port_log.specs.declared.late.Late.TheVariants.{Behind, Ahead}
 use Rattle.port_wire.specs.Seen.{Half}
-use Rattle.port_wire.specs.Answers.{HearsOn}
 use Rattle.port_lock.specs.declared.seats.Clocks.{Clocks}
 use Rattle.port_lock.specs.Wholes.{WholeValue}
 
@@ -42,11 +41,6 @@ whole_after Sound es clock w = record w {
   sound = having_heard w.console (having_logged es clock w.sound);
   told = w.told + 1;
 }
-
--- neither side forgets what it has heard
-pub record HearBoth (old new : WholeValue) : Type 0 where
-  pub console : HearsOn old.console new.console
-  pub sound : HearsOn old.sound new.sound
 
 -- a look at the ports at a stamp is refused exactly where the other side's clock is too early
 abbrev pub IsLateLook : Side → ℕ → Late → WholeValue → Type 0

@@ -3,9 +3,10 @@
 ghost use Rattle.std.specs.Prelude.{◌≡◌, ◌+◌, ◌<◌, ◌≤◌, []};
 ghost use Rattle.clock_ratio.specs.Stamp.{least_of, window_of};
 ghost use Rattle.port_entries.specs.Entry.{WriteAt, ClearAt};
+ghost use Rattle.port_wire.specs.Whole.{HearBoth};
 ghost use Rattle.port_lock.specs.Called.{logged_by, clock_by};
-ghost use Rattle.port_lock.specs.Wholes.{IsWholeOf};
-ghost use Rattle.port_lock.specs.WholeCalls.{own_half, other_half, whole_after, HearBoth, ReadsWhole, ClearsWhole, WritesWhole, console_clocks, sound_clocks};
+ghost use Rattle.port_lock.specs.Wholes.{IsWholeOf, both_of};
+ghost use Rattle.port_lock.specs.WholeCalls.{own_half, other_half, whole_after, ReadsWhole, ClearsWhole, WritesWhole, console_clocks, sound_clocks};
 
 use crate::late::as_of_log;
 use crate::ports::Ports;
@@ -44,7 +45,7 @@ impl Ports {
         requires own_clock { (own_half side whole.old).at ≤ at }
         ensures answer { ReadsWhole side at port result whole.old }
         ensures whole { whole.new ≡ whole_after side [] (own_half side whole.old).at whole.old }
-        ensures hears { HearBoth whole.old whole.new }
+        ensures hears { HearBoth (both_of whole.old) (both_of whole.new) }
     {
         let answer = self.read_by(side, &mut whole.seats, at, port);
         whole.sound = meet(side, &mut whole.seats.clocks);
@@ -60,7 +61,7 @@ impl Ports {
         ensures answer { ClearsWhole side at result whole.old }
         ensures whole { whole.new ≡ whole_after side (logged_by result (ClearAt at mask))
             (own_half side whole.old).at whole.old }
-        ensures hears { HearBoth whole.old whole.new }
+        ensures hears { HearBoth (both_of whole.old) (both_of whole.new) }
     {
         let answer = self.clear_by(side, &mut whole.seats, at, mask);
         whole.sound = meet(side, &mut whole.seats.clocks);
@@ -85,7 +86,7 @@ impl Ports {
         ensures answer { WritesWhole (window_of self.now.region) side at result whole.old }
         ensures whole { whole.new ≡ whole_after side (logged_by result (WriteAt at port v))
             (clock_by result next (own_half side whole.old).at) whole.old }
-        ensures hears { HearBoth whole.old whole.new }
+        ensures hears { HearBoth (both_of whole.old) (both_of whole.new) }
     {
         let answer = self.write_by(side, &mut whole.seats, at, port, v, next);
         whole.sound = meet(side, &mut whole.seats.clocks);
@@ -98,7 +99,7 @@ impl Ports {
         requires own_clock { (own_half side whole.old).at ≤ at }
         ensures answer { result ≡ (other_half side whole.old).at }
         ensures whole { whole.new ≡ whole_after side [] at whole.old }
-        ensures hears { HearBoth whole.old whole.new }
+        ensures hears { HearBoth (both_of whole.old) (both_of whole.new) }
     {
         let answer = self.advance_by(side, &mut whole.seats, at);
         whole.sound = meet(side, &mut whole.seats.clocks);

@@ -15,20 +15,21 @@ abbrev pub other_of : Side → Side
 other_of Console = Sound
 other_of Sound = Console
 
--- what every call over a whole keeps: the other side's list and clock, and both tallies. Each side may
--- have heard more, and forgets nothing
-pub record IsOwn (side : Side) (old new : Both) : Type 0 where
-  pub other_mine : (half_of (other_of side) new).mine ≡ (half_of (other_of side) old).mine
-  pub other_clock : (half_of (other_of side) new).at ≡ (half_of (other_of side) old).at
-  pub other_tally : (half_of (other_of side) new).tally ≡ (half_of (other_of side) old).tally
-  pub tally : (half_of side new).tally ≡ (half_of side old).tally
-  pub hears : HearsOn (half_of side old) (half_of side new)
-  pub other_hears : HearsOn (half_of (other_of side) old) (half_of (other_of side) new)
+-- all of a side but what it has heard is as it was
+pub record HasKept (old new : Half) : Type 0 where
+  pub mine : new.mine ≡ old.mine
+  pub clock : new.at ≡ old.at
+  pub tally : new.tally ≡ old.tally
 
--- a refused call logs nothing and publishes nothing
-pub record IsStill (own new : Half) : Type 0 where
-  pub mine : new.mine ≡ own.mine
-  pub clock : new.at ≡ own.at
+-- what every call over a whole keeps, of the side's own half and of the other's
+pub record IsOwn (side : Side) (old new : Both) : Type 0 where
+  pub other : HasKept (half_of (other_of side) old) (half_of (other_of side) new)
+  pub tally : (half_of side new).tally ≡ (half_of side old).tally
+
+-- either side may have heard more, and neither forgets anything
+pub record HearBoth (old new : Both) : Type 0 where
+  pub console : HearsOn old.console new.console
+  pub sound : HearsOn old.sound new.sound
 
 -- a look at a stamp that isn't settled by the other side's clock is refused as Behind
 abbrev pub IsUnsettled : Side → ℕ → ℕ → PassLate → Type 0
@@ -51,7 +52,7 @@ pub record ReadsWhole (side : Side) (at port byte : ℕ) (own other new : Half) 
 
 abbrev pub EndsReadWhole : Side → ℕ → ℕ → Result ℕ PassLate → Half → Half → Half → Type 0
 EndsReadWhole side at port (Ok byte) own other new = ReadsWhole side at port byte own other new
-EndsReadWhole side at port (Err late) own other new = IsStill own new × IsUnsettled side at other.at late
+EndsReadWhole side at port (Err late) own other new = HasKept own new × IsUnsettled side at other.at late
 
 -- a clear of the ports of a mask
 pub record ClearsWhole (side : Side) (at mask : ℕ) (own other new : Half) : Type 0 where
@@ -61,7 +62,7 @@ pub record ClearsWhole (side : Side) (at mask : ℕ) (own other new : Half) : Ty
 
 abbrev pub EndsClearWhole : {A : Type 0} → Side → ℕ → ℕ → Result A PassLate → Half → Half → Half → Type 0
 EndsClearWhole side at mask (Ok done) own other new = ClearsWhole side at mask own other new
-EndsClearWhole side at mask (Err late) own other new = IsStill own new × IsUnsettled side at other.at late
+EndsClearWhole side at mask (Err late) own other new = HasKept own new × IsUnsettled side at other.at late
 
 -- a write of a byte, which publishes a clock with it
 pub record WritesWhole (window at port byte next : ℕ) (own other new : Half) : Type 0 where
@@ -71,7 +72,7 @@ pub record WritesWhole (window at port byte next : ℕ) (own other new : Half) :
 
 abbrev pub EndsWriteWhole : {A : Type 0} → ℕ → ℕ → ℕ → ℕ → ℕ → Result A PassLate → Half → Half → Half → Type 0
 EndsWriteWhole window at port byte next (Ok done) own other new = WritesWhole window at port byte next own other new
-EndsWriteWhole window at port byte next (Err late) own other new = IsStill own new × IsBeyond window at other.at late
+EndsWriteWhole window at port byte next (Err late) own other new = HasKept own new × IsBeyond window at other.at late
 
 -- an advance of the own clock
 pub record AdvancesWhole (at : ℕ) (own new : Half) : Type 0 where

@@ -2,7 +2,7 @@ ghost use Rattle.std.specs.Prelude.{◌≡◌, ◌+◌, ◌<◌, ◌≤◌};
 ghost use Rattle.snes_defs.specs.declared.region.Region.{Region};
 ghost use Rattle.clock_ratio.specs.Stamp.{least_of, window_of};
 ghost use Rattle.port_wire.specs.Seen.{Seen, Both, Half, parted, AreReunited, half_of, with_half};
-ghost use Rattle.port_wire.specs.Whole.{other_of, IsOwn, EndsReadWhole, EndsClearWhole, EndsWriteWhole, AdvancesWhole};
+ghost use Rattle.port_wire.specs.Whole.{other_of, IsOwn, HearBoth, EndsReadWhole, EndsClearWhole, EndsWriteWhole, AdvancesWhole};
 ghost use Rattle.port_wire.specs.Answers.{HearsOn, EndsRead, EndsClear, EndsWrite, EndsAdvance};
 
 use crate::late::PassLate;
@@ -129,6 +129,7 @@ pub trait Wire: Sync {
         requires own_clock { (half_of side (both whole.old)).at ≤ at }
         ensures still_of { is_whole_of self.now whole.new }
         ensures own { IsOwn side (both whole.old) (both whole.new) }
+        ensures hears { HearBoth (both whole.old) (both whole.new) }
         ensures ends { EndsReadWhole side at port result (half_of side (both whole.old)) (half_of (other_of side) (both whole.old)) (half_of side (both whole.new)) };
 
     /// Zeroes the own incoming bytes of a mask at a stamp. It is refused as `PassLate::Behind` alone.
@@ -144,6 +145,7 @@ pub trait Wire: Sync {
         requires own_clock { (half_of side (both whole.old)).at ≤ at }
         ensures still_of { is_whole_of self.now whole.new }
         ensures own { IsOwn side (both whole.old) (both whole.new) }
+        ensures hears { HearBoth (both whole.old) (both whole.new) }
         ensures ends { EndsClearWhole side at mask result (half_of side (both whole.old)) (half_of (other_of side) (both whole.old)) (half_of side (both whole.new)) };
 
     /// Writes a byte to an outgoing port of a side at a stamp, and publishes the clock `next` with it. It
@@ -163,6 +165,7 @@ pub trait Wire: Sync {
         requires rises { at + least_of (region_of self.now) ≤ next }
         ensures still_of { is_whole_of self.now whole.new }
         ensures own { IsOwn side (both whole.old) (both whole.new) }
+        ensures hears { HearBoth (both whole.old) (both whole.new) }
         ensures ends { EndsWriteWhole (window_of (region_of self.now)) at port v next result (half_of side (both whole.old)) (half_of (other_of side) (both whole.old)) (half_of side (both whole.new)) };
 
     /// Publishes a clock of a side, and answers the other side's.
@@ -171,6 +174,7 @@ pub trait Wire: Sync {
         requires own_clock { (half_of side (both whole.old)).at ≤ at }
         ensures still_of { is_whole_of self.now whole.new }
         ensures own { IsOwn side (both whole.old) (both whole.new) }
+        ensures hears { HearBoth (both whole.old) (both whole.new) }
         ensures told { result ≡ (half_of (other_of side) (both whole.old)).at }
         ensures advances { AdvancesWhole at (half_of side (both whole.old)) (half_of side (both whole.new)) };
 }
