@@ -208,7 +208,7 @@ module _ {C S : Type 0} (cm : Moves C) (sm : Moves S) (end window : ℕ) (consol
     (old new : Both) (console_waited console_waits sound_waited sound_waits : List ℕ) (c : History C) (s : History S)
     (console_is : c.entries ≡ old.console.mine) (sound_is : s.entries ≡ old.sound.mine) where
   pub console_made : Tried Console cm window console_stands (as_heard new.console old.sound) console_waited console_waits c
-      → new.sound ≡ old.sound → sound_stands s.now
+      → new.sound.mine ≡ old.sound.mine → sound_stands s.now
       → cm.stamp c.now ≤ sm.stamp s.now → cm.stamp c.now < end
       → HasStepped cm sm end console_stands sound_stands new console_waited console_waits sound_waits sound_waits (Made Console) c s
   console_made t same stands first early = record {
@@ -216,18 +216,18 @@ module _ {C S : Type 0} (cm : Moves C) (sm : Moves S) (end window : ℕ) (consol
     after_s = s;
     stepped_is = (first, early, ap (λ l. heard_step Console cm l c) (sym sound_is), refl);
     console = stands_next Console cm window console_stands new.console old.sound console_waited console_waits c t;
-    sound = stands_still sound_stands new.sound sound_waits s stands (sound_is ∙ ap (λ (h : Half). h.mine) (sym same));
+    sound = stands_still sound_stands new.sound sound_waits s stands (sound_is ∙ sym same);
   }
 
   pub sound_made : Tried Sound sm window sound_stands (as_heard new.sound old.console) sound_waited sound_waits s
-      → new.console ≡ old.console → console_stands c.now
+      → new.console.mine ≡ old.console.mine → console_stands c.now
       → sm.stamp s.now < cm.stamp c.now → sm.stamp s.now < end
       → HasStepped cm sm end console_stands sound_stands new console_waits console_waits sound_waited sound_waits (Made Sound) c s
   sound_made t same stands first early = record {
     after_c = c;
     after_s = heard_step Sound sm old.console.mine s;
     stepped_is = (first, early, refl, ap (λ l. heard_step Sound sm l s) (sym console_is));
-    console = stands_still console_stands new.console console_waits c stands (console_is ∙ ap (λ (h : Half). h.mine) (sym same));
+    console = stands_still console_stands new.console console_waits c stands (console_is ∙ sym same);
     sound = stands_next Sound sm window sound_stands new.sound old.console sound_waited sound_waits s t;
   }
 

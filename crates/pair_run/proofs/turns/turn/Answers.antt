@@ -52,8 +52,8 @@ returns-clause-turned g c = λ c0 s0 c0_valid s0_valid a b on a_stands b_stands 
     (λ m stands. omega (arith, legs.console_clock, of_console.stands_stamp ran.console m stands))
     (λ m stands. omega (arith, legs.sound_clock, of_sound.stands_stamp ran.sound m stands))
     (λ p q p_stands q_stands p_is q_is. step.stepped p q p_stands q_stands
-    (p_is ∙ sym (ap mine met.console) ∙ sym told.advances.mine ∙ sym (ap mine told_too.own.other))
-    (q_is ∙ sym (ap mine met.sound) ∙ sym (ap mine told.own.other) ∙ sym told_too.advances.mine))
+    (p_is ∙ sym (ap mine met.console) ∙ sym told.advances.mine ∙ sym told_too.own.other.mine)
+    (q_is ∙ sym (ap mine met.sound) ∙ sym told.own.other.mine ∙ sym told_too.advances.mine))
     (⊎_elim (λ lt. inl (omega (arith, lt, of_console.stands_stamp c.args.console.now a.now a_stands)))
     (λ lt. inr (omega (arith, lt, of_sound.stands_stamp c.args.sound.now b.now b_stands))) c.requires.before_end)
     (λ m stands. held_still c.both_legs-console_end.result.0 (call_of (console.moves.act m)) (console.stamp_of ran.console) (console.moves.stamp m) tries_of_turn
@@ -61,13 +61,13 @@ returns-clause-turned g c = λ c0 s0 c0_valid s0_valid a b on a_stands b_stands 
     (subst (λ (q : Seen). IfHeldBack c.both_legs-console_end.result.0 (λ late. IsSpent (call_of (console.moves.act m)) (console.stamp_of ran.console) late tries_of_turn q.half first))
     parts.console (legs.console_spent m stands))
     (of_console.stands_stamp ran.console m stands)
-    (step.console_tally ∙ ap tally told_too.own.other ∙ told.own.tally ∙ ap tally met.console))
+    (step.console_tally ∙ told_too.own.other.tally ∙ told.own.tally ∙ ap tally met.console))
     (λ m stands. held_still c.both_legs-console_end.result.1 (call_of (sound.moves.act m)) (sound.stamp_of ran.sound) (sound.moves.stamp m) tries_of_turn
     (parted old.sound) second new.sound
     (subst (λ (q : Seen). IfHeldBack c.both_legs-console_end.result.1 (λ late. IsSpent (call_of (sound.moves.act m)) (sound.stamp_of ran.sound) late tries_of_turn q.half second))
     parts.sound (legs.sound_spent m stands))
     (of_sound.stands_stamp ran.sound m stands)
-    (step.sound_tally ∙ told_too.own.tally ∙ ap tally told.own.other ∙ ap tally met.sound))
+    (step.sound_tally ∙ told_too.own.tally ∙ told.own.other.tally ∙ ap tally met.sound))
 
 pub returns-clause-console_drain : goal.returns-clause-console_drain
 returns-clause-console_drain g c = λ is room.
