@@ -1,4 +1,4 @@
-use crate::players::{Open, Short};
+use crate::players::Short;
 use file_shelf::{MemShelf, Out, Shelf, SureShelf};
 use run_drive::Player;
 use run_io::Argv;
@@ -54,7 +54,7 @@ pub(crate) fn called_with<P: Player, R: AllocGlobal + Threads, H: Shelf>(
     for word in words {
         argv.push(word)?;
     }
-    Ok(snes::<P, R, H, Open>(rt, &argv, shelf, &Open))
+    Ok(snes::<P, R, H>(rt, &argv, shelf))
 }
 
 /// Calls the program with these words and the player of short runs.

@@ -1,9 +1,8 @@
-// Players that need no machine, and a gate.
+// Players that need no machine.
 ghost use Rattle.std.specs.Prelude.{◌≡◌, ◌∷◌, ℕ, [], take, OnOk, IfErr};
 ghost use Rattle.snes_defs.specs.declared.ports.Side.{Side};
 ghost use Rattle.call_rows.specs.Short.{short_video, short_audio};
 
-use port_wire::Gate;
 use run_drive::{Player, Sink};
 use snes_defs::{Job, NoMemory, Side};
 use std::alloc::Global;
@@ -49,12 +48,7 @@ impl Player for Short {
         emit(sink)
     }
 
-    fn play_turns<R: Threads, G: Gate, K: Sink>(
-        self,
-        _rt: &R,
-        _gate: &G,
-        sink: &mut K,
-    ) -> Result<(), Side> {
+    fn play_turns<R: Threads, K: Sink>(self, _rt: &R, sink: &mut K) -> Result<(), Side> {
         emit(sink)
     }
 }
@@ -76,19 +70,7 @@ impl Player for Starved {
         Ok(())
     }
 
-    fn play_turns<R: Threads, G: Gate, K: Sink>(
-        self,
-        _rt: &R,
-        _gate: &G,
-        _sink: &mut K,
-    ) -> Result<(), Side> {
+    fn play_turns<R: Threads, K: Sink>(self, _rt: &R, _sink: &mut K) -> Result<(), Side> {
         Ok(())
     }
-}
-
-/// A gate that lets everyone pass.
-pub(crate) struct Open;
-
-impl Gate for Open {
-    fn arrive(&self, _side: Side, _turn: u64) {}
 }

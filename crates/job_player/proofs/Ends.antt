@@ -1,5 +1,5 @@
 -- The run of a job comes to its end.
-use Rattle.std.proofs.Common.{◌≡◌, ◌≤◌, ◌^◌, ℕ, List, refl, arith}
+use Rattle.std.proofs.Common.{◌≤◌, ◌^◌, ℕ, List, refl, arith}
 use Rattle.snes_defs.specs.declared.cart.Job.{Job}
 use Rattle.snes_defs.specs.declared.region.Region.{Region}
 use Rattle.snes_defs.specs.declared.region.Region.TheVariants.{Ntsc, Pal}

@@ -30,15 +30,19 @@ end_of job = end_stamp_of job.region job.frames
 abbrev pub Emits : Job → List ℕ → List ℕ → Type 0
 Emits job = IsOutput console_moves sound_moves (serial_of (console_of job) (sound_of job)) (end_of job)
 
--- both sides stand at their starts, no byte waits in them, the ports between them are new and of the job's
--- region, the end is that of the job's frames, and the buffer has room for all that can wait
-pub record IsAtStart (c : ConsoleValue) (s : AudioValue) (ports : PortsKnown) (both : WholeValue) (end size : ℕ) (job : Job) : Type 0 where
+-- both sides stand at their starts, no byte waits in them, the end is that of the job's frames, and the
+-- buffer has room for all that can wait
+pub record IsAtStart (c : ConsoleValue) (s : AudioValue) (end size : ℕ) (job : Job) : Type 0 where
   pub few : job.frames ≤ 36000
   pub console : console_side.StandsAt c (console_of job)
   pub sound : sound_side.StandsAt s (sound_of job)
   pub no_video : c.waiting ≡ []
   pub no_audio : s.waiting ≡ []
-  pub region_is : ports.region ≡ job.region
-  pub both_are : both ≡ new_whole ports
   pub end_is : end ≡ end_of job
   pub size_is : size ≡ 65536
+
+-- the console is at its start, and the ports between its sides are new and of the job's region
+pub record IsReady (c : ConsoleValue) (s : AudioValue) (ports : PortsKnown) (both : WholeValue) (end size : ℕ) (job : Job) : Type 0 where
+  pub start : IsAtStart c s end size job
+  pub region_is : ports.region ≡ job.region
+  pub both_are : both ≡ new_whole ports

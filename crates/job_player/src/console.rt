@@ -2,8 +2,9 @@ ghost use Rattle.std.specs.Prelude.{◌≡◌, ◌≤◌, [], IfOk, IfErr, OnOk,
 ghost use Rattle.snes_defs.specs.declared.cart.Job.{Job};
 ghost use Rattle.run_drive.specs.Played.{PlayedWhole, PlayedFirst};
 ghost use Rattle.run_laws.specs.TurnBound.{most_turns};
-ghost use Rattle.job_player.specs.Start.{Emits, IsAtStart};
+ghost use Rattle.job_player.specs.Start.{Emits, IsReady};
 
+use crate::open_gate::OpenGate;
 use audio_side::AudioSide;
 use clock_ratio::end_stamp_in;
 use console_machine::ConsoleSide;
@@ -30,20 +31,20 @@ pub struct Console {
     buffer: Vec<u8>,
 }
 
-/// Runs a job's console on two workers, and answers how many turns it made: no more than the job's frames
-/// have.
-fn play_on_two<R: Threads, G: Gate, K: Sink>(
+/// Runs a job's console on two workers, each of which passes the gate as it sets out on a turn, and
+/// answers how many turns it made: no more than the frames of the job have.
+pub fn play_by_turns<R: Threads, G: Gate, K: Sink>(
     player: Console,
     rt: &R,
     gate: &G,
     sink: &mut K,
 ) -> Result<u64, Side>
-    requires at_start { (job : Job) × IsAtStart player.console player.sound player.ports player.whole player.end (vec_len player.buffer) job }
+    requires at_start { (job : Job) × IsReady player.console player.sound player.ports player.whole player.end (vec_len player.buffer) job }
     requires no_video { K.holds sink.old Side.Console [] }
     requires no_sound { K.holds sink.old Side.Sound [] }
-    ensures whole { OnOk result ((job : Job) → IsAtStart player.console player.sound player.ports player.whole player.end (vec_len player.buffer) job → PlayedWhole (Emits job) (K.holds sink.new)) }
-    ensures first { (job : Job) → IsAtStart player.console player.sound player.ports player.whole player.end (vec_len player.buffer) job → PlayedFirst (Emits job) (K.holds sink.new) }
-    ensures bounded { IfOk result (λ turns. (job : Job) → IsAtStart player.console player.sound player.ports player.whole player.end (vec_len player.buffer) job → turns ≤ most_turns job.region job.frames) }
+    ensures whole { OnOk result ((job : Job) → IsReady player.console player.sound player.ports player.whole player.end (vec_len player.buffer) job → PlayedWhole (Emits job) (K.holds sink.new)) }
+    ensures first { (job : Job) → IsReady player.console player.sound player.ports player.whole player.end (vec_len player.buffer) job → PlayedFirst (Emits job) (K.holds sink.new) }
+    ensures bounded { IfOk result (λ turns. (job : Job) → IsReady player.console player.sound player.ports player.whole player.end (vec_len player.buffer) job → turns ≤ most_turns job.region job.frames) }
     ensures failed { IfErr result (K.failed sink.old sink.new) }
     ensures only { K.only_takes sink.old sink.new }
 {
@@ -71,7 +72,7 @@ fn play_on_two<R: Threads, G: Gate, K: Sink>(
 impl Player for Console {
     ghost emits = { Emits };
 
-    ghost plays = { λ player job. IsAtStart player.console player.sound player.ports player.whole player.end (vec_len player.buffer) job };
+    ghost plays = { λ player job. IsReady player.console player.sound player.ports player.whole player.end (vec_len player.buffer) job };
 
     fn ready(alloc: Global, job: &Job) -> Result<Console, NoMemory> {
         let console = ConsoleSide::new(alloc, job)?;
@@ -102,13 +103,10 @@ impl Player for Console {
         run_serial(console, sound, end, buffer.as_mut_slice(), sink)
     }
 
-    fn play_turns<R: Threads, G: Gate, K: Sink>(
-        self,
-        rt: &R,
-        gate: &G,
-        sink: &mut K,
-    ) -> Result<(), Side> {
-        play_on_two(self, rt, gate, sink)?;
-        Ok(())
+    fn play_turns<R: Threads, K: Sink>(self, rt: &R, sink: &mut K) -> Result<(), Side> {
+        match play_by_turns(self, rt, &OpenGate, sink) {
+            Ok(_) => Ok(()),
+            Err(side) => Err(side),
+        }
     }
 }

@@ -6,5 +6,6 @@
 #![tactic(auto)]
 
 mod console;
+mod open_gate;
 
-pub use console::Console;
+pub use console::{Console, play_by_turns};

@@ -10,17 +10,15 @@ use crate::commands::follow;
 use crate::say::{refuse, say};
 use crate::status::Status;
 use file_shelf::Shelf;
-use port_wire::Gate;
 use run_drive::Player;
 use run_io::{Command, WordsEnd};
 use std::thread::Threads;
 
 /// Does what a command asks for, says how it ended, and gives the answer.
-fn commanded<P: Player, R: AllocGlobal + Threads, H: Shelf, G: Gate>(
+fn commanded<P: Player, R: AllocGlobal + Threads, H: Shelf>(
     rt: &R,
     command: &Command,
     shelf: &mut H,
-    gate: &G,
 ) -> Status
     requires { HasFewFrames command.now }
     ensures ends { EndsCall P.emits command.now (H.shown shelf.old) (H.shown shelf.new) result }
@@ -29,17 +27,16 @@ fn commanded<P: Player, R: AllocGlobal + Threads, H: Shelf, G: Gate>(
     ensures kept { IsKept (H.shown shelf.old) (H.shown shelf.new) }
     ensures unnamed { (H.shown shelf.new).named Out.Say ≡ (H.shown shelf.old).named Out.Say }
 {
-    let outcome = follow::<P, R, H, G>(rt, command, shelf, gate);
+    let outcome = follow::<P, R, H>(rt, command, shelf);
     say(shelf, outcome)
 }
 
 /// Does what words that were read ask for, and says how it ended.
 #[tactic(auto, using(crate::proofs::Calls::unread))]
-pub(crate) fn called<P: Player, R: AllocGlobal + Threads, H: Shelf, G: Gate>(
+pub(crate) fn called<P: Player, R: AllocGlobal + Threads, H: Shelf>(
     rt: &R,
     read: &Result<Command, WordsEnd>,
     shelf: &mut H,
-    gate: &G,
 ) -> Status
     requires { IfOk read.now HasFewFrames }
     ensures ends { IfOk read.now (λ command. EndsCall P.emits command (H.shown shelf.old) (H.shown shelf.new) result) }
@@ -52,7 +49,7 @@ pub(crate) fn called<P: Player, R: AllocGlobal + Threads, H: Shelf, G: Gate>(
     ensures unnamed { (H.shown shelf.new).named Out.Say ≡ (H.shown shelf.old).named Out.Say }
 {
     match read {
-        Ok(command) => commanded::<P, R, H, G>(rt, command, shelf, gate),
+        Ok(command) => commanded::<P, R, H>(rt, command, shelf),
         Err(WordsEnd::Usage) => refuse(shelf, Status::Usage),
         Err(WordsEnd::NoMemory) => refuse(shelf, Status::NoMemory),
     }

@@ -6,7 +6,6 @@ use crate::make_image::make_image;
 use crate::run_files::{CommandEnd, run_files};
 use crate::writing::Way;
 use file_shelf::Shelf;
-use port_wire::Gate;
 use run_drive::Player;
 use run_io::{Command, Line};
 use snes_defs::NoMemory;
@@ -14,11 +13,10 @@ use std::thread::Threads;
 
 /// Does what a command asks for, and gives the line to say.
 #[tactic(auto, using(crate::proofs::Changing::changing))]
-pub(crate) fn follow<P: Player, R: AllocGlobal + Threads, H: Shelf, G: Gate>(
+pub(crate) fn follow<P: Player, R: AllocGlobal + Threads, H: Shelf>(
     rt: &R,
     command: &Command,
     shelf: &mut H,
-    gate: &G,
 ) -> Result<Line, CommandEnd>
     requires { HasFewFrames command.now }
     ensures done { IfOk result (IsDone P.emits command.now (H.shown shelf.old) (H.shown shelf.new)) }
@@ -26,11 +24,11 @@ pub(crate) fn follow<P: Player, R: AllocGlobal + Threads, H: Shelf, G: Gate>(
     ensures only { OnlyCommanded command.now (H.shown shelf.old) (H.shown shelf.new) }
 {
     match command {
-        Command::Run(files) => run_files::<P, R, H, G>(rt, files, Way::Turns, shelf, gate),
-        Command::Serial(files) => run_files::<P, R, H, G>(rt, files, Way::Serial, shelf, gate),
+        Command::Run(files) => run_files::<P, R, H>(rt, files, Way::Turns, shelf),
+        Command::Serial(files) => run_files::<P, R, H>(rt, files, Way::Serial, shelf),
         Command::Make { number, out } => make_image(rt.alloc(), *number, out, shelf),
         Command::Demo { number, frames } => {
-            match play_demo::<P, R, G>(rt, *number, *frames, gate) {
+            match play_demo::<P, R>(rt, *number, *frames) {
                 Ok(line) => Ok(line),
                 Err(NoMemory) => Err(CommandEnd::NoMemory),
             }

@@ -4,7 +4,6 @@ ghost use Rattle.snes_call.specs.Made.{IsDemoJob, IsDemo};
 use crate::sums::Sums;
 use clock_ratio::{end_stamp, samples_before};
 use demo_files::{demo_boot_rom, demo_table, image};
-use port_wire::Gate;
 use run_drive::Player;
 use run_io::{Line, demo_line};
 use snes_defs::{Bytes, Cart, Job, MapKind, NoMemory, Region, Spans};
@@ -33,11 +32,10 @@ fn demo_job(alloc: Global, number: u32, frames: u32) -> Result<Job, NoMemory>
 }
 
 /// Plays the job of a demo in memory by two workers, and gives the line to say. It touches no shelf.
-pub(crate) fn play_demo<P: Player, R: AllocGlobal + Threads, G: Gate>(
+pub(crate) fn play_demo<P: Player, R: AllocGlobal + Threads>(
     rt: &R,
     number: u32,
     frames: u32,
-    gate: &G,
 ) -> Result<Line, NoMemory>
     requires { frames ≤ 36000 }
     ensures { IfOk result (IsDemo P.emits number frames) }
@@ -50,7 +48,7 @@ pub(crate) fn play_demo<P: Player, R: AllocGlobal + Threads, G: Gate>(
         return Err(NoMemory);
     };
     let mut sums = Sums::new();
-    match player.play_turns(rt, gate, &mut sums) {
+    match player.play_turns(rt, &mut sums) {
         Ok(()) => {
             let samples = samples_before(end_stamp(frames));
             Ok(demo_line(frames, samples, sums.video, sums.audio))

@@ -8,7 +8,6 @@ use crate::status::Why;
 use crate::writing::{RunEnd, Way, write_run};
 use clock_ratio::{end_stamp_in, samples_before_in};
 use file_shelf::{Input, Out, Shelf};
-use port_wire::Gate;
 use run_drive::Player;
 use run_io::{Files, Line, frames_line};
 use snes_defs::Job;
@@ -58,12 +57,11 @@ fn line_of_run(job: &Job) -> Line
 }
 
 /// Loads files, runs the job that they make, and gives the line to say.
-pub(crate) fn run_files<P: Player, R: AllocGlobal + Threads, H: Shelf, G: Gate>(
+pub(crate) fn run_files<P: Player, R: AllocGlobal + Threads, H: Shelf>(
     rt: &R,
     files: &Files,
     way: Way,
     shelf: &mut H,
-    gate: &G,
 ) -> Result<Line, CommandEnd>
     requires { files.now.frames ≤ 36000 }
     ensures made { IfOk result (IsRun P.emits files.now (H.shown shelf.old) (H.shown shelf.new)) }
@@ -74,7 +72,7 @@ pub(crate) fn run_files<P: Player, R: AllocGlobal + Threads, H: Shelf, G: Gate>(
         Ok(job) => job,
         Err(end) => return Err(unloaded(end)),
     };
-    match write_run::<P, R, H, G>(rt, &job, files, way, shelf, gate) {
+    match write_run::<P, R, H>(rt, &job, files, way, shelf) {
         Ok(()) => Ok(line_of_run(&job)),
         Err(end) => Err(unwritten(end)),
     }

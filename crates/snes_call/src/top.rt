@@ -20,7 +20,6 @@ ghost use Rattle.snes_call.specs.Snes.{OrNoMemory, IsLoadFaultUpTo, IsLeft, IsCl
 use crate::called::called;
 use crate::status::Status;
 use file_shelf::Shelf;
-use port_wire::Gate;
 use run_drive::Player;
 use run_io::{Argv, read_command};
 use std::thread::Threads;
@@ -32,11 +31,10 @@ use std::thread::Threads;
 ///
 /// Each clause speaks of what the shelf tells; of a shelf that tells nothing, of the words and of counts
 /// alone. `NoMemory` is the one answer that no input and no count causes.
-pub fn snes<P: Player, R: AllocGlobal + Threads, H: Shelf, G: Gate>(
+pub fn snes<P: Player, R: AllocGlobal + Threads, H: Shelf>(
     rt: &R,
     words: &Argv,
     shelf: &mut H,
-    gate: &G,
 ) -> Status
     // The headline: once a run is over, the files made a job, and its video and audio stand whole under their names.
     ensures headline { (command : Command) → command_of words.now ≡ Some command → Passed Running result → IsAnswered P.emits command (H.shown shelf.old) (H.shown shelf.new) result }
@@ -72,5 +70,5 @@ pub fn snes<P: Player, R: AllocGlobal + Threads, H: Shelf, G: Gate>(
     ensures refusal { IfSome (refusal_of result) (IsSaid (H.shown shelf.old) (H.shown shelf.new)) }
 {
     let read = read_command(rt.alloc(), words);
-    called::<P, R, H, G>(rt, &read, shelf, gate)
+    called::<P, R, H>(rt, &read, shelf)
 }

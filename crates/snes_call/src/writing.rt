@@ -7,7 +7,6 @@ ghost use Rattle.run_drive.specs.Played.{PlayedWhole, PlayedFirst};
 ghost use Rattle.snes_call.specs.Outputs.{taken_by, HoldsRun, EndsRun};
 
 use file_shelf::{Failed, Out, Shelf};
-use port_wire::Gate;
 use run_drive::{Player, out_of};
 use run_io::{Files, Name};
 use snes_defs::{Job, Side};
@@ -18,7 +17,7 @@ use std::thread::Threads;
 pub(crate) enum Way {
     /// By the serial console.
     Serial,
-    /// By two workers, turn by turn, each of which passes the gate.
+    /// By two workers, turn by turn.
     Turns,
 }
 
@@ -42,12 +41,11 @@ pub(crate) fn create<H: Shelf>(shelf: &mut H, out: Out, name: &Name) -> Result<(
 }
 
 /// Plays one way or the other.
-fn play_by<P: Player, R: Threads, H: Shelf, G: Gate>(
+fn play_by<P: Player, R: Threads, H: Shelf>(
     rt: &R,
     player: P,
     way: Way,
     shelf: &mut H,
-    gate: &G,
 ) -> Result<(), Side>
     requires at_start { (job : Job) × P.plays player job }
     requires video_created { Holds ((H.shown shelf.old).written Out.Video) [] }
@@ -59,17 +57,16 @@ fn play_by<P: Player, R: Threads, H: Shelf, G: Gate>(
 {
     match way {
         Way::Serial => player.play_serial(shelf),
-        Way::Turns => player.play_turns(rt, gate, shelf),
+        Way::Turns => player.play_turns(rt, shelf),
     }
 }
 
 /// Plays into two outputs that were created. Err names the one that was not written.
-fn play<P: Player, R: Threads, H: Shelf, G: Gate>(
+fn play<P: Player, R: Threads, H: Shelf>(
     rt: &R,
     player: P,
     way: Way,
     shelf: &mut H,
-    gate: &G,
 ) -> Result<(), Out>
     requires at_start { (job : Job) × P.plays player job }
     requires video_created { Holds ((H.shown shelf.old).written Out.Video) [] }
@@ -80,20 +77,19 @@ fn play<P: Player, R: Threads, H: Shelf, G: Gate>(
     ensures failed { IfErr result (λ out. HasRisen ((H.shown shelf.old).write_faults out) ((H.shown shelf.new).write_faults out)) }
     ensures only { OnlyFills (H.shown shelf.old) (H.shown shelf.new) }
 {
-    match play_by(rt, player, way, shelf, gate) {
+    match play_by(rt, player, way, shelf) {
         Ok(()) => Ok(()),
         Err(side) => Err(out_of(side)),
     }
 }
 
 /// Takes the memory of a run, creates its two outputs, video first, and plays it into them.
-pub(crate) fn write_run<P: Player, R: AllocGlobal + Threads, H: Shelf, G: Gate>(
+pub(crate) fn write_run<P: Player, R: AllocGlobal + Threads, H: Shelf>(
     rt: &R,
     job: &Job,
     files: &Files,
     way: Way,
     shelf: &mut H,
-    gate: &G,
 ) -> Result<(), RunEnd>
     requires { job.now.frames ≤ 36000 }
     ensures whole { OnOk result (HoldsRun P.emits job.now files.now (H.shown shelf.new)) }
@@ -109,7 +105,7 @@ pub(crate) fn write_run<P: Player, R: AllocGlobal + Threads, H: Shelf, G: Gate>(
     let Ok(()) = create(shelf, Out::Sound, &files.audio) else {
         return Err(RunEnd::WriteFault(Out::Sound));
     };
-    match play(rt, player, way, shelf, gate) {
+    match play(rt, player, way, shelf) {
         Ok(()) => Ok(()),
         Err(out) => Err(RunEnd::WriteFault(out)),
     }

@@ -2,26 +2,15 @@
 // raw frames and raw samples.
 //
 // `snes_call::snes` does all that the program does, and its contract is the theorem. `main` only hands it
-// the words, the files of the system and a gate that does nothing, names the two machines that play a
-// job, and ends with its exit status. Stands on all other crates of the program.
+// the words and the files of the system, names the console that plays a job, and ends with the exit
+// status of the answer. Stands on all other crates of the program.
 #![tactic(auto)]
 
-use audio_side::AudioSide;
-use console_machine::ConsoleSide;
-use job_player::TwoMachines;
-use port_wire::Gate;
+use job_player::Console;
 use run_io::{Argv, FileShelf};
 use snes_call::{Status, snes};
-use snes_defs::Side;
 use std::process::ExitCode;
 use std::{env, io};
-
-/// A gate that every worker passes at once.
-struct OpenGate;
-
-impl Gate for OpenGate {
-    fn arrive(&self, _side: Side, _turn: u64) {}
-}
 
 /// Hands the words after the program's own name to `snes`. Words that are no text are no words of a
 /// form: none is handed on.
@@ -42,8 +31,5 @@ fn main(rt: HostRuntime) -> ExitCode {
         }
     }
     let mut shelf = FileShelf::new(&rt);
-    let status = snes::<TwoMachines<ConsoleSide, AudioSide>, _, _, _>(
-        &rt, &words, &mut shelf, &OpenGate,
-    );
-    ExitCode::from(status.exit())
+    ExitCode::from(snes::<Console, _, _>(&rt, &words, &mut shelf).exit())
 }
