@@ -80,6 +80,7 @@ impl Parts {
         ensures quiet { IsTrue result → (w : World) → StandsAt (value_of self.old) w → act_of w.rest (due_of w) ≡ Quiet }
         ensures next { IsTrue result → (w : World) → StandsAt (value_of self.old) w → StandsAt (value_of self.new) (world_after w (due_of w) 0) }
         ensures none { IsTrue result → (w : World) → StandsAt (value_of self.old) w → bytes_after w (due_of w) 0 ≡ [] }
+        ensures keeps { IsSome (value_of self.old) → IsSome (value_of self.new) }
         ensures rises { IsTrue result → self.old.stamp + least_of self.old.region ≤ self.new.stamp }
         ensures rises_at_most { IsTrue result → self.new.stamp ≤ self.old.stamp + most_of self.old.region }
         ensures region { self.new.region ≡ self.old.region }
