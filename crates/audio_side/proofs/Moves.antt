@@ -1,4 +1,5 @@
-use Rattle.std.proofs.Common.{◌≡◌, ◌∙◌, ℕ, ◌&&◌, ◌++◌, nat_le, List, refl, sym, ap, subst}
+use Rattle.std.proofs.Common.{◌≡◌, ◌∙◌, ℕ, false, ◌&&◌, ◌++◌, nat_le, List, refl, sym, ap, subst}
+use Rattle.snes_defs.specs.declared.ports.Act.TheVariants.{Quiet}
 use Rattle.side_law.specs.Moves.{taken}
 use Rattle.spc_tables.specs.declared.access.SpcAccess.{SpcAccess}
 use Rattle.spc_tables.specs.declared.access.SpcAccess.TheVariants as Access
@@ -6,7 +7,7 @@ use Rattle.spc700.specs.Instruction.{Standing, moved_on, next_of}
 use Rattle.spc700.specs.Stands.{Stands}
 use Rattle.audio_side.specs.Board.{Board}
 use Rattle.audio_side.specs.Clock.{Clock, gone_on, is_reset_due}
-use Rattle.audio_side.specs.Effect.{act_of, act_of_load, emitted, given, loaded, passed, register_shown}
+use Rattle.audio_side.specs.Effect.{act_of, act_of_load, effect, emitted, given, loaded, passed, register_shown}
 use Rattle.audio_side.specs.Sound.{AudioValue, SoundState, StandsAt, board_before_end, processor_after, sound_act, sound_next}
 use Rattle.audio_side.specs.SoundLaws.{by_test}
 
@@ -54,3 +55,36 @@ bytes_emitted old more m h b =
 
 pub act_stands : (old : AudioValue) (m : SoundState) → StandsAt old m → sound_act (record { processor = m.processor; board = old.board; clock = old.clock }) ≡ sound_act m
 act_stands old m h = ap sound_act (same_state old m h)
+
+-- ---- a step without a reset whose access is quiet
+
+pub not_reset_processor : (s : Standing) (b : Board) (k : Clock) (got : ℕ) → is_reset_due k ≡ false → processor_after (state_with s b k) got ≡ moved_on s (given b (next_of s) got)
+unfolding processor_after
+not_reset_processor s b k got e = rw e refl
+
+pub not_reset_board : (s : Standing) (b : Board) (k : Clock) → is_reset_due k ≡ false → board_before_end (state_with s b k) ≡ effect b (next_of s)
+unfolding board_before_end
+not_reset_board s b k e = rw e refl
+
+pub quiet_stands : (old : AudioValue) (m : SoundState) → StandsAt old m → is_reset_due old.clock ≡ false
+    → ((s : Standing) → Stands old.processor s → act_of (next_of s) ≡ Quiet) → sound_act m ≡ Quiet
+unfolding sound_act
+quiet_stands old m h e quiet =
+    let none : is_reset_due m.clock ≡ false = ap is_reset_due (sym h.clock) ∙ e in
+    rw none (quiet m.processor h.processor)
+
+pub next_quiet : (old new : AudioValue) (m : SoundState) → StandsAt old m → is_reset_due old.clock ≡ false
+    → ((s : Standing) → Stands old.processor s → Stands new.processor (moved_on s (given old.board (next_of s) 0)))
+    → ((s : Standing) → Stands old.processor s → new.board ≡ passed old.clock.cycle (effect old.board (next_of s)))
+    → new.clock ≡ gone_on old.clock → StandsAt new (sound_next m 0)
+next_quiet old new m h e p b k =
+    let r = next_stands old new m 0 h
+    (λ s t. subst (λ (q : Standing). Stands new.processor q) (sym (not_reset_processor s old.board old.clock 0 e)) (p s t))
+    (λ s t. b s t ∙ ap (passed old.clock.cycle) (sym (not_reset_board s old.board old.clock e))) k in
+    record { processor = subst (λ (q : Standing). Stands new.processor q) (processor_taken m 0) r.processor; board = r.board; clock = r.clock }
+
+pub emits_quiet : (old : AudioValue) (more : List ℕ) (m : SoundState) → StandsAt old m → is_reset_due old.clock ≡ false
+    → ((s : Standing) → Stands old.processor s → more ≡ old.waiting ++ emitted old.clock.cycle (effect old.board (next_of s)))
+    → more ≡ old.waiting ++ emitted m.clock.cycle (board_before_end m)
+emits_quiet old more m h e b =
+    bytes_emitted old more m h (λ s t. b s t ∙ ap (λ (x : Board). old.waiting ++ emitted old.clock.cycle x) (sym (not_reset_board s old.board old.clock e)))

@@ -1,5 +1,5 @@
 -- What one access of the sound side's processor does: RAM, the boot ROM over it, and the registers F0 to FF (nocash fullsnes, "SNES APU Memory and I/O Map"; the timers' order: this project's own profile).
-use Rattle.std.specs.Prelude.{ℕ, Bool, true, false, ◌+◌, ◌-◌, ◌*◌, ◌/◌, ◌%◌, ◌==◌, ◌&&◌, ◌||◌, nat_le, nat_lt, List, [], ◌∷◌, slice_index, slice_set, if◌then◌else◌}
+use Rattle.std.specs.Prelude.{ℕ, Bool, true, ◌+◌, ◌-◌, ◌/◌, ◌%◌, ◌==◌, ◌&&◌, ◌||◌, nat_le, nat_lt, List, [], ◌∷◌, slice_index, slice_set, if◌then◌else◌}
 use Rattle.std.specs.Int.{w16, cast_unsigned}
 use Rattle.snes_defs.specs.declared.ports.Act.{Act}
 use Rattle.snes_defs.specs.declared.ports.Act.TheVariants.{Quiet, Read, Write, Clear}

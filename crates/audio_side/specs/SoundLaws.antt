@@ -1,6 +1,5 @@
-use Rattle.std.proofs.Common.{◌≡◌, ℕ, Bool, true, false, ◌+◌, ◌-◌, ◌*◌, ◌<◌, ◌≤◌, ◌==◌, ◌&&◌, nat_le, nat_lt, List, [], length, arith, sym, ap, subst, refl, zero-le, lit≤, if◌then◌else◌}
-use Rattle.snes_defs.specs.declared.ports.Act.{Act}
-use Rattle.snes_defs.specs.declared.ports.Act.TheVariants.{Quiet, Read, Write, Clear}
+use Rattle.std.proofs.Common.{◌≡◌, ℕ, Bool, true, false, ◌+◌, ◌-◌, ◌*◌, ◌<◌, ◌≤◌, ◌==◌, ◌&&◌, nat_le, nat_lt, length, arith, sym, ap, subst, refl, lit≤}
+use Rattle.snes_defs.specs.declared.ports.Act.TheVariants.{Clear}
 use Rattle.snes_defs.specs.declared.ports.Side.TheVariants.{Sound}
 use Rattle.snes_defs.specs.declared.region.Region.{Region}
 use Rattle.snes_defs.specs.declared.region.Region.TheVariants.{Ntsc, Pal}
@@ -8,11 +7,10 @@ use Rattle.clock_ratio.specs.Stamp.{least_of, most_of, rate_of}
 use Rattle.side_law.specs.Moves.{IsLawful, IsAtPorts}
 use Rattle.spc_tables.specs.declared.access.SpcAccess.{SpcAccess}
 use Rattle.spc_tables.specs.declared.access.SpcAccess.TheVariants as Access
-use Rattle.sdsp_voice.specs.Registers.{bit}
 use Rattle.spc700.specs.Instruction.{next_of}
 use Rattle.audio_side.specs.Board.{Board}
 use Rattle.audio_side.specs.Clock.{Clock, is_reset_due, stamp_now}
-use Rattle.audio_side.specs.Effect.{act_of, act_of_load, act_of_store, cleared_ports, emitted, is_sampling, sample_bytes, timed}
+use Rattle.audio_side.specs.Effect.{act_of, act_of_load, act_of_store, cleared_ports, emitted, is_sampling, sample_bytes}
 use Rattle.audio_side.specs.Sound.{AudioValue, SoundState, StandsAt, IsSound, board_before_end, sound_act, sound_moves}
 
 pub region_stands : (x : AudioValue) (m : SoundState) → StandsAt x m → IsSound x.clock.region m

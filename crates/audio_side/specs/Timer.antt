@@ -1,5 +1,5 @@
 -- The three timers of the sound side: F1 bits 0-2, FA to FC, FD to FF (nocash fullsnes, "SNES APU SPC700 I/O Ports").
-use Rattle.std.specs.Prelude.{ℕ, Bool, true, false, not, ◌&&◌, ◌+◌, ◌%◌, ◌==◌, if◌then◌else◌}
+use Rattle.std.specs.Prelude.{Bool, false, not, ◌&&◌, ◌+◌, ◌%◌, ◌==◌, if◌then◌else◌}
 use Rattle.audio_side.specs.declared.timer.Timer.{Timer}
 
 -- A TICK of a timer that is on: its stage goes on, and at the target (0 stands for 256) it is 0 again and the counter of four bits goes on

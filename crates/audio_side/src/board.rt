@@ -1,4 +1,4 @@
-ghost use Rattle.std.specs.Prelude.{◌≡◌, ◌<◌, ◌≤◌, ◌+◌, ◌%◌, ◌^◌, length};
+ghost use Rattle.std.specs.Prelude.{◌≡◌, ◌≢◌, ◌/◌, ◌<◌, ◌≤◌, ◌+◌, ◌%◌, ◌^◌, length};
 ghost use Rattle.std.specs.Int.{w16, cast_unsigned};
 ghost use Rattle.sdsp_voice.specs.Registers.{bit};
 ghost use Rattle.audio_side.specs.Board.{vector};
@@ -83,6 +83,20 @@ impl Hardware {
         } else if at < 0x100 {
             self.register(at, got)
         } else if at >= 0xFFC0 && self.boot_seen {
+            self.boot[(at - 0xFFC0) as usize]
+        } else {
+            self.ram[at as usize]
+        }
+    }
+
+    /// The same where the address is none of F0 to FF.
+    #[tactic(auto, unfolding(crate::specs::Effect::loaded))]
+    #[inline(always)]
+    pub fn load_memory(&self, at: u16) -> u8
+        requires { at / 16 ≢ 15 }
+        ensures { result ≡ loaded self.now at 0 }
+    {
+        if at >= 0xFFC0 && self.boot_seen {
             self.boot[(at - 0xFFC0) as usize]
         } else {
             self.ram[at as usize]
@@ -188,6 +202,16 @@ impl Hardware {
         } else {
             self.write_ram(at, byte);
         }
+    }
+
+    /// A write where the address is none of F0 to FF.
+    #[tactic(auto, unfolding(crate::specs::Effect::stored))]
+    #[inline(always)]
+    pub fn store_memory(&mut self, at: u16, byte: u8)
+        requires { at / 16 ≢ 15 }
+        ensures { self.new ≡ stored self.old at byte }
+    {
+        self.write_ram(at, byte);
     }
 
     /// A reset.

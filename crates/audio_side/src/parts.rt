@@ -1,4 +1,5 @@
-ghost use Rattle.std.specs.Prelude.{◌≡◌, ◌≤◌, ◌+◌, ◌^◌, ◌++◌, length};
+ghost use Rattle.std.specs.Prelude.{◌≡◌, false, IsTrue, ◌≤◌, ◌+◌, ◌^◌, ◌++◌, length};
+ghost use Rattle.snes_defs.specs.declared.ports.Act.TheVariants.{Quiet};
 ghost use Rattle.side_law.specs.Moves.{IsAtPorts, taken};
 ghost use Rattle.audio_side.specs.Clock.{gone_on, stamp_now};
 ghost use Rattle.audio_side.specs.Effect.{emitted};
@@ -6,7 +7,7 @@ ghost use Rattle.audio_side.specs.Sound.{IsRunning, SoundState, StandsAt, board_
 
 use crate::board::Hardware;
 use crate::clock::CycleClock;
-use crate::step::{begin, finish, next_act};
+use crate::step::{begin, finish, next_act, try_access};
 use circular_buffer::HeapCircularBuffer;
 use snes_defs::Act;
 use spc700::Spc;
@@ -51,5 +52,34 @@ impl Parts {
         begin(&mut self.spc, &mut self.board, &self.clock, got);
         finish(&mut self.board, cycle, &mut self.waiting);
         self.clock.go_on();
+    }
+
+    /// Makes a step where it is seen at once that it is quiet, and answers whether it did. Otherwise nothing has
+    /// changed.
+    #[inline(always)]
+    pub fn try_step(&mut self) -> bool
+        requires room { length self.old.waiting.items + 4 ≤ self.old.waiting.capacity }
+        requires early { stamp_now self.old.clock ≤ 2 ^ 62 }
+        ensures quiet { IsTrue result → (m : SoundState) → StandsAt (value_of self.old) m → sound_act m ≡ Quiet }
+        ensures next { IsTrue result → (m : SoundState) → StandsAt (value_of self.old) m → StandsAt (value_of self.new) (sound_next m 0) }
+        ensures emits { IsTrue result → (m : SoundState) → StandsAt (value_of self.old) m
+            → self.new.waiting.items ≡ self.old.waiting.items ++ emitted m.clock.cycle (board_before_end m) }
+        ensures clock { IsTrue result → self.new.clock ≡ gone_on self.old.clock }
+        ensures region { self.new.clock.region ≡ self.old.clock.region }
+        ensures capacity { self.new.waiting.capacity ≡ self.old.waiting.capacity }
+        ensures few { length self.new.waiting.items ≤ length self.old.waiting.items + 4 }
+        ensures runs { IsRunning self.old.spc → IsRunning self.new.spc }
+        ensures stays { result ≡ false → value_of self.new ≡ value_of self.old }
+    {
+        if self.clock.is_due() {
+            return false;
+        }
+        if !try_access(&mut self.spc, &mut self.board) {
+            return false;
+        }
+        let cycle = self.clock.number();
+        finish(&mut self.board, cycle, &mut self.waiting);
+        self.clock.go_on();
+        true
     }
 }

@@ -195,6 +195,11 @@ impl Machine for AudioSide {
     }
 
     #[inline(always)]
+    fn try_step(&mut self) -> bool {
+        self.parts.try_step()
+    }
+
+    #[inline(always)]
     fn pending(&self) -> usize {
         self.parts.waiting.len()
     }

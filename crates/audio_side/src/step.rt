@@ -1,9 +1,10 @@
-ghost use Rattle.std.specs.Prelude.{◌≡◌, ◌≤◌, ◌+◌, ◌^◌, ◌++◌, length};
+ghost use Rattle.std.specs.Prelude.{◌≡◌, ◌≢◌, ◌/◌, false, IsTrue, MatchBool, ◌≤◌, ◌+◌, ◌^◌, ◌++◌, length};
 ghost use Rattle.side_law.specs.Moves.{IsAtPorts};
-ghost use Rattle.spc700.specs.Instruction.{Standing, at_reset, moved_on, next_of};
-ghost use Rattle.spc700.specs.Stands.{Stands};
+ghost use Rattle.snes_defs.specs.declared.ports.Act.TheVariants.{Quiet};
+ghost use Rattle.spc700.specs.Instruction.{Standing, at_reset, gets_byte, moved_on, next_of};
+ghost use Rattle.spc700.specs.Stands.{Stands, access_of};
 ghost use Rattle.audio_side.specs.Board.{vector};
-ghost use Rattle.audio_side.specs.Effect.{act_of, act_of_load, act_of_store, effect, emitted, given, passed, reset_board};
+ghost use Rattle.audio_side.specs.Effect.{act_of, act_of_load, after_load, loaded, act_of_store, effect, emitted, given, passed, reset_board};
 ghost use Rattle.audio_side.specs.Sound.{IsRunning, SoundState, board_before_end, processor_after, sound_act};
 
 use crate::board::{Hardware, cleared};
@@ -94,6 +95,61 @@ fn access(spc: &mut Spc, board: &mut Hardware, got: u8)
             spc.wrote();
         }
         SpcAccess::Inner => spc.idle(),
+    }
+}
+
+/// Whether an address is one of the registers F0 to FF.
+#[inline(always)]
+fn is_register(at: u16) -> bool
+    ensures { MatchBool result (at / 16 ≡ 15) (at / 16 ≢ 15) }
+{
+    at / 16 == 15
+}
+
+/// The processor fetches or reads a byte of RAM or of the boot ROM.
+#[tactic(auto, unfolding(crate::specs::Effect::act_of_load, crate::specs::Effect::after_load))]
+#[inline(always)]
+fn try_load(spc: &mut Spc, board: &Hardware, at: u16) -> bool
+    requires { IsTrue (gets_byte (access_of spc.old)) }
+    ensures quiet { IsTrue result → act_of_load at ≡ Quiet }
+    ensures processor { IsTrue result → (s : Standing) → Stands spc.old s → Stands spc.new (moved_on s (loaded board.now at 0)) }
+    ensures board { IsTrue result → after_load board.now at ≡ board.now }
+    ensures stays { result ≡ false → spc.new ≡ spc.old }
+{
+    if is_register(at) {
+        return false;
+    }
+    let byte = board.load_memory(at);
+    spc.took(byte);
+    true
+}
+
+/// The processor's next access is made where it is one of RAM or of the boot ROM, or an internal cycle, and
+/// whether it was is answered. Otherwise nothing has changed.
+#[tactic(auto, unfolding(crate::specs::Effect::act_of_store))]
+#[inline(always)]
+pub fn try_access(spc: &mut Spc, board: &mut Hardware) -> bool
+    ensures quiet { IsTrue result → (s : Standing) → Stands spc.old s → act_of (next_of s) ≡ Quiet }
+    ensures processor { IsTrue result → (s : Standing) → Stands spc.old s → Stands spc.new (moved_on s (given board.old (next_of s) 0)) }
+    ensures board { IsTrue result → (s : Standing) → Stands spc.old s → board.new ≡ effect board.old (next_of s) }
+    ensures spc_stays { result ≡ false → spc.new ≡ spc.old }
+    ensures board_stays { result ≡ false → board.new ≡ board.old }
+{
+    match spc.next() {
+        SpcAccess::Fetch(at) => try_load(spc, board, at),
+        SpcAccess::Read(at) => try_load(spc, board, at),
+        SpcAccess::Write(at, byte) => {
+            if is_register(at) {
+                return false;
+            }
+            board.store_memory(at, byte);
+            spc.wrote();
+            true
+        }
+        SpcAccess::Inner => {
+            spc.idle();
+            true
+        }
     }
 }
 

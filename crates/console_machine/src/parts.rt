@@ -1,4 +1,5 @@
-ghost use Rattle.std.specs.Prelude.{◌≡◌, ◌≤◌, ◌+◌, ◌*◌, ◌^◌, ◌++◌, ℕ, length};
+ghost use Rattle.std.specs.Prelude.{◌≡◌, ◌≤◌, ◌+◌, ◌*◌, ◌^◌, ◌++◌, ℕ, [], false, IsTrue, length};
+ghost use Rattle.snes_defs.specs.declared.ports.Act.TheVariants.{Quiet};
 ghost use Rattle.snes_defs.specs.declared.ports.Side.TheVariants.{Console};
 ghost use Rattle.clock_ratio.specs.Stamp.{least_of, most_of, rate_of};
 ghost use Rattle.side_law.specs.Moves.{IsAtPorts, taken};
@@ -6,7 +7,7 @@ ghost use Rattle.console_steps.specs.World.{World, act_of, due_of, world_after, 
 ghost use Rattle.console_machine.specs.Side.{IsSome, StandsAt};
 
 use crate::acts::due_act;
-use crate::step::make_step;
+use crate::step::{make_step, try_make};
 use circular_buffer::HeapCircularBuffer;
 use console_bus::Bus;
 use cpu65816::Cpu;
@@ -69,5 +70,29 @@ impl Parts {
     {
         let clocks = make_step(&mut self.cpu, &mut self.bus, &mut self.waiting, got);
         self.stamp += stamps(self.region, clocks);
+    }
+
+    /// Makes the step where it is seen at once that it is quiet and emits nothing, and answers whether it did.
+    /// Otherwise nothing has changed.
+    #[inline(always)]
+    pub fn try_step(&mut self) -> bool
+        requires early { self.old.stamp ≤ 2 ^ 62 }
+        ensures quiet { IsTrue result → (w : World) → StandsAt (value_of self.old) w → act_of w.rest (due_of w) ≡ Quiet }
+        ensures next { IsTrue result → (w : World) → StandsAt (value_of self.old) w → StandsAt (value_of self.new) (world_after w (due_of w) 0) }
+        ensures none { IsTrue result → (w : World) → StandsAt (value_of self.old) w → bytes_after w (due_of w) 0 ≡ [] }
+        ensures keeps { IsSome (value_of self.old) → IsSome (value_of self.new) }
+        ensures rises { IsTrue result → self.old.stamp + least_of self.old.region ≤ self.new.stamp }
+        ensures rises_at_most { IsTrue result → self.new.stamp ≤ self.old.stamp + most_of self.old.region }
+        ensures region { self.new.region ≡ self.old.region }
+        ensures waiting { self.new.waiting ≡ self.old.waiting }
+        ensures stays { result ≡ false → value_of self.new ≡ value_of self.old }
+    {
+        match try_make(&mut self.cpu, &mut self.bus) {
+            Some(clocks) => {
+                self.stamp += stamps(self.region, clocks);
+                true
+            }
+            None => false,
+        }
     }
 }

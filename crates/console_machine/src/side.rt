@@ -115,6 +115,11 @@ impl Machine for ConsoleSide {
     }
 
     #[inline(always)]
+    fn try_step(&mut self) -> bool {
+        self.parts.try_step()
+    }
+
+    #[inline(always)]
     fn pending(&self) -> usize {
         self.parts.waiting.len()
     }

@@ -1,9 +1,10 @@
-ghost use Rattle.std.specs.Prelude.{◌≡◌, ◌+◌, ◌<◌, ◌≤◌, ◌++◌, ℕ, Option, Some, IsTrue, length};
+ghost use Rattle.std.specs.Prelude.{◌≡◌, ◌+◌, ◌<◌, ◌≤◌, ◌++◌, ℕ, Option, Some, None, [], IfSome, IsTrue, length};
+ghost use Rattle.snes_defs.specs.declared.ports.Act.TheVariants.{Quiet};
 ghost use Rattle.cpu_modes.specs.Plan.{gets_byte, is_write, is_inner};
 ghost use Rattle.cpu_tables.specs.declared.access.Access.{Access};
 ghost use Rattle.cpu65816.specs.Instruction.{Standing, next_of};
 ghost use Rattle.cpu65816.specs.Stands.{Stands, access_of};
-ghost use Rattle.console_steps.specs.World.{World, Accesses, access_clocks, due_of, due_clocks, rest_after, processor_after, with_lines, world_after, bytes_after};
+ghost use Rattle.console_steps.specs.World.{World, Accesses, access_clocks, act_of, due_of, due_clocks, rest_after, processor_after, with_lines, world_after, bytes_after};
 ghost use Rattle.console_steps.specs.Stands.{IsAt};
 ghost use Rattle.cart_map.specs.Clocks.{clocks_of};
 ghost use Rattle.console_machine.specs.Dues.{due_from};
@@ -11,7 +12,9 @@ ghost use Rattle.console_machine.specs.Dues.{due_from};
 use cart_map::clocks;
 use circular_buffer::HeapCircularBuffer;
 use console_bus::Bus;
-use console_steps::{give_lines, make_inner, make_move, make_read, make_reset, make_write, pass};
+use console_steps::{
+    give_lines, make_inner, make_move, make_read, make_reset, make_write, pass, try_access,
+};
 use cpu_tables::Access;
 use cpu65816::Cpu;
 
@@ -83,6 +86,25 @@ fn make_effect(cpu: &mut Cpu, bus: &mut Bus, got: u8) -> u8
         return 8;
     }
     make_access(cpu, bus, got)
+}
+
+/// Makes the step that is due where it is seen at once that it is quiet and that nothing else happens in its
+/// clocks, and answers how many these are. Otherwise nothing has changed.
+#[inline(always)]
+pub(crate) fn try_make(cpu: &mut Cpu, bus: &mut Bus) -> Option<u8>
+    ensures quiet { IfSome result (λ clocks. (w : World) → IsAt cpu.old bus.old w → act_of w.rest (due_of w) ≡ Quiet) }
+    ensures at { IfSome result (λ clocks. (w : World) → IsAt cpu.old bus.old w → IsAt cpu.new bus.new (world_after w (due_of w) 0)) }
+    ensures none { IfSome result (λ clocks. (w : World) → IsAt cpu.old bus.old w → bytes_after w (due_of w) 0 ≡ []) }
+    ensures clocks { IfSome result (λ clocks. (w : World) → IsAt cpu.old bus.old w → clocks ≡ due_clocks (due_of w) w.rest.io.fast) }
+    ensures least { IfSome result (λ clocks. 6 ≤ clocks) }
+    ensures few { IfSome result (λ clocks. clocks ≤ 40) }
+    ensures bus_stays { result ≡ None → bus.new ≡ bus.old }
+    ensures cpu_stays { result ≡ None → cpu.new ≡ cpu.old }
+{
+    if bus.is_busy() {
+        return None;
+    }
+    try_access(cpu, bus)
 }
 
 /// Makes the step that is due, and answers how many master clocks it lasts. `got` is the incoming byte of the

@@ -1,10 +1,10 @@
 -- No event moves the beam; and how many bytes the events of a place emit.
-use Rattle.std.proofs.Common.{◌≡◌, ℕ, ◌+◌, ◌==◌, Bool, true, false, List, [], ◌++◌, length, refl, sym, ap, ◌∙◌, if◌then◌else◌, length-append}
+use Rattle.std.proofs.Common.{◌≡◌, ℕ, ◌+◌, ◌==◌, Bool, true, false, List, ◌++◌, length, refl, ap, ◌∙◌, if◌then◌else◌, length-append}
 use Rattle.beam.specs.declared.events.Event.{Event}
 use Rattle.beam.specs.declared.events.Event.TheVariants.{Line, Blank, HdmaFrame, Refresh, Draw, HdmaLine, Timer}
 use Rattle.beam.specs.Events.{BeamValue}
 use Rattle.console_bus.specs.Rest.{Rest}
-use Rattle.console_bus.specs.Happenings.{happened, emitted_at, frame_begun, blank_begun, row_drawn, row_bytes, is_shown, list_of}
+use Rattle.console_bus.specs.Happenings.{happened, frame_begun, blank_begun, row_drawn, row_bytes, is_shown}
 use Rattle.console_steps.proofs.RowBytes.{length-list_of}
 
 if_beam : (b : Bool) (x y : Rest) (beam : BeamValue) → x.beam ≡ beam → y.beam ≡ beam → (if b then x else y).beam ≡ beam

@@ -1,8 +1,8 @@
 -- The clocks that pass: quiet ones, and those that lead to a place with events.
-use Rattle.std.proofs.Common.{◌≡◌, ℕ, zero, suc, ◌+◌, ◌-◌, ◌<◌, ◌≤◌, ◌==◌, Bool, true, false, IsTrue, List, [], ◌∷◌, ◌++◌, refl, sym, ap, subst, ◌∙◌, arith, add-zero, append_assoc, if◌then◌else◌, ◌&&◌, nat_le}
+use Rattle.std.proofs.Common.{◌≡◌, ℕ, zero, suc, ◌+◌, ◌-◌, ◌<◌, ◌≤◌, ◌==◌, Bool, true, false, IsTrue, List, [], ◌∷◌, ◌++◌, refl, sym, ap, ◌∙◌, arith, add-zero, append_assoc, if◌then◌else◌, ◌&&◌, nat_le}
 use Rattle.std.proofs.lemmas.Bool.Decides.{nat_tests}
 use Rattle.beam.specs.declared.events.Event.{Event}
-use Rattle.beam.specs.Events.{BeamValue, events_of, happens_next, happens_at, beam_next, beam_after, passed, next_v, next_h}
+use Rattle.beam.specs.Events.{BeamValue, happens_next, happens_at, beam_next, beam_after, passed, next_v, next_h}
 use Rattle.console_steps.specs.World.{World, overscan_of, moved, events_next, after_events, bytes_of_events, after_clocks, bytes_in}
 use Rattle.console_steps.specs.Draws.{room_for}
 

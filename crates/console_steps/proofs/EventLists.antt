@@ -1,5 +1,5 @@
 -- Events one list after another.
-use Rattle.std.proofs.Common.{◌≡◌, ℕ, List, [], ◌∷◌, ◌++◌, refl, sym, ap, ◌∙◌, append_assoc, append-nil}
+use Rattle.std.proofs.Common.{◌≡◌, List, [], ◌∷◌, ◌++◌, refl, sym, ap, ◌∙◌, append_assoc, append-nil}
 use Rattle.beam.specs.declared.events.Event.TheVariants.{Draw, HdmaLine, Timer}
 use Rattle.beam.specs.declared.events.Happens.{Happens}
 use Rattle.beam.specs.Events.{one_if, events_of}

@@ -1,11 +1,10 @@
 -- What the bus says of its clocks, told of the world that it is at.
-use Rattle.std.proofs.Common.{◌≡◌, ℕ, IsTrue, true, false, ◌+◌, ◌==◌, if◌then◌else◌, arith, ◌-◌, ◌<◌, ◌≤◌, ◌++◌, List, [], Bool, subst, ap, sym, ◌∙◌}
-use Rattle.beam.specs.declared.events.Event.{Event}
+use Rattle.std.proofs.Common.{◌≡◌, ℕ, IsTrue, true, false, ◌+◌, ◌==◌, if◌then◌else◌, arith, ◌-◌, ◌<◌, ◌≤◌, ◌++◌, [], Bool, subst, ap, sym, ◌∙◌}
 use Rattle.beam.specs.declared.events.Happens.{Happens}
-use Rattle.beam.specs.Events.{BeamValue, events_of, happens_next, beam_next, beam_after, passed}
+use Rattle.beam.specs.Events.{events_of, happens_next, beam_next, beam_after, passed}
 use Rattle.cpu65816.specs.declared.processor.Cpu.{Cpu}
 use Rattle.console_bus.specs.Rest.{Rest}
-use Rattle.console_steps.specs.World.{World, overscan_of, moved, events_next, after_events, bytes_of_events, after_clocks, bytes_in}
+use Rattle.console_steps.specs.World.{World, after_events, bytes_of_events, after_clocks, bytes_in}
 use Rattle.console_steps.specs.Stands.{IsAt}
 use Rattle.console_steps.proofs.Clocks.{quiet_clocks, drifted, arrived, arrival, clocks_to_place, DrawsAt, draws_at, room_left}
 use Rattle.console_steps.specs.Draws.{room_for}

@@ -1,5 +1,5 @@
 -- Whether a row is drawn in the next clocks, by the line clock.
-use Rattle.std.specs.Prelude.{ℕ, ◌+◌, Bool, ◌&&◌, ◌||◌, nat_lt, nat_le, if◌then◌else◌}
+use Rattle.std.specs.Prelude.{ℕ, ◌+◌, ◌&&◌, ◌||◌, nat_lt, nat_le, if◌then◌else◌}
 
 -- the bytes of the rows drawn at 1096 in so many clocks, fewer than a line, after the line clock h
 unfoldable pub room_for : ℕ → ℕ → ℕ

@@ -2,3 +2,4 @@ pub mod World
 pub mod Stands
 pub mod Parts
 pub mod Draws
+pub mod AtOnce

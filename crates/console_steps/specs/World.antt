@@ -1,6 +1,6 @@
 -- The console as a machine: its state, the step that is due, what that step does, and what it emits.
 -- The order in which steps are due, and the clocks of refresh, transfers and reset, are this project's own.
-use Rattle.std.specs.Prelude.{ℕ, zero, suc, ◌+◌, ◌*◌, ◌%◌, Bool, true, false, Option, Some, None, List, [], ◌∷◌, ◌++◌, if◌then◌else◌}
+use Rattle.std.specs.Prelude.{ℕ, zero, suc, ◌+◌, ◌%◌, Bool, false, Option, Some, None, List, [], ◌∷◌, ◌++◌, if◌then◌else◌}
 use Rattle.snes_defs.specs.declared.ports.Act.{Act}
 use Rattle.snes_defs.specs.declared.ports.Act.TheVariants.{Quiet, Read as PortRead, Write as PortWrite, Clear}
 use Rattle.snes_defs.specs.declared.ports.Side.TheVariants.{Console}

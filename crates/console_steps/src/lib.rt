@@ -7,11 +7,13 @@
 //! world that processor and bus are at. A caller puts the two together in the order of `due_of`.
 #![tactic(auto)]
 
+mod at_once;
 mod drawing;
 mod effects;
 mod happening;
 mod passing;
 mod rows;
 
+pub use at_once::try_access;
 pub use effects::{give_lines, make_inner, make_move, make_read, make_reset, make_write};
 pub use passing::pass;

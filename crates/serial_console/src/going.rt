@@ -55,6 +55,7 @@ impl<C: Machine, S: Machine> Serial<C, S> {
 
     /// Makes the console's turns one after another while it is the earlier side and stands before
     /// `end`, up to the first that emits a byte.
+    #[inline(always)]
     pub fn console_turns(&mut self, end: u64)
         requires room { C.MOST ≤ C.CAP }
         requires empty { C.waiting (console_of self.old) ≡ [] }
@@ -77,6 +78,7 @@ impl<C: Machine, S: Machine> Serial<C, S> {
 
     /// Makes the sound side's turns one after another while it is the earlier side and stands before
     /// `end`, up to the first that emits a byte.
+    #[inline(always)]
     pub fn sound_turns(&mut self, end: u64)
         requires room { S.MOST ≤ S.CAP }
         requires empty { S.waiting (sound_of self.old) ≡ [] }

@@ -72,8 +72,9 @@ fn exchange(act: Act, incoming: &mut [u8; 4], outgoing: &mut [u8; 4])
     }
 }
 
-/// One step of a machine against the bytes that come in to it and go out from it, by its act.
-#[inline(always)]
+/// One step of a machine against the bytes that come in to it and go out from it, by its act. Out of line, so
+/// that the loop over quiet steps stays small.
+#[inline(never)]
 #[tactic(auto, using(crate::proofs::Taken::taken_got))]
 fn any_step<M: Machine>(machine: &mut M, incoming: &mut [u8; 4], outgoing: &mut [u8; 4])
     requires room { length (M.waiting machine.old) + M.MOST ≤ M.CAP }

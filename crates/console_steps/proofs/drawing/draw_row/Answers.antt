@@ -1,5 +1,5 @@
-use Rattle.std.proofs.Common.{◌≡◌, ◌++◌, ◌∙◌, ap, sym, slice_index}
-use Rattle.console_bus.specs.Happenings.{list_of, byte_of_dots, shown_dot, row_bytes}
+use Rattle.std.proofs.Common.{◌++◌, ◌∙◌, ap, slice_index}
+use Rattle.console_bus.specs.Happenings.{byte_of_dots, shown_dot, row_bytes}
 use Rattle.console_steps.proofs.RowBytes.{list_of-same, bytes-same}
 use Rattle.console_steps.proofs.drawing.draw_row.Goals as goal
 

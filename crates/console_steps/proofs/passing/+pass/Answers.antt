@@ -1,10 +1,9 @@
-use Rattle.std.proofs.Common.{◌≡◌, ℕ, ◌+◌, ◌-◌, ◌<◌, ◌≤◌, ◌++◌, IsTrue, List, [], length, if◌then◌else◌, sym, ap, subst, ◌∙◌, arith, append-nil, append_assoc}
-use Rattle.beam.specs.Events.{BeamValue, events_of, happens_next, beam_next, beam_after}
+use Rattle.std.proofs.Common.{◌≡◌, ◌-◌, ◌++◌, List, length, sym, ap, subst, ◌∙◌, arith, append-nil, append_assoc}
 use Rattle.beam.specs.Places.{clocks_left}
-use Rattle.console_steps.specs.World.{World, after_events, bytes_of_events, after_clocks, bytes_in}
+use Rattle.console_steps.specs.World.{after_events, bytes_of_events, bytes_in}
 use Rattle.console_steps.specs.Draws.{room_for}
 use Rattle.console_steps.specs.Stands.{IsAt}
-use Rattle.console_steps.proofs.Clocks.{arrived, arrival, DrawsAt, draws_at, room_left}
+use Rattle.console_steps.proofs.Clocks.{arrived, arrival}
 use Rattle.console_steps.proofs.PassSteps.{overscan, went_on, arrives, happens_there, passes_place, drawn, room_after, room_of_row}
 use Rattle.beam.specs.declared.events.Event.{Event}
 use Rattle.console_steps.proofs.passing.+pass.Goals as goal

@@ -1,7 +1,6 @@
-use Rattle.std.proofs.Common.{◌≡◌}
 use Rattle.beam.specs.declared.events.Event.TheVariants.{HdmaLine, Timer}
 use Rattle.beam.specs.Events.{one_if}
-use Rattle.console_steps.specs.World.{World, after_events}
+use Rattle.console_steps.specs.World.{after_events}
 use Rattle.console_steps.proofs.EventLists.{events_joined}
 use Rattle.console_steps.proofs.passing.pass_last.Goals as goal
 

@@ -1,4 +1,3 @@
-use Rattle.std.proofs.Common.{◌≡◌, ◌+◌, length}
 use Rattle.beam.specs.declared.events.Event.TheVariants.{Draw}
 use Rattle.console_steps.proofs.Beams.{kept_beam, row_size}
 use Rattle.console_steps.proofs.passing.pass_row.Goals as goal

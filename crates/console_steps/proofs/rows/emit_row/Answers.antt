@@ -1,6 +1,6 @@
-use Rattle.std.proofs.Common.{◌≡◌, ◌≤◌, ◌++◌, ◌∙◌, ap, take, slice_index, length, arith}
+use Rattle.std.proofs.Common.{◌≤◌, ◌++◌, ◌∙◌, ap, slice_index, length, arith}
 use Rattle.std.proofs.lemmas.List.{take_all}
-use Rattle.console_bus.specs.Happenings.{list_of, byte_of_dots}
+use Rattle.console_bus.specs.Happenings.{byte_of_dots}
 use Rattle.console_steps.proofs.RowBytes.{is_list_of}
 use Rattle.console_steps.proofs.rows.emit_row.Goals as goal
 

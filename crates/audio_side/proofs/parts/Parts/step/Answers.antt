@@ -1,8 +1,7 @@
-use Rattle.std.proofs.Common.{◌≡◌, ◌∙◌, ◌++◌, ℕ, ap}
+use Rattle.std.proofs.Common.{◌∙◌, ◌++◌, ℕ, ap}
 use Rattle.audio_side.specs.Board.{Board}
 use Rattle.audio_side.specs.Effect.{emitted, passed}
 use Rattle.audio_side.specs.Parts.{value_of}
-use Rattle.audio_side.specs.Sound.{AudioValue}
 use Rattle.audio_side.proofs.Moves.{bytes_emitted, next_stands}
 use Rattle.audio_side.proofs.parts.Parts.step.Goals as goal
 
