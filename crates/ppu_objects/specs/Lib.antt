@@ -1,3 +1,4 @@
+pub mod Near
 pub mod Objects
 pub mod Pieces
 pub mod Ranks
