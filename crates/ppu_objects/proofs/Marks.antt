@@ -1,11 +1,11 @@
 -- Objects that are too far by their Y don't stand on the row.
-use Rattle.std.proofs.Common.{◌≡◌, ℕ, zero, suc, ◌+◌, ◌*◌, ◌%◌, ◌<◌, ◌≤◌, ◌==◌, ◌&&◌, ◌||◌, Bool, true, false, nat_lt, List, slice_index, length, if◌then◌else◌, ◌⊎◌, inl, inr, refl, sym, ap, subst, ◌∙◌, arith}
+use Rattle.std.proofs.Common.{◌≡◌, ℕ, zero, suc, ◌+◌, ◌*◌, ◌%◌, ◌<◌, ◌≤◌, ◌&&◌, Bool, true, false, nat_lt, List, slice_index, length, if◌then◌else◌, inl, inr, refl, sym, ap, subst, ◌∙◌, arith}
 use Rattle.std.proofs.lemmas.Bool.{cases_lt}
 use Rattle.std.proofs.lemmas.List.{get_or_past}
 use Rattle.ppu_regs.specs.Picture.{Picture}
 use Rattle.ppu_objects.specs.declared.objects.Object.{Object}
 use Rattle.ppu_objects.specs.Near.{near_mark}
-use Rattle.ppu_objects.specs.Objects.{line_in, height_of, width_of, stands_on, grown, on_row, object_of, object_in_turn, first_object, place_in_turn}
+use Rattle.ppu_objects.specs.Objects.{line_in, height_of, stands_on, grown, on_row, object_of, object_in_turn, first_object, place_in_turn}
 use Rattle.ppu_objects.proofs.Firsts.{on_row_more}
 
 -- eight numbers whose sum is 0

@@ -1,3 +1,4 @@
+pub mod Covering
 pub mod Near
 pub mod Objects
 pub mod Pieces

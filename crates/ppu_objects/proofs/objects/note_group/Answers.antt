@@ -1,7 +1,7 @@
 -- One more object is looked at.
 use Rattle.std.proofs.Common.{◌≡◌, ◌+◌, ◌*◌, List, take, length, nat_lt, ap, sym, ◌∙◌, arith}
 use Rattle.ppu_objects.specs.declared.objects.Object.{Object}
-use Rattle.ppu_objects.specs.Objects.{grown, on_row, stands_on, object_in_turn}
+use Rattle.ppu_objects.specs.Objects.{on_row}
 use Rattle.ppu_objects.proofs.Firsts.{on_row_more}
 use Rattle.ppu_objects.proofs.Marks.{mark_in_turn}
 use Rattle.ppu_objects.proofs.objects.note_group.Goals as goal

@@ -1,5 +1,5 @@
 -- An object without a mark doesn't stand on the row.
-use Rattle.std.proofs.Common.{◌≡◌, List, take, length, nat_lt, ap, ◌∙◌, arith}
+use Rattle.std.proofs.Common.{List, take, length, nat_lt, ap, ◌∙◌, arith}
 use Rattle.ppu_objects.specs.declared.objects.Object.{Object}
 use Rattle.ppu_objects.specs.Objects.{object_in_turn}
 use Rattle.ppu_objects.proofs.Marks.{grown_not}
