@@ -1,2 +1,4 @@
 pub mod Firsts
 pub mod Seen
+pub mod Lines
+pub mod Marks

@@ -1,7 +1,8 @@
 //! What OAM says of one object, and which objects stand on a row.
 
-ghost use Rattle.std.specs.Prelude.{◌≡◌, ℕ, ◌+◌, ◌*◌, ◌/◌, ◌%◌, ◌<◌, ◌≤◌, List, [], take, length, nat_lt};
-ghost use Rattle.ppu_objects.specs.Objects.{pair_at, object_of, width_of, height_of, line_in, stands_on, first_object, place_in_turn, object_in_turn, grown, drawn_objects, passes_range};
+ghost use Rattle.std.specs.Prelude.{◌≡◌, ℕ, ◌+◌, ◌*◌, ◌/◌, ◌%◌, ◌<◌, ◌≤◌, Bool, false, List, [], take, length, nat_lt, slice_index};
+ghost use Rattle.ppu_objects.specs.Objects.{pair_at, object_of, width_of, height_of, line_in, stands_on, first_object, place_in_turn, object_in_turn, grown, on_row, drawn_objects, passes_range};
+ghost use Rattle.ppu_objects.specs.Near.{near_mark};
 ghost use Rattle.ppu_objects.specs.declared.objects.Object.{Object};
 
 use arrayvec::ArrayVec;
@@ -194,7 +195,119 @@ fn note(list: &mut ArrayVec<Object, 32>, more: bool, does: bool, o: Object) -> b
     more
 }
 
-/// Gathers the first 32 objects on a row, in turn, in an empty list; answers whether there are more.
+/// The height of the taller of both kinds of objects.
+#[inline(always)]
+fn tallest(code: u8) -> u8
+    ensures { (large : Bool) → height_of code large ≤ result }
+{
+    height(code, false).max(height(code, true)) as u8
+}
+
+/// Whether an object with this Y may stand on a row, where none is taller than `tall`: 1 or 0.
+#[inline(always)]
+#[tactic(auto, unfolding(crate::specs::Near::near_mark, crate::specs::Objects::line_in))]
+fn mark(tall: u8, row: u8, y: u8) -> u8
+    requires { row < 239 }
+    ensures { result ≡ near_mark tall row y }
+{
+    (row.wrapping_sub(y) < tall) as u8
+}
+
+/// Marks the objects that may stand on a row, twice side by side, so that from any first object on they stand in turn.
+fn look(oam: &[u8; 544], tall: u8, row: u8, near: &mut [u8; 256])
+    requires { row < 239 }
+    ensures { (n : ℕ) → n < 256 → slice_index near.new n ≡ near_mark tall row (slice_index oam.now (4 * (n % 128) + 1)) }
+{
+    for n in 0..128usize {
+        let mark = mark(tall, row, oam[4 * n + 1]);
+        near[n] = mark;
+        near[n + 128] = mark;
+    }
+}
+
+/// Whether any of eight marks is set.
+#[inline(always)]
+#[tactic(auto, using(crate::proofs::Marks::marks))]
+fn is_any(near: &[u8; 256], at: usize) -> bool
+    requires room { at + 8 ≤ 256 }
+    requires small { (n : ℕ) → slice_index near.now n ≤ 1 }
+    ensures { (j : ℕ) → j < 8 → result ≡ false → slice_index near.now (at + j) ≡ 0 }
+{
+    let left = near[at] + near[at + 1] + near[at + 2] + near[at + 3];
+    let right = near[at + 4] + near[at + 5] + near[at + 6] + near[at + 7];
+    left + right != 0
+}
+
+/// Looks at the object `k` in turn.
+#[inline(always)]
+#[tactic(auto, using(crate::proofs::Marks::far))]
+fn note_nth(
+    p: &Ppu,
+    row: u16,
+    tall: u8,
+    first: u8,
+    k: u8,
+    mark: u8,
+    list: &mut ArrayVec<Object, 32>,
+    more: bool,
+) -> bool
+    requires row { row < 239 }
+    requires tall { (large : Bool) → height_of p.now.registers.object_tiles.size large ≤ tall }
+    requires first { first ≡ first_object p.now }
+    requires small { first < 128 }
+    requires k { k < 128 }
+    requires mark { mark ≡ near_mark tall row (object_in_turn p.now k).y }
+    ensures items { (xs : List Object) → list.old.items ≡ take 32 xs →
+        list.new.items ≡ take 32 (grown (stands_on p.now.registers.object_tiles.size (object_in_turn p.now k) row) (object_in_turn p.now k) xs) }
+    ensures more { (xs : List Object) → list.old.items ≡ take 32 xs → more ≡ nat_lt 32 (length xs) →
+        result ≡ nat_lt 32 (length (grown (stands_on p.now.registers.object_tiles.size (object_in_turn p.now k) row) (object_in_turn p.now k) xs)) }
+{
+    if mark == 0 {
+        return more;
+    }
+    let o = nth_in_turn(p, first, k);
+    note(
+        list,
+        more,
+        stands(p.registers().object_tiles.size, &o, row),
+        o,
+    )
+}
+
+/// Looks at eight objects in turn, from `8 * group` on.
+#[inline(always)]
+fn note_group(
+    p: &Ppu,
+    row: u16,
+    tall: u8,
+    first: u8,
+    group: usize,
+    near: &[u8; 256],
+    list: &mut ArrayVec<Object, 32>,
+    over: bool,
+) -> bool
+    requires row { row < 239 }
+    requires tall { (large : Bool) → height_of p.now.registers.object_tiles.size large ≤ tall }
+    requires first { first ≡ first_object p.now }
+    requires small { first < 128 }
+    requires group { group < 16 }
+    requires near { (n : ℕ) → n < 256 → slice_index near.now n ≡ near_mark tall row (slice_index p.now.oam (4 * (n % 128) + 1)) }
+    requires items { list.old.items ≡ take 32 (on_row p.now row (8 * group)) }
+    requires more { over ≡ nat_lt 32 (length (on_row p.now row (8 * group))) }
+    ensures items { list.new.items ≡ take 32 (on_row p.now row (8 * group + 8)) }
+    ensures more { result ≡ nat_lt 32 (length (on_row p.now row (8 * group + 8))) }
+{
+    let mut more = over;
+    for j in 0..8usize {
+        let k = 8 * group + j;
+        let mark = near[first as usize + k];
+        more = note_nth(p, row, tall, first, k as u8, mark, list, more);
+    }
+    more
+}
+
+/// Gathers the first 32 objects on a row, in turn, in an empty list; answers whether there are more. Objects are looked
+/// at by their Y first, eight at a time.
 #[tactic(auto, unfolding(crate::specs::Objects::drawn_objects, crate::specs::Objects::passes_range))]
 pub fn gather(p: &Ppu, row: u16, list: &mut ArrayVec<Object, 32>) -> bool
     requires row { row < 239 }
@@ -202,12 +315,15 @@ pub fn gather(p: &Ppu, row: u16, list: &mut ArrayVec<Object, 32>) -> bool
     ensures objects { list.new.items ≡ drawn_objects p.now row }
     ensures range { result ≡ passes_range p.now row }
 {
-    let code = p.registers().object_tiles.size;
+    let tall = tallest(p.registers().object_tiles.size);
     let first = first(p);
+    let mut near = [0u8; 256];
+    look(p.oam(), tall, row as u8, &mut near);
     let mut more = false;
-    for k in 0..128u8 {
-        let o = nth_in_turn(p, first, k);
-        more = note(list, more, stands(code, &o, row), o);
+    for g in 0..16usize {
+        if is_any(&near, first as usize + 8 * g) {
+            more = note_group(p, row, tall, first, g, &near, list, more);
+        }
     }
     more
 }

@@ -1,12 +1,16 @@
 //! Painting pieces over a row.
 
-ghost use Rattle.std.specs.Prelude.{◌≡◌, ℕ, ◌+◌, ◌-◌, ◌*◌, ◌/◌, ◌%◌, ◌^◌, ◌<◌, ◌≤◌, ◌==◌, ◌&&◌, nat_le, length, slice_index, if◌then◌else◌};
-ghost use Rattle.ppu_objects.specs.Pieces.{piece_left, shown_line, shown_column, tile_number, tile_word, value_of, piece_word, pixel_value, offset_in, piece_candidate};
+ghost use Rattle.std.specs.Prelude.{◌≡◌, ℕ, ◌+◌, ◌-◌, ◌*◌, ◌/◌, ◌%◌, ◌<◌, ◌≤◌, ◌==◌, nat_le, length, slice_index, slice_index_or, if◌then◌else◌};
+ghost use Rattle.tile_cache.specs.Planes.{eight};
+ghost use Rattle.ppu_objects.specs.Covering.{covers, no_piece, piece_pixel};
+ghost use Rattle.ppu_objects.specs.Pieces.{shown_line, shown_column, tile_number, tile_word, piece_word, pixel_value, piece_candidate};
 ghost use Rattle.ppu_objects.specs.Ranks.{rank_byte, object_rank};
 
 use crate::objects::{Object, height, line_of_object, width};
-use crate::pieces::{Piece, left_of};
-use ppu_regs::{ObjectTiles, Planes, Ppu};
+use crate::pieces::{Piece, left_of, on_screen};
+use ppu_regs::{ObjectTiles, Ppu};
+use row_passes::choose;
+use tile_cache::line_of_words;
 
 #[inline(always)]
 #[tactic(auto, unfolding(crate::specs::Pieces::shown_line))]
@@ -62,34 +66,6 @@ fn word_of_piece(tiles: &ObjectTiles, piece: &Piece, row: u16) -> usize
     word(tiles, o.table, tile(o.tile, column, line), line)
 }
 
-#[inline(always)]
-#[tactic(auto, unfolding(crate::specs::Pieces::value_of))]
-fn value(first: u16, second: u16, k: u16) -> u8
-    requires { k < 8 }
-    ensures value { result ≡ value_of first second k }
-    ensures small { result < 16 }
-{
-    let low = (first >> (7 - k)) % 2 + 2 * ((first >> (15 - k)) % 2);
-    let high = (second >> (7 - k)) % 2 + 2 * ((second >> (15 - k)) % 2);
-    (low + 4 * high) as u8
-}
-
-/// Writes one pixel, `k` right of `left` modulo 512, where it is in the row and `on`.
-#[inline(always)]
-#[tactic(auto, unfolding(crate::specs::Pieces::offset_in))]
-fn put(left: u16, k: u16, on: bool, rank: u8, number: u8, out: &mut Planes)
-    requires left { left < 512 }
-    requires k { k < 8 }
-    ensures ranks { (x : ℕ) → x < 256 → slice_index out.new.ranks x ≡ (if on && (offset_in left x == k) then rank else slice_index out.old.ranks x) }
-    ensures numbers { (x : ℕ) → x < 256 → slice_index out.new.numbers x ≡ (if on && (offset_in left x == k) then number else slice_index out.old.numbers x) }
-{
-    let x = (left + k) as usize % 512;
-    if on && x < 256 {
-        out.ranks[x] = rank;
-        out.numbers[x] = number;
-    }
-}
-
 /// The rank byte of an object's pixel, and 0 where it has none.
 #[inline(always)]
 #[tactic(auto, unfolding(crate::specs::Ranks::rank_byte))]
@@ -102,30 +78,117 @@ fn rank_of_object(bases: &[u8; 4], named: bool, o: &Object) -> u8
     base + bit
 }
 
-/// Draws a piece over a row in two planes: its rank bytes by the bases of the four priorities, and bit 3 where
-/// `named` and its palette may take part in arithmetic.
-#[tactic(auto, unfolding(crate::specs::Pieces::piece_candidate, crate::specs::Pieces::object_dot, crate::specs::Pieces::pixel_value, crate::specs::Ranks::object_rank))]
-pub fn paint(p: &Ppu, row: u16, piece: &Piece, bases: &[u8; 4], named: bool, out: &mut Planes)
+/// The eight pixels of a piece on a row, left to right on the screen.
+#[inline(always)]
+fn line_of_piece(p: &Ppu, row: u16, piece: &Piece) -> [u8; 8]
+    requires row { row < 239 }
+    ensures { result ≡ eight (pixel_value p.now.vram p.now.registers.object_tiles piece.now.object piece.now.column row) }
+{
+    let vram = p.vram();
+    let at = word_of_piece(&p.registers().object_tiles, piece, row);
+    line_of_words(vram[at], vram[(at + 8) % 32768], piece.object.flip_x)
+}
+
+/// Puts eight bytes.
+#[inline(always)]
+fn put_bytes(lines: &mut [u8; 272], at: usize, bytes: &[u8; 8])
+    requires { at + 8 ≤ 272 }
+    ensures put { (k : ℕ) → k < 8 → slice_index lines.new (at + k) ≡ slice_index bytes.now k }
+    ensures below { (k : ℕ) → k < at → slice_index lines.new k ≡ slice_index lines.old k }
+{
+    for k in 0..8usize {
+        lines[at + k] = bytes[k];
+    }
+}
+
+/// Puts the pixels of pieces side by side, so that they are read from memory where they are drawn: taken from a number's
+/// bytes at once they would be handled one by one.
+#[inline(always)]
+pub fn put_lines(p: &Ppu, row: u16, pieces: &[Piece], lines: &mut [u8; 272])
+    requires row { row < 239 }
+    requires most { length pieces.now ≤ 34 }
+    ensures { (i k : ℕ) → i < length pieces.now → k < 8 →
+        slice_index lines.new (8 * i + k) ≡ piece_pixel p.now row (slice_index_or pieces.now i no_piece) k }
+{
+    for i in 0..pieces.len() {
+        let line = line_of_piece(p, row, &pieces[i]);
+        put_bytes(lines, 8 * i, &line);
+    }
+}
+
+/// A pixel's byte over another, where its value isn't 0.
+#[inline(always)]
+#[tactic(auto, unfolding(row_passes::specs::Inks::chosen))]
+fn over(value: u8, taken: u8, under: u8) -> u8
+    ensures { result ≡ (if value == 0 then under else taken) }
+{
+    choose(value != 0, taken, under)
+}
+
+/// Draws eight pixels over two rows, from a place on.
+#[inline(always)]
+#[tactic(auto, unfolding(crate::specs::Covering::covers))]
+fn cover(
+    lines: &[u8; 272],
+    from: usize,
+    at: usize,
+    rank: u8,
+    colours: u8,
+    ranks: &mut [u8; 272],
+    numbers: &mut [u8; 272],
+)
+    requires line { from + 8 ≤ 272 }
+    requires room { at + 8 ≤ 272 }
+    ensures ranks { (x : ℕ) → x < 272 → slice_index ranks.new x ≡
+        (if covers lines.now from at x then rank else slice_index ranks.old x) }
+    ensures numbers { (x : ℕ) → x < 272 → slice_index numbers.new x ≡
+        (if covers lines.now from at x then (colours + slice_index lines.now (from + (x - at))) % 256 else slice_index numbers.old x) }
+{
+    for k in 0..8usize {
+        let value = lines[from + k];
+        ranks[at + k] = over(value, rank, ranks[at + k]);
+        numbers[at + k] = over(value, colours.wrapping_add(value), numbers[at + k]);
+    }
+}
+
+/// Draws a piece over a row in two planes, whose pixel x stands at place x + 8: its rank bytes by the bases of the four
+/// priorities, and bit 3 where `named` and its palette may take part in arithmetic. Its pixels stand in `lines`.
+#[inline(always)]
+pub fn paint(
+    p: &Ppu,
+    row: u16,
+    piece: &Piece,
+    lines: &[u8; 272],
+    from: usize,
+    bases: &[u8; 4],
+    named: bool,
+    ranks: &mut [u8; 272],
+    numbers: &mut [u8; 272],
+)
     requires row { row < 239 }
     requires bases { (k : ℕ) → slice_index bases.now k ≤ 240 }
-    ensures ranks { (x : ℕ) → x < 256 → slice_index out.new.ranks x ≡
+    requires room { from + 8 ≤ 272 }
+    requires line { (k : ℕ) → k < 8 → slice_index lines.now (from + k) ≡ piece_pixel p.now row piece.now k }
+    ensures ranks { (x : ℕ) → x < 256 → slice_index ranks.new (x + 8) ≡
         (if (piece_candidate p.now row piece.now x).on then object_rank bases.now named (piece_candidate p.now row piece.now x)
-        else slice_index out.old.ranks x) }
-    ensures numbers { (x : ℕ) → x < 256 → slice_index out.new.numbers x ≡
+        else slice_index ranks.old (x + 8)) }
+    ensures numbers { (x : ℕ) → x < 256 → slice_index numbers.new (x + 8) ≡
         (if (piece_candidate p.now row piece.now x).on then (piece_candidate p.now row piece.now x).number
-        else slice_index out.old.numbers x) }
+        else slice_index numbers.old (x + 8)) }
 {
-    let tiles = &p.registers().object_tiles;
-    let vram = p.vram();
     let o = &piece.object;
     let left = left_of(o, piece.column);
-    let at = word_of_piece(tiles, piece, row);
-    let first = vram[at];
-    let second = vram[(at + 8) % 32768];
-    let rank = rank_of_object(bases, named, o);
-    let colours = 128 + 16 * (o.palette % 8);
-    for k in 0..8u16 {
-        let value = value(first, second, if o.flip_x { 7 - k } else { k });
-        put(left, k, value != 0, rank, colours + value, out);
+    if on_screen(left) {
+        let rank = rank_of_object(bases, named, o);
+        let colours = 128 + 16 * (o.palette % 8);
+        cover(
+            lines,
+            from,
+            (left as usize + 8) % 512,
+            rank,
+            colours,
+            ranks,
+            numbers,
+        );
     }
 }

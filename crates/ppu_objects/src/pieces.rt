@@ -25,9 +25,10 @@ pub fn left_of(o: &Object, column: u8) -> u16
     ((o.x as u32 + 8 * column as u32) % 512) as u16
 }
 
+/// Whether a piece that begins there has a pixel in the row.
 #[inline(always)]
 #[tactic(auto, unfolding(crate::specs::Pieces::is_on_screen))]
-fn on_screen(left: u16) -> bool
+pub fn on_screen(left: u16) -> bool
     ensures { result ≡ is_on_screen left }
 {
     left < 256 || left > 504

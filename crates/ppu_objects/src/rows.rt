@@ -9,7 +9,7 @@ ghost use Rattle.ppu_regs.specs.declared.dots.Candidate.{Candidate};
 ghost use Rattle.ppu_regs.specs.Dots.{no_dot, dot_of};
 
 use crate::objects::{Object, gather};
-use crate::painting::paint;
+use crate::painting::{paint, put_lines};
 use crate::pieces::{Piece, gather_pieces};
 use arrayvec::ArrayVec;
 use ppu_regs::{Dot, Over, Planes, Ppu};
@@ -40,19 +40,70 @@ fn gather_row(p: &Ppu, row: u16, pieces: &mut ArrayVec<Piece, 34>) -> Over
     Over { range, time }
 }
 
-/// Draws pieces in turn over a row in which nothing stands.
+/// Draws pieces in turn over a row in which nothing stands, and whose pixel x stands at place x + 8.
+#[inline(always)]
 #[tactic(auto, unfolding(crate::specs::Pieces::painted, crate::specs::Ranks::object_rank), using(std::proofs::lemmas::List::Sums::fold_more))]
-fn paint_all(p: &Ppu, row: u16, pieces: &[Piece], bases: &[u8; 4], named: bool, out: &mut Planes)
+fn paint_all(
+    p: &Ppu,
+    row: u16,
+    pieces: &[Piece],
+    bases: &[u8; 4],
+    named: bool,
+    ranks: &mut [u8; 272],
+    numbers: &mut [u8; 272],
+)
     requires row { row < 239 }
+    requires most { length pieces.now ≤ 34 }
     requires bases { (k : ℕ) → slice_index bases.now k ≤ 240 }
-    requires ranks_clear { (x : ℕ) → x < 256 → slice_index out.old.ranks x ≡ 0 }
-    requires numbers_clear { (x : ℕ) → x < 256 → slice_index out.old.numbers x ≡ 0 }
+    requires ranks_clear { (x : ℕ) → x < 256 → slice_index ranks.old (x + 8) ≡ 0 }
+    requires numbers_clear { (x : ℕ) → x < 256 → slice_index numbers.old (x + 8) ≡ 0 }
+    ensures ranks { (x : ℕ) → x < 256 → slice_index ranks.new (x + 8) ≡ object_rank bases.now named (fold (painted p.now row x) nothing pieces.now) }
+    ensures numbers { (x : ℕ) → x < 256 → slice_index numbers.new (x + 8) ≡ (fold (painted p.now row x) nothing pieces.now).number }
+{
+    let mut lines = [0u8; 272];
+    put_lines(p, row, pieces, &mut lines);
+    for i in 0..pieces.len() {
+        let piece = pieces[i];
+        paint(p, row, &piece, &lines, 8 * i, bases, named, ranks, numbers);
+    }
+}
+
+/// A row of zeros with room for eight more at both ends.
+#[inline(always)]
+fn clear_row() -> [u8; 272]
+    ensures { (x : ℕ) → slice_index result x ≡ 0 }
+{
+    [0; 272]
+}
+
+/// The pixels of a row from their places.
+#[inline(always)]
+fn cut(from: &[u8; 272], out: &mut [u8; 256])
+    ensures { (x : ℕ) → x < 256 → slice_index out.new x ≡ slice_index from.now (x + 8) }
+{
+    for x in 0..256usize {
+        out[x] = from[x + 8];
+    }
+}
+
+/// Draws the pieces of a row, if there are any.
+#[inline(always)]
+#[tactic(auto, unfolding(crate::specs::Ranks::object_rank))]
+fn paint_row(p: &Ppu, row: u16, pieces: &[Piece], bases: &[u8; 4], named: bool, out: &mut Planes)
+    requires row { row < 239 }
+    requires most { length pieces.now ≤ 34 }
+    requires bases { (k : ℕ) → slice_index bases.now k ≤ 240 }
     ensures ranks { (x : ℕ) → x < 256 → slice_index out.new.ranks x ≡ object_rank bases.now named (fold (painted p.now row x) nothing pieces.now) }
     ensures numbers { (x : ℕ) → x < 256 → slice_index out.new.numbers x ≡ (fold (painted p.now row x) nothing pieces.now).number }
 {
-    for i in 0..pieces.len() {
-        let piece = pieces[i];
-        paint(p, row, &piece, bases, named, out);
+    if pieces.is_empty() {
+        clear(out);
+    } else {
+        let mut ranks = clear_row();
+        let mut numbers = clear_row();
+        paint_all(p, row, pieces, bases, named, &mut ranks, &mut numbers);
+        cut(&ranks, &mut out.ranks);
+        cut(&numbers, &mut out.numbers);
     }
 }
 
@@ -67,10 +118,9 @@ pub fn obj_planes(p: &Ppu, row: u16, bases: &[u8; 4], named: bool, out: &mut Pla
     ensures range { result.range ≡ passes_range p.now row }
     ensures time { result.time ≡ passes_time p.now row }
 {
-    clear(out);
     let mut pieces: ArrayVec<Piece, 34> = ArrayVec::new();
     let over = gather_row(p, row, &mut pieces);
-    paint_all(p, row, pieces.as_slice(), bases, named, out);
+    paint_row(p, row, pieces.as_slice(), bases, named, out);
     over
 }
 

@@ -1,7 +1,7 @@
 -- Blocks of dots: the place in a block counts on, and the first dot of a block is its own first.
-use Rattle.std.proofs.Common.{◌≡◌, ◌≢◌, ℕ, ◌+◌, ◌-◌, ◌*◌, ◌/◌, ◌%◌, ◌<◌, ◌≤◌, ◌==◌, Bool, true, false, if◌then◌else◌, refl, sym, ap, ◌∙◌, arith}
+use Rattle.std.proofs.Common.{◌≡◌, ℕ, ◌+◌, ◌-◌, ◌*◌, ◌/◌, ◌%◌, ◌<◌, ◌≤◌, ◌==◌, if◌then◌else◌, ap, ◌∙◌, arith}
 use Rattle.std.proofs.lemmas.Nat.{mod-mul-add}
-use Rattle.std.proofs.Math.Nat.{mod-add-div', mod-lt, mod-le}
+use Rattle.std.proofs.Math.Nat.{mod-add-div'}
 
 -- the place in a block after a last one
 next_block : (x size place : ℕ) → place ≡ x % size → place + 1 ≡ size → 0 < size → (x + 1) % size ≡ 0

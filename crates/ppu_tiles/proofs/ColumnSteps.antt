@@ -1,16 +1,15 @@
 -- What the eight pixels of a column have in common, and that a row is its columns side by side.
-use Rattle.std.proofs.Common.{◌≡◌, ℕ, ◌+◌, ◌-◌, ◌*◌, ◌/◌, ◌%◌, ◌<◌, ◌≤◌, ◌==◌, ◌||◌, ◌&&◌, not, List, Bool, true, false, slice_index, if◌then◌else◌, refl, sym, ap, ◌∙◌, arith}
+use Rattle.std.proofs.Common.{◌≡◌, ℕ, ◌+◌, ◌-◌, ◌*◌, ◌/◌, ◌%◌, ◌<◌, ◌≤◌, ◌==◌, ◌||◌, ◌&&◌, not, List, Bool, true, false, slice_index, if◌then◌else◌, inl, inr, zero, suc, refl, sym, ap, ◌∙◌, arith}
+use Rattle.std.proofs.lemmas.Bool.{cases_lt}
 use Rattle.ppu_regs.specs.declared.registers.Registers.{Registers}
 use Rattle.ppu_regs.specs.declared.registers.Background.{Background}
-use Rattle.ppu_regs.specs.declared.dots.Candidate.{Candidate}
 use Rattle.ppu_regs.specs.Picture.{Picture, background_of}
 use Rattle.ppu_regs.specs.Dots.{rank_of}
-use Rattle.tile_cache.specs.Planes.{pixel_of, value_of, cached_value, IsInStep}
-use Rattle.tile_cache.proofs.Steps.{value_in_step}
+use Rattle.tile_cache.specs.Planes.{pixel_of, value_of, eight}
 use Rattle.ppu_tiles.specs.declared.scrolls.Scroll.{Scroll}
-use Rattle.ppu_tiles.specs.Modes.{depth_of, is_hires, tile_width, tile_height}
-use Rattle.ppu_tiles.specs.Backgrounds.{own_scroll, two_offsets, one_offset, column_scroll, column_of, map_word, entry_at, turned, tile_of, line_word, pixel_at, number_of, candidate_of, candidate_at, block_start, background_candidate}
-use Rattle.ppu_tiles.specs.Columns.{half_word, wide_value, column_start, column_place, column_m, column_row, column_entry, column_value, column_base, column_first, base_of}
+use Rattle.ppu_tiles.specs.Modes.{depth_of, is_hires, tile_width}
+use Rattle.ppu_tiles.specs.Backgrounds.{own_scroll, two_offsets, one_offset, column_scroll, entry_at, turned, line_word, pixel_at, number_of, candidate_of, candidate_at, block_start, background_candidate}
+use Rattle.ppu_tiles.specs.Columns.{half_word, half_value, column_start, column_place, column_entry, column_value, column_base, column_first, base_of}
 
 -- within an eight of pixels, the places in a tile are those of one half of it
 half_same :
@@ -33,61 +32,101 @@ half_word_small : (b : Background) (depth entry x py : ℕ) → half_word b dept
 unfolding half_word line_word
 half_word_small b depth entry x py = omega arith
 
-mirror_small : (flip : Bool) (k : ℕ) → k < 8 → (if flip then 7 - k else k) < 8
-mirror_small true k h = omega arith
-mirror_small false k h = h
-
 -- where no entry is wide by the mode: eight pixels of an entry are a line of one tile
 line_is :
     (p : Picture) (b : Background) (depth entry m k py : ℕ) → k < 8 →
-    value_of p.vram (half_word b depth entry (turned (entry / 16384 % 2 == 1) (tile_width p.registers.mode b) (8 * m)) py) depth
-    (if entry / 16384 % 2 == 1 then 7 - k else k) ≡
-    pixel_at p b depth entry (8 * m + k) py
-unfolding pixel_at half_word
+    half_value p.vram b depth entry (tile_width p.registers.mode b) (8 * m) py k ≡ pixel_at p b depth entry (8 * m + k) py
+unfolding pixel_at half_value half_word
 line_is p b depth entry m k py h =
     let same = half_same (entry / 16384 % 2 == 1) (is_hires p.registers.mode || b.large) m k h in
     let place = place_in_half (entry / 16384 % 2 == 1) (is_hires p.registers.mode || b.large) m k h in
     cc
 
 pub line_value :
-    (p : Picture) (cache : List ℕ) (b : Background) (depth entry m odd k py : ℕ) → k < 8 → IsInStep cache p.vram →
-    is_hires p.registers.mode ≡ false →
-    cached_value cache (half_word b depth entry (turned (entry / 16384 % 2 == 1) (tile_width p.registers.mode b) (8 * m)) py) depth
-    (if entry / 16384 % 2 == 1 then 7 - k else k) ≡
-    pixel_at p b depth entry (column_place p.registers.mode m odd k) py
-line_value p cache b depth entry m odd k py h step lores =
+    (p : Picture) (b : Background) (depth entry m odd k py : ℕ) → k < 8 → is_hires p.registers.mode ≡ false →
+    half_value p.vram b depth entry (tile_width p.registers.mode b) (8 * m) py k ≡ pixel_at p b depth entry (column_place p.registers.mode m odd k) py
+line_value p b depth entry m odd k py h lores =
     let place : column_place p.registers.mode m odd k ≡ 8 * m + k = rw lores refl in
-    value_in_step cache p.vram _ depth _ (half_word_small b depth entry _ py) (mirror_small (entry / 16384 % 2 == 1) k h) step
-    ∙ line_is p b depth entry m k py h
-    ∙ ap (λ px. pixel_at p b depth entry px py) (sym place)
+    line_is p b depth entry m k py h ∙ ap (λ px. pixel_at p b depth entry px py) (sym place)
 
--- in modes 5 and 6 a tile has sixteen pixels
+-- in modes 5 and 6 a tile has sixteen pixels, eight in each half
 turned_wide :
-    (flip : Bool) (m k odd : ℕ) → turned flip 16 (2 * (8 * m + k) + odd) ≡ turned flip 16 (2 * k + odd)
-turned_wide true m k odd = omega arith
-turned_wide false m k odd = omega arith
+    (flip : Bool) (m q : ℕ) → turned flip 16 (16 * m + q) ≡ turned flip 16 q
+turned_wide true m q = omega arith
+turned_wide false m q = omega arith
 
 wide_is :
-    (p : Picture) (b : Background) (depth entry m odd k py : ℕ) → is_hires p.registers.mode ≡ true →
-    value_of p.vram (half_word b depth entry (turned (entry / 16384 % 2 == 1) 16 (2 * k + odd)) py) depth
-    (turned (entry / 16384 % 2 == 1) 16 (2 * k + odd) % 8) ≡
-    pixel_at p b depth entry (2 * (8 * m + k) + odd) py
-unfolding pixel_at half_word
-wide_is p b depth entry m odd k py wide =
-    let same = turned_wide (entry / 16384 % 2 == 1) m k odd in
+    (p : Picture) (b : Background) (depth entry m half k py : ℕ) → k < 8 → is_hires p.registers.mode ≡ true →
+    half_value p.vram b depth entry 16 (8 * half) py k ≡ pixel_at p b depth entry (16 * m + (8 * half + k)) py
+unfolding pixel_at half_value half_word
+wide_is p b depth entry m half k py h wide =
     let size : tile_width p.registers.mode b ≡ 16 = rw wide refl in
-    rw (size, same) refl
+    let turned_is = turned_wide (entry / 16384 % 2 == 1) m (8 * half + k) in
+    let same = half_same (entry / 16384 % 2 == 1) true half k h in
+    let place = place_in_half (entry / 16384 % 2 == 1) true half k h in
+    rw (size, turned_is) cc
 
-pub wide_value_is :
-    (p : Picture) (cache : List ℕ) (b : Background) (depth entry m odd k py : ℕ) → IsInStep cache p.vram →
-    is_hires p.registers.mode ≡ true →
-    wide_value cache b depth entry py (2 * k + odd) ≡ pixel_at p b depth entry (column_place p.registers.mode m odd k) py
-unfolding wide_value
-wide_value_is p cache b depth entry m odd k py step wide =
-    let place : column_place p.registers.mode m odd k ≡ 2 * (8 * m + k) + odd = rw wide refl in
-    value_in_step cache p.vram _ depth _ (half_word_small b depth entry _ py) (omega arith) step
-    ∙ wide_is p b depth entry m odd k py wide
-    ∙ ap (λ px. pixel_at p b depth entry px py) (sym place)
+pub wide_value :
+    (p : Picture) (b : Background) (depth entry m half odd k py : ℕ) → k < 4 → odd < 2 → is_hires p.registers.mode ≡ true →
+    half_value p.vram b depth entry 16 (8 * half) py (2 * k + odd) ≡
+    pixel_at p b depth entry (column_place p.registers.mode m odd (4 * half + k)) py
+wide_value p b depth entry m half odd k py h ho wide =
+    let place : 16 * m + (8 * half + (2 * k + odd)) ≡ 2 * (8 * m + (4 * half + k)) + odd = omega arith in
+    let column : column_place p.registers.mode m odd (4 * half + k) ≡ 2 * (8 * m + (4 * half + k)) + odd = rw wide refl in
+    wide_is p b depth entry m half (2 * k + odd) py (omega arith) wide ∙ ap (λ px. pixel_at p b depth entry px py) (place ∙ sym column)
+
+-- an element of eight
+pub eight_at : (f : ℕ → ℕ) (k : ℕ) → k < 8 → slice_index (eight f) k ≡ f k
+eight_at f zero h = refl
+eight_at f (suc zero) h = refl
+eight_at f (suc (suc zero)) h = refl
+eight_at f (suc (suc (suc zero))) h = refl
+eight_at f (suc (suc (suc (suc zero)))) h = refl
+eight_at f (suc (suc (suc (suc (suc zero))))) h = refl
+eight_at f (suc (suc (suc (suc (suc (suc zero)))))) h = refl
+eight_at f (suc (suc (suc (suc (suc (suc (suc zero))))))) h = refl
+eight_at f (suc (suc (suc (suc (suc (suc (suc (suc k)))))))) h = absurd (omega arith)
+
+-- eight pixels that were put in two halves, of the two halves of a tile
+half_put :
+    (p : Picture) (b : Background) (depth entry m half odd py k j : ℕ) (line : List ℕ) → k < 4 → odd < 2 →
+    is_hires p.registers.mode ≡ true → line ≡ eight (half_value p.vram b depth entry 16 (8 * half) py) → 4 * half + k ≡ j →
+    slice_index line (2 * k + odd) ≡ pixel_at p b depth entry (column_place p.registers.mode m odd j) py
+half_put p b depth entry m half odd py k j line h ho wide is place =
+    ap (λ l. slice_index l (2 * k + odd)) is
+    ∙ eight_at (half_value p.vram b depth entry 16 (8 * half) py) (2 * k + odd) (omega arith)
+    ∙ wide_value p b depth entry m half odd k py h ho wide
+    ∙ ap (λ n. pixel_at p b depth entry (column_place p.registers.mode m odd n) py) place
+
+pub halves_put :
+    (p : Picture) (b : Background) (depth entry m odd py at : ℕ) (left right one two : List ℕ) → odd < 2 →
+    is_hires p.registers.mode ≡ true → left ≡ eight (half_value p.vram b depth entry 16 0 py) →
+    right ≡ eight (half_value p.vram b depth entry 16 8 py) →
+    ((k : ℕ) → k < 4 → slice_index one (at + k) ≡ slice_index left (2 * k + odd)) →
+    ((k : ℕ) → k < 4 → slice_index two (at + 4 + k) ≡ slice_index right (2 * k + odd)) →
+    ((k : ℕ) → k < at + 4 → slice_index two k ≡ slice_index one k) →
+    (k : ℕ) → k < 8 → slice_index two (at + k) ≡ pixel_at p b depth entry (column_place p.registers.mode m odd k) py
+halves_put p b depth entry m odd py at left right one two ho wide is_left is_right first second kept k h = elim (cases_lt k 4) [
+  | inl below ↦ kept (at + k) (omega arith) ∙ first k below
+      ∙ half_put p b depth entry m 0 odd py k k left below ho wide is_left (omega arith)
+  | inr above ↦ (
+      let place : at + 4 + (k - 4) ≡ at + k = omega arith in
+      ap (λ n. slice_index two n) (sym place) ∙ second (k - 4) (omega arith)
+      ∙ half_put p b depth entry m 1 odd py (k - 4) k right (omega arith) ho wide is_right (omega arith)
+      )
+]
+
+-- and eight that were put at once, of one tile
+pub line_put :
+    (p : Picture) (b : Background) (depth entry m odd py at width : ℕ) (line row : List ℕ) →
+    is_hires p.registers.mode ≡ false → width ≡ tile_width p.registers.mode b →
+    line ≡ eight (half_value p.vram b depth entry width (8 * m) py) →
+    ((k : ℕ) → k < 8 → slice_index row (at + k) ≡ slice_index line k) →
+    (k : ℕ) → k < 8 → slice_index row (at + k) ≡ pixel_at p b depth entry (column_place p.registers.mode m odd k) py
+line_put p b depth entry m odd py at width line row lores size is put k h =
+    put k h ∙ ap (λ l. slice_index l k) is ∙ eight_at (half_value p.vram b depth entry width (8 * m) py) k h
+    ∙ ap (λ w. half_value p.vram b depth entry w (8 * m) py k) size
+    ∙ line_value p b depth entry m odd k py h lores
 
 -- all pixels of a column have one map entry
 tile_same :

@@ -1,7 +1,7 @@
 -- What a background of modes 0 to 6 has at a dot: mosaic, scroll (also by column), map entry, flips, pixel,
 -- colour. After the Super Nintendo Development Manual and nocash fullsnes; the combinations of mosaic and
 -- 512 dots are this project's own profile.
-use Rattle.std.specs.Prelude.{ℕ, Bool, true, false, not, ◌+◌, ◌-◌, ◌*◌, ◌/◌, ◌%◌, ◌==◌, ◌||◌, ◌&&◌, List, slice_index, if◌then◌else◌}
+use Rattle.std.specs.Prelude.{ℕ, Bool, true, not, ◌+◌, ◌-◌, ◌*◌, ◌/◌, ◌%◌, ◌==◌, ◌||◌, ◌&&◌, slice_index, if◌then◌else◌}
 use Rattle.ppu_regs.specs.declared.registers.Registers.{Registers}
 use Rattle.ppu_regs.specs.declared.registers.Background.{Background}
 use Rattle.ppu_regs.specs.declared.dots.Candidate.{Candidate}

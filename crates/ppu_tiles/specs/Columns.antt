@@ -6,8 +6,7 @@ use Rattle.ppu_regs.specs.declared.registers.Registers.{Registers}
 use Rattle.ppu_regs.specs.declared.registers.Background.{Background}
 use Rattle.ppu_regs.specs.declared.dots.Candidate.{Candidate}
 use Rattle.ppu_regs.specs.Picture.{Picture, background_of}
-use Rattle.tile_cache.specs.Planes.{cached_value}
-use Rattle.ppu_tiles.specs.declared.scrolls.Scroll.{Scroll}
+use Rattle.tile_cache.specs.Planes.{value_of}
 use Rattle.ppu_tiles.specs.Modes.{depth_of, is_hires, tile_height}
 use Rattle.ppu_tiles.specs.Backgrounds.{column_scroll, entry_at, pixel_at, number_of, turned, tile_of, line_word}
 
@@ -24,10 +23,11 @@ unfoldable pub half_word : Background → ℕ → ℕ → ℕ → ℕ → ℕ
 half_word b depth entry x py =
     let y = turned (entry / 32768 == 1) (tile_height b) py in line_word b depth (tile_of entry x y) y
 
--- pixel q of the sixteen of a wide tile, taken from the cache
-unfoldable pub wide_value : List ℕ → Background → ℕ → ℕ → ℕ → ℕ → ℕ
-wide_value cache b depth entry py q =
-    let x = turned (entry / 16384 % 2 == 1) 16 q in cached_value cache (half_word b depth entry x py) depth (x % 8)
+-- pixel k, from the left on the screen, of the half of a tile of `size` pixels in which its place n lies
+unfoldable pub half_value : List ℕ → Background → ℕ → ℕ → ℕ → ℕ → ℕ → ℕ → ℕ
+half_value vram b depth entry size n py k =
+    let flip : Bool = entry / 16384 % 2 == 1 in
+    value_of vram (half_word b depth entry (turned flip size n) py) depth (if flip then 7 - k else k)
 
 -- a column whose place in the map is m, in eights of pixels: its first pixel, and the one at place j
 abbrev pub column_start : ℕ → ℕ → ℕ

@@ -1,5 +1,5 @@
 -- The layers of the picture modes 0 to 6 and the sizes of their tiles (Super Nintendo Development Manual).
-use Rattle.std.specs.Prelude.{ℕ, Bool, true, false, ◌==◌, ◌||◌, ◌&&◌, if◌then◌else◌}
+use Rattle.std.specs.Prelude.{ℕ, Bool, ◌==◌, ◌||◌, if◌then◌else◌}
 use Rattle.ppu_regs.specs.declared.registers.Background.{Background}
 
 -- the bits of a pixel by mode and layer; 0 where the mode has no such layer

@@ -1,57 +1,38 @@
 ghost use Rattle.std.specs.Prelude.{◌≡◌, ℕ, List, IsTrue, ◌<◌, ◌≤◌, ◌+◌, ◌*◌, ◌/◌, ◌%◌, ◌==◌, ◌||◌, ◌&&◌, ◌-◌, slice_index, if◌then◌else◌};
 ghost use Rattle.ppu_regs.specs.Reads.{bit_of};
-ghost use Rattle.tile_cache.specs.Planes.{cached_value, IsInStep};
+ghost use Rattle.tile_cache.specs.Planes.{IsInStep, eight};
 ghost use Rattle.ppu_regs.specs.Picture.{background_of};
 ghost use Rattle.ppu_tiles.specs.Modes.{depth_of, is_hires};
-ghost use Rattle.ppu_tiles.specs.Backgrounds.{entry_at, pixel_at, number_of, tile_of, line_word};
-ghost use Rattle.ppu_tiles.specs.Columns.{IsDepth, column_start, column_place, half_word, wide_value, column_value, column_base, column_first};
+ghost use Rattle.ppu_tiles.specs.Backgrounds.{own_scroll, entry_at, pixel_at, number_of, tile_of, line_word};
+ghost use Rattle.ppu_tiles.specs.Columns.{IsDepth, column_start, column_place, half_word, half_value, column_value, column_base, column_first};
 
 use crate::entries::{entry, line_place, tile, turn};
 use crate::modes::{height, hires, width};
-use crate::scrolls::in_column;
+use crate::scrolls::{Scroll, in_column};
 use ppu_regs::{Background, Ppu, Registers};
 use tile_cache::TileCache;
 
-/// Puts the eight pixels of a line, turned over where it flips.
+/// Puts eight bytes.
 #[inline(always)]
-fn put_line(tiles: &TileCache, row: &mut [u8; 264], at: usize, word: usize, depth: u8, flip: bool)
-    requires room { at + 8 ≤ 264 }
-    requires word { word < 32768 }
-    requires depth { IsDepth depth }
-    ensures put { (k : ℕ) → k < 8 → slice_index row.new (at + k) ≡ cached_value tiles.now word depth (if flip then 7 - k else k) }
+fn put_bytes(row: &mut [u8; 264], at: usize, bytes: &[u8; 8])
+    requires { at + 8 ≤ 264 }
+    ensures put { (k : ℕ) → k < 8 → slice_index row.new (at + k) ≡ slice_index bytes.now k }
     ensures below { (k : ℕ) → k < at → slice_index row.new k ≡ slice_index row.old k }
 {
     for k in 0..8 {
-        row[at + k] = tiles.value(word, depth, mirrored(flip, k));
+        row[at + k] = bytes[k];
     }
 }
 
-/// The place in eight pixels, turned over where they flip.
+/// Puts every second of eight bytes, from the first or the second.
 #[inline(always)]
-fn mirrored(flip: bool, k: usize) -> usize
-    requires { k < 8 }
-    ensures place { result ≡ (if flip then 7 - k else k) }
-    ensures within { result < 8 }
-{
-    if flip { 7 - k } else { k }
-}
-
-/// The same, written out by depth and flip, so that each case is one run of loads and stores.
-#[inline(always)]
-fn put_eight(tiles: &TileCache, row: &mut [u8; 264], at: usize, word: usize, depth: u8, flip: bool)
-    requires room { at + 8 ≤ 264 }
-    requires word { word < 32768 }
-    requires depth { IsDepth depth }
-    ensures put { (k : ℕ) → k < 8 → slice_index row.new (at + k) ≡ cached_value tiles.now word depth (if flip then 7 - k else k) }
+fn put_half(row: &mut [u8; 264], at: usize, bytes: &[u8; 8], odd: bool)
+    requires { at + 4 ≤ 264 }
+    ensures put { (k : ℕ) → k < 4 → slice_index row.new (at + k) ≡ slice_index bytes.now (2 * k + bit_of odd) }
     ensures below { (k : ℕ) → k < at → slice_index row.new k ≡ slice_index row.old k }
 {
-    match (depth, flip) {
-        (2, false) => put_line(tiles, row, at, word, 2, false),
-        (2, true) => put_line(tiles, row, at, word, 2, true),
-        (4, false) => put_line(tiles, row, at, word, 4, false),
-        (4, true) => put_line(tiles, row, at, word, 4, true),
-        (_, false) => put_line(tiles, row, at, word, 8, false),
-        (_, true) => put_line(tiles, row, at, word, 8, true),
+    for k in 0..4 {
+        row[at + k] = bytes[2 * k + odd as usize];
     }
 }
 
@@ -68,40 +49,37 @@ fn half_place(b: &Background, depth: u8, entry: u16, x: u16, py: u16) -> usize
     line_place(b, depth, tile(entry, x, y), y) as usize
 }
 
-/// Puts every second of the sixteen pixels of a tile, from the first or the second.
+/// The eight pixels of one half of a tile at row `py` of the map, from the left on the screen: `n` is a pixel of that
+/// half.
 #[inline(always)]
-#[tactic(auto, unfolding(crate::specs::Columns::wide_value))]
-fn put_wide(
+#[tactic(auto, unfolding(crate::specs::Columns::half_value))]
+fn half_line(
     tiles: &TileCache,
-    row: &mut [u8; 264],
-    at: usize,
     b: &Background,
     depth: u8,
     entry: u16,
+    size: u16,
+    n: u16,
     py: u16,
-    odd: bool,
-)
-    requires room { at + 8 ≤ 264 }
+) -> [u8; 8]
     requires depth { IsDepth depth }
-    ensures put { (k : ℕ) → k < 8 → slice_index row.new (at + k) ≡ wide_value tiles.now b.now depth entry py (2 * k + bit_of odd) }
-    ensures below { (k : ℕ) → k < at → slice_index row.new k ≡ slice_index row.old k }
+    requires size { 0 < size }
+    requires most { size ≤ 16 }
+    ensures { (vram : List ℕ) → IsInStep tiles.now vram → result ≡ eight (λ k. half_value vram b.now depth entry size n py k) }
 {
     let flip = entry / 16384 % 2 == 1;
-    for k in 0..8usize {
-        let place = turn(flip, 16, 2 * k as u16 + odd as u16);
-        let word = half_place(b, depth, entry, place, py);
-        row[at + k] = tiles.value(word, depth, (place % 8) as usize);
-    }
+    let word = half_place(b, depth, entry, turn(flip, size, n), py);
+    tiles.turned_line(word, depth, flip)
 }
 
 /// Puts the eight pixels of a map entry in a column of which `m` is the place in the map, in eights of pixels.
 #[inline(always)]
-#[tactic(auto, using(crate::proofs::ColumnSteps::line_value, crate::proofs::ColumnSteps::wide_value_is))]
 fn put_values(
     p: &Ppu,
     tiles: &TileCache,
     row: &mut [u8; 264],
     at: usize,
+    mode: u8,
     b: &Background,
     depth: u8,
     entry: u16,
@@ -109,6 +87,7 @@ fn put_values(
     odd: bool,
     py: u16,
 )
+    requires mode { mode ≡ p.now.registers.mode }
     requires room { at + 8 ≤ 264 }
     requires depth { IsDepth depth }
     requires m { m ≤ 160 }
@@ -116,19 +95,19 @@ fn put_values(
     ensures put { (k : ℕ) → k < 8 → slice_index row.new (at + k) ≡ pixel_at p.now b.now depth entry (column_place p.now.registers.mode m (bit_of odd) k) py }
     ensures below { (k : ℕ) → k < at → slice_index row.new k ≡ slice_index row.old k }
 {
-    let mode = p.registers().mode;
     if hires(mode) {
-        put_wide(tiles, row, at, b, depth, entry, py, odd);
+        put_half(row, at, &half_line(tiles, b, depth, entry, 16, 0, py), odd);
+        put_half(
+            row,
+            at + 4,
+            &half_line(tiles, b, depth, entry, 16, 8, py),
+            odd,
+        );
     } else {
-        let flip = entry / 16384 % 2 == 1;
-        let x = turn(flip, width(mode, b), 8 * m);
-        put_eight(
-            tiles,
+        put_bytes(
             row,
             at,
-            half_place(b, depth, entry, x, py),
-            depth,
-            flip,
+            &half_line(tiles, b, depth, entry, width(mode, b), 8 * m, py),
         );
     }
 }
@@ -210,8 +189,10 @@ pub fn put_column(
     p: &Ppu,
     tiles: &TileCache,
     b: &Background,
+    mode: u8,
     bits: u8,
     layer: u8,
+    own: Scroll,
     y: u16,
     odd: bool,
     c: usize,
@@ -223,6 +204,10 @@ pub fn put_column(
 )
     requires first { 1 ≤ layer }
     requires last { layer ≤ 4 }
+    requires mode { mode ≡ p.now.registers.mode }
+    requires own { own ≡ own_scroll b.now }
+    requires across { own.across < 1024 }
+    requires down { own.down < 1024 }
     requires background { b.now ≡ background_of p.now.registers layer }
     requires bits { bits ≡ depth_of p.now.registers.mode layer }
     requires depth { IsDepth bits }
@@ -238,17 +223,13 @@ pub fn put_column(
     ensures firsts { (k : ℕ) → k < 8 → slice_index firsts.new (8 * c + k) ≡ column_first p.now layer y c }
     ensures firsts_below { (k : ℕ) → k < 8 * c → slice_index firsts.new k ≡ slice_index firsts.old k }
 {
-    let r = p.registers();
-    let s = in_column(p, layer, c as u16);
+    let s = in_column(p, mode, layer, own, c as u16);
     let m = c as u16 + s.across / 8;
     let py = y + 1 + s.down;
-    let entry = entry(p, b, start(r.mode, m), py);
+    let entry = entry(p, mode, b, start(mode, m), py);
     let palette = (entry / 1024 % 8) as u8;
-    put_same(
-        bases,
-        8 * c,
-        base(entry, low, high, direct_palette(r, bits, palette)),
-    );
-    put_same(firsts, 8 * c, first_number(r.mode, layer, bits, palette));
-    put_values(p, tiles, values, 8 * c, b, bits, entry, m, odd, py);
+    let direct = direct_palette(p.registers(), bits, palette);
+    put_same(bases, 8 * c, base(entry, low, high, direct));
+    put_same(firsts, 8 * c, first_number(mode, layer, bits, palette));
+    put_values(p, tiles, values, 8 * c, mode, b, bits, entry, m, odd, py);
 }

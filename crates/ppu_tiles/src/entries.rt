@@ -25,20 +25,20 @@ fn map_place(b: &Background, col: u16, row: u16) -> usize
     ensures word { result ≡ map_word b.now col row }
     ensures within { result < 32768 }
 {
-    let right = if b.wide { col / 32 % 2 * 0x400 } else { 0 };
+    let right = if b.wide { 0x400 } else { 0 };
     let screens = if b.wide { 0x800 } else { 0x400 };
-    let below = if b.tall { row / 32 % 2 * screens } else { 0 };
-    let place = b.map_base as usize + (row % 32 * 32) as usize + (col % 32) as usize;
-    (place + right as usize + below as usize) % 32768
+    let below = if b.tall { screens } else { 0 };
+    let line = b.map_base as u32 + row as u32 % 32 * 32 + row as u32 / 32 % 2 * below;
+    ((line + col as u32 % 32 + col as u32 / 32 % 2 * right) % 32768) as usize
 }
 
 /// The map entry at a pixel of the map.
 #[inline(always)]
 #[tactic(auto, unfolding(crate::specs::Backgrounds::entry_at))]
-pub fn entry(p: &Ppu, b: &Background, px: u16, py: u16) -> u16
+pub fn entry(p: &Ppu, mode: u8, b: &Background, px: u16, py: u16) -> u16
+    requires { mode ≡ p.now.registers.mode }
     ensures { result ≡ entry_at p.now b.now px py }
 {
-    let mode = p.registers().mode;
     p.vram()[map_place(b, px / width(mode, b), py / height(b))]
 }
 

@@ -1,4 +1,5 @@
 ghost use Rattle.std.specs.Prelude.{◌≡◌, ◌<◌, ◌≤◌, ◌%◌, ◌/◌, ◌*◌, ◌+◌, ◌==◌};
+ghost use Rattle.ppu_regs.specs.Picture.{background_of};
 ghost use Rattle.ppu_tiles.specs.Backgrounds.{own_scroll, offset_entry, acts_on, across_by, two_offsets, one_offset, column_scroll};
 
 use crate::entries::entry;
@@ -29,7 +30,8 @@ pub fn own(b: &Background) -> Scroll
 /// BG3's entry for a column from 1, or the one so many pixels lower.
 #[inline(always)]
 #[tactic(auto, unfolding(crate::specs::Backgrounds::offset_entry))]
-fn offset(p: &Ppu, c: u16, lower: u16) -> u16
+fn offset(p: &Ppu, mode: u8, c: u16, lower: u16) -> u16
+    requires mode { mode ≡ p.now.registers.mode }
     requires first { 0 < c }
     requires last { c ≤ 32 }
     requires lower { lower ≤ 8 }
@@ -38,6 +40,7 @@ fn offset(p: &Ppu, c: u16, lower: u16) -> u16
     let b = &p.registers().bg3;
     entry(
         p,
+        mode,
         b,
         8 * (c - 1) + b.scroll_x / 8 % 128 * 8,
         b.scroll_y % 1024 + lower,
@@ -110,19 +113,21 @@ fn one(layer: u8, own: Scroll, entry: u16) -> Scroll
 /// The scrolls of a layer in a column of tiles.
 #[inline(always)]
 #[tactic(auto, unfolding(crate::specs::Backgrounds::column_scroll))]
-pub fn in_column(p: &Ppu, layer: u8, c: u16) -> Scroll
-    requires { c ≤ 32 }
+pub fn in_column(p: &Ppu, mode: u8, layer: u8, own: Scroll, c: u16) -> Scroll
+    requires mode { mode ≡ p.now.registers.mode }
+    requires own { own ≡ own_scroll (background_of p.now.registers layer) }
+    requires across { own.across < 1024 }
+    requires down { own.down < 1024 }
+    requires c { c ≤ 32 }
     ensures scroll { result ≡ column_scroll p.now layer c }
     ensures across { result.across < 1024 }
     ensures down { result.down < 1024 }
 {
-    let r = p.registers();
-    let own = own(r.background(layer));
-    if !offsets(r.mode) || c == 0 {
+    if !offsets(mode) || c == 0 {
         own
-    } else if r.mode == 4 {
-        one(layer, own, offset(p, c, 0))
+    } else if mode == 4 {
+        one(layer, own, offset(p, mode, c, 0))
     } else {
-        two(layer, own, offset(p, c, 0), offset(p, c, 8))
+        two(layer, own, offset(p, mode, c, 0), offset(p, mode, c, 8))
     }
 }

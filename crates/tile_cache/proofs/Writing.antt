@@ -1,12 +1,12 @@
 -- What a write of a register leaves of VRAM, and that the cache stays in step.
-use Rattle.std.proofs.Common.{◌≡◌, ◌≢◌, ℕ, ◌+◌, ◌*◌, ◌<◌, ◌==◌, ◌||◌, ◌⊎◌, List, length, slice_index, if◌then◌else◌, true, false, Bool, Option, None, Some, inl, inr, refl, sym, ap, subst, arith, ◌∙◌}
+use Rattle.std.proofs.Common.{◌≡◌, ◌≢◌, ℕ, ◌==◌, ◌||◌, List, slice_index, if◌then◌else◌, true, false, Bool, None, Some, inl, inr, refl, sym, ap, subst, arith, ◌∙◌}
 use Rattle.std.proofs.lemmas.Bool.{cases_eq}
 use Rattle.std.proofs.lemmas.Bool.Decides.{nat_tests}
 use Rattle.std.proofs.lemmas.List.{get_or-set_other}
 use Rattle.ppu_regs.specs.Picture.{Picture}
 use Rattle.ppu_regs.specs.Ports.{vram_place, vram_low_written, vram_high_written}
 use Rattle.ppu_regs.specs.Writes.{after_write, word_written, oam_written, vram_low_set, vram_high_set, vram_low_put, vram_high_put, colour_put}
-use Rattle.tile_cache.specs.Planes.{pixel_of, cached, IsInStepAt, IsInStep}
+use Rattle.tile_cache.specs.Planes.{pixel_of, packed, IsInStepAt, IsInStep}
 
 -- VRAM after a write, by the two data registers
 vram_after :
@@ -67,15 +67,15 @@ stays_in_step p q cache reg v none after step =
 
 pub comes_in_step :
     (p q : Picture) (old new : List ℕ) (reg v word : ℕ) → word_written p reg ≡ Some word → q ≡ after_write p reg v → IsInStep old p.vram →
-    IsInStepAt new q.vram word → ((w k : ℕ) → k < 8 → w ≢ word → cached new w k ≡ cached old w k) → IsInStep new q.vram
+    IsInStepAt new q.vram word → ((w : ℕ) → w ≢ word → slice_index new w ≡ slice_index old w) → IsInStep new q.vram
 comes_in_step p q old new reg v word some after step here others = record {
-  at = λ w within k small. elim (cases_eq w word) [
-    | inl same ↦ subst (λ n. cached new n k ≡ pixel_of (slice_index q.vram n) k) (sym same) (here k small)
+  at = λ w within. elim (cases_eq w word) [
+    | inl same ↦ subst (λ n. slice_index new n ≡ packed (pixel_of (slice_index q.vram n))) (sym same) here
     | inr other ↦ (
         let kept : slice_index q.vram w ≡ slice_index p.vram w =
         ap (λ r. slice_index r.vram w) after ∙ vram_elsewhere p reg v word w some other
         in
-        others w k small other ∙ step.at w within k small ∙ ap (λ n. pixel_of n k) (sym kept)
+        others w other ∙ step.at w within ∙ ap (λ n. packed (pixel_of n)) (sym kept)
         )
   ];
 }

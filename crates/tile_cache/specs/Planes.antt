@@ -21,17 +21,15 @@ planes_of pair word depth k =
 unfoldable pub value_of : List ℕ → ℕ → ℕ → ℕ → ℕ
 value_of vram word depth k = planes_of (λ w j. pixel_of (slice_index vram w) j) word depth k
 
--- what the cache has as pixel k of a word: eight numbers a word, one after another
-abbrev pub cached : List ℕ → ℕ → ℕ → ℕ
-cached cache word k = slice_index cache (8 * word + k)
+-- eight pixels as one number, the left one in its lowest byte
+unfoldable pub packed : (ℕ → ℕ) → ℕ
+packed f =
+    f 0 + 0x100 * f 1 + 0x10000 * f 2 + 0x1000000 * f 3 + 0x100000000 * f 4 + 0x10000000000 * f 5 + 0x1000000000000 * f 6
+    + 0x100000000000000 * f 7
 
--- that pixel, taken from the cache
-unfoldable pub cached_value : List ℕ → ℕ → ℕ → ℕ → ℕ
-cached_value cache word depth k = planes_of (λ w j. cached cache w j) word depth k
-
--- the cache is in step with VRAM at a word
+-- the cache is in step with VRAM at a word: it has the word's pixels
 abbrev pub IsInStepAt : List ℕ → List ℕ → ℕ → Type 0
-IsInStepAt cache vram word = (k : ℕ) → k < 8 → cached cache word k ≡ pixel_of (slice_index vram word) k
+IsInStepAt cache vram word = slice_index cache word ≡ packed (pixel_of (slice_index vram word))
 
 -- at every word
 pub record IsInStep (cache vram : List ℕ) : Type 0 where

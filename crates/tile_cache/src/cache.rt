@@ -1,8 +1,9 @@
-ghost use Rattle.std.specs.Prelude.{◌≡◌, ◌≢◌, ℕ, ◌⊎◌, ◌+◌, ◌*◌, ◌/◌, ◌%◌, ◌<◌, ◌≤◌, ◌^◌, ◌==◌, List, length, slice_index, slice_set, All, IfOk, IsTrue, ◌||◌};
+ghost use Rattle.std.specs.Prelude.{◌≡◌, ◌≢◌, ℕ, ◌⊎◌, ◌+◌, ◌*◌, ◌/◌, ◌%◌, ◌<◌, ◌≤◌, ◌^◌, ◌==◌, List, length, slice_index, slice_set, All, IfOk, IsTrue, ◌||◌, ◌-◌, if◌then◌else◌};
 ghost use Rattle.ppu_regs.specs.Picture.{picture_start};
 ghost use Rattle.ppu_regs.specs.Writes.{after_write, word_written};
-ghost use Rattle.tile_cache.specs.Planes.{pixel_of, value_of, cached, cached_value, IsInStepAt, IsInStep, eight};
+ghost use Rattle.tile_cache.specs.Planes.{value_of, packed, IsInStepAt, IsInStep, eight};
 
+use crate::eights::{bytes_of, pixels_of};
 use ppu_regs::Ppu;
 use snes_defs::NoMemory;
 use std::alloc::Global;
@@ -11,23 +12,20 @@ use std::marker::Model;
 /// The words of VRAM.
 const WORDS: usize = 32_768;
 
-/// The pixels of VRAM.
-const PIXELS: usize = 262_144;
-
-/// The pixels of VRAM: eight numbers of two bits for each word.
+/// The pixels of VRAM: for each word eight numbers of two bits, as the bytes of one number.
 #[derive(Drop)]
 pub struct TileCache {
-    pixels: Vec<u8>,
+    eights: Vec<u64>,
 }
 
 impl Model for TileCache {
-    ghost use Rattle.std.specs.Prelude.{◌≡◌, ℕ, ◌<◌, List, length, slice_index};
+    ghost use Rattle.std.specs.Prelude.{◌≡◌, ℕ, ◌≤◌, List, length, slice_index};
 
     ghost Value = { List ℕ };
 
-    ghost view = { λ t. t.pixels.items };
+    ghost view = { λ t. t.eights.items };
 
-    ghost invariant = { λ t. (length t.pixels.items ≡ 262144) × ((k : ℕ) → slice_index t.pixels.items k < 4) };
+    ghost invariant = { λ t. (length t.eights.items ≡ 32768) × ((k : ℕ) → slice_index t.eights.items k ≤ 0x303030303030303) };
 }
 
 impl TileCache {
@@ -36,8 +34,8 @@ impl TileCache {
     pub fn new(alloc: Global) -> Result<TileCache, NoMemory>
         ensures start { IfOk result (λ t. IsInStep t picture_start.vram) }
     {
-        let pixels = zeroed(alloc, PIXELS)?;
-        Ok(TileCache { pixels })
+        let eights = zeroed(alloc, WORDS)?;
+        Ok(TileCache { eights })
     }
 
     /// The word of VRAM was written: its pixels are decoded anew.
@@ -45,93 +43,78 @@ impl TileCache {
     pub fn wrote(&mut self, p: &Ppu, word: u16)
         requires word { word < 32768 }
         ensures step { IsInStepAt self.new p.now.vram word }
-        ensures others { (w k : ℕ) → k < 8 → w ≢ word → cached self.new w k ≡ cached self.old w k }
+        ensures others { (w : ℕ) → w ≢ word → slice_index self.new w ≡ slice_index self.old w }
     {
-        let line = pixels_of(p.vram()[word as usize]);
-        put_eight(self.pixels.as_mut_slice(), 8 * word as usize, line);
+        let pixels = pixels_of(p.vram()[word as usize]);
+        self.eights[word as usize] = pixels;
     }
 
-    /// The pixel `k` from the left of one word, 0 to 3.
+    /// What the cache has of one word.
     #[inline(always)]
-    fn pixel(&self, word: usize, k: usize) -> u8
+    fn eight(&self, word: usize) -> u64
         requires word { word < 32768 }
-        requires k { k < 8 }
-        ensures pixel { result ≡ cached self.now word k }
-        ensures small { result < 4 }
+        ensures value { result ≡ slice_index self.now word }
+        ensures small { result ≤ 0x303030303030303 }
     {
-        self.pixels[8 * word + k]
+        self.eights[word]
     }
 
-    /// The same of a line of 4 bits.
+    /// The pixels of a line of 4 bits.
     #[inline(always)]
-    #[tactic(auto, unfolding(crate::specs::Planes::cached_value))]
-    fn pixel_of_four(&self, word: usize, k: usize) -> u8
+    fn eight_of_four(&self, word: usize) -> u64
         requires word { word < 32768 }
-        requires k { k < 8 }
-        ensures { result ≡ cached_value self.now word 4 k }
+        ensures { result ≡ slice_index self.now word + 4 * slice_index self.now ((word + 8) % 32768) }
     {
-        self.pixel(word, k) + 4 * self.pixel((word + 8) % WORDS, k)
+        self.eight(word) + 4 * self.eight((word + 8) % WORDS)
     }
 
-    /// The same of a line of 8 bits.
+    /// The pixels of a line of 8 bits.
     #[inline(always)]
-    #[tactic(auto, unfolding(crate::specs::Planes::cached_value))]
-    fn pixel_of_eight(&self, word: usize, k: usize) -> u8
+    fn eight_of_eight(&self, word: usize) -> u64
         requires word { word < 32768 }
-        requires k { k < 8 }
-        ensures { result ≡ cached_value self.now word 8 k }
+        ensures { result ≡ slice_index self.now word + 4 * slice_index self.now ((word + 8) % 32768)
+            + 16 * slice_index self.now ((word + 16) % 32768) + 64 * slice_index self.now ((word + 24) % 32768) }
     {
-        self.pixel(word, k)
-            + 4 * self.pixel((word + 8) % WORDS, k)
-            + 16 * self.pixel((word + 16) % WORDS, k)
-            + 64 * self.pixel((word + 24) % WORDS, k)
+        self.eight(word)
+            + 4 * self.eight((word + 8) % WORDS)
+            + 16 * self.eight((word + 16) % WORDS)
+            + 64 * self.eight((word + 24) % WORDS)
     }
 
-    /// The pixel `k` from the left, 0 to 7, of the line that begins at a word, at a depth of 2, 4 or 8 bits.
+    /// The pixels of a line of 2, 4 or 8 bits.
     #[inline(always)]
-    #[tactic(auto, unfolding(crate::specs::Planes::cached_value))]
-    pub fn value(&self, word: usize, depth: u8, k: usize) -> u8
+    #[tactic(auto, using(crate::proofs::Steps::lines))]
+    fn pixels(&self, word: usize, depth: u8) -> u64
         requires word { word < 32768 }
         requires depth { IsTrue ((depth == 2) || (depth == 4) || (depth == 8)) }
-        requires k { k < 8 }
-        ensures { result ≡ cached_value self.now word depth k }
+        ensures { (vram : List ℕ) → IsInStep self.now vram → result ≡ packed (value_of vram word depth) }
     {
         match depth {
-            2 => self.pixel(word, k),
-            4 => self.pixel_of_four(word, k),
-            _ => self.pixel_of_eight(word, k),
+            2 => self.eight(word),
+            4 => self.eight_of_four(word),
+            _ => self.eight_of_eight(word),
         }
     }
 
-    /// A line at a depth.
+    /// The eight pixels, left to right, of the line that begins at a word, at a depth of 2, 4 or 8 bits, turned over where
+    /// `flip`.
     #[inline(always)]
-    fn cached_line(&self, word: usize, depth: u8) -> [u8; 8]
+    pub fn turned_line(&self, word: usize, depth: u8, flip: bool) -> [u8; 8]
         requires word { word < 32768 }
         requires depth { IsTrue ((depth == 2) || (depth == 4) || (depth == 8)) }
-        ensures { result ≡ eight (λ k. cached_value self.now word depth k) }
+        ensures { (vram : List ℕ) → IsInStep self.now vram → result ≡ eight (λ k. value_of vram word depth (if flip then 7 - k else k)) }
     {
-        [
-            self.value(word, depth, 0),
-            self.value(word, depth, 1),
-            self.value(word, depth, 2),
-            self.value(word, depth, 3),
-            self.value(word, depth, 4),
-            self.value(word, depth, 5),
-            self.value(word, depth, 6),
-            self.value(word, depth, 7),
-        ]
+        bytes_of(self.pixels(word, depth), flip)
     }
 
-    /// The eight pixels, left to right, of the line that begins at a word, at a depth of 2, 4 or 8
-    /// bits.
+    /// The same as it stands in VRAM.
     #[inline(always)]
     pub fn line(&self, word: u16, depth: u8) -> [u8; 8]
         requires word { word < 32768 }
         requires depth { IsTrue ((depth == 2) || (depth == 4) || (depth == 8)) }
-        ensures cached { result ≡ eight (λ k. cached_value self.now word depth k) }
-        ensures decoded { (vram : List ℕ) → IsInStep self.now vram → result ≡ eight (λ k. value_of vram word depth k) }
+        ensures { (vram : List ℕ) → IsInStep self.now vram → result ≡ eight (λ k. value_of vram word depth k) }
     {
-        self.cached_line(word as usize, depth)
+        self.turned_line(word as usize, depth, false)
     }
 }
 
@@ -153,56 +136,12 @@ pub fn write(p: &mut Ppu, tiles: &mut TileCache, reg: u8, v: u8) -> Option<u16>
     }
 }
 
-fn zeroed(alloc: Global, size: usize) -> Result<Vec<u8>, NoMemory>
-    ensures size { IfOk result (λ pixels. length pixels.items ≡ size) }
-    ensures zeros { IfOk result (λ pixels. All (λ v. v ≡ 0) pixels.items) }
+fn zeroed(alloc: Global, size: usize) -> Result<Vec<u64>, NoMemory>
+    ensures size { IfOk result (λ eights. length eights.items ≡ size) }
+    ensures zeros { IfOk result (λ eights. All (λ v. v ≡ 0) eights.items) }
 {
-    match vec![in alloc; 0u8; size] {
-        Ok(pixels) => Ok(pixels),
+    match vec![in alloc; 0u64; size] {
+        Ok(eights) => Ok(eights),
         Err(_) => Err(NoMemory),
-    }
-}
-
-/// A pixel from the bits of two weights.
-#[inline(always)]
-fn pixel(bits: u16, low: u16, high: u16) -> u8
-    requires low { 0 < low }
-    requires high { 0 < high }
-    ensures pixel { result ≡ bits / low % 2 + 2 * (bits / high % 2) }
-    ensures small { result < 4 }
-{
-    (bits / low % 2 + 2 * (bits / high % 2)) as u8
-}
-
-/// The eight pixels of a word.
-#[inline(always)]
-#[tactic(auto, unfolding(crate::specs::Planes::pixel_of))]
-fn pixels_of(bits: u16) -> [u8; 8]
-    ensures pixels { result ≡ eight (pixel_of bits) }
-    ensures small { (k : ℕ) → slice_index result k < 4 }
-{
-    [
-        pixel(bits, 0x80, 0x8000),
-        pixel(bits, 0x40, 0x4000),
-        pixel(bits, 0x20, 0x2000),
-        pixel(bits, 0x10, 0x1000),
-        pixel(bits, 0x08, 0x0800),
-        pixel(bits, 0x04, 0x0400),
-        pixel(bits, 0x02, 0x0200),
-        pixel(bits, 0x01, 0x0100),
-    ]
-}
-
-/// Eight numbers are put side by side.
-#[inline(always)]
-fn put_eight(pixels: &mut [u8], at: usize, line: [u8; 8])
-    requires { at + 8 ≤ length pixels.old }
-    ensures size { length pixels.new ≡ length pixels.old }
-    ensures put { (k : ℕ) → k < 8 → slice_index pixels.new (at + k) ≡ slice_index line k }
-    ensures below { (k : ℕ) → k < at → slice_index pixels.new k ≡ slice_index pixels.old k }
-    ensures above { (k : ℕ) → at + 8 ≤ k → slice_index pixels.new k ≡ slice_index pixels.old k }
-{
-    for k in 0..8 {
-        pixels[at + k] = line[k];
     }
 }

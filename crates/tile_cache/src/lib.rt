@@ -6,5 +6,7 @@
 #![tactic(auto)]
 
 mod cache;
+mod eights;
 
 pub use cache::{TileCache, write};
+pub use eights::line_of_words;

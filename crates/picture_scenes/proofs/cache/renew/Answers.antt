@@ -4,7 +4,7 @@ use Rattle.picture_scenes.proofs.Renewed.{renewed_next, renewed_whole}
 use Rattle.picture_scenes.proofs.cache.renew.Goals as goal
 
 pub loop-word-init : goal.loop-word-init
-loop-word-init c = record { at = λ w k below small. absurd (omega arith) }
+loop-word-init c = record { at = λ w below. absurd (omega arith) }
 
 pub loop-word-preserved : goal.loop-word-preserved
 loop-word-preserved c =

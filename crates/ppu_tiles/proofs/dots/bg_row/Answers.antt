@@ -1,5 +1,5 @@
 -- The dots of both halves are those of their candidates.
-use Rattle.std.proofs.Common.{◌≡◌, ◌≢◌, ℕ, ◌%◌, ◌<◌, ◌⊎◌, inl, inr, ◌∙◌, arith}
+use Rattle.std.proofs.Common.{◌%◌, inl, inr, ◌∙◌, arith}
 use Rattle.std.proofs.lemmas.Bool.{cases_eq}
 use Rattle.ppu_tiles.proofs.DotSteps.{half_of_dots}
 use Rattle.ppu_tiles.proofs.dots.bg_row.Goals as goal

@@ -1,5 +1,5 @@
 -- A dot of the row is that of its mosaic block's first.
-use Rattle.std.proofs.Common.{◌≡◌, ℕ, ◌+◌, ◌<◌, ◌≤◌, ap, ◌∙◌, arith}
+use Rattle.std.proofs.Common.{◌≤◌, ap, ◌∙◌, arith}
 use Rattle.ppu_regs.specs.Reads.{bit_of}
 use Rattle.ppu_regs.specs.Dots.{rank_of}
 use Rattle.ppu_regs.specs.declared.dots.Candidate.{Candidate}

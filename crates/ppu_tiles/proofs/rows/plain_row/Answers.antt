@@ -1,5 +1,5 @@
 -- A dot of the row is the one of its column.
-use Rattle.std.proofs.Common.{◌≡◌, ℕ, ◌+◌, ◌%◌, ◌<◌, ap, ◌∙◌, arith}
+use Rattle.std.proofs.Common.{◌≡◌, ◌+◌, ◌%◌, ap, ◌∙◌, arith}
 use Rattle.ppu_regs.specs.Reads.{bit_of}
 use Rattle.ppu_regs.specs.Picture.{background_of}
 use Rattle.ppu_regs.specs.declared.registers.Registers.{Registers}

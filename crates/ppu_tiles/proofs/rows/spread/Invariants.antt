@@ -1,4 +1,4 @@
-use Rattle.std.proofs.Common.{◌≡◌, ℕ, ◌+◌, ◌-◌, ◌%◌, ◌<◌, ◌≤◌, List, slice_index}
+use Rattle.std.proofs.Common.{◌≡◌, ℕ, ◌-◌, ◌%◌, ◌<◌, ◌≤◌, List, slice_index}
 use Rattle.ppu_tiles.proofs.rows.spread.Given as goal
 
 -- the first x bytes are those of their blocks' first, and the others as they were

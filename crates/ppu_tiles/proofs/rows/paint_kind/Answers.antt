@@ -1,9 +1,9 @@
 -- One more column is painted.
-use Rattle.std.proofs.Common.{◌≡◌, ℕ, ◌+◌, ◌-◌, ◌*◌, ◌/◌, ◌%◌, ◌<◌, ◌≤◌, ◌⊎◌, List, slice_index, inl, inr, refl, sym, ap, subst, ◌∙◌, arith}
+use Rattle.std.proofs.Common.{◌≡◌, ℕ, ◌+◌, ◌*◌, ◌/◌, ◌%◌, ◌<◌, List, slice_index, inl, inr, subst, ◌∙◌, arith}
 use Rattle.std.proofs.lemmas.Bool.{cases_lt}
 use Rattle.ppu_regs.specs.Reads.{bit_of}
 use Rattle.ppu_tiles.specs.Columns.{column_value, column_base, column_first}
-use Rattle.ppu_tiles.proofs.rows.paint.Goals as goal
+use Rattle.ppu_tiles.proofs.rows.paint_kind.Goals as goal
 
 -- a row of eights is one eight longer
 one_more :
