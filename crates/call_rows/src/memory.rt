@@ -1,24 +1,29 @@
 // Want of memory for a run comes before anything is created.
-use crate::fixtures::{RUN, called_with, planned};
+use crate::fixtures::{RUN, called_with, changed, planned};
 use crate::players::Starved;
 use file_shelf::{MemShelf, Out};
 use snes_call::Status;
 use std::test::Fail;
+use std::thread::Threads;
+
+/// Whether a run of these words ends for want of memory, and nothing is created.
+fn is_starved<R: AllocGlobal + Threads>(rt: &R, words: &[&str]) -> Result<bool, Fail> {
+    let mut shelf = planned(rt)?;
+    let status = called_with::<Starved, R, MemShelf>(rt, words, &mut shelf)?;
+    Ok(
+        status == Status::NoMemory
+            && status.exit() == 5
+            && shelf.written(Out::Say) == b"no memory\n".as_slice()
+            && shelf.named(Out::Video).is_empty()
+            && shelf.named(Out::Sound).is_empty(),
+    )
+}
 
 #[test]
 fn nothing_is_created_without_memory(rt: HostRuntime) -> Result<(), Fail> {
-    let demo = ["demo", "0", "--frames", "1"];
-    let mut serial = RUN;
-    serial[0] = "serial";
-    for words in [RUN.as_slice(), serial.as_slice(), demo.as_slice()] {
-        let mut shelf = planned(&rt)?;
-        let status = called_with::<Starved, HostRuntime, MemShelf>(&rt, words, &mut shelf)?;
-        assert_eq!(rt; status, Status::NoMemory);
-        assert_eq!(rt; status.exit(), 5);
-        assert_eq!(rt; shelf.written(Out::Say), b"no memory\n".as_slice());
-        assert_eq!(rt; shelf.named(Out::Video), "");
-        assert_eq!(rt; shelf.named(Out::Sound), "");
-    }
+    assert!(rt; is_starved(&rt, &RUN)?);
+    assert!(rt; is_starved(&rt, &changed(0, "serial"))?);
+    assert!(rt; is_starved(&rt, &["demo", "0", "--frames", "1"])?);
     Ok(())
 }
 

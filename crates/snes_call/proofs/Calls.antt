@@ -26,7 +26,7 @@ say_over (Make number name) a b h = h.others out.Say refl
 say_over (Demo number frames) a b h = h.others out.Say refl
 
 pub puts_only_say : (a b : Shown) → OnlyPuts a b out.Say → OnlySays a b
-puts_only_say a b h any differ = let over = h.others any differ in record { written = over.written; named = over.named }
+puts_only_say a b h any differ = h.others any differ
 
 pub puts_kept : (a b : Shown) → OnlyPuts a b out.Say → IsKept a b
 puts_kept a b h = record { held = h.held; load_faults = λ name. omega (arith, ap (λ (f : List ℕ → ℕ). f name) h.load_faults); write_faults = h.write_faults }

@@ -13,7 +13,7 @@ runs_kept : (a b : Shown) → OnlyRunsFiles a b → IsKept a b
 runs_kept a b h = record { held = h.held; load_faults = h.load_faults; write_faults = h.write_faults }
 
 pub changes_run : (files : Files) (a b : Shown) → OnlyRunsFiles a b → OnlyCommanded (Run files) a b
-changes_run files a b h = record { kept = runs_kept a b h; others = go }
+changes_run files a b h = record { kept = runs_kept a b h; loads = λ none. absurd cc; others = go }
   where
     go : (other : Out) → creates (Run files) other ≡ false → IsPassedOver a b other
     go Video is = absurd cc
@@ -22,7 +22,7 @@ changes_run files a b h = record { kept = runs_kept a b h; others = go }
     go Say is = h.others Say (λ e. cc) (λ e. cc)
 
 pub changes_serial : (files : Files) (a b : Shown) → OnlyRunsFiles a b → OnlyCommanded (Serial files) a b
-changes_serial files a b h = record { kept = runs_kept a b h; others = go }
+changes_serial files a b h = record { kept = runs_kept a b h; loads = λ none. absurd cc; others = go }
   where
     go : (other : Out) → creates (Serial files) other ≡ false → IsPassedOver a b other
     go Video is = absurd cc
@@ -37,6 +37,7 @@ changes_make number out a b h = record {
     load_faults = λ name. omega (arith, ap (λ (f : List ℕ → ℕ). f name) h.load_faults);
     write_faults = h.write_faults;
   };
+  loads = λ none. h.load_faults;
   others = go;
 }
   where
@@ -49,11 +50,12 @@ changes_make number out a b h = record {
 pub changes_demo : (number frames : ℕ) (a : Shown) → OnlyCommanded (Demo number frames) a a
 changes_demo number frames a = record {
   kept = record { held = refl; load_faults = λ name. omega arith; write_faults = λ any. omega arith };
+  loads = λ none. refl;
   others = λ other is. record { written = refl; named = refl; write_faults = refl };
 }
 
 -- a demo changes no output
 pub says_none : (a : Shown) → OnlySays a a
-says_none a any differ = record { written = refl; named = refl }
+says_none a any differ = record { written = refl; named = refl; write_faults = refl }
 
 pub ruleset changing = (says_none, changes_run, changes_serial, changes_make, changes_demo)

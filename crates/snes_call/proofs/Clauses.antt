@@ -8,7 +8,7 @@ use Rattle.file_shelf.specs.declared.shelves.Input.TheVariants as input
 use Rattle.file_shelf.specs.declared.shelves.Out.{Out}
 use Rattle.file_shelf.specs.declared.shelves.Out.TheVariants as out
 use Rattle.file_shelf.specs.Told.{HasRisen}
-use Rattle.file_shelf.specs.Shown.{Shown, IsUntouched}
+use Rattle.file_shelf.specs.Shown.{Shown, IsUntouched, IsPassedOver}
 use Rattle.run_io.specs.declared.names.Files.{Files}
 use Rattle.run_io.specs.declared.commands.Command.{Command}
 use Rattle.run_io.specs.declared.commands.Command.TheVariants.{Run, Serial, Make, Demo}
@@ -56,6 +56,10 @@ whole_filled : (after : Shown) (any : Out) (name bytes : List ℕ) → IsFilled 
 whole_filled after any name bytes h = subst (IsFilled after any name) (sym (take_all (length bytes) bytes (omega arith))) h
 
 module _ (emits : Job → List ℕ → List ℕ → Type 0) (before after : Shown) where
+  -- what was passed over is as it was
+  as_it_was : (any : Out) → IsPassedOver before after any → IsUntouched before after any
+  as_it_was any h = record { written = h.written; named = h.named }
+
   -- an output that was filled was begun
   run_begun : (files : Files) (line : List ℕ) (any : Out) → IsRun emits files before after line → (any ≡ out.Video) ⊎ (any ≡ out.Sound) → IsRunBegun emits files before after any
   run_begun files line any h which =
@@ -258,9 +262,9 @@ module _ (emits : Job → List ℕ → List ℕ → Type 0) (before after : Show
     left (WriteFault out.Video) h any made = write_left command out.Video any made h
     left (WriteFault out.Sound) h any made = write_left command out.Sound any made h
     left (WriteFault out.Image) h any made = write_left command out.Image any made h
-    left (LoadFault i) h any made = inl ((load_ends command i h).1 any (not_say command any made))
-    left (Refused cause) h any made = inl ((refused_ends command cause h).1 any (not_say command any made))
-    left NoMemory h any made = inl (h any (not_say command any made))
+    left (LoadFault i) h any made = inl (as_it_was any ((load_ends command i h).1 any (not_say command any made)))
+    left (Refused cause) h any made = inl (as_it_was any ((refused_ends command cause h).1 any (not_say command any made)))
+    left NoMemory h any made = inl (as_it_was any (h any (not_say command any made)))
     left Usage h any made = absurd h
 
     pub begun : (status : Status) → EndsCall emits command before after status → (any : Out) → creates command any ≡ true → Passed (Create any) status → IsBegun emits command before after any

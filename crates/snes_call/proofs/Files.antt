@@ -4,7 +4,7 @@ use Rattle.snes_defs.specs.declared.cart.Job.{Job}
 use Rattle.file_shelf.specs.declared.shelves.Out.{Out}
 use Rattle.file_shelf.specs.declared.shelves.Out.TheVariants.{Video, Sound, Image, Say}
 use Rattle.file_shelf.specs.Told.{HasRisen}
-use Rattle.file_shelf.specs.Shown.{Shown, IsUntouched, OnlyLoads, OnlyRuns}
+use Rattle.file_shelf.specs.Shown.{Shown, IsUntouched, IsPassedOver, OnlyLoads, OnlyRuns}
 use Rattle.run_io.specs.declared.names.Files.{Files}
 use Rattle.snes_call.specs.declared.inputs.InputEnd.{InputEnd}
 use Rattle.snes_call.specs.declared.inputs.InputEnd.TheVariants as inputs
@@ -21,6 +21,7 @@ pub loads_say : (a b : Shown) → OnlyLoads a b → OnlySays a b
 loads_say a b h any not_say = record {
   written = ap (λ (w : Out → Option (List ℕ)). w any) h.written;
   named = ap (λ (w : Out → Option (List ℕ)). w any) h.named;
+  write_faults = ap (λ (f : Out → ℕ). f any) h.write_faults;
 }
 
 pub loads_only : (a b : Shown) → OnlyLoads a b → OnlyRunsFiles a b
@@ -63,14 +64,19 @@ module _ (emits : Job → List ℕ → List ℕ → Type 0) (files : Files) (bef
     risen : (out : Out) → HasRisen (loaded.write_faults out) (after.write_faults out) → HasRisen (before.write_faults out) (after.write_faults out)
     risen out h = subst (λ (f : Out → ℕ). HasRisen (f out) (after.write_faults out)) first.write_faults h
 
-    -- of the outputs only video and sound could be changed, and they were not
-    all_untouched : IsUntouched loaded after Video → IsUntouched loaded after Sound → OnlySays before after
-    all_untouched video sound Video not_say = untouched Video video
-    all_untouched video sound Sound not_say = untouched Sound sound
-    all_untouched video sound Image not_say =
-        let over = then.others Image (λ e. cc) (λ e. cc) in
-        untouched Image (record { written = over.written; named = over.named })
-    all_untouched video sound Say not_say = absurd (not_say refl)
+    passed_over : (any : Out) → IsPassedOver loaded after any → IsPassedOver before after any
+    passed_over any h = record {
+      written = h.written ∙ ap (λ (w : Out → Option (List ℕ)). w any) first.written;
+      named = h.named ∙ ap (λ (w : Out → Option (List ℕ)). w any) first.named;
+      write_faults = h.write_faults ∙ ap (λ (f : Out → ℕ). f any) first.write_faults;
+    }
+
+    -- of the outputs only video and sound could be tried, and they were not
+    none_tried : IsPassedOver loaded after Video → IsPassedOver loaded after Sound → OnlySays before after
+    none_tried video sound Video not_say = passed_over Video video
+    none_tried video sound Sound not_say = passed_over Sound sound
+    none_tried video sound Image not_say = passed_over Image (then.others Image (λ e. cc) (λ e. cc))
+    none_tried video sound Say not_say = absurd (not_say refl)
 
     pub run_ends : (end : RunEnd) → EndsRun emits job files loaded after end → EndsFiles emits files before after (of_run end)
     run_ends (run.WriteFault Video) h = record {
@@ -93,4 +99,4 @@ module _ (emits : Job → List ℕ → List ℕ → Type 0) (files : Files) (bef
     }
     run_ends (run.WriteFault Image) h = absurd h
     run_ends (run.WriteFault Say) h = absurd h
-    run_ends run.NoMemory h = all_untouched h.video h.sound
+    run_ends run.NoMemory h = none_tried h.video h.sound

@@ -24,7 +24,11 @@ module _ (before mid after : Shown) (puts : OnlyPuts mid after out.Say) where
   }
 
   pub says_after : OnlySays before mid → OnlySays before after
-  says_after h any differ = untouched_after any differ (h any differ)
+  says_after h any differ = record {
+    written = (puts.others any differ).written ∙ (h any differ).written;
+    named = (puts.others any differ).named ∙ (h any differ).named;
+    write_faults = (puts.others any differ).write_faults ∙ (h any differ).write_faults;
+  }
 
   filled_after : (any : Out) (name bytes : List ℕ) → any ≢ out.Say → IsFilled mid any name bytes → IsFilled after any name bytes
   filled_after any name bytes differ h = record {

@@ -17,7 +17,7 @@ use Rattle.run_io.specs.declared.names.WordsEnd.TheVariants.{Usage, NoMemory}
 use Rattle.snes_call.specs.declared.status.Status.{Status}
 use Rattle.snes_call.specs.declared.status.Status.TheVariants as answer
 use Rattle.snes_call.specs.Call.{EndsCall}
-use Rattle.snes_call.specs.Commands.{HasFewFrames, creates}
+use Rattle.snes_call.specs.Commands.{files_of, HasFewFrames, creates}
 use Rattle.snes_call.proofs.Calls.{puts_only_say, puts_others}
 
 some_is : {A : Type 0} (a b : A) → Some a ≡ Some b → a ≡ b
@@ -151,3 +151,12 @@ pub passed : (words : List (List ℕ)) (before after : Shown) (read : Result Com
 passed words before after (Ok c) command any is usage others says asked made =
     others any (subst (λ (k : Command). creates k any ≡ false) (sym (some_is c command (sym is ∙ asked))) made)
 passed words before after (Err end) command any is usage others says asked made = puts_others before after any says
+
+-- a command without files has loaded none
+pub unloaded : (words : List (List ℕ)) (before after : Shown) (read : Result Command WordsEnd) (command : Command)
+    → IfOk read (λ c. command_of words ≡ Some c) → IfOk read (λ c. files_of c ≡ None → after.load_faults ≡ before.load_faults)
+    → IfErr read (λ end. OnlyPuts before after out.Say)
+    → command_of words ≡ Some command → files_of command ≡ None → after.load_faults ≡ before.load_faults
+unloaded words before after (Ok c) command is loads says asked none =
+    loads (subst (λ (k : Command). files_of k ≡ None) (sym (some_is c command (sym is ∙ asked))) none)
+unloaded words before after (Err end) command is loads says asked none = says.load_faults

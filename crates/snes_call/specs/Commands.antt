@@ -71,7 +71,8 @@ EndsCommand emits (Serial files) before after end = EndsFiles emits files before
 EndsCommand emits (Make number out) before after end = EndsMake number out before after end
 EndsCommand emits (Demo number frames) before after end = (end ≡ NoMemory) × OnlySays before after
 
--- a command changes no output but those that it creates, nor what is held, and no count falls
+-- a command changes no output but those that it creates, nor what is held, and no count falls; one that has no files loads none
 pub record OnlyCommanded (command : Command) (before after : Shown) : Type 0 where
   pub kept : IsKept before after
+  pub loads : files_of command ≡ None → after.load_faults ≡ before.load_faults
   pub others : (other : Out) → creates command other ≡ false → IsPassedOver before after other

@@ -5,7 +5,7 @@ use Rattle.snes_defs.specs.declared.ports.Side.{Side}
 use Rattle.file_shelf.specs.declared.shelves.Out.{Out}
 use Rattle.file_shelf.specs.declared.shelves.Out.TheVariants.{Video, Sound, Image, Say}
 use Rattle.file_shelf.specs.Told.{Holds, HasRisen}
-use Rattle.file_shelf.specs.Shown.{Shown, IsUntouched}
+use Rattle.file_shelf.specs.Shown.{Shown, IsUntouched, IsPassedOver}
 use Rattle.run_drive.specs.Outputs.{output_of}
 use Rattle.run_io.specs.declared.names.Files.{Files}
 use Rattle.snes_call.specs.declared.writing.RunEnd.{RunEnd}
@@ -65,10 +65,10 @@ module _ (emits : Job → List ℕ → List ℕ → Type 0) (job : Job) where
     pub video : IsVideoBegun files after
     pub sound : IsSoundLeft files before after
 
-  -- neither of the two outputs was changed
-  pub record AreUntouched (before after : Shown) : Type 0 where
-    pub video : IsUntouched before after Video
-    pub sound : IsUntouched before after Sound
+  -- neither of the two outputs was changed, nor tried
+  pub record ArePassedOver (before after : Shown) : Type 0 where
+    pub video : IsPassedOver before after Video
+    pub sound : IsPassedOver before after Sound
 
   -- why a run was not written whole
   abbrev pub EndsRun : Files → Shown → Shown → RunEnd → Type 0
@@ -76,4 +76,4 @@ module _ (emits : Job → List ℕ → List ℕ → Type 0) (job : Job) where
   EndsRun files before after (WriteFault Sound) = IsSoundFault files before after
   EndsRun files before after (WriteFault Image) = ⊥
   EndsRun files before after (WriteFault Say) = ⊥
-  EndsRun files before after NoMemory = AreUntouched before after
+  EndsRun files before after NoMemory = ArePassedOver before after

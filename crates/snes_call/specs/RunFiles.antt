@@ -4,7 +4,7 @@ use Rattle.snes_defs.specs.declared.cart.Job.{Job}
 use Rattle.clock_ratio.specs.Stamp.{end_stamp_of, samples_before_of}
 use Rattle.file_shelf.specs.declared.shelves.Out.{Out}
 use Rattle.file_shelf.specs.declared.shelves.Out.TheVariants.{Video, Sound, Image, Say}
-use Rattle.file_shelf.specs.Shown.{Shown, IsUntouched}
+use Rattle.file_shelf.specs.Shown.{Shown, IsPassedOver}
 use Rattle.run_io.specs.declared.names.Files.{Files}
 use Rattle.run_io.specs.Line.{line_of, frames_text}
 use Rattle.snes_call.specs.declared.run_files.CommandEnd.{CommandEnd}
@@ -12,9 +12,9 @@ use Rattle.snes_call.specs.declared.run_files.CommandEnd.TheVariants.{LoadFault,
 use Rattle.snes_call.specs.Inputs.{ShowsJob, IsLoadFault, IsRefused}
 use Rattle.snes_call.specs.Outputs.{HoldsRun, IsVideoFault, IsSoundFault}
 
--- no output but that of the lines was changed
+-- no output but that of the lines was changed, nor was one tried
 abbrev pub OnlySays : Shown → Shown → Type 0
-OnlySays before after = (any : Out) → any ≢ Say → IsUntouched before after any
+OnlySays before after = (any : Out) → any ≢ Say → IsPassedOver before after any
 
 -- the line of a job that was run: its frames, and the samples that lie before its end
 abbrev pub run_line : Job → List ℕ

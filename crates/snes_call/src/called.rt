@@ -1,7 +1,7 @@
-ghost use Rattle.std.specs.Prelude.{◌≡◌, ◌⊎◌, false, IfOk, IfErr, IfSome, IsErrOf};
+ghost use Rattle.std.specs.Prelude.{◌≡◌, ◌⊎◌, None, false, IfOk, IfErr, IfSome, IsErrOf};
 ghost use Rattle.file_shelf.specs.declared.shelves.Out.{Out};
 ghost use Rattle.file_shelf.specs.Shown.{IsPassedOver, IsKept, OnlyPuts};
-ghost use Rattle.snes_call.specs.Commands.{HasFewFrames, creates};
+ghost use Rattle.snes_call.specs.Commands.{files_of, HasFewFrames, creates};
 ghost use Rattle.snes_call.specs.Status.{refusal_of};
 ghost use Rattle.snes_call.specs.Said.{IsSaid};
 ghost use Rattle.snes_call.specs.Call.{EndsCall};
@@ -24,6 +24,7 @@ fn commanded<P: Player, R: AllocGlobal + Threads, H: Shelf>(
     ensures ends { EndsCall P.emits command.now (H.shown shelf.old) (H.shown shelf.new) result }
     ensures others { (out : Out) → creates command.now out ≡ false → (out ≡ Out.Say) ⊎ IsPassedOver (H.shown shelf.old) (H.shown shelf.new) out }
     ensures said { IfSome (refusal_of result) (IsSaid (H.shown shelf.old) (H.shown shelf.new)) }
+    ensures loads { files_of command.now ≡ None → (H.shown shelf.new).load_faults ≡ (H.shown shelf.old).load_faults }
     ensures kept { IsKept (H.shown shelf.old) (H.shown shelf.new) }
     ensures unnamed { (H.shown shelf.new).named Out.Say ≡ (H.shown shelf.old).named Out.Say }
 {
@@ -45,6 +46,7 @@ pub(crate) fn called<P: Player, R: AllocGlobal + Threads, H: Shelf>(
     ensures unread { IfErr read.now (λ end. OnlyPuts (H.shown shelf.old) (H.shown shelf.new) Out.Say) }
     ensures said { IfSome (refusal_of result) (IsSaid (H.shown shelf.old) (H.shown shelf.new)) }
     ensures others { IfOk read.now (λ command. (out : Out) → creates command out ≡ false → (out ≡ Out.Say) ⊎ IsPassedOver (H.shown shelf.old) (H.shown shelf.new) out) }
+    ensures loads { IfOk read.now (λ command. files_of command ≡ None → (H.shown shelf.new).load_faults ≡ (H.shown shelf.old).load_faults) }
     ensures kept { IsKept (H.shown shelf.old) (H.shown shelf.new) }
     ensures unnamed { (H.shown shelf.new).named Out.Say ≡ (H.shown shelf.old).named Out.Say }
 {

@@ -14,7 +14,7 @@ use snes_defs::{Cart, Job, Spans, Table};
 use std::alloc::Global;
 
 /// Why the inputs of a run made no job.
-#[derive(Clone, Copy, Debug, PartialEq, Eq)]
+#[derive(Clone, Copy)]
 pub(crate) enum InputEnd {
     /// This input was not loaded, and a fault of its name was counted.
     LoadFault(Input),

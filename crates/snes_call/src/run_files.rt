@@ -14,7 +14,7 @@ use snes_defs::Job;
 use std::thread::Threads;
 
 /// Why a command was not done.
-#[derive(Clone, Copy, Debug, PartialEq, Eq)]
+#[derive(Clone, Copy)]
 pub(crate) enum CommandEnd {
     /// This input was not loaded, and a fault of its name was counted.
     LoadFault(Input),

@@ -66,6 +66,7 @@ pub fn snes<P: Player, R: AllocGlobal + Threads, H: Shelf>(
     // What stays, and what is said.
     ensures kept { IsKept (H.shown shelf.old) (H.shown shelf.new) }
     ensures others { (command : Command) (out : Out) → command_of words.now ≡ Some command → creates command out ≡ false → (out ≡ Out.Say) ⊎ IsPassedOver (H.shown shelf.old) (H.shown shelf.new) out }
+    ensures loads_none { (command : Command) → command_of words.now ≡ Some command → files_of command ≡ None → (H.shown shelf.new).load_faults ≡ (H.shown shelf.old).load_faults }
     ensures unnamed { (H.shown shelf.new).named Out.Say ≡ (H.shown shelf.old).named Out.Say }
     ensures refusal { IfSome (refusal_of result) (IsSaid (H.shown shelf.old) (H.shown shelf.new)) }
 {

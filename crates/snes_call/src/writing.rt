@@ -13,7 +13,7 @@ use snes_defs::{Job, Side};
 use std::thread::Threads;
 
 /// How the two machines of a run are stepped. What they emit is the same.
-#[derive(Clone, Copy, Debug, PartialEq, Eq)]
+#[derive(Clone, Copy)]
 pub(crate) enum Way {
     /// By the serial console.
     Serial,
@@ -22,7 +22,7 @@ pub(crate) enum Way {
 }
 
 /// Why a run was not written whole.
-#[derive(Clone, Copy, Debug, PartialEq, Eq)]
+#[derive(Clone, Copy)]
 pub(crate) enum RunEnd {
     /// This output was not created or not written, and a fault of it was counted.
     WriteFault(Out),

@@ -21,3 +21,6 @@ returns-clause-kept g c = kept_then _ _ _ c.follow-outcome.ensures.only.kept c.s
 
 pub returns-clause-unnamed : goal.returns-clause-unnamed
 returns-clause-unnamed g c = puts_unnamed _ _ c.say.ensures.only ∙ (say_over _ _ _ c.follow-outcome.ensures.only).named
+
+pub returns-clause-loads : goal.returns-clause-loads
+returns-clause-loads g c = λ none. c.say.ensures.only.load_faults ∙ c.follow-outcome.ensures.only.loads none

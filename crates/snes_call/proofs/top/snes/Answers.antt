@@ -1,5 +1,5 @@
 use Rattle.std.proofs.Common.{rules}
-use Rattle.snes_call.proofs.Words.{read_few, ended, passed}
+use Rattle.snes_call.proofs.Words.{read_few, ended, passed, unloaded}
 use Rattle.snes_call.proofs.Clauses as clause
 use Rattle.snes_call.proofs.top.snes.Goals as goal
 
@@ -39,3 +39,9 @@ returns-clause-others g c = λ command out asked none.
     let shows = g.H.Shelf.shown in
     passed c.args.words.now (shows c.args.shelf.now) (shows c.called.new.shelf) c.read_command-read.result command out
     c.read_command-read.ensures.command c.read_command-read.ensures.usage c.called.ensures.others c.called.ensures.unread asked none
+
+pub returns-clause-loads_none : goal.returns-clause-loads_none
+returns-clause-loads_none g c = λ command asked none.
+    let shows = g.H.Shelf.shown in
+    unloaded c.args.words.now (shows c.args.shelf.now) (shows c.called.new.shelf) c.read_command-read.result command
+    c.read_command-read.ensures.command c.called.ensures.loads c.called.ensures.unread asked none
