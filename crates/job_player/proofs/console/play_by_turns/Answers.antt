@@ -1,0 +1,17 @@
+use Rattle.std.proofs.Common.{ℕ, Result, Ok, Err, IfOk, vec_len}
+use Rattle.snes_defs.specs.declared.ports.Side.{Side}
+use Rattle.job_player.proofs.Plays.{on_ok}
+use Rattle.job_player.proofs.Ready.{if_ok, ready_whole, ready_first, ready_bounded}
+use Rattle.job_player.proofs.console.play_by_turns.Goals as goal
+
+pub returns-clause-whole : goal.returns-clause-whole
+returns-clause-whole g c = on_ok _ c.run_turns.ensures.whole
+    (ready_whole (g.K.Sink.holds c.run_turns.new.sink) c.args.player.console c.args.player.sound c.args.player.ports c.args.player.whole c.args.player.end (vec_len c.args.player.buffer))
+
+pub returns-clause-first : goal.returns-clause-first
+returns-clause-first g c =
+    ready_first (g.K.Sink.holds c.run_turns.new.sink) c.args.player.console c.args.player.sound c.args.player.ports c.args.player.whole c.args.player.end (vec_len c.args.player.buffer) c.run_turns.ensures.first
+
+pub returns-clause-bounded : goal.returns-clause-bounded
+returns-clause-bounded g c = if_ok _ c.run_turns.ensures.bounded
+    (λ turns. ready_bounded c.args.player.console c.args.player.sound c.args.player.ports c.args.player.whole c.args.player.end (vec_len c.args.player.buffer) turns)
