@@ -1,5 +1,5 @@
 -- What the two loops took of a console that is ready is what was taken of the job, in few turns.
-use Rattle.std.proofs.Common.{◌≡◌, ◌≤◌, ◌+◌, ◌*◌, ◌<◌, ℕ, List, Result, Ok, Err, IfOk, sym, subst, arith}
+use Rattle.std.proofs.Common.{◌≡◌, ◌≤◌, ◌+◌, ◌*◌, ℕ, List, Result, Ok, Err, IfOk, sym, subst, arith}
 use Rattle.snes_defs.specs.declared.cart.Job.{Job}
 use Rattle.snes_defs.specs.declared.ports.Side.{Side}
 use Rattle.snes_defs.specs.declared.ports.Side.TheVariants as side
@@ -52,7 +52,7 @@ module _ (holds : Side → List ℕ → Type 0) (c : ConsoleValue) (s : AudioVal
 
 module _ (c : ConsoleValue) (s : AudioValue) (ports : PortsKnown) (both : WholeValue) (end size turns : ℕ) where
   pub ready_bounded : ((m : World) (n : SoundState) (frames : ℕ) → console_side.StandsAt c m → sound_side.StandsAt s n → console_moves.stamp m ≡ 0 → sound_moves.stamp n ≡ 0
-          → StepsByCycle ports.region (IsSound ports.region) sound_moves → end ≡ end_stamp_of ports.region frames → turns ≤ most_turns ports.region frames)
+      → StepsByCycle ports.region (IsSound ports.region) sound_moves → end ≡ end_stamp_of ports.region frames → turns ≤ most_turns ports.region frames)
       → (job : Job) → IsReady c s ports both end size job → turns ≤ most_turns job.region job.frames
   ready_bounded bound job h =
       subst (λ (r : Region). turns ≤ most_turns r job.frames) h.region_is

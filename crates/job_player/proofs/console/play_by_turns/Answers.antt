@@ -1,5 +1,4 @@
-use Rattle.std.proofs.Common.{ℕ, Result, Ok, Err, IfOk, vec_len}
-use Rattle.snes_defs.specs.declared.ports.Side.{Side}
+use Rattle.std.proofs.Common.{vec_len}
 use Rattle.job_player.proofs.Plays.{on_ok}
 use Rattle.job_player.proofs.Ready.{if_ok, ready_whole, ready_first, ready_bounded}
 use Rattle.job_player.proofs.console.play_by_turns.Goals as goal
