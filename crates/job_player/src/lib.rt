@@ -1,0 +1,10 @@
+// The player of jobs: the console that a job makes, and all memory of its run.
+//
+// Stands on both sides of the console and on the loops that run two machines. `Console` is made from a job,
+// with both sides at their starts, and is a player: what it emits is the output of the serial console of
+// the two, from their starts to the end of the job's frames, however it is run (`specs/Start.antt`).
+#![tactic(auto)]
+
+mod console;
+
+pub use console::Console;
