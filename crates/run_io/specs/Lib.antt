@@ -1,4 +1,6 @@
 pub use Rattle.file_shelf.specs.Told
+pub mod Asked
+pub mod Command
 pub mod Form
 pub mod Line
 pub mod Number

@@ -1,16 +1,21 @@
 // What a run reads and writes: the words of the command line, the shelf of files, and the lines for
 // the user.
 //
-// Stands on the shelf, whose items it hands on. `read_words` reads a command line exactly by its
-// form, and refuses every other. Each line is made without memory, so that the want of memory can be
-// told too.
+// Stands on the shelf, whose items it hands on. `read_command` reads a command line exactly by the
+// forms of `specs/Command.antt`, and refuses every other; `read_words` knows the one form that the
+// small program takes. Each line is made without memory, so that the want of memory can be told too.
 #![tactic(auto)]
 
+mod asked;
+mod command_words;
+mod commands;
 mod lines;
 mod order;
 mod read;
 mod words;
 
+pub use command_words::read_command;
+pub use commands::Command;
 pub use file_shelf::{
     Failed, FileShelf, Input, LoadEnd, MemShelf, Out, Shelf, ShelfCall, SureShelf,
 };

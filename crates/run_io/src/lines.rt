@@ -60,6 +60,18 @@ impl Line {
         self.push(digits.format(number));
     }
 
+    /// The frames and samples of a run.
+    fn push_run(&mut self, frames: u32, samples: u64)
+        requires empty { self.old ≡ [] }
+        ensures text { self.new ≡ frames_text frames samples }
+        ensures short { length self.new ≤ 96 }
+    {
+        self.push("frames ");
+        self.push_number(u64::from(frames));
+        self.push(" samples ");
+        self.push_number(samples);
+    }
+
     fn push_hex(&mut self, byte: u8)
         requires room { length self.old + 2 ≤ 256 }
         ensures appended { self.new ≡ self.old ++ hex_byte byte }
@@ -86,10 +98,7 @@ pub fn frames_line(frames: u32, samples: u64) -> Line
     ensures text { result ≡ line_of (frames_text frames samples) }
 {
     let mut line = Line::new();
-    line.push("frames ");
-    line.push_number(u64::from(frames));
-    line.push(" samples ");
-    line.push_number(samples);
+    line.push_run(frames, samples);
     line.push("\n");
     line
 }
@@ -99,10 +108,7 @@ pub fn demo_line(frames: u32, samples: u64, video: u64, sound: u64) -> Line
     ensures text { result ≡ line_of (demo_text frames samples video sound) }
 {
     let mut line = Line::new();
-    line.push("frames ");
-    line.push_number(u64::from(frames));
-    line.push(" samples ");
-    line.push_number(samples);
+    line.push_run(frames, samples);
     line.push(" video ");
     line.push_number(video);
     line.push(" sound ");

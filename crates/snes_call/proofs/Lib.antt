@@ -1,0 +1,13 @@
+pub mod Accepting
+pub mod Adding
+pub mod Calls
+pub mod Changing
+pub mod Clauses
+pub mod DemoCartridge
+pub mod Files
+pub mod InputLemmas
+pub mod Making
+pub mod Reading
+pub mod Saying
+pub mod Words
+pub mod Writes

@@ -1,0 +1,14 @@
+pub mod Call
+pub mod Changes
+pub mod Commands
+pub mod Ends
+pub mod Inputs
+pub mod Made
+pub mod Outputs
+pub mod Readers
+pub mod RunFiles
+pub mod Said
+pub mod Snes
+pub mod Stage
+pub mod Status
+pub mod Sums

@@ -1,0 +1,80 @@
+ghost use Rattle.std.specs.Prelude.{◌≡◌, IfOk, IfErr, IfSome};
+ghost use Rattle.file_shelf.specs.Shown.{OnlyPuts};
+ghost use Rattle.snes_call.specs.Status.{refusal_of, refused_text, status_of};
+ghost use Rattle.snes_call.specs.Said.{IsSaid, Says};
+ghost use Rattle.run_io.specs.Line.{line_of};
+
+use crate::run_files::CommandEnd;
+use crate::status::{Status, Why};
+use file_shelf::{Out, Shelf};
+use run_io::{
+    Line, boot_refused_line, cannot_read_line, cannot_write_line, cart_refused_line,
+    no_memory_line, script_refused_line, table_refused_line, usage_line,
+};
+
+/// The line of an input that was refused.
+fn refused_line(cause: Why) -> Line
+    ensures { result ≡ line_of (refused_text cause) }
+{
+    match cause {
+        Why::Cart(cause) => cart_refused_line(cause),
+        Why::Boot => boot_refused_line(),
+        Why::Table(entry) => table_refused_line(entry),
+        Why::Script(line) => script_refused_line(line),
+    }
+}
+
+/// The line of an answer, where it has one.
+fn refusal(status: Status) -> Option<Line>
+    ensures { result ≡ refusal_of status }
+{
+    match status {
+        Status::Ok => None,
+        Status::Usage => Some(usage_line()),
+        Status::LoadFault(input) => Some(cannot_read_line(input)),
+        Status::Refused(cause) => Some(refused_line(cause)),
+        Status::WriteFault(out) => cannot_write_line(out),
+        Status::NoMemory => Some(no_memory_line()),
+    }
+}
+
+/// The answer where a command was not done.
+fn answer(end: CommandEnd) -> Status
+    ensures { result ≡ status_of end }
+{
+    match end {
+        CommandEnd::LoadFault(input) => Status::LoadFault(input),
+        CommandEnd::Refused(cause) => Status::Refused(cause),
+        CommandEnd::WriteFault(out) => Status::WriteFault(out),
+        CommandEnd::NoMemory => Status::NoMemory,
+    }
+}
+
+/// Says the line of an answer that tells why nothing was done, and gives the answer. A put that fails
+/// is passed over.
+pub(crate) fn refuse<H: Shelf>(shelf: &mut H, status: Status) -> Status
+    ensures answer { result ≡ status }
+    ensures said { IfSome (refusal_of status) (IsSaid (H.shown shelf.old) (H.shown shelf.new)) }
+    ensures only { OnlyPuts (H.shown shelf.old) (H.shown shelf.new) Out.Say }
+{
+    if let Some(line) = refusal(status) {
+        let _ = shelf.put(Out::Say, line.bytes());
+    }
+    status
+}
+
+/// Says how a command ended, and gives the answer.
+pub(crate) fn say<H: Shelf>(shelf: &mut H, outcome: Result<Line, CommandEnd>) -> Status
+    ensures done { IfOk outcome (λ line. Says (H.shown shelf.old) (H.shown shelf.new) line result) }
+    ensures not_done { IfErr outcome (λ end. result ≡ status_of end) }
+    ensures said { IfErr outcome (λ end. IfSome (refusal_of (status_of end)) (IsSaid (H.shown shelf.old) (H.shown shelf.new))) }
+    ensures only { OnlyPuts (H.shown shelf.old) (H.shown shelf.new) Out.Say }
+{
+    match outcome {
+        Ok(line) => match shelf.put(Out::Say, line.bytes()) {
+            Ok(()) => Status::Ok,
+            Err(_) => Status::WriteFault(Out::Say),
+        },
+        Err(end) => refuse(shelf, answer(end)),
+    }
+}
