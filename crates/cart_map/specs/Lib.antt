@@ -2,4 +2,3 @@ pub mod Accept
 pub mod Clocks
 pub mod Fold
 pub mod Place
-pub mod Plain

@@ -3,7 +3,7 @@
 //
 // Stands on the plain types. `accept` takes LoROM and HiROM cartridges with up to 128 KiB of RAM, and
 // refuses every other file by the first rule that fails. `place` and `clocks` are the tables of the
-// address map. `plain` and `plain_place` know the smallest cartridges alone, LoROM of 32 KiB.
+// address map.
 #![tactic(auto)]
 
 mod acceptance;
@@ -11,13 +11,11 @@ mod fold;
 mod header;
 mod map;
 mod places;
-mod plain_cart;
 mod refused;
 mod speed;
 
 pub use acceptance::accept;
 pub use map::{place, place_in};
 pub use places::Place;
-pub use plain_cart::{plain, plain_place};
 pub use refused::{CartEnd, CartRefused};
 pub use speed::clocks;

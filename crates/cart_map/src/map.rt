@@ -42,7 +42,7 @@ pub fn place_in(map: MapKind, rom: usize, ram: u32, addr: u32) -> Place
 
 /// The console's own places, at 0000 to 5FFF of banks 00 to 3F and 80 to BF.
 #[inline(always)]
-pub(crate) fn system_place(offset: u16) -> Place
+fn system_place(offset: u16) -> Place
     requires { offset < 32768 }
     ensures place { result ≡ system_place_of offset }
     ensures inside { IsInside 0 0 result }

@@ -1,6 +1,6 @@
 -- What the rotated background of mode 7 has at a pixel (211A to 2120, 210D, 210E; this project's own profile after nocash
 -- fullsnes, "SNES PPU Rotation/Scaling").
-use Rattle.std.specs.Prelude.{ℕ, ◌+◌, ◌-◌, ◌*◌, ◌/◌, ◌%◌, ◌^◌, ◌==◌, Bool, true, false, not, ◌&&◌, ◌||◌, nat_lt, List, slice_index, if◌then◌else◌}
+use Rattle.std.specs.Prelude.{ℕ, ◌+◌, ◌-◌, ◌*◌, ◌/◌, ◌%◌, ◌^◌, ◌==◌, Bool, true, false, not, ◌||◌, nat_lt, List, slice_index, if◌then◌else◌}
 use Rattle.ppu_regs.specs.declared.registers.Registers.{Registers}
 use Rattle.ppu_regs.specs.declared.registers.Rotation.{Rotation}
 use Rattle.ppu_regs.specs.declared.registers.Outside.{Outside}

@@ -2,7 +2,8 @@
 
 ghost use Rattle.std.specs.Prelude.{◌≡◌, ℕ, ◌+◌, ◌*◌, ◌/◌, ◌%◌, ◌^◌, ◌<◌, ◌≤◌, if◌then◌else◌};
 ghost use Rattle.ppu_regs.specs.Picture.{background_of};
-ghost use Rattle.ppu_mode7.specs.Rotated.{signed_13, signed_16, clipped, line_start, place_at, distance, start_x, start_y, blocked, turned, line_of, column_of};
+ghost use Rattle.ppu_mode7.specs.Rotated.{signed_13, signed_16, clipped, line_start, place_at, distance, start_x, start_y, blocked, turned, line_of};
+ghost use Rattle.ppu_mode7.specs.Lines.{IsLine};
 
 use ppu_regs::{Registers, Rotation};
 
@@ -17,7 +18,7 @@ fn signed_thirteen(v: u16) -> u32
 
 #[inline(always)]
 #[tactic(auto, unfolding(crate::specs::Rotated::signed_16))]
-pub fn signed_sixteen(v: u16) -> u32
+fn signed_sixteen(v: u16) -> u32
     ensures { result ≡ signed_16 v }
 {
     let v = v as u32;
@@ -72,7 +73,7 @@ pub fn place(start: u32, across: u32, x: u32) -> u32
 
 /// Where a line begins in the plane, across.
 #[tactic(auto, unfolding(crate::specs::Rotated::start_x))]
-pub fn first_x(r: &Rotation, y: u32) -> u32
+fn first_x(r: &Rotation, y: u32) -> u32
     ensures { result ≡ start_x r.now y }
 {
     start_of_line(
@@ -87,7 +88,7 @@ pub fn first_x(r: &Rotation, y: u32) -> u32
 
 /// Where a line begins in the plane, downwards.
 #[tactic(auto, unfolding(crate::specs::Rotated::start_y))]
-pub fn first_y(r: &Rotation, y: u32) -> u32
+fn first_y(r: &Rotation, y: u32) -> u32
     ensures { result ≡ start_y r.now y }
 {
     start_of_line(
@@ -124,7 +125,7 @@ fn turn(is_flipped: bool, n: u32) -> u32
 
 /// The line that a row shows.
 #[tactic(auto, unfolding(crate::specs::Rotated::line_of))]
-pub fn line(r: &Registers, layer: u8, row: u16) -> u32
+fn line_shown(r: &Registers, layer: u8, row: u16) -> u32
     requires { row < 239 }
     ensures { result ≡ line_of r.now layer row }
 {
@@ -132,15 +133,26 @@ pub fn line(r: &Registers, layer: u8, row: u16) -> u32
     turn(r.rotation.flip_y, block + 1)
 }
 
-/// The column that a pixel shows.
+/// What does not change along a row.
+#[derive(Clone, Copy)]
+pub struct Line {
+    pub start_x: u32,
+    pub start_y: u32,
+    pub a: u32,
+    pub c: u32,
+}
+
+/// The line of a layer's row.
 #[inline(always)]
-#[tactic(auto, unfolding(crate::specs::Rotated::column_of))]
-pub fn column(r: &Registers, layer: u8, x: u32) -> u32
-    requires { x < 256 }
-    ensures { result ≡ column_of r.now layer x }
+pub fn line_at(r: &Registers, layer: u8, row: u16) -> Line
+    requires { row < 239 }
+    ensures { IsLine r.now layer row result }
 {
-    turn(
-        r.rotation.flip_x,
-        block_of(r.background(layer).mosaic, r.mosaic, x),
-    )
+    let y = line_shown(r, layer, row);
+    Line {
+        start_x: first_x(&r.rotation, y),
+        start_y: first_y(&r.rotation, y),
+        a: signed_sixteen(r.rotation.a),
+        c: signed_sixteen(r.rotation.c),
+    }
 }

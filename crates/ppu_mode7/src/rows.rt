@@ -1,54 +1,54 @@
 //! Rows of mode 7, as dots and as planes.
 
-ghost use Rattle.std.specs.Prelude.{◌≡◌, ℕ, ◌+◌, ◌*◌, ◌/◌, ◌%◌, ◌<◌, ◌≤◌, ◌⊎◌, ◌==◌, not, length, slice_index, slice_index_or, if◌then◌else◌};
+ghost use Rattle.std.specs.Prelude.{◌≡◌, ℕ, ◌+◌, ◌*◌, ◌/◌, ◌%◌, ◌<◌, ◌≤◌, ◌-◌, ◌⊎◌, ◌==◌, not, Bool, length, slice_index, slice_index_or, if◌then◌else◌};
 ghost use Rattle.ppu_regs.specs.Dots.{no_dot, dot_of, rank_of};
-ghost use Rattle.ppu_mode7.specs.Rotated.{rotated_value, candidate_of, rotated_candidate};
-ghost use Rattle.ppu_mode7.specs.Lines.{IsLine};
+ghost use Rattle.ppu_mode7.specs.Rotated.{place_at, value_at, turned, rotated_value, candidate_of, rotated_candidate};
+ghost use Rattle.ppu_mode7.specs.Lines.{rank_at};
 
-use crate::places::{column, first_x, first_y, line, place, signed_sixteen};
-use crate::texels::value;
+use crate::places::{Line, line_at};
+use crate::texels::values;
 use ppu_regs::{Candidate, Dot, Planes, Ppu};
+use row_passes::spread_blocks;
 
-/// What does not change along a row.
-#[derive(Clone, Copy)]
-struct Line {
-    start_x: u32,
-    start_y: u32,
-    a: u32,
-    c: u32,
-}
-
-#[inline(always)]
-fn line_at(p: &Ppu, layer: u8, row: u16) -> Line
-    requires { row < 239 }
-    ensures { IsLine p.now layer row result }
+/// A row the other way round.
+fn turn_row(from: &[u8; 256], out: &mut [u8; 256])
+    ensures { (x : ℕ) → x < 256 → slice_index out.new x ≡ slice_index from.now (255 - x) }
 {
-    let r = &p.registers().rotation;
-    let y = line(p.registers(), layer, row);
-    Line {
-        start_x: first_x(r, y),
-        start_y: first_y(r, y),
-        a: signed_sixteen(r.a),
-        c: signed_sixteen(r.c),
+    for x in 0..256usize {
+        out[x] = from[255 - x];
     }
 }
 
-/// The value of a layer at one pixel.
+/// The values of the columns of a line, as a row shows them without mosaic.
 #[inline(always)]
-#[tactic(auto, unfolding(crate::specs::Rotated::rotated_value))]
-fn value_in(p: &Ppu, along: &Line, layer: u8, row: u16, x: usize) -> u8
-    requires x { x < 256 }
-    requires line { IsLine p.now layer row along.now }
-    ensures { result ≡ rotated_value p.now layer row x }
+#[tactic(auto, unfolding(crate::specs::Rotated::turned))]
+fn turned_values(p: &Ppu, along: &Line, out: &mut [u8; 256])
+    ensures { (x : ℕ) → x < 256 → slice_index out.new x ≡
+        value_at p.now.registers.rotation.outside p.now.vram
+        (place_at along.now.start_x along.now.a (turned p.now.registers.rotation.flip_x x))
+        (place_at along.now.start_y along.now.c (turned p.now.registers.rotation.flip_x x)) }
 {
+    let r = &p.registers().rotation;
+    if r.flip_x {
+        let mut columns = [0u8; 256];
+        values(r.outside, p.vram(), along, &mut columns);
+        turn_row(&columns, out);
+    } else {
+        values(r.outside, p.vram(), along, out);
+    }
+}
+
+/// The values of a layer's row.
+fn row_values(p: &Ppu, layer: u8, row: u16, out: &mut [u8; 256])
+    requires { row < 239 }
+    ensures { (x : ℕ) → x < 256 → slice_index out.new x ≡ rotated_value p.now layer row x }
+{
+    p.in_range();
     let r = p.registers();
-    let x = column(r, layer, x as u32);
-    value(
-        r.rotation.outside,
-        p.vram(),
-        place(along.start_x, along.a, x),
-        place(along.start_y, along.c, x),
-    )
+    turned_values(p, &line_at(r, layer, row), out);
+    if r.background(layer).mosaic {
+        spread_blocks(out, r.mosaic as usize + 1);
+    }
 }
 
 #[inline(always)]
@@ -81,18 +81,14 @@ fn candidate(is_direct: bool, layer: u8, value: u8) -> Candidate
 
 #[inline(always)]
 #[tactic(auto, unfolding(crate::specs::Rotated::rotated_candidate))]
-fn candidate_in(p: &Ppu, along: &Line, layer: u8, row: u16, x: usize) -> Candidate
-    requires x { x < 256 }
-    requires line { IsLine p.now layer row along.now }
+fn candidate_in(p: &Ppu, is_direct: bool, layer: u8, row: u16, x: usize, value: u8) -> Candidate
+    requires direct { is_direct ≡ p.now.registers.colour.direct }
+    requires value { value ≡ rotated_value p.now layer row x }
     ensures value { result ≡ rotated_candidate p.now layer row x }
     ensures palette { result.palette ≡ 0 }
     ensures priority { result.priority < 2 }
 {
-    candidate(
-        p.registers().colour.direct,
-        layer,
-        value_in(p, along, layer, row, x),
-    )
+    candidate(is_direct, layer, value)
 }
 
 /// Writes the dots of a layer's row: layer 1, or 2 of EXTBG.
@@ -103,9 +99,11 @@ pub fn m7_row(p: &Ppu, layer: u8, row: u16, out: &mut [Dot])
     requires room { length out.old ≡ 256 }
     ensures { (x : ℕ) → x < 256 → slice_index_or out.new x no_dot ≡ dot_of p.now.cgram (rotated_candidate p.now layer row x) }
 {
-    let along = line_at(p, layer, row);
+    let mut values = [0u8; 256];
+    row_values(p, layer, row, &mut values);
+    let direct = p.registers().colour.direct;
     for x in 0..256usize {
-        out[x] = candidate_in(p, &along, layer, row, x).dot(p.cgram());
+        out[x] = candidate_in(p, direct, layer, row, x, values[x]).dot(p.cgram());
     }
 }
 
@@ -119,17 +117,34 @@ fn rank_byte(c: &Candidate, low: u8, high: u8) -> u8
     if c.on { base } else { 0 }
 }
 
+/// The planes of a row's values.
+#[inline(always)]
+#[tactic(auto, unfolding(crate::specs::Lines::rank_at))]
+fn planes_of(is_direct: bool, layer: u8, values: &[u8; 256], low: u8, high: u8, out: &mut Planes)
+    ensures ranks { (x : ℕ) → x < 256 → slice_index out.new.ranks x ≡ rank_at is_direct layer low high (slice_index values.now x) }
+    ensures numbers { (x : ℕ) → x < 256 → slice_index out.new.numbers x ≡ (candidate_of is_direct layer (slice_index values.now x)).number }
+{
+    for x in 0..256usize {
+        let c = candidate(is_direct, layer, values[x]);
+        out.ranks[x] = rank_byte(&c, low, high);
+        out.numbers[x] = c.number;
+    }
+}
+
 /// Writes a layer's row as planes: `low` and `high` are the rank bytes of the two priorities.
+#[tactic(auto, unfolding(crate::specs::Rotated::rotated_candidate, crate::specs::Lines::rank_at))]
 pub fn m7_planes(p: &Ppu, layer: u8, row: u16, low: u8, high: u8, out: &mut Planes)
     requires { row < 239 }
     ensures ranks { (x : ℕ) → x < 256 → slice_index out.new.ranks x ≡
         rank_of (if (rotated_candidate p.now layer row x).priority == 1 then high else low) (rotated_candidate p.now layer row x) }
     ensures numbers { (x : ℕ) → x < 256 → slice_index out.new.numbers x ≡ (rotated_candidate p.now layer row x).number }
 {
-    let along = line_at(p, layer, row);
-    for x in 0..256usize {
-        let c = candidate_in(p, &along, layer, row, x);
-        out.ranks[x] = rank_byte(&c, low, high);
-        out.numbers[x] = c.number;
+    let mut values = [0u8; 256];
+    row_values(p, layer, row, &mut values);
+    let direct = p.registers().colour.direct;
+    if layer == 2 {
+        planes_of(direct, 2, &values, low, high, out);
+    } else {
+        planes_of(direct, layer, &values, low, high, out);
     }
 }

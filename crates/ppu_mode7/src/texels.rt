@@ -1,36 +1,12 @@
-//! The value at a place of the plane.
+//! The values at places of the plane, a row at a time: first where they lie, then the tiles, then their pixels.
 
-ghost use Rattle.std.specs.Prelude.{◌≡◌, ℕ, ◌+◌, ◌*◌, ◌/◌, ◌%◌, ◌^◌, ◌<◌, ◌≤◌, ◌||◌, length, if◌then◌else◌};
-ghost use Rattle.ppu_mode7.specs.Rotated.{tile_at, texel_at, value_at, is_outside, pixel_of};
+ghost use Rattle.std.specs.Prelude.{◌≡◌, ℕ, ◌+◌, ◌*◌, ◌/◌, ◌%◌, ◌<◌, ◌≤◌, ◌==◌, ◌||◌, length, slice_index, if◌then◌else◌};
+ghost use Rattle.ppu_mode7.specs.Rotated.{place_at, value_at, pixel_of};
+ghost use Rattle.ppu_mode7.specs.Lines.{map_word, fine_of, outside_mark};
 
+use crate::places::{Line, place};
 use ppu_regs::Outside;
-
-#[inline(always)]
-#[tactic(auto, unfolding(crate::specs::Rotated::tile_at))]
-fn tile(vram: &[u16], x: u32, y: u32) -> u8
-    requires size { length vram.now ≡ 32768 }
-    requires x { x < 1024 }
-    requires y { y < 1024 }
-    ensures { result ≡ tile_at vram.now x y }
-{
-    (vram[(128 * (y / 8) + x / 8) as usize] % 256) as u8
-}
-
-#[inline(always)]
-#[tactic(auto, unfolding(crate::specs::Rotated::texel_at))]
-fn texel(vram: &[u16], tile: u8, x: u32, y: u32) -> u8
-    requires { length vram.now ≡ 32768 }
-    ensures { result ≡ texel_at vram.now tile x y }
-{
-    (vram[(64 * tile as u32 + 8 * (y % 8) + x % 8) as usize] / 256) as u8
-}
-
-#[inline(always)]
-fn outside(place: u32) -> bool
-    ensures { result ≡ is_outside place }
-{
-    place >= 262_144
-}
+use row_passes::choose;
 
 #[inline(always)]
 fn pixel(place: u32) -> u32
@@ -40,20 +16,127 @@ fn pixel(place: u32) -> u32
     place / 256 % 1024
 }
 
-/// The value at a place of the plane.
+/// The word of the map at a place.
 #[inline(always)]
-#[tactic(auto, unfolding(crate::specs::Rotated::value_at))]
-pub fn value(code: Outside, vram: &[u16], x: u32, y: u32) -> u8
-    requires { length vram.now ≡ 32768 }
-    ensures { result ≡ value_at code vram.now x y }
+#[tactic(auto, unfolding(crate::specs::Lines::map_word))]
+fn word_at(x: u32, y: u32) -> u16
+    ensures value { result ≡ map_word x y }
+    ensures small { result < 16384 }
 {
-    let out = outside(x) || outside(y);
-    let left = pixel(x);
-    let top = pixel(y);
-    let tile = tile(vram, left, top);
+    (128 * (pixel(y) / 8) + pixel(x) / 8) as u16
+}
+
+/// The pixel of its tile at a place.
+#[inline(always)]
+#[tactic(auto, unfolding(crate::specs::Lines::fine_of))]
+fn fine_at(x: u32, y: u32) -> u8
+    ensures value { result ≡ fine_of x y }
+    ensures small { result < 64 }
+{
+    (8 * (pixel(y) % 8) + pixel(x) % 8) as u8
+}
+
+/// Where the columns of a line lie: the words of the map, and the pixels in their tiles.
+fn look(along: &Line, words: &mut [u16; 256], fine: &mut [u8; 256])
+    ensures words { (c : ℕ) → c < 256 → slice_index words.new c ≡
+        map_word (place_at along.now.start_x along.now.a c) (place_at along.now.start_y along.now.c c) }
+    ensures fine { (c : ℕ) → c < 256 → slice_index fine.new c ≡
+        fine_of (place_at along.now.start_x along.now.a c) (place_at along.now.start_y along.now.c c) }
+{
+    let along = *along;
+    for c in 0..256usize {
+        let x = place(along.start_x, along.a, c as u32);
+        let y = place(along.start_y, along.c, c as u32);
+        words[c] = word_at(x, y);
+        fine[c] = fine_at(x, y);
+    }
+}
+
+#[inline(always)]
+#[tactic(auto, unfolding(crate::specs::Lines::outside_mark))]
+fn mark(x: u32, y: u32) -> u8
+    ensures { result ≡ outside_mark x y }
+{
+    (x >= 262_144 || y >= 262_144) as u8
+}
+
+/// Marks the columns that lie outside of the plane.
+fn mark_outside(along: &Line, marks: &mut [u8; 256])
+    ensures { (c : ℕ) → c < 256 → slice_index marks.new c ≡
+        outside_mark (place_at along.now.start_x along.now.a c) (place_at along.now.start_y along.now.c c) }
+{
+    let along = *along;
+    for c in 0..256usize {
+        let x = place(along.start_x, along.a, c as u32);
+        let y = place(along.start_y, along.c, c as u32);
+        marks[c] = mark(x, y);
+    }
+}
+
+/// The tiles of words of the map.
+fn take_tiles(vram: &[u16], words: &[u16; 256], tiles: &mut [u8; 256])
+    requires size { length vram.now ≡ 32768 }
+    requires small { (c : ℕ) → c < 256 → slice_index words.now c < 16384 }
+    ensures { (c : ℕ) → c < 256 → slice_index tiles.new c ≡ slice_index vram.now (slice_index words.now c) % 256 }
+{
+    for c in 0..256usize {
+        tiles[c] = (vram[words[c] as usize] % 256) as u8;
+    }
+}
+
+/// The values of pixels of tiles.
+fn take_values(vram: &[u16], tiles: &[u8; 256], fine: &[u8; 256], out: &mut [u8; 256])
+    requires size { length vram.now ≡ 32768 }
+    requires small { (c : ℕ) → c < 256 → slice_index fine.now c < 64 }
+    ensures { (c : ℕ) → c < 256 → slice_index out.new c ≡
+        slice_index vram.now (64 * slice_index tiles.now c + slice_index fine.now c) / 256 }
+{
+    for c in 0..256usize {
+        out[c] = (vram[64 * tiles[c] as usize + fine[c] as usize] / 256) as u8;
+    }
+}
+
+#[inline(always)]
+#[tactic(auto, unfolding(row_passes::specs::Inks::chosen))]
+fn unless_marked(mark: u8, v: u8) -> u8
+    ensures { result ≡ (if mark == 0 then v else 0) }
+{
+    choose(mark == 0, v, 0)
+}
+
+/// Puts 0 where a mark is set.
+fn clear_marked(marks: &[u8; 256], row: &mut [u8; 256])
+    ensures { (c : ℕ) → c < 256 → slice_index row.new c ≡ (if slice_index marks.now c == 0 then slice_index row.old c else 0) }
+{
+    for c in 0..256usize {
+        row[c] = unless_marked(marks[c], row[c]);
+    }
+}
+
+/// The values of the columns of a line, 0 to 255.
+pub fn values(code: Outside, vram: &[u16], along: &Line, out: &mut [u8; 256])
+    requires { length vram.now ≡ 32768 }
+    ensures { (c : ℕ) → c < 256 → slice_index out.new c ≡
+        value_at code vram.now (place_at along.now.start_x along.now.a c) (place_at along.now.start_y along.now.c c) }
+{
+    let mut words = [0u16; 256];
+    let mut fine = [0u8; 256];
+    let mut tiles = [0u8; 256];
+    look(along, &mut words, &mut fine);
+    take_tiles(vram, &words, &mut tiles);
     match code {
-        Outside::Wrap => texel(vram, tile, left, top),
-        Outside::Nothing => { if out { 0 } else { texel(vram, tile, left, top) } }
-        Outside::TileZero => texel(vram, if out { 0 } else { tile }, left, top),
+        Outside::Wrap => take_values(vram, &tiles, &fine, out),
+        Outside::Nothing => {
+            take_values(vram, &tiles, &fine, out);
+            let mut marks = [0u8; 256];
+            mark_outside(along, &mut marks);
+            clear_marked(&marks, out);
+        }
+        Outside::TileZero => {
+            let mut marks = [0u8; 256];
+            mark_outside(along, &mut marks);
+            clear_marked(&marks, &mut tiles);
+            take_values(vram, &tiles, &fine, out);
+        }
     }
 }

@@ -11,6 +11,7 @@ use crate::entries::block;
 use crate::modes::depth;
 use crate::scrolls::own;
 use ppu_regs::{Background, Ppu, Registers};
+use row_passes::spread_blocks;
 use tile_cache::TileCache;
 
 /// The 33 columns of a row, side by side: their values, and what they are counted from in both planes. `mode` is the
@@ -148,32 +149,6 @@ fn ink(
     }
 }
 
-/// The place in a block of the dot after one.
-#[inline(always)]
-#[tactic(auto, using(crate::proofs::Blocks::mod_next))]
-fn next_place(place: usize, size: usize) -> usize
-    requires positive { 1 ≤ size }
-    requires small { size ≤ 16 }
-    requires within { place < size }
-    ensures { (x : ℕ) → place ≡ x % size → result ≡ (x + 1) % size }
-{
-    if place + 1 == size { 0 } else { place + 1 }
-}
-
-/// Each byte becomes that of the first dot of its block of `size` dots.
-#[inline(always)]
-fn spread(row: &mut [u8; 256], size: usize)
-    requires positive { 1 ≤ size }
-    requires small { size ≤ 16 }
-    ensures { (x : ℕ) → x < 256 → slice_index row.new x ≡ slice_index row.old (x - x % size) }
-{
-    let mut place = 0;
-    for x in 0..256 {
-        row[x] = row[x - place];
-        place = next_place(place, size);
-    }
-}
-
 /// Each byte becomes that of the first dot of its mosaic block, where the layer has mosaic.
 #[inline(always)]
 #[tactic(auto, unfolding(crate::specs::Backgrounds::block_start))]
@@ -182,7 +157,7 @@ fn take_blocks(r: &Registers, b: &Background, row: &mut [u8; 256])
     ensures { (x : ℕ) → x < 256 → slice_index row.new x ≡ slice_index row.old (block_start r.now b.now x) }
 {
     if b.mosaic {
-        spread(row, r.mosaic as usize + 1);
+        spread_blocks(row, r.mosaic as usize + 1);
     }
 }
 

@@ -7,8 +7,10 @@
 //! number (in CGRAM). The crate stands on std alone, and knows neither layers nor registers.
 #![tactic(auto)]
 
+mod blocks;
 mod colours;
 mod inks;
 
+pub use blocks::spread_blocks;
 pub use colours::{dim_row, join_colours, look_up, write_dots, write_twice};
 pub use inks::{any_named, choose, fill_row, is_found_key, lay, lay_unmasked};

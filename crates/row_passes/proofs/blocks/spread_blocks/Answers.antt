@@ -3,9 +3,9 @@ use Rattle.std.proofs.Common.{◌≡◌, ◌≢◌, ℕ, ◌+◌, ◌-◌, ◌%�
 use Rattle.std.proofs.lemmas.Bool.{cases_eq}
 use Rattle.std.proofs.lemmas.List.{get_or-set_other, get_or-set_same}
 use Rattle.std.proofs.Math.Nat.{mod-le}
-use Rattle.ppu_tiles.proofs.Blocks.{first_of_first}
-use Rattle.ppu_tiles.proofs.rows.spread.Invariants.{AreSpread}
-use Rattle.ppu_tiles.proofs.rows.spread.Goals as goal
+use Rattle.row_passes.proofs.Mosaic.{first_of_first}
+use Rattle.row_passes.proofs.blocks.spread_blocks.Invariants.{AreSpread}
+use Rattle.row_passes.proofs.blocks.spread_blocks.Goals as goal
 
 -- the byte that is copied is the block's first as it was
 copied :

@@ -1,5 +1,5 @@
 use Rattle.std.proofs.Common.{◌≡◌, ℕ, ◌-◌, ◌%◌, ◌<◌, ◌≤◌, List, slice_index}
-use Rattle.ppu_tiles.proofs.rows.spread.Given as goal
+use Rattle.row_passes.proofs.blocks.spread_blocks.Given as goal
 
 -- the first x bytes are those of their blocks' first, and the others as they were
 pub record AreSpread (row before : List ℕ) (size place x : ℕ) : Type 0 where
