@@ -1,6 +1,5 @@
--- An operation's results, by what it gets: registers, PSW, and the byte that it writes. Where a table names
--- no operation, nothing changes. Source: nocash fullsnes, "SNES APU SPC700 CPU Load/Store Commands" and "ALU
--- Commands".
+-- An operation's results, by what it gets. Where a table names no operation, nothing changes. Source: nocash
+-- fullsnes, "SNES APU SPC700 CPU Load/Store Commands", "ALU Commands", "Jump/Control Commands".
 use Rattle.std.specs.Prelude.{ℕ, true, false, not, ◌+◌, ◌%◌, bit_and, bit_or, bit_xor}
 use Rattle.status_bits.specs.StatusBits.{flag}
 use Rattle.spc_tables.specs.declared.flags.TheConstants.{CARRY, DIRECT_PAGE, HALF_CARRY, INTERRUPT_ENABLE, OVERFLOW}
