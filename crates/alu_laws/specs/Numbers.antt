@@ -1,3 +1,4 @@
+-- The number that digits of four bits stand for in decimal, when all are below ten, and how many A has.
 use Rattle.std.specs.Prelude.{ℕ, zero, suc, ◌+◌, ◌*◌, ◌/◌, ◌%◌, ◌<◌, if◌then◌else◌}
 use Rattle.status_bits.specs.StatusBits.{flag}
 use Rattle.cpu_tables.specs.declared.flags.TheConstants.{MEMORY_8}

@@ -1,8 +1,8 @@
+-- The operations that take or make all 16 bits of A at any width.
 use Rattle.std.specs.Prelude.{Bool, true, false}
 use Rattle.cpu_tables.specs.declared.operation.Op.{Op}
 use Rattle.cpu_tables.specs.declared.operation.Op.TheVariants.{Tdc, Tsc, Xba, Mvn, Mvp, Reset}
 
--- the operations that take or make all 16 bits of A at any width
 abbrev pub takes_all_of_a : Op → Bool
 takes_all_of_a Tdc = true
 takes_all_of_a Tsc = true

@@ -1,3 +1,5 @@
+-- The sound machine keeps the laws of a machine: its acts are at the four ports, at each step its stamp rises
+-- within the region's two bounds, and a step emits at most four bytes.
 use Rattle.std.proofs.Common.{◌≡◌, ℕ, Bool, true, false, ◌+◌, ◌-◌, ◌*◌, ◌<◌, ◌≤◌, ◌==◌, ◌&&◌, nat_le, nat_lt, length, arith, sym, ap, subst, refl, lit≤}
 use Rattle.snes_defs.specs.declared.ports.Act.TheVariants.{Clear}
 use Rattle.snes_defs.specs.declared.ports.Side.TheVariants.{Sound}

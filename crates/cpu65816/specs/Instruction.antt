@@ -1,3 +1,5 @@
+-- The processor as a whole: what begins an instruction, its next access and what that makes of it, the NMI
+-- and IRQ lines, WAI and the reset (W65C816S data sheet, interrupts and reset).
 use Rattle.std.specs.Prelude.{ℕ, Bool, true, false, List, [], ◌∷◌, ◌++◌, Option, Some, None, ◌&&◌, ◌||◌, not, if◌then◌else◌}
 use Rattle.status_bits.specs.StatusBits.{flag}
 use Rattle.cpu_tables.specs.declared.access.Access.{Access}

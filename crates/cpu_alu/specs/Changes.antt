@@ -1,3 +1,6 @@
+-- Shifts, rotations, counts, TSB and TRB (W65C816S data sheet, operations and status register). An operation
+-- that changes its operand m gives a new value and a status byte. C of a shift is the bit that falls out; a
+-- rotation puts the old carry in at the other end.
 use Rattle.std.specs.Prelude.{ℕ, Bool, ◌+◌, ◌-◌, ◌*◌, ◌/◌, ◌%◌, ◌==◌, bit_and, bit_or, if◌then◌else◌}
 use Rattle.status_bits.specs.StatusBits.{flag, put}
 use Rattle.cpu_tables.specs.declared.regs.Regs.{Regs}
@@ -5,9 +8,6 @@ use Rattle.cpu_tables.specs.declared.flags.TheConstants.{CARRY, ZERO}
 use Rattle.cpu_alu.specs.declared.changes.Changed.{Changed}
 use Rattle.cpu_alu.specs.Width.{accumulator, bit_of, top_bit, with_nz, put_a}
 use Rattle.cpu_tables.specs.Status.{size, memory_size}
-
--- An operation that changes its operand m gives a new value and a status byte. C of a shift is the bit
--- that falls out; a rotation puts the old carry in at the other end.
 
 -- a value with N and Z from it
 abbrev pub result_nz : ℕ → ℕ → ℕ → Changed

@@ -1,3 +1,5 @@
+-- Where the program goes on: branches, jumps, RTI, interrupts, the reset, block moves (W65C816S data sheet,
+-- operations and status register).
 use Rattle.std.specs.Prelude.{ℕ, Bool, true, false, not, ◌+◌, ◌%◌, ◌==◌, nat_lt, if◌then◌else◌}
 use Rattle.status_bits.specs.StatusBits.{flag, put}
 use Rattle.cpu_tables.specs.declared.operation.Op.{Op}

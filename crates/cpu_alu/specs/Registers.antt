@@ -1,3 +1,5 @@
+-- What operations on single registers do: the status byte and its flags, S, D, the data bank, XBA, XCE
+-- (W65C816S data sheet, operations and status register).
 use Rattle.std.specs.Prelude.{ℕ, Bool, true, false, ◌+◌, ◌-◌, ◌*◌, ◌/◌, ◌%◌, bit_and, bit_or, if◌then◌else◌}
 use Rattle.status_bits.specs.StatusBits.{flag, put}
 use Rattle.cpu_tables.specs.declared.operation.Op.{Op}

@@ -1,3 +1,5 @@
+-- What each operation makes of the registers, and the operand that it writes (W65C816S data sheet, operations
+-- and status register).
 use Rattle.std.specs.Prelude.{ℕ, Bool, true, false, ◌+◌, ◌%◌, bit_and, bit_or, bit_xor}
 use Rattle.cpu_tables.specs.declared.mode.Mode.{Mode}
 use Rattle.cpu_tables.specs.declared.mode.Mode.TheVariants.{Accumulator, Immediate}

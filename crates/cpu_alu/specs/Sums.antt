@@ -1,3 +1,5 @@
+-- ADC and SBC in binary and in decimal, comparisons, and BIT (W65C816S data sheet, operations and status
+-- register).
 use Rattle.std.specs.Prelude.{ℕ, zero, suc, Bool, not, ◌&&◌, ◌+◌, ◌-◌, ◌*◌, ◌/◌, ◌%◌, ◌^◌, ◌==◌, nat_lt, nat_le, bit_and, if◌then◌else◌}
 use Rattle.status_bits.specs.StatusBits.{flag, put}
 use Rattle.cpu_tables.specs.declared.regs.Regs.{Regs}

@@ -1,3 +1,4 @@
+-- A, X and Y at their widths of 8 or 16 bits, and N and Z of a value (W65C816S data sheet, status register).
 use Rattle.std.specs.Prelude.{ℕ, Bool, ◌+◌, ◌*◌, ◌/◌, ◌%◌, ◌==◌, if◌then◌else◌}
 use Rattle.status_bits.specs.StatusBits.{put}
 use Rattle.cpu_tables.specs.declared.regs.Regs.{Regs}

@@ -1,3 +1,4 @@
+-- The 65C816 over a memory and nothing else: so many accesses, one after the other.
 use Rattle.std.specs.Prelude.{ℕ, zero, suc, List, slice_index, slice_set}
 use Rattle.cpu_tables.specs.declared.access.Access.{Access}
 use Rattle.cpu_tables.specs.declared.access.Access.TheVariants.{Fetch, Read, Write, Inner}

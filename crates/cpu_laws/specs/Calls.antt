@@ -1,3 +1,4 @@
+-- What the laws of calls speak of: a subroutine that keeps its stack, a program that goes on after a call.
 use Rattle.std.specs.Prelude.{◌≡◌, ℕ, ◌+◌, ◌%◌}
 use Rattle.cpu_tables.specs.declared.regs.Regs.{Regs}
 use Rattle.cpu_modes.specs.Addresses.{stack, pulled}

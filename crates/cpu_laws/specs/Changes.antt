@@ -1,3 +1,4 @@
+-- The places that an instruction reads and writes, and which operations change memory in which modes.
 use Rattle.std.specs.Prelude.{ℕ, Bool, true, false, List, [], ◌∷◌}
 use Rattle.cpu_tables.specs.declared.mode.Mode.{Mode}
 use Rattle.cpu_tables.specs.declared.mode.Mode.TheVariants.{Direct, DirectX, Absolute, AbsoluteX}

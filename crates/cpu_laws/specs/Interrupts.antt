@@ -1,3 +1,4 @@
+-- What the laws of interrupts speak of: a handler that keeps its stack, and what RTI brings back.
 use Rattle.std.specs.Prelude.{◌≡◌, ◌%◌, false}
 use Rattle.cpu_tables.specs.Status.{size}
 use Rattle.cpu_tables.specs.declared.flags.TheConstants.{INDEX_8}

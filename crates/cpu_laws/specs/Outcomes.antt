@@ -1,3 +1,4 @@
+-- The outcome of an instruction run to its end over a memory, and which registers a processor can have.
 use Rattle.std.specs.Prelude.{◌≡◌, ℕ, ◌<◌, ◌/◌, true, Option, Some, None, ◌==◌, if◌then◌else◌}
 use Rattle.cpu_tables.specs.declared.regs.Regs.{Regs}
 use Rattle.cpu_modes.specs.Plan.{Plan, fetches, reads, writes, idles, waits, stops, ends}

@@ -1,3 +1,6 @@
+-- The accesses of each instruction after its opcode fetch, and the interrupt vectors (W65C816S data sheet,
+-- tables of cycle-by-cycle operation, interrupt vectors). `r` are the registers as the accesses so far left
+-- them.
 use Rattle.std.specs.Prelude.{ℕ, Bool, false, Option, Some, None, ◌+◌, ◌/◌, ◌%◌, ◌==◌, ◌&&◌, not, if◌then◌else◌}
 use Rattle.cpu_tables.specs.Opcodes.{row_of}
 use Rattle.cpu_tables.specs.declared.mode.Mode.{Mode}
@@ -23,8 +26,6 @@ use Rattle.cpu_modes.specs.declared.place.TargetKind.{TargetKind}
 use Rattle.cpu_modes.specs.declared.uses.Cause.{Cause}
 use Rattle.cpu_modes.specs.declared.uses.Use.{Use}
 use Rattle.cpu_modes.specs.declared.uses.Width.{Width}
-
--- The accesses of each instruction after its opcode fetch. `r` are the registers as the accesses so far left them.
 
 -- an access to the next byte of the program
 abbrev pub fetch : Regs → (ℕ → Regs → Plan) → Plan

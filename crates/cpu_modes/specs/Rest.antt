@@ -1,3 +1,4 @@
+-- What a micro-state leaves to do: the rest of a plan, by the place in it; and the next access that it keeps.
 use Rattle.std.specs.Prelude.{◌≡◌, ℕ, Bool, true, false, Some, ◌%◌, ◌<◌}
 use Rattle.cpu_tables.specs.declared.opcode.Row.{Row}
 use Rattle.cpu_tables.specs.declared.regs.Regs.{Regs}

@@ -1,10 +1,11 @@
+-- What an operation does on the bus, and how wide its data is (W65C816S data sheet, tables of cycle-by-cycle
+-- operation).
 use Rattle.cpu_tables.specs.declared.operation.Op.{Op}
 use Rattle.cpu_tables.specs.declared.operation.Op.TheVariants.{Adc, And, Asl, Bcc, Bcs, Beq, Bit, Bmi, Bne, Bpl, Bra, Brk, Brl, Bvc, Bvs, Clc, Cld, Cli, Clv, Cmp, Cop, Cpx, Cpy, Dec, Dex, Dey, Eor, Inc, Inx, Iny, Jmp, Jsl, Jsr, Lda, Ldx, Ldy, Lsr, Mvn, Mvp, Nop, Ora, Pea, Pei, Per, Pha, Phb, Phd, Phk, Php, Phx, Phy, Pla, Plb, Pld, Plp, Plx, Ply, Rep, Rol, Ror, Rti, Rtl, Rts, Sbc, Sec, Sed, Sei, Sep, Sta, Stp, Stx, Sty, Stz, Tax, Tay, Tcd, Tcs, Tdc, Trb, Tsb, Tsc, Tsx, Txa, Txs, Txy, Tya, Tyx, Wai, Wdm, Xba, Xce, Nmi, Irq, Reset}
 use Rattle.cpu_modes.specs.declared.uses.Use.{Use}
 use Rattle.cpu_modes.specs.declared.uses.Width.{Width}
 use Rattle.cpu_modes.specs.declared.uses.Cause.{Cause}
 
--- What an operation does on the bus, and how wide its data is.
 unfoldable pub use_of : Op → Use
 use_of Adc = Use.Load Width.Memory
 use_of And = Use.Load Width.Memory

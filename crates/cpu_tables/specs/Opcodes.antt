@@ -1,3 +1,5 @@
+-- What each opcode means: an operation and an addressing mode (W65C816S data sheet, opcode matrix). Most come
+-- in families, each operation at each of its places; the others are listed.
 use Rattle.std.specs.Prelude.{ℕ, List, [], ◌∷◌, ◌+◌, ◌++◌, ◌==◌, map, Option, Some, None, if◌then◌else◌}
 use Rattle.cpu_tables.specs.declared.mode.Mode.{Mode}
 use Rattle.cpu_tables.specs.declared.mode.Mode.TheVariants.{Immediate, Direct, DirectX, DirectY, DirectPointer, DirectXPointer, DirectPointerY, DirectLongPointer, DirectLongPointerY, Absolute, AbsoluteX, AbsoluteY, Long, LongX, StackRelative, StackPointerY, AbsolutePointer, AbsoluteXPointer, AbsoluteLongPointer, Relative, RelativeLong, Accumulator, Implied, Stack, BlockMove}

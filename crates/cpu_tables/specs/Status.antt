@@ -1,3 +1,4 @@
+-- How wide A, a memory operand and the indexes are, by flags M and X (W65C816S data sheet, status register).
 use Rattle.std.specs.Prelude.{ℕ, if◌then◌else◌}
 use Rattle.status_bits.specs.StatusBits.{flag}
 use Rattle.cpu_tables.specs.declared.regs.Regs.{Regs}

@@ -1,3 +1,5 @@
+-- What contracts see of an SPC700: the instruction and the accesses so far that it stands for, its next
+-- access, and what it is one access further.
 use Rattle.std.specs.Prelude.{◌≡◌, ℕ}
 use Rattle.spc_tables.specs.declared.access.SpcAccess.{SpcAccess}
 use Rattle.spc_modes.specs.Plan.{first_access, after}

@@ -1,3 +1,4 @@
+-- MUL, DIV, DAA, DAS and XCN (nocash fullsnes, "SNES APU SPC700 CPU ALU Commands").
 use Rattle.std.specs.Prelude.{ℕ, Bool, not, ◌||◌, ◌+◌, ◌-◌, ◌*◌, ◌/◌, ◌%◌, nat_lt, nat_le, if◌then◌else◌}
 use Rattle.status_bits.specs.StatusBits.{flag, put}
 use Rattle.spc_tables.specs.declared.flags.TheConstants.{CARRY, HALF_CARRY, OVERFLOW}

@@ -1,3 +1,5 @@
+-- The bits of a byte by their numbers, and the operations between C and a bit of memory (nocash fullsnes,
+-- "SNES APU SPC700 CPU ALU Commands").
 use Rattle.std.specs.Prelude.{ℕ, Bool, not, ◌&&◌, ◌||◌, ◌==◌, if◌then◌else◌}
 use Rattle.status_bits.specs.StatusBits.{flag, put}
 use Rattle.spc_tables.specs.declared.flags.TheConstants.{CARRY}

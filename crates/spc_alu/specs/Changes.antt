@@ -1,11 +1,11 @@
+-- Shifts, rotations, counts, TSET1 and TCLR1 (nocash fullsnes, "SNES APU SPC700 CPU ALU Commands"). An
+-- operation that changes a byte m gives its new value and PSW. C of a shift is the bit that falls out; a
+-- rotation puts the old carry in at the other end.
 use Rattle.std.specs.Prelude.{ℕ, Bool, ◌+◌, ◌-◌, ◌*◌, ◌/◌, ◌%◌, ◌==◌, bit_and, bit_or}
 use Rattle.status_bits.specs.StatusBits.{flag, put}
 use Rattle.spc_tables.specs.declared.flags.TheConstants.{CARRY}
 use Rattle.spc_alu.specs.Status.{bit_of, sign, with_nz}
 use Rattle.spc_alu.specs.declared.changes.Changed.{Changed}
-
--- An operation that changes a byte m gives its new value and PSW. C of a shift is the bit that falls out; a rotation puts the
--- old carry in at the other end.
 
 -- a value with N and Z from it
 abbrev pub result_nz : ℕ → ℕ → Changed

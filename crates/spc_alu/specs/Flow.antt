@@ -1,3 +1,5 @@
+-- Which branches are taken and where they go, jumps, and what BRK makes of PSW (nocash fullsnes, "SNES APU
+-- SPC700 CPU Jump/Control Commands").
 use Rattle.std.specs.Prelude.{ℕ, Bool, true, false, not, ◌+◌, ◌%◌, ◌==◌, nat_lt, if◌then◌else◌}
 use Rattle.status_bits.specs.StatusBits.{flag, put}
 use Rattle.spc_tables.specs.declared.flags.TheConstants.{BREAK, CARRY, INTERRUPT_ENABLE, NEGATIVE, OVERFLOW, ZERO}

@@ -1,3 +1,5 @@
+-- An operation's results, by what it gets. Where a table names no operation, nothing changes. Source: nocash
+-- fullsnes, "SNES APU SPC700 CPU Load/Store Commands", "ALU Commands", "Jump/Control Commands".
 use Rattle.std.specs.Prelude.{ℕ, true, false, not, ◌+◌, ◌%◌, bit_and, bit_or, bit_xor}
 use Rattle.status_bits.specs.StatusBits.{flag}
 use Rattle.spc_tables.specs.declared.flags.TheConstants.{CARRY, DIRECT_PAGE, HALF_CARRY, INTERRUPT_ENABLE, OVERFLOW}
@@ -12,8 +14,6 @@ use Rattle.spc_alu.specs.Status.{load_a, load_x, load_y, with_flag}
 use Rattle.spc_alu.specs.Sums.{add, subtract, compare}
 use Rattle.spc_alu.specs.Words.{load_ya, add_word, subtract_word, compare_word}
 use Rattle.spc_alu.specs.declared.changes.Changed.{Changed}
-
--- An operation's results, by what it gets. Where a table names no operation, nothing changes.
 
 -- a value that stays, with PSW
 abbrev pub unchanged : ℕ → ℕ → Changed

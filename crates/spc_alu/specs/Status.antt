@@ -1,3 +1,5 @@
+-- N and Z of a byte and of a word, loads of A, X and Y, and single flags of PSW (nocash fullsnes, "SNES APU
+-- SPC700 CPU Load/Store Commands").
 use Rattle.std.specs.Prelude.{ℕ, Bool, ◌/◌, ◌%◌, ◌==◌, if◌then◌else◌}
 use Rattle.status_bits.specs.StatusBits.{put}
 use Rattle.spc_tables.specs.declared.flags.TheConstants.{ZERO, NEGATIVE}

@@ -1,3 +1,4 @@
+-- ADC, SBC and CMP of bytes, with their flags (nocash fullsnes, "SNES APU SPC700 CPU ALU Commands").
 use Rattle.std.specs.Prelude.{ℕ, Bool, not, ◌&&◌, ◌+◌, ◌-◌, ◌%◌, ◌==◌, nat_le}
 use Rattle.status_bits.specs.StatusBits.{flag, put}
 use Rattle.spc_tables.specs.declared.flags.TheConstants.{CARRY, HALF_CARRY, OVERFLOW}

@@ -1,3 +1,5 @@
+-- The word YA, and the operations on words: MOVW, ADDW, SUBW, CMPW, INCW, DECW (nocash fullsnes, "SNES APU
+-- SPC700 CPU Load/Store Commands" and "ALU Commands").
 use Rattle.std.specs.Prelude.{ℕ, Bool, not, ◌&&◌, ◌+◌, ◌-◌, ◌*◌, ◌/◌, ◌%◌, ◌==◌, nat_le}
 use Rattle.status_bits.specs.StatusBits.{put}
 use Rattle.spc_tables.specs.declared.flags.TheConstants.{CARRY, HALF_CARRY, OVERFLOW}

@@ -1,3 +1,4 @@
+-- The SPC700 over a memory and nothing else: so many accesses, one after the other.
 use Rattle.std.specs.Prelude.{ℕ, zero, suc, List, slice_index, slice_set}
 use Rattle.spc_tables.specs.declared.access.SpcAccess.{SpcAccess}
 use Rattle.spc_tables.specs.declared.access.SpcAccess.TheVariants.{Fetch, Read, Write, Inner}

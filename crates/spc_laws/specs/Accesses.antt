@@ -1,3 +1,4 @@
+-- The accesses that an instruction makes, by the bytes that they get, and what it has still to do after them.
 use Rattle.std.specs.Prelude.{ℕ, List, [], ◌∷◌}
 use Rattle.spc_tables.specs.declared.access.SpcAccess.{SpcAccess}
 use Rattle.spc_tables.specs.declared.regs.SpcRegs.{SpcRegs}

@@ -1,3 +1,5 @@
+-- Where the accesses of an instruction go, and where an address wraps (nocash fullsnes, "SNES APU SPC700 CPU
+-- Overview").
 use Rattle.std.specs.Prelude.{ℕ, ◌+◌, ◌*◌, ◌/◌, ◌%◌, if◌then◌else◌}
 use Rattle.status_bits.specs.StatusBits.{flag}
 use Rattle.spc_tables.specs.declared.flags.TheConstants.{DIRECT_PAGE}

@@ -1,3 +1,6 @@
+-- The accesses of each instruction after its opcode fetch (numbers of cycles: nocash fullsnes, "SNES APU
+-- SPC700 CPU Load/Store Commands", "ALU Commands", "Jump/Control Commands"). `r` are the registers as the
+-- accesses so far left them.
 use Rattle.std.specs.Prelude.{ℕ, zero, suc, Bool, Option, Some, None, ◌+◌, ◌-◌, ◌*◌, ◌/◌, ◌%◌, ◌==◌, not, if◌then◌else◌}
 use Rattle.spc_tables.specs.Opcodes.{row_of}
 use Rattle.spc_tables.specs.declared.mode.SpcMode.{SpcMode}
@@ -14,8 +17,6 @@ use Rattle.spc_modes.specs.Plan.{Plan, fetches, reads, writes, idles, stops, end
 use Rattle.spc_modes.specs.Uses.{use_of}
 use Rattle.spc_modes.specs.declared.place.PointerKind.{PointerKind}
 use Rattle.spc_modes.specs.declared.uses.Use.{Use}
-
--- The accesses of each instruction after its opcode fetch. `r` are the registers as the accesses so far left them.
 
 -- an access to the next byte of the program
 abbrev pub fetch : SpcRegs → (ℕ → SpcRegs → Plan) → Plan

@@ -1,3 +1,5 @@
+-- A plan, which is what an instruction has still to do, access by access; its next access, and what is left
+-- after some.
 use Rattle.std.specs.Prelude.{ℕ, List, [], ◌∷◌}
 use Rattle.spc_tables.specs.declared.access.SpcAccess.{SpcAccess}
 use Rattle.spc_tables.specs.declared.access.SpcAccess.TheVariants.{Fetch, Read, Write, Inner}

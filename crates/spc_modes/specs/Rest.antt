@@ -1,3 +1,4 @@
+-- What a micro-state leaves to do: the rest of a plan, by the place in it; what comes next; the registers.
 use Rattle.std.specs.Prelude.{ℕ}
 use Rattle.spc_tables.specs.declared.opcode.SpcRow.{SpcRow}
 use Rattle.spc_tables.specs.declared.regs.SpcRegs.{SpcRegs}

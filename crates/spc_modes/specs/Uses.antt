@@ -1,8 +1,10 @@
+-- What an operation does, as far as its accesses go, with its internal cycles (nocash fullsnes, "SNES APU
+-- SPC700 CPU Load/Store Commands", "ALU Commands", "Jump/Control Commands"). The shifts and counts of A alone
+-- happen inside the processor: their mode tells.
 use Rattle.spc_tables.specs.declared.operation.SpcOp.{SpcOp}
 use Rattle.spc_tables.specs.declared.operation.SpcOp.TheVariants.{Nop, Mov, MovA, MovX, MovY, StoreA, StoreX, StoreY, MovAX, MovAY, MovXA, MovYA, MovXSp, MovSpX, Or, And, Eor, Cmp, CmpX, CmpY, Adc, Sbc, Asl, Rol, Lsr, Ror, Dec, Inc, DecX, IncX, DecY, IncY, MovwYa, StoreYa, Addw, Subw, Cmpw, Decw, Incw, Mul, Div, Daa, Das, Xcn, Set1, Clr1, Tset1, Tclr1, Or1, OrNot1, And1, AndNot1, Eor1, MovC1, StoreC1, Not1, Clrp, Setp, Clrc, Setc, Notc, Clrv, Ei, Di, Bpl, Bmi, Bvc, Bvs, Bcc, Bcs, Bne, Beq, Bra, Bbs, Bbc, Cbne, Dbnz, Jmp, Call, Pcall, Tcall, Brk, Ret, Reti, PushA, PushX, PushY, PushPsw, PopA, PopX, PopY, PopPsw, Sleep, Stop}
 use Rattle.spc_modes.specs.declared.uses.Use.{Use}
 
--- What an operation does, as far as its accesses go. The shifts and counts of A alone happen inside the processor: their mode tells.
 unfoldable pub use_of : SpcOp → Use
 use_of Nop = Use.Internal 1
 use_of Mov = Use.Move

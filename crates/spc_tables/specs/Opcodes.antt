@@ -1,3 +1,5 @@
+-- What each opcode of the SPC700 means: an operation and its operands, by the columns of the opcode matrix
+-- (nocash fullsnes, "SNES APU SPC700 CPU Load/Store Commands", "ALU Commands", "Jump/Control Commands").
 use Rattle.std.specs.Prelude.{ℕ, List, [], ◌∷◌, ◌+◌, ◌*◌, ◌++◌, ◌==◌, map, Option, Some, None, if◌then◌else◌}
 use Rattle.spc_tables.specs.declared.mode.SpcMode.{SpcMode}
 use Rattle.spc_tables.specs.declared.mode.SpcMode.TheVariants.{Implied, Accumulator, Immediate, Direct, DirectX, DirectY, Absolute, AbsoluteX, AbsoluteY, IndirectX, IndirectXIncrement, DirectXPointer, DirectPointerY, DirectImmediate, DirectDirect, IndirectXIndirectY, DirectBit, DirectBitRelative, MemoryBit, Relative, DirectRelative, DirectXRelative, YRelative, AbsoluteXPointer, HighPage, VectorTable, Stack}

@@ -1,3 +1,4 @@
+-- The bits of a status byte by their weights, for both processors.
 use Rattle.std.specs.Prelude.{ℕ, Bool, ◌+◌, ◌-◌, ◌*◌, ◌/◌, ◌%◌, ◌==◌, ◌||◌, if◌then◌else◌}
 
 -- the weights of the eight bits of a status byte
