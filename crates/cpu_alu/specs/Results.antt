@@ -1,5 +1,6 @@
 -- What each operation makes of the registers, and the operand that it writes (W65C816S data sheet, operations
--- and status register).
+-- and status register). Its words: the status, REP, SEP, XCE, S and D in `Registers`; branches, RTI, interrupts
+-- and block moves in `Flow`; ADC, SBC and CMP in `Sums`; shifts, counts and tests of bits in `Changes`.
 use Rattle.std.specs.Prelude.{ℕ, Bool, true, false, ◌+◌, ◌%◌, bit_and, bit_or, bit_xor}
 use Rattle.cpu_tables.specs.declared.mode.Mode.{Mode}
 use Rattle.cpu_tables.specs.declared.mode.Mode.TheVariants.{Accumulator, Immediate}

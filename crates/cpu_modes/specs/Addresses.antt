@@ -1,5 +1,6 @@
 -- Where the accesses of an instruction go, and where an address wraps (W65C816S data sheet, addressing
--- modes). That in emulation mode each push and pull stays in page 1 is this project's own profile.
+-- modes). That in emulation mode each push and pull stays in page 1, and that [d] and PEI never wrap in the
+-- page, is this project's own profile.
 use Rattle.std.specs.Prelude.{ℕ, Bool, true, false, ◌+◌, ◌*◌, ◌/◌, ◌%◌, ◌==◌, ◌&&◌, ◌||◌, not, if◌then◌else◌}
 use Rattle.status_bits.specs.StatusBits.{flag}
 use Rattle.cpu_tables.specs.declared.flags.TheConstants.{INDEX_8, MEMORY_8}

@@ -1,6 +1,6 @@
--- The accesses of each instruction after its opcode fetch, and the interrupt vectors (W65C816S data sheet,
--- tables of cycle-by-cycle operation, interrupt vectors). `r` are the registers as the accesses so far left
--- them.
+-- The accesses of each instruction after its opcode fetch, and the interrupt vectors (after the W65C816S data
+-- sheet, tables of cycle-by-cycle operation, interrupt vectors; the order is this project's own profile). `r`
+-- are the registers as the accesses so far left them.
 use Rattle.std.specs.Prelude.{ℕ, Bool, false, Option, Some, None, ◌+◌, ◌/◌, ◌%◌, ◌==◌, ◌&&◌, not, if◌then◌else◌}
 use Rattle.cpu_tables.specs.Opcodes.{row_of}
 use Rattle.cpu_tables.specs.declared.mode.Mode.{Mode}

@@ -81,7 +81,7 @@ unfoldable pub tiles_high_written : Registers → ℕ → Registers
 tiles_high_written r v = record r { bg3 = with_tiles r.bg3 (v % 16); bg4 = with_tiles r.bg4 (v / 16) }
 
 -- 210D, 210F, 2111, 2113 BGnHOFS with the byte kept from the last write of any scroll: v above its bits
--- 7-3, and the former bits 10-8 below
+-- 7-3, and the former bits 10-8 below (this project's own profile)
 unfoldable pub scrolled_across : Background → ℕ → ℕ → Background
 scrolled_across b kept v = record b { scroll_x = 256 * v + kept / 8 * 8 + b.scroll_x / 256 % 8 }
 

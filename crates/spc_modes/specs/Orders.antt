@@ -1,6 +1,6 @@
 -- The accesses of each instruction after its opcode fetch (numbers of cycles: nocash fullsnes, "SNES APU
--- SPC700 CPU Load/Store Commands", "ALU Commands", "Jump/Control Commands"). `r` are the registers as the
--- accesses so far left them.
+-- SPC700 CPU Load/Store Commands", "ALU Commands", "Jump/Control Commands"; their order, with each dummy read
+-- an internal cycle, is this project's own profile). `r` are the registers as the accesses so far left them.
 use Rattle.std.specs.Prelude.{ℕ, zero, suc, Bool, Option, Some, None, ◌+◌, ◌-◌, ◌*◌, ◌/◌, ◌%◌, ◌==◌, not, if◌then◌else◌}
 use Rattle.spc_tables.specs.Opcodes.{row_of}
 use Rattle.spc_tables.specs.declared.mode.SpcMode.{SpcMode}
