@@ -1,7 +1,8 @@
 ghost use Rattle.std.specs.Prelude.{◌≡◌, ◌≢◌, ◌/◌, false, IsTrue, MatchBool, ◌≤◌, ◌+◌, ◌^◌, ◌++◌, length};
 ghost use Rattle.side_law.specs.Moves.{IsAtPorts};
 ghost use Rattle.snes_defs.specs.declared.ports.Act.TheVariants.{Quiet};
-ghost use Rattle.spc700.specs.Instruction.{Standing, at_reset, gets_byte, moved_on, next_of};
+ghost use Rattle.spc700.specs.Instruction.{Standing, at_reset, moved_on, next_of};
+ghost use Rattle.spc_modes.specs.Plan.{gets_byte};
 ghost use Rattle.spc700.specs.Stands.{Stands, access_of};
 ghost use Rattle.audio_side.specs.Board.{vector};
 ghost use Rattle.audio_side.specs.Effect.{act_of, act_of_load, after_load, loaded, act_of_store, effect, emitted, given, passed, reset_board};
