@@ -1,4 +1,4 @@
-ghost use Rattle.std.specs.Prelude.{◌≡◌, ◌≢◌, ◌/◌, false, IsTrue, MatchBool, ◌≤◌, ◌+◌, ◌^◌, ◌++◌, length};
+ghost use Rattle.std.specs.Prelude.{◌≡◌, ◌≢◌, ◌/◌, false, IsTrue, MatchBool, ◌≤◌, ◌+◌, ◌%◌, ◌^◌, ◌++◌, length};
 ghost use Rattle.side_law.specs.Moves.{IsAtPorts};
 ghost use Rattle.snes_defs.specs.declared.ports.Act.TheVariants.{Quiet};
 ghost use Rattle.spc700.specs.Instruction.{Standing, at_reset, moved_on, next_of};
@@ -200,8 +200,27 @@ fn make(spc: &mut Spc, board: &mut Hardware, clock: &CycleClock, got: u8)
     }
 }
 
-/// The end of a step: the timers, and by the last of each 32 cycles a sample, whose bytes wait.
+/// The end of every 16th step: the timers, and of every second of these a sample, whose bytes wait.
 #[tactic(auto, unfolding(crate::specs::Effect::passed, crate::specs::Effect::emitted))]
+#[inline(never)]
+fn finish_tick(board: &mut Hardware, cycle: u64, waiting: &mut HeapCircularBuffer<u8>)
+    requires cycle { cycle ≤ 2 ^ 46 }
+    requires tick { (cycle + 1) % 16 ≡ 0 }
+    requires room { length waiting.old.items + 4 ≤ waiting.old.capacity }
+    ensures board { board.new ≡ passed cycle board.old }
+    ensures waiting { waiting.new.items ≡ waiting.old.items ++ emitted cycle board.old }
+    ensures capacity { waiting.new.capacity ≡ waiting.old.capacity }
+    ensures few { length waiting.new.items ≤ length waiting.old.items + 4 }
+{
+    board.tick(cycle);
+    if cycle % 32 == 31 {
+        let bytes = board.sample(cycle / 32);
+        waiting.fill_from_slice(&bytes);
+    }
+}
+
+/// The end of a step: the timers, and by the last of each 32 cycles a sample, whose bytes wait.
+#[tactic(auto, using(crate::proofs::Ticks::passes_nothing, crate::proofs::Ticks::emits_nothing))]
 #[inline(always)]
 pub fn finish(board: &mut Hardware, cycle: u64, waiting: &mut HeapCircularBuffer<u8>)
     requires cycle { cycle ≤ 2 ^ 46 }
@@ -211,9 +230,7 @@ pub fn finish(board: &mut Hardware, cycle: u64, waiting: &mut HeapCircularBuffer
     ensures capacity { waiting.new.capacity ≡ waiting.old.capacity }
     ensures few { length waiting.new.items ≤ length waiting.old.items + 4 }
 {
-    board.time(cycle);
-    if cycle % 32 == 31 {
-        let bytes = board.sample(cycle / 32);
-        waiting.fill_from_slice(&bytes);
+    if (cycle + 1) % 16 == 0 {
+        finish_tick(board, cycle, waiting);
     }
 }
