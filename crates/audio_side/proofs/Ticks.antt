@@ -1,8 +1,8 @@
 -- The end of a cycle that is no tick.
-use Rattle.std.proofs.Common.{◌≡◌, ◌≢◌, ℕ, Bool, false, ◌+◌, ◌%◌, ◌==◌, ◌++◌, List, refl, arith, rules}
+use Rattle.std.proofs.Common.{◌≡◌, ◌≢◌, ℕ, false, ◌+◌, ◌%◌, ◌==◌, ◌++◌, List, refl, arith, rules}
 use Rattle.std.proofs.lemmas.Bool.{ne_eqb}
 use Rattle.audio_side.specs.Board.{Board}
-use Rattle.audio_side.specs.Effect.{emitted, is_sampling, passed, timed}
+use Rattle.audio_side.specs.Effect.{emitted, passed, timed}
 
 -- nothing happens
 pub passes_nothing : (n : ℕ) (b : Board) → (n + 1) % 16 ≢ 0 → passed n b ≡ b
