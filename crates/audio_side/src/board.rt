@@ -237,8 +237,8 @@ impl Hardware {
 
     /// The timers tick, at the end of every 16th cycle.
     #[tactic(auto, unfolding(crate::specs::Effect::timed))]
-    #[inline(never)]
-    fn tick_all(&mut self, cycle: u64)
+    #[inline(always)]
+    pub fn tick(&mut self, cycle: u64)
         requires small { cycle ≤ 2 ^ 46 }
         requires tick { (cycle + 1) % 16 ≡ 0 }
         ensures { self.new ≡ timed cycle self.old }
@@ -248,18 +248,6 @@ impl Hardware {
             self.timer1 = tick(self.timer1);
         }
         self.timer2 = tick(self.timer2);
-    }
-
-    /// The timers at the end of a cycle.
-    #[tactic(auto, unfolding(crate::specs::Effect::timed))]
-    #[inline(always)]
-    pub fn time(&mut self, cycle: u64)
-        requires { cycle ≤ 2 ^ 46 }
-        ensures { self.new ≡ timed cycle self.old }
-    {
-        if (cycle + 1) % 16 == 0 {
-            self.tick_all(cycle);
-        }
     }
 
     /// Sample `s`, and its bytes.

@@ -16,10 +16,14 @@ pub struct CycleClock {
     pub resets: Vec<u32>,
     /// The number of the next cycle, from 0.
     pub cycle: u64,
+    /// The stamps of a cycle.
+    rate: u64,
+    /// The stamp of the next cycle. It is kept, so that it is no product.
+    stamp: u64,
 }
 
 impl Model for CycleClock {
-    ghost use Rattle.std.specs.Prelude.{◌≤◌, ◌+◌, ◌*◌, ◌^◌};
+    ghost use Rattle.std.specs.Prelude.{◌≡◌, ◌≤◌, ◌+◌, ◌*◌, ◌^◌};
     ghost use Rattle.snes_defs.specs.declared.ports.Side.TheVariants.{Sound};
     ghost use Rattle.clock_ratio.specs.Stamp.{rate_of};
     ghost use Rattle.audio_side.specs.Clock.{Clock};
@@ -28,19 +32,33 @@ impl Model for CycleClock {
 
     ghost view = { λ s. record { region = s.region; resets = s.resets.items; cycle = s.cycle } };
 
-    ghost invariant = { λ s. (s.cycle ≤ 2 ^ 46) × (rate_of s.region Sound * s.cycle ≤ 2 ^ 62 + rate_of s.region Sound) };
+    ghost invariant = { λ s. (s.cycle ≤ 2 ^ 46) × (s.rate ≡ rate_of s.region Sound) × (s.stamp ≡ rate_of s.region Sound * s.cycle) × (s.stamp ≤ 2 ^ 62 + rate_of s.region Sound) };
 }
 
 impl CycleClock {
+    /// The clock before the first cycle.
+    pub fn new(region: Region, resets: Vec<u32>) -> CycleClock
+        ensures { result ≡ record { region = region; resets = resets.items; cycle = 0 } }
+    {
+        let rate = match region {
+            Region::Ntsc => SOUND_RATE,
+            Region::Pal => PAL_SOUND_RATE,
+        };
+        CycleClock {
+            region,
+            resets,
+            cycle: 0,
+            rate,
+            stamp: 0,
+        }
+    }
+
     /// The stamps of a cycle.
     #[inline(always)]
     fn rate(&self) -> u64
         ensures { result ≡ rate_of self.now.region Sound }
     {
-        match self.region {
-            Region::Ntsc => SOUND_RATE,
-            Region::Pal => PAL_SOUND_RATE,
-        }
+        self.rate
     }
 
     /// The stamp of the next cycle.
@@ -48,10 +66,7 @@ impl CycleClock {
     pub fn stamp(&self) -> u64
         ensures { result ≡ stamp_now self.now }
     {
-        match self.region {
-            Region::Ntsc => SOUND_RATE * self.cycle,
-            Region::Pal => PAL_SOUND_RATE * self.cycle,
-        }
+        self.stamp
     }
 
     /// The frame in which the next cycle lies.
@@ -119,5 +134,6 @@ impl CycleClock {
         ensures { self.new ≡ gone_on self.old }
     {
         self.cycle += 1;
+        self.stamp += self.rate;
     }
 }

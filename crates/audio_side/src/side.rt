@@ -119,11 +119,7 @@ impl AudioSide {
             boot_seen: true,
             address: 0,
         };
-        let clock = CycleClock {
-            region: job.region,
-            resets,
-            cycle: 0,
-        };
+        let clock = CycleClock::new(job.region, resets);
         let spc = fresh(board.entry());
         Ok(AudioSide {
             parts: Parts {

@@ -1,10 +1,11 @@
-ghost use Rattle.std.specs.Prelude.{◌≡◌, ◌≢◌, ◌/◌, false, IsTrue, MatchBool, ◌≤◌, ◌+◌, ◌^◌, ◌++◌, length};
+ghost use Rattle.std.specs.Prelude.{IfSome, None, ◌≡◌, ◌≢◌, ◌/◌, false, IsTrue, MatchBool, ◌≤◌, ◌+◌, ◌%◌, ◌^◌, ◌++◌, length};
 ghost use Rattle.side_law.specs.Moves.{IsAtPorts};
 ghost use Rattle.snes_defs.specs.declared.ports.Act.TheVariants.{Quiet};
-ghost use Rattle.spc700.specs.Instruction.{Standing, at_reset, gets_byte, moved_on, next_of};
+ghost use Rattle.spc700.specs.Instruction.{Standing, at_reset, moved_on, next_of};
+ghost use Rattle.spc_modes.specs.Plan.{gets_byte};
 ghost use Rattle.spc700.specs.Stands.{Stands, access_of};
 ghost use Rattle.audio_side.specs.Board.{vector};
-ghost use Rattle.audio_side.specs.Effect.{act_of, act_of_load, after_load, loaded, act_of_store, effect, emitted, given, passed, reset_board};
+ghost use Rattle.audio_side.specs.Effect.{act_of, act_of_load, after_load, loaded, act_of_store, effect, emitted, given, passed, reset_board, stored};
 ghost use Rattle.audio_side.specs.Sound.{IsRunning, SoundState, board_before_end, processor_after, sound_act};
 
 use crate::board::{Hardware, cleared};
@@ -106,27 +107,85 @@ fn is_register(at: u16) -> bool
     at / 16 == 15
 }
 
-/// The processor fetches or reads a byte of RAM or of the boot ROM.
-#[tactic(auto, unfolding(crate::specs::Effect::act_of_load, crate::specs::Effect::after_load))]
+/// The byte that a fetch or a read at F0 to FF gets, where it is at none of the ports.
+#[inline(never)]
+fn try_register(board: &mut Hardware, at: u16) -> Option<u8>
+    ensures quiet { IfSome result (λ _. act_of_load at ≡ Quiet) }
+    ensures byte { IfSome result (λ byte. byte ≡ loaded board.old at 0) }
+    ensures board { IfSome result (λ _. board.new ≡ after_load board.old at) }
+    ensures stays { result ≡ None → board.new ≡ board.old }
+{
+    match load_act(at) {
+        Act::Quiet => {
+            let byte = board.load(at, 0);
+            board.finish_load(at);
+            Some(byte)
+        }
+        Act::Read(_) => None,
+        Act::Write(_, _) => None,
+        Act::Clear(_) => None,
+    }
+}
+
+/// A write at F0 to FF, where it is quiet.
+#[inline(never)]
+fn try_register_store(board: &mut Hardware, at: u16, byte: u8) -> bool
+    ensures quiet { IsTrue result → act_of_store at byte ≡ Quiet }
+    ensures board { IsTrue result → board.new ≡ stored board.old at byte }
+    ensures stays { result ≡ false → board.new ≡ board.old }
+{
+    match store_act(at, byte) {
+        Act::Quiet => {
+            board.store(at, byte);
+            true
+        }
+        Act::Read(_) => false,
+        Act::Write(_, _) => false,
+        Act::Clear(_) => false,
+    }
+}
+
+/// A write where it is quiet.
+#[tactic(auto, unfolding(crate::specs::Effect::act_of_store))]
 #[inline(always)]
-fn try_load(spc: &mut Spc, board: &Hardware, at: u16) -> bool
-    requires { IsTrue (gets_byte (access_of spc.old)) }
-    ensures quiet { IsTrue result → act_of_load at ≡ Quiet }
-    ensures processor { IsTrue result → (s : Standing) → Stands spc.old s → Stands spc.new (moved_on s (loaded board.now at 0)) }
-    ensures board { IsTrue result → after_load board.now at ≡ board.now }
-    ensures stays { result ≡ false → spc.new ≡ spc.old }
+fn try_store(board: &mut Hardware, at: u16, byte: u8) -> bool
+    ensures quiet { IsTrue result → act_of_store at byte ≡ Quiet }
+    ensures board { IsTrue result → board.new ≡ stored board.old at byte }
+    ensures stays { result ≡ false → board.new ≡ board.old }
 {
     if is_register(at) {
-        return false;
+        try_register_store(board, at, byte)
+    } else {
+        board.store_memory(at, byte);
+        true
     }
-    let byte = board.load_memory(at);
+}
+
+/// The processor fetches or reads a byte, but none of a port.
+#[tactic(auto, unfolding(crate::specs::Effect::act_of_load, crate::specs::Effect::after_load))]
+#[inline(always)]
+fn try_load(spc: &mut Spc, board: &mut Hardware, at: u16) -> bool
+    requires { IsTrue (gets_byte (access_of spc.old)) }
+    ensures quiet { IsTrue result → act_of_load at ≡ Quiet }
+    ensures processor { IsTrue result → (s : Standing) → Stands spc.old s → Stands spc.new (moved_on s (loaded board.old at 0)) }
+    ensures board { IsTrue result → board.new ≡ after_load board.old at }
+    ensures spc_stays { result ≡ false → spc.new ≡ spc.old }
+    ensures board_stays { result ≡ false → board.new ≡ board.old }
+{
+    let byte = if is_register(at) {
+        match try_register(board, at) {
+            Some(byte) => byte,
+            None => return false,
+        }
+    } else {
+        board.load_memory(at)
+    };
     spc.took(byte);
     true
 }
 
-/// The processor's next access is made where it is one of RAM or of the boot ROM, or an internal cycle, and
-/// whether it was is answered. Otherwise nothing has changed.
-#[tactic(auto, unfolding(crate::specs::Effect::act_of_store))]
+/// The processor's next access is made where it is at none of the ports, and no write that clears
+/// them, and whether it was is answered. Otherwise nothing has changed.
 #[inline(always)]
 pub fn try_access(spc: &mut Spc, board: &mut Hardware) -> bool
     ensures quiet { IsTrue result → (s : Standing) → Stands spc.old s → act_of (next_of s) ≡ Quiet }
@@ -139,10 +198,9 @@ pub fn try_access(spc: &mut Spc, board: &mut Hardware) -> bool
         SpcAccess::Fetch(at) => try_load(spc, board, at),
         SpcAccess::Read(at) => try_load(spc, board, at),
         SpcAccess::Write(at, byte) => {
-            if is_register(at) {
+            if !try_store(board, at, byte) {
                 return false;
             }
-            board.store_memory(at, byte);
             spc.wrote();
             true
         }
@@ -199,8 +257,27 @@ fn make(spc: &mut Spc, board: &mut Hardware, clock: &CycleClock, got: u8)
     }
 }
 
-/// The end of a step: the timers, and by the last of each 32 cycles a sample, whose bytes wait.
+/// The end of every 16th step: the timers, and of every second of these a sample, whose bytes wait.
 #[tactic(auto, unfolding(crate::specs::Effect::passed, crate::specs::Effect::emitted))]
+#[inline(never)]
+fn finish_tick(board: &mut Hardware, cycle: u64, waiting: &mut HeapCircularBuffer<u8>)
+    requires cycle { cycle ≤ 2 ^ 46 }
+    requires tick { (cycle + 1) % 16 ≡ 0 }
+    requires room { length waiting.old.items + 4 ≤ waiting.old.capacity }
+    ensures board { board.new ≡ passed cycle board.old }
+    ensures waiting { waiting.new.items ≡ waiting.old.items ++ emitted cycle board.old }
+    ensures capacity { waiting.new.capacity ≡ waiting.old.capacity }
+    ensures few { length waiting.new.items ≤ length waiting.old.items + 4 }
+{
+    board.tick(cycle);
+    if cycle % 32 == 31 {
+        let bytes = board.sample(cycle / 32);
+        waiting.fill_from_slice(&bytes);
+    }
+}
+
+/// The end of a step: the timers, and by the last of each 32 cycles a sample, whose bytes wait.
+#[tactic(auto, using(crate::proofs::Ticks::passes_nothing, crate::proofs::Ticks::emits_nothing))]
 #[inline(always)]
 pub fn finish(board: &mut Hardware, cycle: u64, waiting: &mut HeapCircularBuffer<u8>)
     requires cycle { cycle ≤ 2 ^ 46 }
@@ -210,9 +287,7 @@ pub fn finish(board: &mut Hardware, cycle: u64, waiting: &mut HeapCircularBuffer
     ensures capacity { waiting.new.capacity ≡ waiting.old.capacity }
     ensures few { length waiting.new.items ≤ length waiting.old.items + 4 }
 {
-    board.time(cycle);
-    if cycle % 32 == 31 {
-        let bytes = board.sample(cycle / 32);
-        waiting.fill_from_slice(&bytes);
+    if (cycle + 1) % 16 == 0 {
+        finish_tick(board, cycle, waiting);
     }
 }

@@ -1,8 +1,8 @@
 -- The echo: a delay line in RAM behind a filter of eight taps, and the final mix (nocash fullsnes, "SNES APU DSP Echo").
-use Rattle.std.specs.Prelude.{ℕ, ℤ, pos, ◌+◌, ◌*◌, ◌/◌, ◌%◌, ◌==◌, ◌+ℤ◌, ◌*ℤ◌, nat_le, List, slice_set, if◌then◌else◌}
-use Rattle.std.specs.Int.{w16, w32, cast_signed, cast_unsigned}
+use Rattle.std.specs.Prelude.{ℕ, ℤ, pos, true, ◌≡◌, ◌+◌, ◌*◌, ◌/◌, ◌%◌, ◌==◌, ◌+ℤ◌, ◌*ℤ◌, nat_le, List, slice_set, if◌then◌else◌}
+use Rattle.std.specs.Int.{w16, cast_signed, cast_unsigned}
 use Rattle.sdsp_voice.specs.Signed.{shifted, signed_byte, wrapped_16, clamped_16}
-use Rattle.sdsp_voice.specs.Brr.{at, word_at}
+use Rattle.sdsp_voice.specs.Brr.{word_at}
 use Rattle.sdsp_voice.specs.Registers.{bit, kept}
 use Rattle.sdsp_voice.specs.declared.sums.Sums.{Sums}
 use Rattle.sdsp_voice.specs.declared.voices.Voices.{Voices}
@@ -101,6 +101,12 @@ unfoldable pub ram_after : Voices → Sums → List ℕ → Echo → List ℕ
 ram_after d sums ram e =
     if bit (kept d 0x6C) 5 then ram
     else put_word (put_word ram (place_of d e) (fed_back d sums.echo_left (filtered d (left_history d ram e)))) (place_of d e + 2) (fed_back d sums.echo_right (filtered d (right_history d ram e)))
+
+-- the filter is for nothing: the echo has no volume, and FLG bit 5 stops the writes
+pub record IsUnheard (d : Voices) : Type 0 where
+  pub left : kept d 0x2C ≡ 0
+  pub right : kept d 0x3C ≡ 0
+  pub stopped : bit (kept d 0x6C) 5 ≡ true
 
 abbrev pub silent_history : History
 silent_history = record { h0 = pos 0; h1 = pos 0; h2 = pos 0; h3 = pos 0; h4 = pos 0; h5 = pos 0; h6 = pos 0; h7 = pos 0 }

@@ -1,7 +1,8 @@
-ghost use Rattle.std.specs.Prelude.{◌≡◌, ◌<◌, ◌≤◌, ◌+◌, ◌^◌, ◌*ℤ◌, length, unsigned_abs};
+ghost use Rattle.std.specs.Prelude.{◌≡◌, ◌<◌, ◌≤◌, ◌+◌, ◌^◌, ◌*ℤ◌, IsTrue, length, unsigned_abs};
 ghost use Rattle.sdsp_voice.specs.Registers.{bit, kept};
 ghost use Rattle.sdsp_voice.specs.Signed.{signed_byte};
 ghost use Rattle.sdsp_echo.specs.Echo.{
+  IsUnheard,
   after_mix,
   by_volume,
   evened,
@@ -288,11 +289,58 @@ impl Echo {
         put(ram, place + 2, right);
     }
 
-    /// The two numbers of a sample, left and right, from what the voices add up to. RAM holds the
-    /// delay line; what goes back into it is written over what was heard.
+    /// Whether the filter is for nothing: the echo has no volume, and nothing goes back into the delay
+    /// line.
+    #[inline(always)]
+    fn is_unheard(voices: &Voices) -> bool
+        ensures { IsTrue result → IsUnheard voices.now }
+    {
+        voices.kept(0x2C) == 0 && voices.kept(0x3C) == 0 && voices.kept(0x6C) / 32 % 2 == 1
+    }
+
+    /// The left number where the filter is for nothing.
+    #[tactic(auto, using(crate::proofs::Unheard::left_unheard))]
+    #[inline(always)]
+    fn left_unheard(&self, voices: &Voices, sums: Sums, ram: &[u8]) -> i16
+        requires { IsUnheard voices.now }
+        ensures { result ≡ left_out voices.now sums ram.now self.now }
+    {
+        let _ = (self.offset, ram.len());
+        out(voices, sums.left, voices.kept(0x0C), 0, 0)
+    }
+
+    /// The right number where the filter is for nothing.
+    #[tactic(auto, using(crate::proofs::Unheard::right_unheard))]
+    #[inline(always)]
+    fn right_unheard(&self, voices: &Voices, sums: Sums, ram: &[u8]) -> i16
+        requires { IsUnheard voices.now }
+        ensures { result ≡ right_out voices.now sums ram.now self.now }
+    {
+        let _ = (self.offset, ram.len());
+        out(voices, sums.right, voices.kept(0x1C), 0, 0)
+    }
+
+    /// A sample where the filter is for nothing: the delay line is read, and no more.
+    #[tactic(auto, using(crate::proofs::Unheard::ram_unheard))]
+    #[inline(always)]
+    fn mix_unheard(&mut self, voices: &Voices, sums: Sums, ram: &[u8]) -> (i16, i16)
+        requires ram { length ram.now ≡ 65536 }
+        requires unheard { IsUnheard voices.now }
+        ensures left { result.0 ≡ left_out voices.now sums ram.now self.old }
+        ensures right { result.1 ≡ right_out voices.now sums ram.now self.old }
+        ensures echo { self.new ≡ after_mix voices.now ram.now self.old }
+        ensures ram { ram_after voices.now sums ram.now self.old ≡ ram.now }
+    {
+        let left = self.left_unheard(voices, sums, ram);
+        let right = self.right_unheard(voices, sums, ram);
+        self.go_on(voices, ram);
+        (left, right)
+    }
+
+    /// Any sample.
     #[tactic(auto, unfolding(crate::specs::Echo::after_mix, crate::specs::Echo::left_out, crate::specs::Echo::right_out, crate::specs::Echo::ram_after))]
     #[inline(always)]
-    pub fn mix(&mut self, voices: &Voices, sums: Sums, ram: &mut [u8]) -> (i16, i16)
+    fn mix_heard(&mut self, voices: &Voices, sums: Sums, ram: &mut [u8]) -> (i16, i16)
         requires { length ram.old ≡ 65536 }
         ensures left { result.0 ≡ left_out voices.now sums ram.old self.old }
         ensures right { result.1 ≡ right_out voices.now sums ram.old self.old }
@@ -324,5 +372,22 @@ impl Echo {
                 voices.kept(0x3C),
             ),
         )
+    }
+
+    /// The two numbers of a sample, left and right, from what the voices add up to. RAM holds the
+    /// delay line; what goes back into it is written over what was heard.
+    #[inline(always)]
+    pub fn mix(&mut self, voices: &Voices, sums: Sums, ram: &mut [u8]) -> (i16, i16)
+        requires { length ram.old ≡ 65536 }
+        ensures left { result.0 ≡ left_out voices.now sums ram.old self.old }
+        ensures right { result.1 ≡ right_out voices.now sums ram.old self.old }
+        ensures echo { self.new ≡ after_mix voices.now ram.old self.old }
+        ensures ram { ram.new ≡ ram_after voices.now sums ram.old self.old }
+    {
+        if Echo::is_unheard(voices) {
+            self.mix_unheard(voices, sums, ram)
+        } else {
+            self.mix_heard(voices, sums, ram)
+        }
     }
 }

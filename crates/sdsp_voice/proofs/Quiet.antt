@@ -1,15 +1,14 @@
-use Rattle.std.proofs.Common.{◌≡◌, ◌^◌, ℕ, ℤ, pos, zero, suc, Bool, true, false, ◌+◌, ◌<◌, ◌+ℤ◌, ◌*ℤ◌, ◌-◌, ◌/◌, ◌%◌, ◌∙◌, List, slice_set, FitsSigned, refl, sym, ap, subst, arith, if◌then◌else◌}
+use Rattle.std.proofs.Common.{◌≡◌, ◌^◌, ℕ, ℤ, pos, zero, suc, Bool, true, false, ◌+◌, ◌<◌, ◌+ℤ◌, ◌-◌, ◌/◌, ◌%◌, ◌∙◌, List, slice_set, FitsSigned, refl, ap, subst, arith, if◌then◌else◌}
 use Rattle.std.specs.Int.{w16}
 use Rattle.std.proofs.Math.Nat.{zero-div}
 use Rattle.std.proofs.Math.IntN.{*ℤ-zero, zero-*ℤ}
 use Rattle.std.proofs.lemmas.List.{set-get_or}
 use Rattle.std.proofs.lemmas.Int.{ints, clamps}
 use Rattle.sdsp_voice.specs.Signed.{clamped_16}
-use Rattle.sdsp_voice.specs.Brr.{decoded_times}
 use Rattle.sdsp_voice.specs.Envelope.{after_envelope, is_released}
 use Rattle.sdsp_voice.proofs.Steps.{no_sample}
 use Rattle.sdsp_voice.specs.Registers.{bit, kept, setting, voice}
-use Rattle.sdsp_voice.specs.Keys.{keyed, keyed_below, key_taken}
+use Rattle.sdsp_voice.specs.Keys.{keyed, keyed_below}
 use Rattle.sdsp_voice.specs.Sample.{added, by_volume, gone_on, mixed, moved, output, pass, pitch_of, shown, turn, IsResting}
 use Rattle.sdsp_voice.specs.declared.voice.Phase.TheVariants.{Release}
 use Rattle.sdsp_voice.specs.declared.voice.Voice.{Voice}
@@ -18,7 +17,7 @@ use Rattle.sdsp_voice.specs.declared.sums.Sums.{Sums}
 use Rattle.sdsp_voice.specs.declared.voices.Voices.{Voices}
 
 -- no bit of 0 is set
-bit-zero : (k : ℕ) → bit 0 k ≡ false
+pub bit-zero : (k : ℕ) → bit 0 k ≡ false
 bit-zero k = rw (zero-div (2 ^ k)) refl
 
 -- where no key is held or noted, the keys leave a voice as it is

@@ -1,5 +1,5 @@
 -- BRR: blocks of nine bytes that hold sixteen samples, each made from a digit of four bits and the two samples before (nocash fullsnes, "SNES APU DSP BRR Samples").
-use Rattle.std.specs.Prelude.{ℕ, ℤ, pos, negsuc, Bool, true, false, ◌+◌, ◌-◌, ◌*◌, ◌/◌, ◌%◌, ◌^◌, ◌==◌, ◌+ℤ◌, ◌-ℤ◌, ◌*ℤ◌, neg_ℤ, nat_lt, nat_le, List, slice_index, zero, suc, if◌then◌else◌}
+use Rattle.std.specs.Prelude.{ℕ, ℤ, pos, negsuc, true, ◌+◌, ◌-◌, ◌*◌, ◌/◌, ◌%◌, ◌^◌, ◌==◌, ◌+ℤ◌, ◌-ℤ◌, ◌*ℤ◌, neg_ℤ, nat_lt, nat_le, List, slice_index, zero, suc, if◌then◌else◌}
 use Rattle.sdsp_voice.specs.Signed.{shifted, wrapped_15, clamped_16}
 use Rattle.sdsp_voice.specs.Registers.{bit}
 use Rattle.sdsp_voice.specs.declared.voice.Phase.TheVariants.{Release}

@@ -1,5 +1,5 @@
 -- Keys on and off, which a sample looks at first (nocash fullsnes, "SNES APU DSP ADSR/Gain Envelope").
-use Rattle.std.specs.Prelude.{ℕ, pos, Bool, false, not, zero, suc, List, slice_index_or, slice_set, if◌then◌else◌}
+use Rattle.std.specs.Prelude.{ℕ, pos, false, zero, suc, List, slice_index_or, slice_set, if◌then◌else◌}
 use Rattle.sdsp_voice.specs.Brr.{word_at}
 use Rattle.sdsp_voice.specs.Registers.{bit, kept, resting_voice, setting}
 use Rattle.sdsp_voice.specs.declared.voice.Phase.TheVariants.{Attack, Release}

@@ -1,5 +1,5 @@
 -- The S-DSP's registers 00 to 7F as bytes, and what a voice takes from them (nocash fullsnes, "SNES APU DSP").
-use Rattle.std.specs.Prelude.{ℕ, ℤ, pos, Bool, true, false, not, ◌+◌, ◌-◌, ◌*◌, ◌/◌, ◌%◌, ◌^◌, ◌==◌, ◌&&◌, List, [], ◌∷◌, replicate, slice_index, slice_index_or, slice_set, bit_or, nat_lt, if◌then◌else◌}
+use Rattle.std.specs.Prelude.{ℕ, pos, Bool, false, not, ◌+◌, ◌*◌, ◌/◌, ◌%◌, ◌^◌, ◌==◌, ◌&&◌, List, [], ◌∷◌, replicate, slice_index, slice_index_or, slice_set, bit_or, if◌then◌else◌}
 use Rattle.sdsp_voice.specs.Signed.{signed_byte}
 use Rattle.sdsp_voice.specs.declared.voice.Phase.TheVariants.{Release}
 use Rattle.sdsp_voice.specs.declared.voice.Voice.{Voice}

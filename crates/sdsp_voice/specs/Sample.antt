@@ -1,5 +1,5 @@
 -- ONE SAMPLE of the eight voices (order: this project's own profile, after nocash fullsnes, "SNES APU DSP"): keys, noise, then for each voice from 0 its output, its envelope, and its position.
-use Rattle.std.specs.Prelude.{ℕ, ℤ, pos, zero, suc, ◌+◌, ◌*◌, ◌/◌, ◌%◌, ◌+ℤ◌, ◌*ℤ◌, ◌≡◌, ◌<◌, List, slice_index_or, slice_set, if◌then◌else◌}
+use Rattle.std.specs.Prelude.{ℕ, ℤ, pos, zero, suc, ◌+◌, ◌/◌, ◌%◌, ◌+ℤ◌, ◌*ℤ◌, ◌≡◌, ◌<◌, List, slice_index_or, slice_set, if◌then◌else◌}
 use Rattle.std.specs.Int.{w32, cast_unsigned, int_max, int_min}
 use Rattle.sdsp_voice.specs.Signed.{shifted, wrapped_15, clamped_16}
 use Rattle.sdsp_voice.specs.Registers.{resting_voice, setting, voice}
@@ -88,6 +88,12 @@ pub record IsResting (d : Voices) (v : ℕ) : Type 0 where
   pub released : (voice d v).phase ≡ Release
   pub near : (voice d v).position < 4096
   pub still : (setting d v).pitch ≡ 0
+
+-- such a voice that shows zeros already: no sample changes it, and it adds nothing
+pub record IsStill (d : Voices) (v : ℕ) : Type 0 where
+  pub rests : IsResting d v
+  pub no_level : (voice d v).envx ≡ 0
+  pub no_output : (voice d v).outx ≡ 0
 
 -- the turns of the first n voices
 unfoldable pub turns : List ℕ → List ℕ → ℕ → Voices → ℕ → Pass

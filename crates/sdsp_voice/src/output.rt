@@ -71,6 +71,22 @@ pub fn mix(sums: Sums, out: i32, setting: &Setting) -> Sums
     }
 }
 
+/// The sums with a voice's output, and the output. An envelope of 0 is silence, and is seen at once.
+#[tactic(auto, using(crate::proofs::Quiet::output_of_none, crate::proofs::Quiet::mixed_silence))]
+#[inline(always)]
+pub fn sound(table: &Table, noise: u16, setting: &Setting, voice: &Voice, sums: Sums) -> (Sums, i32)
+    ensures sums { result.0 ≡ mixed sums (output table.now noise setting.now voice.now) setting.now }
+    ensures out { result.1 ≡ output table.now noise setting.now voice.now }
+    ensures small { unsigned_abs result.1 ≤ 2 ^ 20 }
+{
+    if voice.envelope == 0 {
+        (sums, 0)
+    } else {
+        let out = out_of(table, noise, setting, voice);
+        (mix(sums, out, setting), out)
+    }
+}
+
 /// ENVX and OUTX of this sample.
 #[tactic(auto, unfolding(crate::specs::Sample::shown))]
 #[inline(always)]

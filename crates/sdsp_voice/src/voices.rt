@@ -1,13 +1,13 @@
-ghost use Rattle.std.specs.Prelude.{◌≡◌, ◌<◌, ◌≤◌, ◌^◌, IsTrue, length, slice_set, unsigned_abs};
+ghost use Rattle.std.specs.Prelude.{ℕ, ◌≡◌, ◌<◌, ◌≤◌, ◌^◌, IsTrue, length, slice_set, unsigned_abs};
 ghost use Rattle.sdsp_voice.specs.Registers.{all_unended, at_power_on, at_reset, bit, ended_bit, ended_bits, kept, read, setting, unended, voice, written};
 ghost use Rattle.sdsp_voice.specs.Keys.{after_keys, key_taken, keyed, keyed_below};
 ghost use Rattle.sdsp_voice.specs.Noise.{after_noise};
-ghost use Rattle.sdsp_voice.specs.Sample.{IsResting, after_sample, pass, sums_of, turn};
+ghost use Rattle.sdsp_voice.specs.Sample.{IsResting, IsStill, after_sample, pass, sums_of, turn};
 
 use crate::envelope::due;
 use crate::keys::{key_off, mute, start};
 use crate::noise::next_noise;
-use crate::output::{go_on, mix, out_of};
+use crate::output::{go_on, sound};
 use crate::setting::Setting;
 use crate::sums::Sums;
 use crate::voice::{Phase, Voice};
@@ -37,6 +37,14 @@ const DIR: usize = 0x5D;
 
 /// 7C ENDX: each set bit tells that a voice came to the end of a block with the end bit.
 const ENDX: u8 = 0x7C;
+
+/// What voices add up to that are silent.
+const SILENCE: Sums = Sums {
+    left: 0,
+    right: 0,
+    echo_left: 0,
+    echo_right: 0,
+};
 
 /// A voice that was never started.
 const RESTING: Voice = Voice {
@@ -322,6 +330,30 @@ impl Voices {
         voice.outx = 0;
     }
 
+    /// Whether voice `v` is at rest and shows zeros.
+    #[inline(always)]
+    fn is_still(&self, v: usize) -> bool
+        requires { v < 8 }
+        ensures { IsTrue result → IsStill self.now v }
+    {
+        self.is_resting(v) && self.voices[v].envx == 0 && self.voices[v].outx == 0
+    }
+
+    /// Whether no voice is written to KON, and all are at rest and show zeros: the sample is silent, and
+    /// leaves them as they are.
+    #[inline(always)]
+    fn are_all_still(&self) -> bool
+        ensures notes { IsTrue result → self.now.notes ≡ 0 }
+        ensures voices { IsTrue result → (v : ℕ) → v < 8 → IsStill self.now v }
+    {
+        'voices: for v in 0..8 {
+            if !self.is_still(v) {
+                return false;
+            }
+        }
+        self.notes == 0
+    }
+
     /// The same of any voice, whatever it does.
     #[tactic(auto, unfolding(crate::specs::Sample::turn))]
     #[inline(always)]
@@ -343,8 +375,7 @@ impl Voices {
         ensures small { unsigned_abs result.1 ≤ 2 ^ 20 }
     {
         let setting = self.setting(v);
-        let out = out_of(table, self.noise, &setting, &self.voices[v]);
-        let sums = mix(sums, out, &setting);
+        let (sums, out) = sound(table, self.noise, &setting, &self.voices[v], sums);
         go_on(ram, &setting, s, before, out, &mut self.voices[v]);
         (sums, out)
     }
@@ -377,25 +408,35 @@ impl Voices {
         }
     }
 
-    /// Sample `s`: keys, noise, and then each voice's output, envelope and position.
+    /// Sample `s` of voices that do something.
     #[tactic(auto, using(crate::proofs::Steps::no_turn, crate::proofs::Steps::one_more_turn, crate::proofs::Steps::turn_of_same), unfolding(crate::specs::Sample::after_sample, crate::specs::Sample::sums_of, crate::specs::Sample::prepared))]
-    pub fn sample(&mut self, ram: &[u8], table: &Table, s: u64) -> Sums
+    #[inline(always)]
+    fn play(&mut self, ram: &[u8], table: &Table, s: u64) -> Sums
         requires { length ram.now ≡ 65536 }
         ensures after { self.new ≡ after_sample ram.now table.now s self.old }
         ensures sums { result ≡ sums_of ram.now table.now s self.old }
     {
         self.take_keys(ram);
         self.step_noise(s);
-        let mut sums = Sums {
-            left: 0,
-            right: 0,
-            echo_left: 0,
-            echo_right: 0,
-        };
+        let mut sums = SILENCE;
         let mut before = 0;
         'voices: for v in 0..8 {
             (sums, before) = self.turn(ram, table, s, v, sums, before);
         }
         sums
+    }
+
+    /// Sample `s`: keys, noise, and then each voice's output, envelope and position.
+    pub fn sample(&mut self, ram: &[u8], table: &Table, s: u64) -> Sums
+        requires { length ram.now ≡ 65536 }
+        ensures after { self.new ≡ after_sample ram.now table.now s self.old }
+        ensures sums { result ≡ sums_of ram.now table.now s self.old }
+    {
+        if self.are_all_still() {
+            self.step_noise(s);
+            SILENCE
+        } else {
+            self.play(ram, table, s)
+        }
     }
 }

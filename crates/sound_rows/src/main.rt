@@ -1,10 +1,18 @@
-//! Runs the sound machine by itself and prints each act of a step that isn't quiet, to be compared
-//! with cycles worked out by hand.
+//! Runs the sound machine by itself and prints each act of a step that isn't quiet, and of a third
+//! program its samples, to be compared with what was worked out by hand.
 //!
 //! The first boot ROM sets timer 0 to a target of 1, waits, and copies two reads of its counter to
 //! ports 0 and 1: the counter is 1 at cycle 128, and the read clears it. The second one stops, and the
 //! reset button is pressed in frame 1: frame 1 begins at stamp 2,012,696,576 (Ntsc), and the first
 //! cycle not before it is 17,039; in Pal it is 20,478, by 43,578,163,200 stamps of 2,128,137.
+//!
+//! The third one puts a block with the header 40 (shift 4, filter 0) and the bytes 7F, 7F and zeros at
+//! 0010, where the directory at 0000 leads, and writes KON in cycle 79, which sample 2 looks at. The
+//! digits 7 and -1 by 16, halved, are 56 and -8, and each is decoded at the end of a sample, from sample
+//! 2 on. The table has 1,024 for the newest of the four numbers and 0 for the others, so the value is
+//! half of it: 28 and -4. By the envelope 2,032 of GAIN 7F, divided by 2,048, that is 27 and -4; by the
+//! volume 40, divided by 64, the same; by the main volume 7F, divided by 128, 26 and -4. The right
+//! volumes are 0.
 #![tactic(auto)]
 
 use audio_side::AudioSide;
@@ -17,6 +25,15 @@ use std::io;
 const TIMER_PROGRAM: [u8; 21] = [
     0x8F, 0x01, 0xFA, 0x8F, 0x81, 0xF1, 0x8D, 0x13, 0xFE, 0xFE, 0x00, 0xE4, 0xFD, 0xC4, 0xF4, 0xE4,
     0xFD, 0xC4, 0xF5, 0x2F, 0xFE,
+];
+
+/// MOV 00,#10; MOV 10,#40; MOV 11,#7F; MOV 12,#7F; then by MOV F2,# and MOV F3,# the registers 00 VOLL 40,
+/// 03 PITCH 10, 07 GAIN 7F, 0C MVOLL 7F, 6C FLG 20, 4C KON 01; SLEEP.
+const BLOCK_PROGRAM: [u8; 49] = [
+    0x8F, 0x10, 0x00, 0x8F, 0x40, 0x10, 0x8F, 0x7F, 0x11, 0x8F, 0x7F, 0x12, 0x8F, 0x00, 0xF2, 0x8F,
+    0x40, 0xF3, 0x8F, 0x03, 0xF2, 0x8F, 0x10, 0xF3, 0x8F, 0x07, 0xF2, 0x8F, 0x7F, 0xF3, 0x8F, 0x0C,
+    0xF2, 0x8F, 0x7F, 0xF3, 0x8F, 0x6C, 0xF2, 0x8F, 0x20, 0xF3, 0x8F, 0x4C, 0xF2, 0x8F, 0x01, 0xF3,
+    0xEF,
 ];
 
 /// A boot ROM that begins with a program, and whose vector leads to it.
@@ -35,6 +52,13 @@ fn boot_rom(program: &[u8]) -> [u8; 64] {
 /// An interpolation table of zeros.
 fn empty_table() -> Table {
     Table::of([0; 512])
+}
+
+/// The table that has 1,024 for the newest number at a position of 0, and zeros.
+fn newest_alone() -> Table {
+    let mut numbers = [0u16; 512];
+    numbers[0] = 1024;
+    Table::of(numbers)
 }
 
 /// A job of one cartridge byte, a table of zeros, and a script that may press reset in frame 1.
@@ -82,6 +106,31 @@ fn run(rt: &impl Print, alloc: Global, job: &Job, steps: u64) -> io::Result<()> 
     Ok(())
 }
 
+/// A number of two bytes, the low one first.
+fn number(low: u8, high: u8) -> i16 {
+    (low as u16 + 256 * high as u16).cast_signed()
+}
+
+/// The first ten samples of a job.
+fn listen(rt: &impl Print, alloc: Global, job: &Job) -> io::Result<()> {
+    let Ok(mut side) = AudioSide::new(alloc, job) else {
+        return println!(rt; "no memory");
+    };
+    let mut bytes = [0u8; 4];
+    for cycle in 0..320u64 {
+        if !side.ready() || side.stamp() > 1 << 62 {
+            return println!(rt; "cycle {cycle}: no room");
+        }
+        side.step(0);
+        if cycle % 32 == 31 {
+            let _count = side.drain(&mut bytes);
+            let (left, right) = (number(bytes[0], bytes[1]), number(bytes[2], bytes[3]));
+            println!(rt; "sample {}: {left} {right}", cycle / 32)?;
+        }
+    }
+    Ok(())
+}
+
 fn main(rt: HostRuntime) -> io::Result<()> {
     let alloc = rt.alloc();
     println!(rt; "timer")?;
@@ -92,5 +141,9 @@ fn main(rt: HostRuntime) -> io::Result<()> {
     run(&rt, alloc, &ntsc, 40000)?;
     println!(rt; "reset, Pal")?;
     let pal = job(alloc, boot_rom(&[0xFF]), Region::Pal, true)?;
-    run(&rt, alloc, &pal, 50000)
+    run(&rt, alloc, &pal, 50000)?;
+    println!(rt; "block")?;
+    let mut block = job(alloc, boot_rom(&BLOCK_PROGRAM), Region::Ntsc, false)?;
+    block.table = newest_alone();
+    listen(&rt, alloc, &block)
 }

@@ -1,8 +1,9 @@
 //! The sound unit at work, to measure the time of a sample and of a cycle.
 //!
 //! The arguments are what to run and how often: `play` makes samples with eight voices and echo on,
-//! `rest` with none, and `cycles` steps of the whole sound machine over a loop that reads a timer and
-//! writes a port. Without arguments nothing is done. What it prints is a sum over what came out, so
+//! `rest` with none as after power on, `quiet` with eight voices that were released and still have a
+//! pitch, and `cycles` steps of the whole sound machine over a loop that reads a timer and writes a
+//! port. Without arguments nothing is done. What it prints is a sum over what came out, so
 //! that two builds can be compared.
 #![tactic(auto)]
 
@@ -69,18 +70,35 @@ fn fill(ram: &mut [u8])
     }
 }
 
+/// What the voices do.
+#[derive(Clone, Copy, PartialEq, Eq, Debug)]
+enum Scene {
+    /// Nothing, as after power on.
+    Rest,
+    /// They are released and silent, and have a pitch; there is no echo.
+    Quiet,
+    /// They play, with echo.
+    Play,
+}
+
 /// So many samples.
-fn samples(ram: &mut [u8], playing: bool, count: u64) -> u64 {
+fn samples(ram: &mut [u8], scene: Scene, count: u64) -> u64 {
     if ram.len() != 65536 {
         return 0;
     }
+    let playing = scene == Scene::Play;
     let mut voices = Voices::new();
     let mut echo = Echo::new();
     let table = Table::of([1024; 512]);
-    if playing {
+    if scene != Scene::Rest {
         fill(ram);
         set_voices(&mut voices);
+    }
+    if playing {
         set_mix(&mut voices);
+    } else if scene == Scene::Quiet {
+        voices.write(0x5D, 0x70);
+        voices.write(0x6C, 0x2C);
     }
     let mut sum = 0u64;
     'samples: for s in 0..count {
@@ -136,6 +154,15 @@ fn cycles(alloc: Global, job: &Job, count: u64) -> u64 {
     let mut bytes = [0u8; 4096];
     let mut sum = 0u64;
     for _ in 0..count {
+        if !side.ready() {
+            let _count = side.drain(&mut bytes);
+        }
+        if !side.ready() || side.stamp() > 1 << 62 {
+            return sum;
+        }
+        if side.try_step() {
+            continue;
+        }
         let got = match side.act() {
             Act::Read(port) => port,
             Act::Write(_, byte) => {
@@ -145,12 +172,6 @@ fn cycles(alloc: Global, job: &Job, count: u64) -> u64 {
             Act::Quiet => 0,
             Act::Clear(_) => 0,
         };
-        if !side.ready() {
-            let _count = side.drain(&mut bytes);
-        }
-        if !side.ready() || side.stamp() > 1 << 62 {
-            return sum;
-        }
         side.step(got);
     }
     sum
@@ -175,8 +196,13 @@ fn main(rt: HostRuntime) -> io::Result<()> {
         let job = job(alloc)?;
         cycles(alloc, &job, count)
     } else {
+        let scene = match what.as_str() {
+            "play" => Scene::Play,
+            "quiet" => Scene::Quiet,
+            _ => Scene::Rest,
+        };
         let mut ram = zeros(alloc, 65536)?;
-        samples(ram.as_mut_slice(), what.as_str() == "play", count)
+        samples(ram.as_mut_slice(), scene, count)
     };
     println!(rt; "{sum}")
 }

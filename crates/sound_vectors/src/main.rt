@@ -1,24 +1,15 @@
 //! Runs the cases of the files that it is given, as `data/sound.txt`, through the voices and the echo.
 //!
-//! The cases come from outside: two other programs agreed on them. The program stands on `sdsp_voice`
-//! and `sdsp_echo`, prints the first line of each case that differs, and last how many there were. The
+//! The cases come from outside: two other programs agreed on them. The program stands on
+//! `sound_scenes`, prints the first line of each case that differs, and last how many there were. The
 //! cases of `data/differing.txt` are wrong in one thing each, and have to differ.
 //!
-//! A case begins `sound K` with a new unit, a RAM of zeros and the sample number 0, and ends `end`.
-//! Between, numbers are hexadecimal but for counts: `ram SEED ANDS` fills RAM from a generator, each
-//! byte the AND of so many of its bytes; `p ADDRESS BYTES` puts bytes there; `table ramp` is the lesser
-//! of 4 i and 2047 for entry i, `table SEED` comes from the generator; `start N` sets the sample
-//! number; `w N RRVV ..` writes registers before sample N; `s N PAIRS` makes N samples and compares
-//! left and right; `q RR BYTE` compares a register, `m HASH` the 64-bit FNV-1a hash of RAM.
+//! A case is a scene of `sound_scenes`, whose page has the lines.
 #![tactic(auto)]
 
-mod generator;
-mod number;
-mod unit;
-
+use sound_scenes::{Outcome, Unit};
 use std::alloc::Global;
 use std::{env, fs, io};
-use unit::{Outcome, Unit};
 
 /// So many zeros.
 fn zeros(alloc: Global, size: usize) -> io::Result<Vec<u8>> {

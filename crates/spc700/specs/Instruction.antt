@@ -1,7 +1,6 @@
 -- The SPC700 as a whole: its next access, what that makes of it, its registers, and the start after a reset.
-use Rattle.std.specs.Prelude.{ℕ, Bool, true, false, List, [], ◌∷◌, ◌++◌}
+use Rattle.std.specs.Prelude.{ℕ, List, [], ◌∷◌, ◌++◌}
 use Rattle.spc_tables.specs.declared.access.SpcAccess.{SpcAccess}
-use Rattle.spc_tables.specs.declared.access.SpcAccess.TheVariants.{Fetch, Read, Write, Inner}
 use Rattle.spc_tables.specs.declared.regs.SpcRegs.{SpcRegs}
 use Rattle.spc_modes.specs.Orders.{instruction}
 use Rattle.spc_modes.specs.Plan.{Plan, fetches, reads, writes, idles, stops, ends, first_access, after, follow}
@@ -48,22 +47,3 @@ registers_of s = s.start
 -- after a reset: all registers 0, and the program counter as the reset vector gives it
 abbrev pub at_reset : ℕ → Standing
 at_reset pc' = between (record { a = 0; x = 0; y = 0; sp = 0; pc = pc'; psw = 0 })
-
--- whether an access is a fetch or a read
-abbrev pub gets_byte : SpcAccess → Bool
-gets_byte (Fetch _) = true
-gets_byte (Read _) = true
-gets_byte (Write _ _) = false
-gets_byte Inner = false
-
-abbrev pub is_write : SpcAccess → Bool
-is_write (Fetch _) = false
-is_write (Read _) = false
-is_write (Write _ _) = true
-is_write Inner = false
-
-abbrev pub is_inner : SpcAccess → Bool
-is_inner (Fetch _) = false
-is_inner (Read _) = false
-is_inner (Write _ _) = false
-is_inner Inner = true

@@ -16,13 +16,11 @@ impl Spc {
       Standing,
       at_reset,
       between,
-      gets_byte,
-      is_inner,
-      is_write,
       moved_on,
       next_of,
       registers_of,
     };
+    ghost use Rattle.spc_modes.specs.Plan.{gets_byte, is_inner, is_write};
     ghost use Rattle.spc700.specs.Stands.{Advances, Stands, access_of};
 
     /// A processor after a reset, whose vector at FFFE holds `pc`: all other registers are 0.
@@ -67,12 +65,31 @@ impl Spc {
         next(&self.micro)
     }
 
-    /// The next access was made.
+    /// The next access got a byte.
     #[inline(always)]
-    fn advance(&mut self, got: u8)
+    fn advance_by(&mut self, got: u8)
+        requires { IsTrue (gets_byte (access_of self.old)) }
         ensures { Advances self.old self.new got }
     {
-        self.micro.step(got);
+        self.micro.took(got);
+    }
+
+    /// The next access was a write.
+    #[inline(always)]
+    fn advance_written(&mut self)
+        requires { IsTrue (is_write (access_of self.old)) }
+        ensures { Advances self.old self.new 0 }
+    {
+        self.micro.wrote();
+    }
+
+    /// The next access was an internal cycle.
+    #[inline(always)]
+    fn advance_idle(&mut self)
+        requires { IsTrue (is_inner (access_of self.old)) }
+        ensures { Advances self.old self.new 0 }
+    {
+        self.micro.idle();
     }
 
     /// The next access, a fetch or a read, got a byte.
@@ -81,7 +98,7 @@ impl Spc {
         requires { IsTrue (gets_byte (access_of self.old)) }
         ensures { (s : Standing) → Stands self.old s → Stands self.new (moved_on s byte) }
     {
-        self.advance(byte);
+        self.advance_by(byte);
     }
 
     /// The next access, a write, was made.
@@ -90,7 +107,7 @@ impl Spc {
         requires { IsTrue (is_write (access_of self.old)) }
         ensures { (s : Standing) → Stands self.old s → Stands self.new (moved_on s 0) }
     {
-        self.advance(0);
+        self.advance_written();
     }
 
     /// The next access, an internal cycle, was made.
@@ -99,7 +116,7 @@ impl Spc {
         requires { IsTrue (is_inner (access_of self.old)) }
         ensures { (s : Standing) → Stands self.old s → Stands self.new (moved_on s 0) }
     {
-        self.advance(0);
+        self.advance_idle();
     }
 
     /// The registers at the start of the instruction in hand; where the last one has ended, those

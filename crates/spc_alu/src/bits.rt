@@ -11,7 +11,7 @@ ghost use Rattle.spc_alu.specs.Bits.{
   with_bit_carry,
 };
 
-use crate::status::flag_set;
+use crate::status::put_flag;
 use spc_tables::{CARRY, SpcMode, SpcOp, SpcRegs};
 use status_bits::{is_set, with_bit};
 
@@ -86,7 +86,7 @@ pub fn carry_of_bit(regs: &mut SpcRegs, op: SpcOp, number: u8, byte: u8)
     ensures { regs.new ≡ with_bit_carry op regs.old number byte }
 {
     let carry = carry_with(op, is_set(regs.psw, CARRY), has_bit(byte, number));
-    *regs = flag_set(*regs, CARRY, carry);
+    put_flag(regs, CARRY, carry);
 }
 
 /// The byte that MOV1 with C as the bit, or NOT1, writes back.

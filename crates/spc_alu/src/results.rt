@@ -20,7 +20,7 @@ use crate::changes::{
     Changed, bits_cleared, bits_set, decremented, incremented, rotated_left, rotated_right,
     shifted_left, shifted_right, with_nz_of,
 };
-use crate::status::{a_loaded, flag_set, x_loaded, y_loaded};
+use crate::status::{put_a, put_flag, put_x, put_y};
 use crate::sums::{added, compared, subtracted};
 use crate::words::{word_added, word_compared, word_subtracted, ya_loaded};
 use spc_tables::{
@@ -58,29 +58,29 @@ pub fn combine(op: SpcOp, psw: u8, first: u8, second: u8) -> Changed
 
 /// A takes a changed value.
 #[inline(always)]
-fn a_changed(regs: SpcRegs, changed: Changed) -> SpcRegs
-    ensures { result ≡ with_a regs changed }
+fn put_changed(regs: &mut SpcRegs, changed: Changed)
+    ensures { regs.new ≡ with_a regs.old changed }
 {
-    SpcRegs {
-        a: changed.value,
-        psw: changed.psw,
-        ..regs
-    }
+    regs.a = changed.value;
+    regs.psw = changed.psw;
 }
 
 /// An operation between a register and a byte that was read.
 #[tactic(auto, unfolding(crate::specs::Results::loaded))]
-#[inline(never)]
+#[inline(always)]
 pub fn load(regs: &mut SpcRegs, op: SpcOp, byte: u8)
     ensures { regs.new ≡ loaded op regs.old byte }
 {
     match op {
-        SpcOp::MovA => *regs = a_loaded(*regs, byte),
-        SpcOp::MovX => *regs = x_loaded(*regs, byte),
-        SpcOp::MovY => *regs = y_loaded(*regs, byte),
+        SpcOp::MovA => put_a(regs, byte),
+        SpcOp::MovX => put_x(regs, byte),
+        SpcOp::MovY => put_y(regs, byte),
         SpcOp::CmpX => regs.psw = compared(regs.psw, regs.x, byte),
         SpcOp::CmpY => regs.psw = compared(regs.psw, regs.y, byte),
-        _ => *regs = a_changed(*regs, combine(op, regs.psw, regs.a, byte)),
+        _ => {
+            let changed = combine(op, regs.psw, regs.a, byte);
+            put_changed(regs, changed);
+        }
     }
 }
 
@@ -136,7 +136,7 @@ pub fn stored_byte(op: SpcOp, regs: SpcRegs) -> u8
 
 /// The registers after a byte was pulled into one of them.
 #[tactic(auto, unfolding(crate::specs::Results::popped))]
-#[inline(never)]
+#[inline(always)]
 pub fn pop(regs: &mut SpcRegs, op: SpcOp, byte: u8)
     ensures { regs.new ≡ popped op regs.old byte }
 {
@@ -151,7 +151,7 @@ pub fn pop(regs: &mut SpcRegs, op: SpcOp, byte: u8)
 
 /// An operation between YA and a word that was read.
 #[tactic(auto, unfolding(crate::specs::Results::word_loaded))]
-#[inline(never)]
+#[inline(always)]
 pub fn load_word(regs: &mut SpcRegs, op: SpcOp, word: u16)
     ensures { regs.new ≡ word_loaded op regs.old word }
 {
@@ -182,37 +182,38 @@ fn one_less(value: u8) -> u8
 
 /// A shift or a count of A.
 #[inline(always)]
-fn change_a(op: SpcOp, mode: SpcMode, regs: SpcRegs) -> SpcRegs
-    ensures { result ≡ with_a regs (changed op mode regs.psw regs.a) }
+fn change_a(regs: &mut SpcRegs, op: SpcOp, mode: SpcMode)
+    ensures { regs.new ≡ with_a regs.old (changed op mode regs.old.psw regs.old.a) }
 {
-    a_changed(regs, change(op, mode, regs.psw, regs.a))
+    let changed = change(op, mode, regs.psw, regs.a);
+    put_changed(regs, changed);
 }
 
 /// What happens inside the processor, in registers and flags alone.
 #[tactic(auto, unfolding(crate::specs::Results::internal))]
-#[inline(never)]
+#[inline(always)]
 pub fn inside(regs: &mut SpcRegs, op: SpcOp, mode: SpcMode)
     ensures { regs.new ≡ internal op mode regs.old }
 {
     match op {
         // Transfers.
-        SpcOp::MovAX => *regs = a_loaded(*regs, regs.x),
-        SpcOp::MovAY => *regs = a_loaded(*regs, regs.y),
-        SpcOp::MovXA => *regs = x_loaded(*regs, regs.a),
-        SpcOp::MovYA => *regs = y_loaded(*regs, regs.a),
-        SpcOp::MovXSp => *regs = x_loaded(*regs, regs.sp),
+        SpcOp::MovAX => put_a(regs, regs.x),
+        SpcOp::MovAY => put_a(regs, regs.y),
+        SpcOp::MovXA => put_x(regs, regs.a),
+        SpcOp::MovYA => put_y(regs, regs.a),
+        SpcOp::MovXSp => put_x(regs, regs.sp),
         SpcOp::MovSpX => regs.sp = regs.x,
         // Shifts and counts.
-        SpcOp::Asl => *regs = change_a(SpcOp::Asl, mode, *regs),
-        SpcOp::Lsr => *regs = change_a(SpcOp::Lsr, mode, *regs),
-        SpcOp::Rol => *regs = change_a(SpcOp::Rol, mode, *regs),
-        SpcOp::Ror => *regs = change_a(SpcOp::Ror, mode, *regs),
-        SpcOp::Inc => *regs = change_a(SpcOp::Inc, mode, *regs),
-        SpcOp::Dec => *regs = change_a(SpcOp::Dec, mode, *regs),
-        SpcOp::IncX => *regs = x_loaded(*regs, one_more(regs.x)),
-        SpcOp::IncY => *regs = y_loaded(*regs, one_more(regs.y)),
-        SpcOp::DecX => *regs = x_loaded(*regs, one_less(regs.x)),
-        SpcOp::DecY => *regs = y_loaded(*regs, one_less(regs.y)),
+        SpcOp::Asl => change_a(regs, SpcOp::Asl, mode),
+        SpcOp::Lsr => change_a(regs, SpcOp::Lsr, mode),
+        SpcOp::Rol => change_a(regs, SpcOp::Rol, mode),
+        SpcOp::Ror => change_a(regs, SpcOp::Ror, mode),
+        SpcOp::Inc => change_a(regs, SpcOp::Inc, mode),
+        SpcOp::Dec => change_a(regs, SpcOp::Dec, mode),
+        SpcOp::IncX => put_x(regs, one_more(regs.x)),
+        SpcOp::IncY => put_y(regs, one_more(regs.y)),
+        SpcOp::DecX => put_x(regs, one_less(regs.x)),
+        SpcOp::DecY => put_y(regs, one_less(regs.y)),
         // Multiplication, division, decimal digits.
         SpcOp::Mul => *regs = multiplied(*regs),
         SpcOp::Div => *regs = divided(*regs),
@@ -220,14 +221,17 @@ pub fn inside(regs: &mut SpcRegs, op: SpcOp, mode: SpcMode)
         SpcOp::Das => *regs = adjusted_after_subtraction(*regs),
         SpcOp::Xcn => *regs = digits_exchanged(*regs),
         // Flags.
-        SpcOp::Clrp => *regs = flag_set(*regs, DIRECT_PAGE, false),
-        SpcOp::Setp => *regs = flag_set(*regs, DIRECT_PAGE, true),
-        SpcOp::Clrc => *regs = flag_set(*regs, CARRY, false),
-        SpcOp::Setc => *regs = flag_set(*regs, CARRY, true),
-        SpcOp::Notc => *regs = flag_set(*regs, CARRY, !is_set(regs.psw, CARRY)),
-        SpcOp::Clrv => *regs = flag_set(flag_set(*regs, OVERFLOW, false), HALF_CARRY, false),
-        SpcOp::Ei => *regs = flag_set(*regs, INTERRUPT_ENABLE, true),
-        SpcOp::Di => *regs = flag_set(*regs, INTERRUPT_ENABLE, false),
+        SpcOp::Clrp => put_flag(regs, DIRECT_PAGE, false),
+        SpcOp::Setp => put_flag(regs, DIRECT_PAGE, true),
+        SpcOp::Clrc => put_flag(regs, CARRY, false),
+        SpcOp::Setc => put_flag(regs, CARRY, true),
+        SpcOp::Notc => put_flag(regs, CARRY, !is_set(regs.psw, CARRY)),
+        SpcOp::Clrv => {
+            put_flag(regs, OVERFLOW, false);
+            put_flag(regs, HALF_CARRY, false);
+        }
+        SpcOp::Ei => put_flag(regs, INTERRUPT_ENABLE, true),
+        SpcOp::Di => put_flag(regs, INTERRUPT_ENABLE, false),
         _ => {}
     }
 }

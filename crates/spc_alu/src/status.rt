@@ -61,30 +61,43 @@ pub fn a_loaded(regs: SpcRegs, value: u8) -> SpcRegs
     }
 }
 
-/// A byte is loaded into X, and sets N and Z.
-#[tactic(auto, unfolding(crate::specs::Status::load_x))]
+/// The same in place.
+#[tactic(auto, unfolding(crate::specs::Status::load_a))]
 #[inline(always)]
-pub fn x_loaded(regs: SpcRegs, value: u8) -> SpcRegs
-    ensures { result ≡ load_x regs value }
+pub fn put_a(regs: &mut SpcRegs, value: u8)
+    ensures { regs.new ≡ load_a regs.old value }
 {
-    SpcRegs {
-        x: value,
-        psw: with_result(value, regs.psw),
-        ..regs
-    }
+    regs.a = value;
+    regs.psw = with_result(value, regs.psw);
 }
 
-/// A byte is loaded into Y, and sets N and Z.
+/// A byte is loaded into X in place, and sets N and Z.
+#[tactic(auto, unfolding(crate::specs::Status::load_x))]
+#[inline(always)]
+pub fn put_x(regs: &mut SpcRegs, value: u8)
+    ensures { regs.new ≡ load_x regs.old value }
+{
+    regs.x = value;
+    regs.psw = with_result(value, regs.psw);
+}
+
+/// A byte is loaded into Y in place, and sets N and Z.
 #[tactic(auto, unfolding(crate::specs::Status::load_y))]
 #[inline(always)]
-pub fn y_loaded(regs: SpcRegs, value: u8) -> SpcRegs
-    ensures { result ≡ load_y regs value }
+pub fn put_y(regs: &mut SpcRegs, value: u8)
+    ensures { regs.new ≡ load_y regs.old value }
 {
-    SpcRegs {
-        y: value,
-        psw: with_result(value, regs.psw),
-        ..regs
-    }
+    regs.y = value;
+    regs.psw = with_result(value, regs.psw);
+}
+
+/// A flag is put on or off in place.
+#[inline(always)]
+pub fn put_flag(regs: &mut SpcRegs, weight: u8, on: bool)
+    requires { IsTrue (is_weight weight) }
+    ensures { regs.new ≡ with_flag regs.old weight on }
+{
+    regs.psw = with_bit(regs.psw, weight, on);
 }
 
 /// A flag is put on or off.

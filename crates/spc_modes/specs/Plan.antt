@@ -1,6 +1,6 @@
 -- A plan, which is what an instruction has still to do, access by access; its next access, and what is left
 -- after some.
-use Rattle.std.specs.Prelude.{ℕ, List, [], ◌∷◌}
+use Rattle.std.specs.Prelude.{ℕ, Bool, true, false, List, [], ◌∷◌}
 use Rattle.spc_tables.specs.declared.access.SpcAccess.{SpcAccess}
 use Rattle.spc_tables.specs.declared.access.SpcAccess.TheVariants.{Fetch, Read, Write, Inner}
 use Rattle.spc_tables.specs.declared.regs.SpcRegs.{SpcRegs}
@@ -28,6 +28,25 @@ first_access (writes at byte _) = Write at byte
 first_access (idles _) = Inner
 first_access stops = Inner
 first_access (ends _) = Inner
+
+-- whether an access is a fetch or a read
+abbrev pub gets_byte : SpcAccess → Bool
+gets_byte (Fetch _) = true
+gets_byte (Read _) = true
+gets_byte (Write _ _) = false
+gets_byte Inner = false
+
+abbrev pub is_write : SpcAccess → Bool
+is_write (Fetch _) = false
+is_write (Read _) = false
+is_write (Write _ _) = true
+is_write Inner = false
+
+abbrev pub is_inner : SpcAccess → Bool
+is_inner (Fetch _) = false
+is_inner (Read _) = false
+is_inner (Write _ _) = false
+is_inner Inner = true
 
 -- what is left after the next access, where a fetch or a read got this byte
 abbrev pub after : Plan → ℕ → Plan

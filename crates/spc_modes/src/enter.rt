@@ -5,7 +5,7 @@ use crate::address::direct_place;
 use crate::micro::Micro;
 use crate::place::Place;
 use crate::uses::{Use, use_of};
-use spc_alu::{counted_down, inside, is_taken, stored_byte};
+use spc_alu::{counted_down, is_taken, stored_byte};
 use spc_tables::SpcMode;
 
 /// Where the target of a call by a vector stands in memory.
@@ -30,11 +30,7 @@ impl Micro {
         ensures start { self.new.start ≡ self.old.start }
     {
         match self.row.mode {
-            SpcMode::Accumulator => {
-                inside(&mut self.here, self.row.op, self.row.mode);
-                self.byte = 0;
-                self.place = Place::Cycles;
-            }
+            SpcMode::Accumulator => self.pass_inside(1),
             SpcMode::IndirectX => {
                 self.base = direct_place(&self.here, self.here.x as u16);
                 self.place = Place::DataCycle;
@@ -62,10 +58,7 @@ impl Micro {
         ensures start { self.new.start ≡ self.old.start }
     {
         match use_of(self.row.op) {
-            Use::Internal(cycles) => {
-                inside(&mut self.here, self.row.op, self.row.mode);
-                self.end_after(cycles);
-            }
+            Use::Internal(cycles) => self.pass_inside(cycles),
             Use::Branch => {
                 self.place = Place::BranchDistance(is_taken(self.row.op, self.here.psw));
             }

@@ -6,7 +6,7 @@ use crate::place::{Place, PointerKind};
 use crate::uses::{Use, use_of};
 use spc_alu::{
     Changed, byte_with_bit, carry_of_bit, change, change_by_a, combine, counted_down, is_taken_by,
-    load, place_at, stored_byte,
+    place_at, stored_byte,
 };
 use spc_tables::{SpcMode, SpcRegs};
 
@@ -62,8 +62,7 @@ impl Micro {
         self.place = Place::WriteLast;
     }
 
-    /// The byte that is changed was read. This and the other steps that have results are out of line:
-    /// the step of an access stays small.
+    /// The byte that is changed was read.
     #[inline(never)]
     pub(crate) fn pass_change(&mut self, byte: u8)
         ensures left { rest self.new ≡ written_back self.old.here self.old.base (changed self.old.row.op self.old.row.mode self.old.here.psw byte) }
@@ -332,10 +331,7 @@ impl Micro {
     {
         let offset = byte as u16;
         match self.row.mode {
-            SpcMode::Immediate => {
-                load(&mut self.here, self.row.op, byte);
-                self.place = Place::Between;
-            }
+            SpcMode::Immediate => self.pass_load(byte),
             SpcMode::Direct => {
                 let at = direct_place(&self.here, offset);
                 self.reach_data(at);

@@ -1,6 +1,6 @@
 use Rattle.std.proofs.Common.{◌≡◌, ◌≤◌, ◌^◌, unsigned_abs}
 use Rattle.sdsp_voice.specs.Sample.{turns}
-use Rattle.sdsp_voice.proofs.voices.Voices.sample.Given as goal
+use Rattle.sdsp_voice.proofs.voices.Voices.play.Given as goal
 
 abbrev pub invariant-voices : goal.invariant-voices
 invariant-voices l = record {

@@ -1,6 +1,6 @@
 use Rattle.std.proofs.Common.{◌≤◌, arith, lit≤, rules}
 use Rattle.std.proofs.lemmas.List.Elements.{All-set, All-replicate}
-use Rattle.sound_vectors.proofs.unit.random_table.Goals as goal
+use Rattle.sound_scenes.proofs.unit.ramp.Goals as goal
 
 pub numbers-init : goal.numbers-init
 numbers-init c = record { whole = search rules; small = All-replicate (λ n. n ≤ 2047) 512 0 (lit≤ tt) }

@@ -56,6 +56,16 @@ impl Unit {
         Some(Outcome::Holds)
     }
 
+    /// The two numbers of the next sample, left and right.
+    pub fn next_sample(&mut self, ram: &mut [u8]) -> (i16, i16)
+        requires { length ram.old ≡ 65536 }
+        ensures { length ram.new ≡ 65536 }
+    {
+        let sums = self.voices.sample(ram, &self.table, self.sample);
+        self.sample = self.sample.wrapping_add(1);
+        self.echo.mix(&self.voices, sums, ram)
+    }
+
     /// Writes of registers, before a sample.
     fn write(&mut self, mut words: SplitWhitespace<'_>) -> Option<()> {
         if decimal(words.next()?.as_bytes())? != self.sample {
@@ -79,9 +89,7 @@ impl Unit {
         let mut outcome = Outcome::Holds;
         'samples: for word in words {
             let expected = hexadecimal(word.as_bytes())?;
-            let sums = self.voices.sample(ram, &self.table, self.sample);
-            let (left, right) = self.echo.mix(&self.voices, sums, ram);
-            self.sample = self.sample.checked_add(1)?;
+            let (left, right) = self.next_sample(ram);
             left_to_play = left_to_play.checked_sub(1)?;
             let pair = left.cast_unsigned() as u64 * 65536 + right.cast_unsigned() as u64;
             if pair != expected {

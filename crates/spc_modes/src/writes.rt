@@ -1,0 +1,97 @@
+ghost use Rattle.std.specs.Prelude.{◌≡◌, IsTrue};
+
+use crate::address::place_after_in_page;
+use crate::micro::Micro;
+use crate::place::Place;
+use spc_alu::broken;
+
+impl Micro {
+    ghost use Rattle.spc_modes.specs.Plan.{after, first_access, is_write};
+    ghost use Rattle.spc_modes.specs.Rest.{ahead, rest, start_of};
+
+    /// The next access, a write, was made.
+    #[inline(always)]
+    pub fn wrote(&mut self)
+        requires { IsTrue (is_write (first_access (ahead (rest self.old)))) }
+        ensures left { rest self.new ≡ after (ahead (rest self.old)) 0 }
+        ensures start { self.new.start ≡ start_of self.old }
+    {
+        match self.place {
+            Place::WriteLast => self.place = Place::Between,
+            Place::StoreWordLow => {
+                self.base = place_after_in_page(self.base);
+                self.byte = self.here.y;
+                self.place = Place::WriteLast;
+            }
+            Place::StepWordLow => {
+                self.base = place_after_in_page(self.base);
+                self.place = Place::StepWordHigh;
+            }
+            Place::CountWrite(is_taken) => self.place = Place::BranchDistance(is_taken),
+            Place::PushRegister => {
+                self.pass_push();
+                self.byte = 0;
+                self.place = Place::Cycles;
+            }
+            Place::PushHigh => {
+                self.pass_push();
+                self.place = Place::PushLow;
+            }
+            Place::PushLow => {
+                self.pass_push();
+                self.pass_pushes();
+            }
+            Place::BreakStatus => {
+                self.pass_push();
+                self.here = broken(self.here);
+                self.place = Place::TargetCycle;
+            }
+            Place::Between
+            | Place::FirstByte
+            | Place::OperandHigh
+            | Place::DataCycle
+            | Place::Load
+            | Place::ChangeRead
+            | Place::ChangeByARead
+            | Place::WordLow
+            | Place::CompareWordLow
+            | Place::WordCycle
+            | Place::WordHigh
+            | Place::StoreWordCycle
+            | Place::StepWordRead
+            | Place::StepWordHigh
+            | Place::BitRead
+            | Place::PointerCycle
+            | Place::PointerLow(_)
+            | Place::PointerHigh(_)
+            | Place::IncrementCycle
+            | Place::IncrementLoad
+            | Place::WriteCycle
+            | Place::Cycles
+            | Place::ImmediatePairOffset
+            | Place::DirectPairSource
+            | Place::DirectPairOffset
+            | Place::IndirectPairCycle
+            | Place::IndirectPairSource
+            | Place::PairRead
+            | Place::BranchFirstCycle(_)
+            | Place::BranchCycle(_)
+            | Place::BranchDistance(_)
+            | Place::TestCycle
+            | Place::TestRead
+            | Place::PushCycle
+            | Place::PullFirstCycle
+            | Place::PullCycle
+            | Place::PullRegister
+            | Place::ReturnStatus
+            | Place::ReturnLow
+            | Place::ReturnHigh
+            | Place::CallFirstCycle
+            | Place::CallCycle
+            | Place::TargetCycle
+            | Place::TargetLow
+            | Place::TargetHigh
+            | Place::Halted => {}
+        }
+    }
+}
