@@ -1,0 +1,17 @@
+// Two machines run by turns on two threads, beside the serial run of the same two.
+//
+// What a turn and a run by turns do is proved in `pair_run` and `turn_drive`. What stands here runs them: tapes of
+// a fixed generator, over the ports under their lock, each in a thread of its own, and what they emitted against
+// what the serial console makes of the same tapes. The crate has no code of its own.
+#![tactic(auto)]
+
+#[cfg(test)]
+mod dice;
+#[cfg(test)]
+mod rows;
+#[cfg(test)]
+mod runs;
+#[cfg(test)]
+mod sums;
+#[cfg(test)]
+mod tapes;

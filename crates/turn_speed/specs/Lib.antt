@@ -1,0 +1,2 @@
+pub mod Emitter
+pub mod EmitterLaws

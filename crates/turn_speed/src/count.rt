@@ -1,0 +1,37 @@
+use file_shelf::Failed;
+use port_wire::Gate;
+use run_drive::Sink;
+use snes_defs::Side;
+
+/// A gate that both workers pass at once.
+pub struct OpenGate;
+
+impl Gate for OpenGate {
+    #[inline(always)]
+    fn arrive(&self, _side: Side, _turn: u64) {}
+}
+
+/// A sink that counts the bytes of both sides. Its clauses say nothing of it.
+#[derive(Drop)]
+pub struct Count {
+    pub bytes: u64,
+}
+
+impl Sink for Count {
+    ghost holds = { λ _ _ _. Unit {0} };
+
+    ghost only_takes = { λ _ _. Unit {0} };
+
+    ghost failed = { λ _ _ _. ⊥ };
+
+    fn take(&mut self, _side: Side, bytes: &[u8]) -> Result<(), Failed> {
+        self.bytes = self.bytes.wrapping_add(bytes.len() as u64);
+        Ok(())
+    }
+
+    ghost takes_none = { λ _. tt };
+
+    ghost takes_more = { λ _ _ _ _ _. tt };
+
+    ghost failed_since = { λ _ _ _ _ _ none. none };
+}

@@ -1,0 +1,145 @@
+ghost use Rattle.std.specs.Prelude.{◌≡◌, ◌≤◌, [], IfOk, length};
+ghost use Rattle.clock_ratio.specs.Stamp.{least_of, most_of};
+
+use circular_buffer::HeapCircularBuffer;
+use side_law::Machine;
+use snes_defs::{Act, NoMemory, Region};
+use std::alloc::Global;
+use std::marker::Model;
+
+/// How an emitter goes on.
+#[derive(Clone, Copy, Debug, PartialEq, Eq)]
+pub struct Rhythm {
+    /// Stamps of a step.
+    pub rise: u64,
+    /// Steps between two rows that emit none.
+    pub period: u64,
+    /// Rows before the pause, but for the first one.
+    pub rows: u64,
+    /// Steps of the pause that emit none.
+    pub pause: u64,
+}
+
+/// A machine that is always quiet and emits rows of at most `SIZE` bytes, of which it keeps `ROOM` bytes.
+#[derive(Drop)]
+pub struct Emitter<const ROOM: usize, const SIZE: usize> {
+    region: Region,
+    rhythm: Rhythm,
+    row: Vec<u8>,
+    left: u64,
+    rows: u64,
+    stamp: u64,
+    waiting: HeapCircularBuffer<u8>,
+}
+
+impl<const ROOM: usize, const SIZE: usize> Model for Emitter<ROOM, SIZE> {
+    ghost use Rattle.std.specs.Prelude.{◌≡◌, ◌≤◌, length};
+    ghost use Rattle.clock_ratio.specs.Stamp.{least_of, most_of};
+    ghost use Rattle.turn_speed.specs.Emitter.{EmitterValue};
+
+    ghost Value = { EmitterValue };
+
+    ghost view = { λ e. record { state = record { region = e.region; rhythm = e.rhythm; row = e.row.items; left = e.left; rows = e.rows; stamp = e.stamp }; waiting = e.waiting.items } };
+
+    ghost invariant = { λ e. (e.waiting.capacity ≡ ROOM) × (length e.waiting.items ≤ ROOM) × (least_of e.region ≤ e.rhythm.rise) × (e.rhythm.rise ≤ most_of e.region) × (length e.row.items ≤ SIZE) };
+}
+
+impl<const ROOM: usize, const SIZE: usize> Emitter<ROOM, SIZE> {
+    /// An emitter at stamp 0 that emits this row again and again, with no byte waiting.
+    pub fn new(
+        alloc: Global,
+        region: Region,
+        rhythm: Rhythm,
+        row: Vec<u8>,
+    ) -> Result<Emitter<ROOM, SIZE>, NoMemory>
+        requires least { least_of region ≤ rhythm.rise }
+        requires most { rhythm.rise ≤ most_of region }
+        requires short { length row.items ≤ SIZE }
+        ensures region { IfOk result (λ e. e.state.region ≡ region) }
+        ensures starts { IfOk result (λ e. e.state.stamp ≡ 0) }
+        ensures empty { IfOk result (λ e. e.waiting ≡ []) }
+    {
+        match HeapCircularBuffer::with_capacity(alloc, ROOM) {
+            Ok(waiting) => Ok(Emitter {
+                region,
+                rhythm,
+                row,
+                left: rhythm.period,
+                rows: rhythm.rows,
+                stamp: 0,
+                waiting,
+            }),
+            Err(_) => Err(NoMemory),
+        }
+    }
+}
+
+impl<const ROOM: usize, const SIZE: usize> Machine for Emitter<ROOM, SIZE> {
+    ghost use Rattle.std.proofs.Common.{rules};
+    ghost use Rattle.turn_speed.specs.Emitter.{EmitterState, IsEmitter, emitter_moves, StandsAt};
+    ghost use Rattle.turn_speed.specs.EmitterLaws.{emitter_is_lawful, state_is_emitter};
+
+    const CAP: usize = ROOM;
+
+    const MOST: usize = SIZE;
+
+    ghost CAP = { ROOM };
+
+    ghost MOST = { SIZE };
+
+    ghost State = { EmitterState };
+
+    ghost valid = { IsEmitter SIZE };
+
+    ghost moves = { emitter_moves };
+
+    ghost stands = { StandsAt SIZE };
+
+    ghost region_of = { λ e. e.state.region };
+
+    ghost stamp_of = { λ e. e.state.stamp };
+
+    ghost waiting = { λ e. e.waiting };
+
+    fn region(&self) -> Region {
+        self.region
+    }
+
+    fn stamp(&self) -> u64 {
+        self.stamp
+    }
+
+    fn act(&self) -> Act {
+        Act::Quiet
+    }
+
+    fn step(&mut self, _got: u8) {
+        self.stamp += self.rhythm.rise;
+        if self.left > 0 {
+            self.left -= 1;
+            return;
+        }
+        if self.rows > 0 {
+            self.rows -= 1;
+            self.left = self.rhythm.period;
+        } else {
+            self.rows = self.rhythm.rows;
+            self.left = self.rhythm.pause;
+        }
+        self.waiting.fill_from_slice(self.row.as_slice());
+    }
+
+    fn pending(&self) -> usize {
+        self.waiting.len()
+    }
+
+    fn drain(&mut self, into: &mut [u8]) -> usize {
+        self.waiting.read_into(into)
+    }
+
+    ghost stands_valid = { λ x m h. state_is_emitter SIZE x.state m h.0 h.1 };
+
+    ghost stands_stamp = { λ x m h. Prim.search rules };
+
+    ghost lawful = { emitter_is_lawful SIZE };
+}

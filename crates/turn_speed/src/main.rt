@@ -1,0 +1,162 @@
+//! Calls over a pass and turns of two machines, to measure their times.
+//!
+//! The arguments are what to run and how often:
+//!
+//! - `read N`, `write N`, `advance N`: so many calls over a pass, while the other side does nothing;
+//! - `turn N`: so many turns in which each machine makes one step;
+//! - `emit N`: N frames, by turns, of two quiet machines that emit as a console and a sound side do;
+//! - `serial N`, `turns N`: N frames of two machines each of whose steps costs some 200 ns, serially and by turns;
+//! - `serial-talk N`, `turns-talk N`: the same, with a write or a read of both sides each 32 steps.
+//!
+//! Without arguments nothing is done. What it prints is the time by the clock, and a count: of the calls answered,
+//! of the turns made, or of the bytes emitted.
+#![tactic(auto)]
+
+ghost use Rattle.std.specs.Prelude.{◌≡◌, ◌≤◌};
+
+mod calls;
+mod count;
+mod emitter;
+mod pairs;
+mod quiet;
+mod tapes;
+mod worker;
+
+use calls::{FAR, advances, reads, writes};
+use pairs::{emitted, worked_by_turns, worked_serially};
+use port_lock::Ports;
+use quiet::quiet_turns;
+use side_law::Tape;
+use snes_defs::Region;
+use std::alloc::{AllocGlobal, Global};
+use std::thread::Threads;
+use std::time::{Clock, Duration, Instant};
+use std::{env, io};
+use tapes::tape;
+
+/// Steps of the least rise in a frame.
+const STEPS: u64 = 59_562;
+
+/// What came of a command.
+#[derive(Drop)]
+struct Taken {
+    time: Duration,
+    count: u64,
+}
+
+/// Nothing was done.
+const NOTHING: Taken = Taken {
+    time: Duration::ZERO,
+    count: 0,
+};
+
+/// Calls of one kind over the sound side's pass, where the console's clock is far off, or over the console's.
+fn some_calls<R: AllocGlobal + Clock>(rt: &R, what: &str, count: u32) -> io::Result<Taken> {
+    let Ok((ports, whole)) = Ports::open(rt.alloc(), Region::Ntsc) else {
+        return Ok(NOTHING);
+    };
+    let (mut console, mut sound) = ports.part(whole);
+    let _ = ports.advance(&mut sound, FAR);
+    let begin = Instant::now(rt)?;
+    let count = match what {
+        "read" => reads(&ports, &mut console, count),
+        "write" => writes(&ports, &mut console, count),
+        _ => advances(&ports, &mut console, count),
+    };
+    Ok(Taken {
+        time: begin.elapsed(rt)?,
+        count,
+    })
+}
+
+/// Turns of a step on each side.
+fn turns<R: AllocGlobal + Threads + Clock>(rt: &R, count: u32) -> io::Result<Taken> {
+    let Ok((ports, whole)) = Ports::open(rt.alloc(), Region::Ntsc) else {
+        return Ok(NOTHING);
+    };
+    let Ok(mut console) = tape(rt.alloc(), 0) else {
+        return Ok(NOTHING);
+    };
+    let Ok(mut sound) = tape(rt.alloc(), 0) else {
+        return Ok(NOTHING);
+    };
+    let begin = Instant::now(rt)?;
+    let count = quiet_turns(rt, &ports, whole, &mut console, &mut sound, count);
+    Ok(Taken {
+        time: begin.elapsed(rt)?,
+        count,
+    })
+}
+
+/// Frames of rows and samples.
+fn frames<R: AllocGlobal + Threads + Clock>(rt: &R, count: u32) -> io::Result<Taken>
+    requires { count ≤ 36000 }
+{
+    let begin = Instant::now(rt)?;
+    let Ok(count) = emitted(rt, rt.alloc(), count) else {
+        return Ok(NOTHING);
+    };
+    Ok(Taken {
+        time: begin.elapsed(rt)?,
+        count,
+    })
+}
+
+/// Frames of two machines that work, serially or by turns.
+fn work<R: AllocGlobal + Threads + Clock>(
+    rt: &R,
+    serial: bool,
+    talk: bool,
+    frames: u32,
+) -> io::Result<Taken>
+    requires { frames ≤ 36000 }
+{
+    let steps = if talk { STEPS * frames as u64 } else { 0 };
+    let Ok(console) = tape(rt.alloc(), steps) else {
+        return Ok(NOTHING);
+    };
+    let Ok(sound) = tape(rt.alloc(), steps) else {
+        return Ok(NOTHING);
+    };
+    let begin = Instant::now(rt)?;
+    let count = if serial {
+        worked_serially(console, sound, frames)
+    } else {
+        let Ok(count) = worked_by_turns(rt, rt.alloc(), console, sound, frames) else {
+            return Ok(NOTHING);
+        };
+        count
+    };
+    Ok(Taken {
+        time: begin.elapsed(rt)?,
+        count,
+    })
+}
+
+/// Runs what a word says, so often.
+fn run<R: AllocGlobal + Threads + Clock>(rt: &R, what: &str, count: u32) -> io::Result<Taken> {
+    let few = count.min(36_000);
+    match what {
+        "turn" => turns(rt, count),
+        "emit" => frames(rt, few),
+        "serial" => work(rt, true, false, few),
+        "turns" => work(rt, false, false, few),
+        "serial-talk" => work(rt, true, true, few),
+        "turns-talk" => work(rt, false, true, few),
+        _ => some_calls(rt, what, count),
+    }
+}
+
+fn main(rt: HostRuntime) -> io::Result<()> {
+    let mut words = env::args(&rt)?.skip(1);
+    let Some(what) = words.next() else {
+        return Ok(());
+    };
+    let Some(count) = words.next() else {
+        return Ok(());
+    };
+    let count = count.as_str().parse::<u32>().unwrap_or(0);
+    let taken = run(&rt, what.as_str(), count)?;
+    let nanos = taken.time.as_nanos();
+    println!(rt; "{nanos} ns, {}", taken.count)
+}

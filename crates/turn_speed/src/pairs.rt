@@ -1,0 +1,135 @@
+// Pairs of machines, whole runs of them.
+ghost use Rattle.std.specs.Prelude.{◌≡◌, ◌≤◌, [], IfOk, length};
+ghost use Rattle.snes_defs.specs.declared.region.Region.TheVariants.{Ntsc};
+
+use crate::count::{Count, OpenGate};
+use crate::emitter::{Emitter, Rhythm};
+use crate::worker::Worker;
+use clock_ratio::end_stamp;
+use port_lock::Ports;
+use run_drive::run_serial;
+use side_law::Tape;
+use snes_defs::{NoMemory, Region};
+use std::alloc::Global;
+use std::thread::Threads;
+use turn_drive::run_turns;
+
+/// A machine that emits as the console does.
+type Rows = Emitter<65536, 1024>;
+
+/// A machine that emits as the sound side does.
+type Samples = Emitter<4096, 4>;
+
+/// Rows of 1,024 bytes as the console emits them, a step each 22 master clocks: 62 steps a line, and in a frame
+/// one row at each of the first 239 of 262 lines.
+fn rows(alloc: Global) -> Result<Rows, NoMemory>
+    ensures region { IfOk result (λ e. e.state.region ≡ Ntsc) }
+    ensures starts { IfOk result (λ e. e.state.stamp ≡ 0) }
+    ensures empty { IfOk result (λ e. e.waiting ≡ []) }
+{
+    let Ok(row) = vec![in alloc; 0u8; 1024] else {
+        return Err(NoMemory);
+    };
+    let rhythm = Rhythm {
+        rise: 22 * 5632,
+        period: 61,
+        rows: 238,
+        pause: 24 * 62 - 1,
+    };
+    Emitter::new(alloc, Region::Ntsc, rhythm, row)
+}
+
+/// Samples of four bytes as the sound side emits them, one each 32 cycles.
+fn samples(alloc: Global) -> Result<Samples, NoMemory>
+    ensures region { IfOk result (λ e. e.state.region ≡ Ntsc) }
+    ensures starts { IfOk result (λ e. e.state.stamp ≡ 0) }
+    ensures empty { IfOk result (λ e. e.waiting ≡ []) }
+{
+    let Ok(row) = vec![in alloc; 0u8; 4] else {
+        return Err(NoMemory);
+    };
+    let rhythm = Rhythm {
+        rise: 118_125,
+        period: 31,
+        rows: 0,
+        pause: 31,
+    };
+    Emitter::new(alloc, Region::Ntsc, rhythm, row)
+}
+
+/// Runs the two by turns, and answers how many turns that took.
+pub fn emitted<R: Threads>(rt: &R, alloc: Global, frames: u32) -> Result<u64, NoMemory>
+    requires { frames ≤ 36000 }
+{
+    let console = rows(alloc)?;
+    let sound = samples(alloc)?;
+    let (ports, whole) = Ports::open(alloc, Region::Ntsc)?;
+    let Ok(mut buffer) = vec![in alloc; 0u8; 65536] else {
+        return Err(NoMemory);
+    };
+    let mut count = Count { bytes: 0 };
+    let end = end_stamp(frames);
+    match run_turns(
+        rt,
+        &ports,
+        whole,
+        console,
+        sound,
+        &OpenGate,
+        end,
+        buffer.as_mut_slice(),
+        &mut count,
+    ) {
+        Ok(turns) => Ok(turns),
+        Err(_) => Ok(0),
+    }
+}
+
+/// Runs two tapes whose steps cost time by turns, and answers how many turns that took.
+pub fn worked_by_turns<R: Threads>(
+    rt: &R,
+    alloc: Global,
+    console: Tape,
+    sound: Tape,
+    frames: u32,
+) -> Result<u64, NoMemory>
+    requires frames { frames ≤ 36000 }
+    requires console { (console.state.region ≡ Ntsc) × (console.waiting ≡ []) }
+    requires sound { (sound.state.region ≡ Ntsc) × (sound.waiting ≡ []) }
+{
+    let (ports, whole) = Ports::open(alloc, Region::Ntsc)?;
+    let mut buffer = [0u8; 4096];
+    let mut count = Count { bytes: 0 };
+    match run_turns(
+        rt,
+        &ports,
+        whole,
+        Worker::new(console),
+        Worker::new(sound),
+        &OpenGate,
+        end_stamp(frames),
+        &mut buffer,
+        &mut count,
+    ) {
+        Ok(turns) => Ok(turns),
+        Err(_) => Ok(0),
+    }
+}
+
+/// Runs them by the serial console, and answers how many bytes they emitted.
+pub fn worked_serially(console: Tape, sound: Tape, frames: u32) -> u64
+    requires frames { frames ≤ 36000 }
+    requires console { (console.state.region ≡ Ntsc) × (console.waiting ≡ []) }
+    requires sound { (sound.state.region ≡ Ntsc) × (sound.waiting ≡ []) }
+{
+    let mut buffer = [0u8; 4096];
+    let mut count = Count { bytes: 0 };
+    let _ = run_serial(
+        Worker::new(console),
+        Worker::new(sound),
+        end_stamp(frames),
+        &mut buffer,
+        &mut count,
+    );
+    count.bytes
+}
