@@ -1,6 +1,7 @@
 ghost use Rattle.std.specs.Prelude.{◌≡◌, ℕ, ◌<◌, ◌≤◌, ◌+◌, ◌-◌, ◌*◌, ◌/◌, ◌%◌, ◌==◌, slice_index, if◌then◌else◌};
 ghost use Rattle.ppu_regs.specs.Reads.{bit_of};
 ghost use Rattle.ppu_regs.specs.Dots.{rank_of};
+ghost use Rattle.ppu_regs.specs.Picture.{background_of};
 ghost use Rattle.tile_cache.specs.Planes.{IsInStep};
 ghost use Rattle.ppu_tiles.specs.Modes.{depth_of};
 ghost use Rattle.ppu_tiles.specs.Backgrounds.{block_start, candidate_at, background_candidate};
@@ -14,8 +15,47 @@ use ppu_regs::{Background, Ppu, Registers};
 use row_passes::spread_blocks;
 use tile_cache::TileCache;
 
-/// The 33 columns of a row, side by side: their values, and what they are counted from in both planes. `mode` is the
-/// mode and `bits` the depth of the layer.
+/// The 33 columns of a row, side by side: their values, and what they are counted from in both planes. `b` is the
+/// background, `mode` the mode and `bits` the depth of the layer.
+#[inline(always)]
+fn paint_columns(
+    p: &Ppu,
+    tiles: &TileCache,
+    b: &Background,
+    mode: u8,
+    bits: u8,
+    layer: u8,
+    y: u16,
+    odd: bool,
+    low: u8,
+    high: u8,
+    values: &mut [u8; 264],
+    bases: &mut [u8; 264],
+    firsts: &mut [u8; 264],
+)
+    requires first { 1 ≤ layer }
+    requires last { layer ≤ 4 }
+    requires mode { mode ≡ p.now.registers.mode }
+    requires background { b.now ≡ background_of p.now.registers layer }
+    requires bits { bits ≡ depth_of p.now.registers.mode layer }
+    requires depth { IsDepth (depth_of p.now.registers.mode layer) }
+    requires step { IsInStep tiles.now p.now.vram }
+    requires y { y ≤ 239 }
+    requires low { low ≤ 248 }
+    requires high { high ≤ 248 }
+    ensures values { (k : ℕ) → k < 264 → slice_index values.new k ≡ column_value p.now layer y (bit_of odd) (k / 8) (k % 8) }
+    ensures bases { (k : ℕ) → k < 264 → slice_index bases.new k ≡ column_base p.now layer y low high (k / 8) }
+    ensures firsts { (k : ℕ) → k < 264 → slice_index firsts.new k ≡ column_first p.now layer y (k / 8) }
+{
+    let own = own(b);
+    for c in 0..33usize {
+        put_column(
+            p, tiles, b, mode, bits, layer, own, y, odd, c, low, high, values, bases, firsts,
+        );
+    }
+}
+
+/// The same, written out by the size of the tiles.
 #[inline(always)]
 fn paint_kind(
     p: &Ppu,
@@ -45,10 +85,15 @@ fn paint_kind(
     ensures firsts { (k : ℕ) → k < 264 → slice_index firsts.new k ≡ column_first p.now layer y (k / 8) }
 {
     let b = *p.registers().background(layer);
-    let own = own(&b);
-    for c in 0..33usize {
-        put_column(
-            p, tiles, &b, mode, bits, layer, own, y, odd, c, low, high, values, bases, firsts,
+    if b.large {
+        let b = Background { large: true, ..b };
+        paint_columns(
+            p, tiles, &b, mode, bits, layer, y, odd, low, high, values, bases, firsts,
+        );
+    } else {
+        let b = Background { large: false, ..b };
+        paint_columns(
+            p, tiles, &b, mode, bits, layer, y, odd, low, high, values, bases, firsts,
         );
     }
 }

@@ -3,7 +3,7 @@ use Rattle.std.proofs.Common.{◌≡◌, ℕ, ◌+◌, ◌*◌, ◌/◌, ◌%◌
 use Rattle.std.proofs.lemmas.Bool.{cases_lt}
 use Rattle.ppu_regs.specs.Reads.{bit_of}
 use Rattle.ppu_tiles.specs.Columns.{column_value, column_base, column_first}
-use Rattle.ppu_tiles.proofs.rows.paint_kind.Goals as goal
+use Rattle.ppu_tiles.proofs.rows.paint_columns.Goals as goal
 
 -- a row of eights is one eight longer
 one_more :

@@ -2,7 +2,7 @@ use Rattle.std.proofs.Common.{◌≡◌, ℕ, ◌*◌, ◌/◌, ◌%◌, ◌<◌
 use Rattle.ppu_regs.specs.Reads.{bit_of}
 use Rattle.ppu_regs.specs.Picture.{Picture}
 use Rattle.ppu_tiles.specs.Columns.{column_value, column_base, column_first}
-use Rattle.ppu_tiles.proofs.rows.paint_kind.Given as goal
+use Rattle.ppu_tiles.proofs.rows.paint_columns.Given as goal
 
 -- the first c columns are painted
 pub record ArePainted (p : Picture) (layer y odd low high c : ℕ) (values bases firsts : List ℕ) : Type 0 where
