@@ -81,12 +81,7 @@ fn access(spc: &mut Spc, board: &mut Hardware, got: u8)
     ensures board { (s : Standing) → Stands spc.old s → board.new ≡ effect board.old (next_of s) }
 {
     match spc.next() {
-        SpcAccess::Fetch(at) => {
-            let byte = board.load(at, got);
-            board.finish_load(at);
-            spc.took(byte);
-        }
-        SpcAccess::Read(at) => {
+        SpcAccess::Fetch(at) | SpcAccess::Read(at) => {
             let byte = board.load(at, got);
             board.finish_load(at);
             spc.took(byte);
@@ -195,8 +190,7 @@ pub fn try_access(spc: &mut Spc, board: &mut Hardware) -> bool
     ensures board_stays { result ≡ false → board.new ≡ board.old }
 {
     match spc.next() {
-        SpcAccess::Fetch(at) => try_load(spc, board, at),
-        SpcAccess::Read(at) => try_load(spc, board, at),
+        SpcAccess::Fetch(at) | SpcAccess::Read(at) => try_load(spc, board, at),
         SpcAccess::Write(at, byte) => {
             if !try_store(board, at, byte) {
                 return false;

@@ -33,7 +33,8 @@ fn samples_of(line: &str) -> Option<u64> {
 fn add(bytes: &mut Vec<u8>, number: i16) -> Result<(), AllocError> {
     let word = number.cast_unsigned();
     bytes.push((word % 256) as u8)?;
-    bytes.push((word / 256) as u8)
+    bytes.push((word / 256) as u8)?;
+    Ok(())
 }
 
 /// Makes so many samples, and adds them where they are wanted.

@@ -10,6 +10,7 @@
 pub mod address;
 pub mod advance;
 pub mod enter;
+pub mod first;
 pub mod idles;
 pub mod micro;
 pub mod next;

@@ -1,6 +1,7 @@
 ghost use Rattle.std.specs.Prelude.{◌≡◌, IsTrue};
 
 use crate::address::{direct_place, join_bytes, place_after, place_after_in_page};
+use crate::first::begins_with_byte;
 use crate::micro::Micro;
 use crate::place::{Place, PointerKind};
 use spc_tables::row;
@@ -21,7 +22,11 @@ impl Micro {
                 self.start = self.here;
                 self.pass_fetch();
                 self.row = row(got);
-                self.enter();
+                if begins_with_byte(got) {
+                    self.place = Place::FirstByte;
+                } else {
+                    self.enter();
+                }
             }
             Place::FirstByte => {
                 self.pass_fetch();
