@@ -1,4 +1,5 @@
--- THE SOUND MACHINE: a processor on a board with a clock, each step a cycle or a reset of one cycle.
+-- The sound machine: a processor on a board with a clock, each step a cycle or a reset of one cycle. Its
+-- registers F0 to FF stand in `Effect`, its timers in `Timer`, resets and stamps in `Clock`.
 use Rattle.std.specs.Prelude.{◌≡◌, ℕ, List, if◌then◌else◌}
 use Rattle.snes_defs.specs.declared.ports.Act.{Act}
 use Rattle.snes_defs.specs.declared.ports.Act.TheVariants.{Clear}
