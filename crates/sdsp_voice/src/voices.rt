@@ -354,7 +354,7 @@ impl Voices {
         self.notes == 0
     }
 
-    /// The same of any voice, whatever it does.
+    /// The turn of any voice, whatever it does.
     #[tactic(auto, unfolding(crate::specs::Sample::turn))]
     #[inline(always)]
     fn full_turn(
