@@ -1,4 +1,4 @@
-use Rattle.std.proofs.Common.{ℕ, ◌≤◌, List, replicate, arith}
+use Rattle.std.proofs.Common.{◌≤◌, replicate, arith}
 use Rattle.std.proofs.lemmas.List.Elements.{All-set, All-replicate}
 use Rattle.sound_rows.proofs.newest_alone.Goals as goal
 
