@@ -103,34 +103,57 @@ impl Puts {
     }
 }
 
-/// Lets each put of a row fail in turn, until none is left to fail, and counts those that the answer names. An
-/// output that does not hold first bytes of what it holds without a failure, and one that is not whole as
-/// the line is said, are told.
-fn each<R: AllocGlobal + Threads + Print>(rt: &R, rows: &Rows, words: &str) -> io::Result<()> {
-    let Some(whole) = called(rt, rows, words, None) else {
-        return println!(rt; "{NO_ROW}");
+/// Prints what a failed put left that it should not: other than first bytes of what the row leaves without a
+/// failure, or less than all where the line is said.
+fn tell<R: Print>(rt: &R, nth: u32, part: &Outcome, whole: &Outcome) -> io::Result<()> {
+    if !is_begun(part, whole) {
+        println!(rt; "  put {nth}: other bytes are left")?;
+    }
+    if part.status == Status::WriteFault(Out::Say) && !is_same(part, whole) {
+        println!(rt; "  put {nth}: the line comes too early")?;
+    }
+    Ok(())
+}
+
+/// Lets the nth put of a row fail, and counts the answer. It answers whether it was one of a put that failed.
+fn fail_put<R: AllocGlobal + Threads + Print>(
+    rt: &R,
+    rows: &Rows,
+    words: &str,
+    nth: u32,
+    whole: &Outcome,
+    puts: &mut Puts,
+) -> io::Result<bool> {
+    let here = Failure {
+        call: ShelfCall::Put(None),
+        nth,
     };
+    let Some(part) = called(rt, rows, words, Some(here)) else {
+        println!(rt; "{NO_ROW}")?;
+        return Ok(false);
+    };
+    tell(rt, nth, &part, whole)?;
+    if puts.count(part.status) {
+        return Ok(true);
+    }
+    show_answer(rt, &part)?;
+    Ok(false)
+}
+
+/// Lets each put of a row fail in turn, until none is left to fail, and prints how many did, by output.
+fn fail_each<R: AllocGlobal + Threads + Print>(
+    rt: &R,
+    rows: &Rows,
+    words: &str,
+    whole: &Outcome,
+) -> io::Result<()> {
     let mut puts = Puts {
         video: 0,
         sound: 0,
         line: 0,
     };
     for nth in 1..MOST_PUTS {
-        let here = Failure {
-            call: ShelfCall::Put(None),
-            nth,
-        };
-        let Some(part) = called(rt, rows, words, Some(here)) else {
-            return println!(rt; "{NO_ROW}");
-        };
-        if !is_begun(&part, &whole) {
-            println!(rt; "  put {nth}: other bytes are left")?;
-        }
-        if part.status == Status::WriteFault(Out::Say) && !is_same(&part, &whole) {
-            println!(rt; "  put {nth}: the line comes too early")?;
-        }
-        if !puts.count(part.status) {
-            show_answer(rt, &part)?;
+        if !fail_put(rt, rows, words, nth, whole, &mut puts)? {
             break;
         }
     }
@@ -140,6 +163,14 @@ fn each<R: AllocGlobal + Threads + Print>(rt: &R, rows: &Rows, words: &str) -> i
     )
 }
 
+/// A row whose puts fail in turn.
+fn each<R: AllocGlobal + Threads + Print>(rt: &R, rows: &Rows, words: &str) -> io::Result<()> {
+    match called(rt, rows, words, None) {
+        Some(whole) => fail_each(rt, rows, words, &whole),
+        None => println!(rt; "{NO_ROW}"),
+    }
+}
+
 /// A row of words some call of which fails: prints the answer, and whether first bytes are left of what the row
 /// leaves without a failure. How many depends on where the two workers met.
 fn part<R: AllocGlobal + Threads + Print>(rt: &R, rows: &mut Rows, words: &str) -> io::Result<()> {
@@ -147,11 +178,15 @@ fn part<R: AllocGlobal + Threads + Print>(rt: &R, rows: &mut Rows, words: &str) 
         return println!(rt; "{NO_ROW}");
     };
     rows.mend();
-    let Some(whole) = called(rt, rows, words, None) else {
-        return println!(rt; "{NO_ROW}");
-    };
-    show_answer(rt, &part)?;
-    if is_begun(&part, &whole) {
+    match called(rt, rows, words, None) {
+        Some(whole) => show_part(rt, &part, &whole),
+        None => println!(rt; "{NO_ROW}"),
+    }
+}
+
+fn show_part<R: Print>(rt: &R, part: &Outcome, whole: &Outcome) -> io::Result<()> {
+    show_answer(rt, part)?;
+    if is_begun(part, whole) {
         println!(rt; "  first bytes are left")
     } else {
         println!(rt; "  other bytes are left")

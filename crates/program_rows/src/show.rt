@@ -1,3 +1,5 @@
+ghost use Rattle.std.specs.Prelude.{◌≤◌, length};
+
 use crate::rows::Outcome;
 use file_shelf::Out;
 use std::{io, str};
