@@ -74,14 +74,15 @@ for command in run serial; do
   whole=0 none=0
   for number in $(seq "${MOST:-5000}"); do
     call "$command" "$number"
+    # Where there were no more requests nothing was refused, and the run has to be whole.
+    [ -e "$work/mark" ] || [ $came = whole ] || came=neither
     if [ $came = neither ]; then
       bad=$((bad + 1))
       echo "$command, request $number: status $status, said '$said'"
-    elif [ ! -e "$work/mark" ]; then
-      break # There were no more requests, and nothing was refused.
-    else
+    elif [ -e "$work/mark" ]; then
       eval "$came=\$(($came + 1))"
     fi
+    [ -e "$work/mark" ] || break
   done
   echo "$command: $((none + whole)) requests refused in turn, $none times no memory, $whole times the whole run"
 done
