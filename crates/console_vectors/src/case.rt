@@ -18,6 +18,10 @@ pub struct Case {
     table: Vec<u8>,
     script: Vec<u8>,
     frames: u32,
+    /// The most turns that the run may make.
+    pub turns: u64,
+    /// Whether both workers have to be seen under way at once.
+    pub meets: bool,
     pictures: Vec<Frame>,
     sounds: Vec<Frame>,
 }
@@ -30,6 +34,8 @@ impl Case {
             table: Vec::new(alloc),
             script: Vec::new(alloc),
             frames: 0,
+            turns: u64::MAX,
+            meets: false,
             pictures: Vec::new(alloc),
             sounds: Vec::new(alloc),
         }
@@ -45,6 +51,9 @@ impl Case {
         let kind = words.next()?;
         match kind.as_bytes() {
             b"image" => self.image = image_of(alloc, words)?,
+            b"fill" => self.image = filled(alloc, words)?,
+            b"turns" => self.turns = decimal(words.next()?.as_bytes())?,
+            b"meet" => self.meets = true,
             b"p" => put(self.image.as_mut_slice(), words)?,
             b"boot" => self.boot = bytes_of(alloc, words.next()?.as_bytes())?,
             b"table" => self.table = table_of(alloc, words.next()?.as_bytes())?,
@@ -94,6 +103,13 @@ fn image_of(alloc: Global, mut words: SplitWhitespace<'_>) -> Option<Vec<u8>> {
         image.push(generator.byte(ands)).ok()?;
     }
     Some(image)
+}
+
+/// A cartridge's file: so many times one byte.
+fn filled(alloc: Global, mut words: SplitWhitespace<'_>) -> Option<Vec<u8>> {
+    let size = usize::try_from(decimal(words.next()?.as_bytes())?).ok()?;
+    let byte = byte_in(words.next()?.as_bytes(), 0)?;
+    vec![in alloc; byte; size].ok()
 }
 
 /// Bytes put into it.

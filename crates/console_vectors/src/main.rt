@@ -1,15 +1,21 @@
 //! Runs the jobs of the files that it is given, as `data/console.txt`, on the whole console and the whole
-//! sound side, by the serial console's loop, and compares each frame of the picture and of the sound.
+//! sound side, by the serial console's loop and by turns of two workers, and compares each frame of the picture
+//! and of the sound.
 //!
 //! The jobs come from outside: two other programs agreed on them. The program stands on `console_machine`,
-//! `audio_side` and `run_drive`, names each job that differs, and last says how many there were. Those of
-//! `data/differing.txt` are wrong in one thing each, and have to differ.
+//! `audio_side` and `run_drive`, and on `job_player` for the run by turns. It names each job that differs, and
+//! last says how many there were. Those of `data/differing.txt` are wrong in one thing each, and have to differ.
+//! Those of `data/turns.txt` are worked by hand: sixty red frames, and two processors that pass bytes through the
+//! ports.
+//!
+//! By turns each worker passes a gate that watches it: the turns of a run have to be numbered from 0 on, in order
+//! and alike for both workers, and where a job asks for it (`meet`) both have to be seen under way at once.
 //!
 //! A job begins `job K` and ends `end`. Between, numbers are hexadecimal but for counts: `image LENGTH SEED
 //! ANDS` and `p OFFSET BYTES` are the cartridge's file, each byte the AND of so many bytes of a generator;
 //! `boot BYTES`, `table ramp` (the lesser of 4 i and 2047 for entry i) or `table SEED`, `script TEXT` for
 //! each line, `frames N`; `v FRAME HASH` and `a FRAME SAMPLES HASH` are 64-bit FNV-1a hashes of a frame's
-//! dots and samples.
+//! dots and samples. `fill LENGTH BYTE` is a cartridge's file of one byte, and `turns N` the most turns of a run.
 #![tactic(auto)]
 
 mod case;
@@ -17,23 +23,16 @@ mod generator;
 mod marks;
 mod number;
 mod play;
+mod tally;
+mod turns;
+mod watch;
 
 use case::Case;
-use play::play;
-use std::alloc::Global;
 use std::{env, fs, io};
-
-/// Whether each frame of a job agrees, or nothing where it is no job.
-fn agrees(alloc: Global, case: &Case) -> Option<bool> {
-    let job = case.job(alloc)?;
-    let mut marks = case.marks(alloc)?;
-    play(alloc, &job, &mut marks)?;
-    Some(marks.video.agrees() && marks.sound.agrees())
-}
+use tally::{Tally, compare};
 
 fn main(rt: HostRuntime) -> io::Result<()> {
-    let mut jobs = 0u64;
-    let mut different = 0u64;
+    let mut tally = Tally::new();
     for name in env::args(&rt)?.skip(1) {
         let text = fs::read_to_string(&rt, name.as_str())?;
         let mut case = Case::new(rt.alloc());
@@ -44,19 +43,14 @@ fn main(rt: HostRuntime) -> io::Result<()> {
             if line.starts_with("job ") {
                 case = Case::new(rt.alloc());
             } else if line == "end" {
-                jobs = jobs.saturating_add(1);
-                match agrees(rt.alloc(), &case) {
-                    Some(true) => {}
-                    Some(false) => {
-                        different = different.saturating_add(1);
-                        println!(rt; "job {jobs} differs")?;
-                    }
-                    None => println!(rt; "job {jobs} is none")?,
-                }
+                compare(&rt, &case, &mut tally)?;
             } else if case.line(rt.alloc(), line).is_none() {
                 println!(rt; "no line of a job: {line}")?;
             }
         }
     }
-    println!(rt; "{jobs} jobs, {different} differ")
+    println!(rt;
+        "{} jobs: {} differ, {} differ by turns, the workers met in {}",
+        tally.jobs, tally.different, tally.different_by_turns, tally.met
+    )
 }

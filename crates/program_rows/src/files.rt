@@ -1,0 +1,140 @@
+use crate::number::{byte_in, decimal, hexadecimal};
+use std::alloc::Global;
+use std::str::SplitWhitespace;
+
+/// A file that rows may name.
+#[derive(Drop)]
+struct NamedFile {
+    name: String,
+    bytes: Vec<u8>,
+}
+
+impl NamedFile {
+    fn is_named(&self, name: &str) -> bool {
+        self.name.as_str() == name
+    }
+}
+
+/// The files that rows may name, the latest first.
+#[derive(Drop)]
+pub struct Files {
+    alloc: Global,
+    files: Vec<NamedFile>,
+}
+
+impl Files {
+    pub fn new(alloc: Global) -> Files {
+        Files {
+            alloc,
+            files: Vec::new(alloc),
+        }
+    }
+
+    /// The bytes of the latest file of that name.
+    pub fn find(&self, name: &str) -> Option<&[u8]> {
+        let file = self.files.iter().find(|file| file.is_named(name))?;
+        Some(file.bytes.as_slice())
+    }
+
+    /// Adds a file.
+    pub fn add(&mut self, name: &str, bytes: &[u8]) -> Option<()> {
+        let file = NamedFile {
+            name: String::from_str(self.alloc, name).ok()?,
+            bytes: bytes.to_vec(self.alloc).ok()?,
+        };
+        self.files.insert(0, file).ok()
+    }
+
+    /// A line that begins a file, or says more of the latest one.
+    pub fn line(&mut self, line: &str) -> Option<()> {
+        if let Some(name) = line.strip_prefix("file ") {
+            return self.add(name, &[]);
+        }
+        if let Some(name) = line.strip_prefix("copy ") {
+            let bytes = self.find(name)?.to_vec(self.alloc).ok()?;
+            return extend(&mut self.latest()?.bytes, bytes.as_slice());
+        }
+        let bytes = &mut self.latest()?.bytes;
+        if let Some(text) = line.strip_prefix("text ") {
+            return extend(bytes, text.as_bytes());
+        }
+        if let Some(text) = line.strip_prefix("line ") {
+            extend(bytes, text.as_bytes())?;
+            return bytes.push(b'\n').ok();
+        }
+        let mut words = line.split_whitespace();
+        match words.next()?.as_bytes() {
+            b"fill" => fill(bytes, words),
+            b"hex" => hex(bytes, words),
+            b"put" => put(bytes, words),
+            b"ramp" => ramp(bytes, words),
+            b"noise" => noise(bytes, words),
+            _ => None,
+        }
+    }
+
+    fn latest(&mut self) -> Option<&mut NamedFile> {
+        self.files.as_mut_slice().get_mut(0)
+    }
+}
+
+fn extend(bytes: &mut Vec<u8>, more: &[u8]) -> Option<()> {
+    bytes.extend_from_slice(more).ok()
+}
+
+/// `fill COUNT BYTE`: so many times that byte.
+fn fill(bytes: &mut Vec<u8>, mut words: SplitWhitespace<'_>) -> Option<()> {
+    let count = decimal(words.next()?.as_bytes())?;
+    let byte = byte_in(words.next()?.as_bytes(), 0)?;
+    for _ in 0..count {
+        bytes.push(byte).ok()?;
+    }
+    Some(())
+}
+
+/// `hex BYTES`: these bytes.
+fn hex(bytes: &mut Vec<u8>, mut words: SplitWhitespace<'_>) -> Option<()> {
+    let digits = words.next()?.as_bytes();
+    for i in 0..digits.len() / 2 {
+        bytes.push(byte_in(digits, 2 * i)?).ok()?;
+    }
+    Some(())
+}
+
+/// `put OFFSET BYTES`: these bytes in place of those at an offset.
+fn put(bytes: &mut Vec<u8>, mut words: SplitWhitespace<'_>) -> Option<()> {
+    let offset = usize::try_from(hexadecimal(words.next()?.as_bytes())?).ok()?;
+    let digits = words.next()?.as_bytes();
+    let file = bytes.as_mut_slice();
+    for i in 0..digits.len() / 2 {
+        let at = offset.checked_add(i)?;
+        if at >= file.len() {
+            return None;
+        }
+        file[at] = byte_in(digits, 2 * i)?;
+    }
+    Some(())
+}
+
+/// `ramp STEP`: 512 numbers of two bytes, the low one first, of which number i is i times the step.
+fn ramp(bytes: &mut Vec<u8>, mut words: SplitWhitespace<'_>) -> Option<()> {
+    let step = decimal(words.next()?.as_bytes())?;
+    let mut number = 0u64;
+    for _ in 0..512 {
+        bytes.push((number % 256) as u8).ok()?;
+        bytes.push((number / 256 % 256) as u8).ok()?;
+        number = number.checked_add(step)?;
+    }
+    Some(())
+}
+
+/// `noise NUMBER COUNT`: so many bytes of the generator that begins with a number.
+fn noise(bytes: &mut Vec<u8>, mut words: SplitWhitespace<'_>) -> Option<()> {
+    let mut x = u32::try_from(decimal(words.next()?.as_bytes())?).ok()?;
+    let count = decimal(words.next()?.as_bytes())?;
+    for _ in 0..count {
+        x = x.wrapping_mul(1_664_525).wrapping_add(1_013_904_223);
+        bytes.push((x >> 24) as u8).ok()?;
+    }
+    Some(())
+}

@@ -1,0 +1,274 @@
+use crate::compare::{are_alike, is_begun, is_same};
+use crate::rows::{Failure, Outcome, Rows, called};
+use crate::show::{Detail, show_answer, show_outputs};
+use file_shelf::{Out, ShelfCall};
+use snes_call::Status;
+use std::alloc::Global;
+use std::thread::Threads;
+use std::{io, str};
+
+/// More puts than any row makes that lets each fail in turn.
+const MOST_PUTS: u32 = 2000;
+
+/// What is printed of a row for which there was no memory, or whose line is none.
+const NO_ROW: &str = "  no memory, or no row";
+
+/// An image that was made is a file from then on.
+fn keep(rows: &mut Rows, outcome: &Outcome) -> Option<()> {
+    let name = outcome.shelf.named(Out::Image);
+    if name.is_empty() {
+        return Some(());
+    }
+    rows.files.add(name, outcome.shelf.written(Out::Image))
+}
+
+/// A row of words: prints the answer and all that was written.
+fn row<R: AllocGlobal + Threads + Print>(rt: &R, rows: &mut Rows, words: &str) -> io::Result<()> {
+    let Some(outcome) = called(rt, rows, words, None) else {
+        return println!(rt; "{NO_ROW}");
+    };
+    show_answer(rt, &outcome)?;
+    show_outputs(rt, &outcome, Detail::Bytes)?;
+    match keep(rows, &outcome) {
+        Some(()) => Ok(()),
+        None => println!(rt; "{NO_ROW}"),
+    }
+}
+
+/// A row of words of which two numbers of the line are not known from outside: prints the line up to them.
+fn opening<R: AllocGlobal + Threads + Print>(rt: &R, rows: &Rows, words: &str) -> io::Result<()> {
+    let Some(outcome) = called(rt, rows, words, None) else {
+        return println!(rt; "{NO_ROW}");
+    };
+    let exit = outcome.status.exit();
+    let said = str::from_utf8(outcome.shelf.written(Out::Say)).unwrap_or("");
+    match said.split_once(" video ") {
+        Some((front, _)) => println!(rt; "  exit {exit}, said {front:?} and more"),
+        None => println!(rt; "  exit {exit}, said {said:?}"),
+    }
+}
+
+/// Runs the same files by `run` and by `serial`.
+fn by_both<R: AllocGlobal + Threads>(
+    rt: &R,
+    rows: &Rows,
+    words: &str,
+) -> Option<(Outcome, Outcome)> {
+    let alloc = rt.alloc();
+    let by_turns = format!(in alloc; "run {words}").ok()?;
+    let serially = format!(in alloc; "serial {words}").ok()?;
+    Some((
+        called(rt, rows, by_turns.as_str(), None)?,
+        called(rt, rows, serially.as_str(), None)?,
+    ))
+}
+
+/// A row that is run by `run` and by `serial`: prints what `run` left, and whether `serial` left the same.
+fn both<R: AllocGlobal + Threads + Print>(
+    rt: &R,
+    rows: &Rows,
+    words: &str,
+    detail: Detail,
+) -> io::Result<()> {
+    let Some((by_turns, serially)) = by_both(rt, rows, words) else {
+        return println!(rt; "{NO_ROW}");
+    };
+    show_answer(rt, &by_turns)?;
+    show_outputs(rt, &by_turns, detail)?;
+    if are_alike(&by_turns, &serially) {
+        println!(rt; "  run and serial alike")
+    } else {
+        println!(rt; "  run and serial differ")
+    }
+}
+
+/// How many puts failed, by the output that the answer names.
+#[derive(Drop)]
+struct Puts {
+    video: u32,
+    sound: u32,
+    line: u32,
+}
+
+impl Puts {
+    /// Counts an answer, and tells whether it is one of a put that failed.
+    fn count(&mut self, status: Status) -> bool {
+        match status {
+            Status::WriteFault(Out::Video) => self.video = self.video.saturating_add(1),
+            Status::WriteFault(Out::Sound) => self.sound = self.sound.saturating_add(1),
+            Status::WriteFault(Out::Say) => self.line = self.line.saturating_add(1),
+            _ => return false,
+        }
+        true
+    }
+}
+
+/// Prints what a failed put left that it should not: other than first bytes of what the row leaves without a
+/// failure, or less than all where the line is said.
+fn tell<R: Print>(rt: &R, nth: u32, part: &Outcome, whole: &Outcome) -> io::Result<()> {
+    if !is_begun(part, whole) {
+        println!(rt; "  put {nth}: other bytes are left")?;
+    }
+    if part.status == Status::WriteFault(Out::Say) && !is_same(part, whole) {
+        println!(rt; "  put {nth}: the line comes too early")?;
+    }
+    Ok(())
+}
+
+/// Lets the nth put of a row fail, and counts the answer. It answers whether it was one of a put that failed.
+fn fail_put<R: AllocGlobal + Threads + Print>(
+    rt: &R,
+    rows: &Rows,
+    words: &str,
+    nth: u32,
+    whole: &Outcome,
+    puts: &mut Puts,
+) -> io::Result<bool> {
+    let here = Failure {
+        call: ShelfCall::Put(None),
+        nth,
+    };
+    let Some(part) = called(rt, rows, words, Some(here)) else {
+        println!(rt; "{NO_ROW}")?;
+        return Ok(false);
+    };
+    tell(rt, nth, &part, whole)?;
+    if puts.count(part.status) {
+        return Ok(true);
+    }
+    show_answer(rt, &part)?;
+    Ok(false)
+}
+
+/// Lets each put of a row fail in turn, until none is left to fail, and prints how many did, by output.
+fn fail_each<R: AllocGlobal + Threads + Print>(
+    rt: &R,
+    rows: &Rows,
+    words: &str,
+    whole: &Outcome,
+) -> io::Result<()> {
+    let mut puts = Puts {
+        video: 0,
+        sound: 0,
+        line: 0,
+    };
+    for nth in 1..MOST_PUTS {
+        if !fail_put(rt, rows, words, nth, whole, &mut puts)? {
+            break;
+        }
+    }
+    println!(rt;
+        "  failed in turn: {} of video, {} of sound, {} of the line",
+        puts.video, puts.sound, puts.line
+    )
+}
+
+/// A row whose puts fail in turn.
+fn each<R: AllocGlobal + Threads + Print>(rt: &R, rows: &Rows, words: &str) -> io::Result<()> {
+    match called(rt, rows, words, None) {
+        Some(whole) => fail_each(rt, rows, words, &whole),
+        None => println!(rt; "{NO_ROW}"),
+    }
+}
+
+/// A row of words some call of which fails: prints the answer, and whether first bytes are left of what the row
+/// leaves without a failure. How many depends on where the two workers met.
+fn part<R: AllocGlobal + Threads + Print>(rt: &R, rows: &mut Rows, words: &str) -> io::Result<()> {
+    let Some(part) = called(rt, rows, words, None) else {
+        return println!(rt; "{NO_ROW}");
+    };
+    rows.mend();
+    match called(rt, rows, words, None) {
+        Some(whole) => show_part(rt, &part, &whole),
+        None => println!(rt; "{NO_ROW}"),
+    }
+}
+
+fn show_part<R: Print>(rt: &R, part: &Outcome, whole: &Outcome) -> io::Result<()> {
+    show_answer(rt, part)?;
+    if is_begun(part, whole) {
+        println!(rt; "  first bytes are left")
+    } else {
+        println!(rt; "  other bytes are left")
+    }
+}
+
+/// `look NAME`: prints the length of a file, and its bytes at 8000 and at its end.
+fn look<R: Print>(rt: &R, rows: &Rows, name: &str) -> io::Result<()> {
+    let Some(bytes) = rows.files.find(name) else {
+        return println!(rt; "{NO_ROW}");
+    };
+    match bytes.get(0x8000) {
+        Some(byte) => println!(rt; "  {} bytes, that at 8000 is {byte:02x}", bytes.len()),
+        None => println!(rt; "  {} bytes", bytes.len()),
+    }
+}
+
+/// The kinds of lines that run something.
+#[derive(Clone, Copy)]
+enum Kind {
+    Row,
+    Opening,
+    Both,
+    Alike,
+    Each,
+    Part,
+    Look,
+}
+
+/// The kind of a line by its first word.
+fn kind_of(word: &str) -> Option<Kind> {
+    Some(match word.as_bytes() {
+        b"$" => Kind::Row,
+        b"opening" => Kind::Opening,
+        b"both" => Kind::Both,
+        b"alike" => Kind::Alike,
+        b"each" => Kind::Each,
+        b"part" => Kind::Part,
+        b"look" => Kind::Look,
+        _ => return None,
+    })
+}
+
+/// Follows a line that runs something. The failures were for it alone.
+fn run<R: AllocGlobal + Threads + Print>(
+    rt: &R,
+    rows: &mut Rows,
+    kind: Kind,
+    words: &str,
+) -> io::Result<()> {
+    let done = match kind {
+        Kind::Row => row(rt, rows, words),
+        Kind::Opening => opening(rt, rows, words),
+        Kind::Both => both(rt, rows, words, Detail::Bytes),
+        Kind::Alike => both(rt, rows, words, Detail::Length),
+        Kind::Each => each(rt, rows, words),
+        Kind::Part => part(rt, rows, words),
+        Kind::Look => look(rt, rows, words),
+    };
+    rows.mend();
+    done
+}
+
+/// Follows a line of a file of rows. Headings and rows are printed.
+pub fn follow<R: AllocGlobal + Threads + Print>(
+    rt: &R,
+    rows: &mut Rows,
+    line: &str,
+) -> io::Result<()> {
+    if line.is_empty() {
+        return Ok(());
+    }
+    if line.starts_with("#") {
+        return println!(rt; "{line}");
+    }
+    let (word, words) = line.split_once(' ').unwrap_or((line, ""));
+    if let Some(kind) = kind_of(word) {
+        println!(rt; "{line}")?;
+        return run(rt, rows, kind, words);
+    }
+    match rows.line(line) {
+        Some(()) => Ok(()),
+        None => println!(rt; "no line of rows: {line}"),
+    }
+}

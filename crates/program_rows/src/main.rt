@@ -1,0 +1,50 @@
+//! Rows of the whole program: command lines over shelves in memory, with the console itself.
+//!
+//! The program follows the lines of the files that it is given, as `data/rows.txt`, and prints each row with the
+//! exit status, what was said, and the outputs that were created: name, length, and the bytes as runs of equal
+//! units of two bytes, or their sum where there are many runs. What has to be printed, `stdout`, was worked out
+//! by hand from the rules of `docs/FILES-AND-WORDS.md`; the sums of the demo are those of two other programs.
+//!
+//! Lines that say what a row is run with:
+//!
+//! - `file NAME` begins a file. The lines behind it add to it: `fill COUNT BYTE`, `hex BYTES`, `text TEXT`,
+//!   `line TEXT` (with LF), `copy NAME` (a file), `ramp STEP` (512 numbers of two bytes), `noise NUMBER COUNT`
+//!   (the generator of cartridges). `put OFFSET BYTES` changes it. Counts and numbers are decimal, the rest
+//!   hexadecimal. A row's shelf holds the files that its words name; an image that was made is a file.
+//! - `room COUNT`: how many bytes a shelf keeps of each output, from here on.
+//! - `fail load N`, `create`, `put`, `video`, `sound`, `image`, `say`: in the next row the Nth call of that kind
+//!   fails; `video` to `say` are puts to one output.
+//!
+//! Lines that run something:
+//!
+//! - `$ WORDS`: these words, with one space between two of them. `*N` stands for a word of N letters.
+//! - `both WORDS`, `alike WORDS`: the command line `run WORDS`, and `serial WORDS`, which has to leave the same; of
+//!   `alike` only the lengths are printed.
+//! - `opening WORDS`: prints the line up to its sums.
+//! - `each WORDS`: each put fails in turn.
+//! - `part WORDS`: prints the answer, and whether first bytes are left of what the row leaves without a failure.
+//! - `look NAME`: a file's length, and its byte at 8000.
+#![tactic(auto)]
+
+mod answer;
+mod compare;
+mod files;
+mod follow;
+mod number;
+mod rows;
+mod show;
+
+use follow::follow;
+use rows::Rows;
+use std::{env, fs, io};
+
+fn main(rt: HostRuntime) -> io::Result<()> {
+    let mut rows = Rows::new(rt.alloc());
+    for name in env::args(&rt)?.skip(1) {
+        let text = fs::read_to_string(&rt, name.as_str())?;
+        for line in text.lines() {
+            follow(&rt, &mut rows, line)?;
+        }
+    }
+    Ok(())
+}

@@ -1,0 +1,116 @@
+ghost use Rattle.std.specs.Prelude.{◌≤◌, length};
+
+use crate::rows::Outcome;
+use file_shelf::Out;
+use std::{io, str};
+
+/// An output is told by its runs of equal units where it has no more than so many.
+const MOST_RUNS: usize = 6;
+
+/// A longer name is told by its length.
+const MOST_LETTERS: usize = 64;
+
+/// How much is told of an output.
+#[derive(Clone, Copy, Debug, PartialEq, Eq)]
+pub enum Detail {
+    /// How many bytes it has.
+    Length,
+    /// All: its runs of equal units of two bytes, or the sum of its bytes where there are many.
+    Bytes,
+}
+
+/// The sum of bytes.
+fn sum(bytes: &[u8]) -> u64 {
+    let mut sum = 0u64;
+    for byte in bytes {
+        sum = sum.wrapping_add(*byte as u64);
+    }
+    sum
+}
+
+/// How many bytes the units of two bytes in front have that are the first one.
+fn run(bytes: &[u8]) -> usize
+    ensures { result ≤ length bytes.now }
+{
+    for (place, byte) in bytes.iter().enumerate() {
+        if *byte != bytes[place % 2] {
+            return place - place % 2;
+        }
+    }
+    bytes.len()
+}
+
+/// Whether bytes are no more than so many runs.
+fn are_few(bytes: &[u8]) -> bool {
+    let mut rest = bytes;
+    for _ in 0..MOST_RUNS {
+        rest = &rest[run(rest)..];
+    }
+    rest.is_empty()
+}
+
+/// Prints the first runs, each as a count of units and the unit as a number.
+fn show_runs<R: Print>(rt: &R, bytes: &[u8]) -> io::Result<()> {
+    let mut rest = bytes;
+    for _ in 0..MOST_RUNS {
+        if rest.len() < 2 {
+            return Ok(());
+        }
+        let count = run(rest);
+        let low = rest[0];
+        let high = rest[1];
+        print!(rt; ", {} of {high:02x}{low:02x}", count / 2)?;
+        rest = &rest[count..];
+    }
+    Ok(())
+}
+
+/// Prints an output that was created.
+fn show_output<R: Print>(
+    rt: &R,
+    what: &str,
+    name: &str,
+    bytes: &[u8],
+    detail: Detail,
+) -> io::Result<()> {
+    if name.is_empty() {
+        return Ok(());
+    }
+    if name.len() <= MOST_LETTERS {
+        print!(rt; "  {what} {name}: {} bytes", bytes.len())?;
+    } else {
+        print!(rt;
+            "  {what}, a name of {} bytes: {} bytes",
+            name.len(),
+            bytes.len()
+        )?;
+    }
+    if detail == Detail::Bytes {
+        if are_few(bytes) {
+            show_runs(rt, bytes)?;
+        } else {
+            print!(rt; ", sum {}", sum(bytes))?;
+        }
+    }
+    println!(rt; "")
+}
+
+/// Prints an answer by its exit status, and what was said.
+pub fn show_answer<R: Print>(rt: &R, outcome: &Outcome) -> io::Result<()> {
+    let exit = outcome.status.exit();
+    match str::from_utf8(outcome.shelf.written(Out::Say)) {
+        Ok(said) => println!(rt; "  exit {exit}, said {said:?}"),
+        Err(_) => println!(rt; "  exit {exit}, and what was said is no text"),
+    }
+}
+
+/// Prints the outputs that were created.
+pub fn show_outputs<R: Print>(rt: &R, outcome: &Outcome, detail: Detail) -> io::Result<()> {
+    let shelf = &outcome.shelf;
+    let video = shelf.written(Out::Video);
+    let sound = shelf.written(Out::Sound);
+    let image = shelf.written(Out::Image);
+    show_output(rt, "video", shelf.named(Out::Video), video, detail)?;
+    show_output(rt, "sound", shelf.named(Out::Sound), sound, detail)?;
+    show_output(rt, "image", shelf.named(Out::Image), image, detail)
+}
