@@ -55,50 +55,8 @@ fn paint_columns(
     }
 }
 
-/// The same, written out by the size of the tiles.
-#[inline(always)]
-fn paint_kind(
-    p: &Ppu,
-    tiles: &TileCache,
-    mode: u8,
-    bits: u8,
-    layer: u8,
-    y: u16,
-    odd: bool,
-    low: u8,
-    high: u8,
-    values: &mut [u8; 264],
-    bases: &mut [u8; 264],
-    firsts: &mut [u8; 264],
-)
-    requires first { 1 ≤ layer }
-    requires last { layer ≤ 4 }
-    requires mode { mode ≡ p.now.registers.mode }
-    requires bits { bits ≡ depth_of p.now.registers.mode layer }
-    requires depth { IsDepth (depth_of p.now.registers.mode layer) }
-    requires step { IsInStep tiles.now p.now.vram }
-    requires y { y ≤ 239 }
-    requires low { low ≤ 248 }
-    requires high { high ≤ 248 }
-    ensures values { (k : ℕ) → k < 264 → slice_index values.new k ≡ column_value p.now layer y (bit_of odd) (k / 8) (k % 8) }
-    ensures bases { (k : ℕ) → k < 264 → slice_index bases.new k ≡ column_base p.now layer y low high (k / 8) }
-    ensures firsts { (k : ℕ) → k < 264 → slice_index firsts.new k ≡ column_first p.now layer y (k / 8) }
-{
-    let b = *p.registers().background(layer);
-    if b.large {
-        let b = Background { large: true, ..b };
-        paint_columns(
-            p, tiles, &b, mode, bits, layer, y, odd, low, high, values, bases, firsts,
-        );
-    } else {
-        let b = Background { large: false, ..b };
-        paint_columns(
-            p, tiles, &b, mode, bits, layer, y, odd, low, high, values, bases, firsts,
-        );
-    }
-}
-
-/// The same, written out by mode and depth, so that each case is one run of loads and stores.
+/// The same, written out by mode and depth, and for mode 1 by the size of its tiles too, so that each case is one run
+/// of loads and stores.
 #[inline(always)]
 fn paint(
     p: &Ppu,
@@ -125,42 +83,55 @@ fn paint(
 {
     let mode = p.registers().mode;
     let bits = depth(mode, layer);
-    match (mode, bits) {
-        (0, 2) => paint_kind(
-            p, tiles, 0, 2, layer, y, odd, low, high, values, bases, firsts,
+    let b = *p.registers().background(layer);
+    match (mode, bits, b.large) {
+        (1, 2, false) => {
+            let b = Background { large: false, ..b };
+            paint_columns(
+                p, tiles, &b, 1, 2, layer, y, odd, low, high, values, bases, firsts,
+            )
+        }
+        (1, 4, false) => {
+            let b = Background { large: false, ..b };
+            paint_columns(
+                p, tiles, &b, 1, 4, layer, y, odd, low, high, values, bases, firsts,
+            )
+        }
+        (0, 2, _) => paint_columns(
+            p, tiles, &b, 0, 2, layer, y, odd, low, high, values, bases, firsts,
         ),
-        (1, 2) => paint_kind(
-            p, tiles, 1, 2, layer, y, odd, low, high, values, bases, firsts,
+        (1, 2, _) => paint_columns(
+            p, tiles, &b, 1, 2, layer, y, odd, low, high, values, bases, firsts,
         ),
-        (1, 4) => paint_kind(
-            p, tiles, 1, 4, layer, y, odd, low, high, values, bases, firsts,
+        (1, 4, _) => paint_columns(
+            p, tiles, &b, 1, 4, layer, y, odd, low, high, values, bases, firsts,
         ),
-        (2, 4) => paint_kind(
-            p, tiles, 2, 4, layer, y, odd, low, high, values, bases, firsts,
+        (2, 4, _) => paint_columns(
+            p, tiles, &b, 2, 4, layer, y, odd, low, high, values, bases, firsts,
         ),
-        (3, 4) => paint_kind(
-            p, tiles, 3, 4, layer, y, odd, low, high, values, bases, firsts,
+        (3, 4, _) => paint_columns(
+            p, tiles, &b, 3, 4, layer, y, odd, low, high, values, bases, firsts,
         ),
-        (3, 8) => paint_kind(
-            p, tiles, 3, 8, layer, y, odd, low, high, values, bases, firsts,
+        (3, 8, _) => paint_columns(
+            p, tiles, &b, 3, 8, layer, y, odd, low, high, values, bases, firsts,
         ),
-        (4, 2) => paint_kind(
-            p, tiles, 4, 2, layer, y, odd, low, high, values, bases, firsts,
+        (4, 2, _) => paint_columns(
+            p, tiles, &b, 4, 2, layer, y, odd, low, high, values, bases, firsts,
         ),
-        (4, 8) => paint_kind(
-            p, tiles, 4, 8, layer, y, odd, low, high, values, bases, firsts,
+        (4, 8, _) => paint_columns(
+            p, tiles, &b, 4, 8, layer, y, odd, low, high, values, bases, firsts,
         ),
-        (5, 2) => paint_kind(
-            p, tiles, 5, 2, layer, y, odd, low, high, values, bases, firsts,
+        (5, 2, _) => paint_columns(
+            p, tiles, &b, 5, 2, layer, y, odd, low, high, values, bases, firsts,
         ),
-        (5, 4) => paint_kind(
-            p, tiles, 5, 4, layer, y, odd, low, high, values, bases, firsts,
+        (5, 4, _) => paint_columns(
+            p, tiles, &b, 5, 4, layer, y, odd, low, high, values, bases, firsts,
         ),
-        (6, 4) => paint_kind(
-            p, tiles, 6, 4, layer, y, odd, low, high, values, bases, firsts,
+        (6, 4, _) => paint_columns(
+            p, tiles, &b, 6, 4, layer, y, odd, low, high, values, bases, firsts,
         ),
-        _ => paint_kind(
-            p, tiles, mode, bits, layer, y, odd, low, high, values, bases, firsts,
+        _ => paint_columns(
+            p, tiles, &b, mode, bits, layer, y, odd, low, high, values, bases, firsts,
         ),
     }
 }
