@@ -16,6 +16,23 @@ use std::thread::yield_now;
 /// How often a side tries to publish its clock where the ports are held.
 const TELLS: u32 = 64;
 
+/// After so many tries of a step in a row the other side is far off.
+const SOON: u32 = 16;
+
+/// How often a side then yields its processor between two tries. Each try takes the ports from the side that it
+/// waits for.
+const YIELDS: u32 = 4;
+
+/// Lets the other side go on, before a step is tried again that was tried so often.
+fn pause(tried: u32) {
+    yield_now();
+    if tried >= SOON {
+        for _ in 1..YIELDS {
+            yield_now();
+        }
+    }
+}
+
 /// Tries once to publish a clock, and answers whether it is published.
 #[inline(always)]
 #[tactic(auto, using(crate::proofs::Refusals::advance_counts, crate::proofs::Refusals::refusal_counts))]
@@ -85,7 +102,7 @@ fn insist<W: Wire, M: Machine>(
     for tried in 0..tries - 1 {
         match attempt(wire, pass, machine) {
             Ok(()) => return Ok(()),
-            Err(_) => yield_now(),
+            Err(_) => pause(tried),
         }
     }
     attempt(wire, pass, machine)

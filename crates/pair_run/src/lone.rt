@@ -26,8 +26,25 @@ fn step_alone<M: Machine>(machine: &mut M) -> bool
     machine.try_step()
 }
 
+/// By which stamp the own clock is to be published again: four lines after the last time, which are a quarter of
+/// the window. Where the other side was further then, it may wait there for this one, so already past its clock,
+/// but not more often than each sixteenth of a line.
+#[inline(always)]
+fn publish_by(clock: u64, known: u64, window: u64) -> u64 {
+    let by = clock.saturating_add(window / 4);
+    if clock <= known {
+        by.min(
+            known
+                .saturating_add(1)
+                .max(clock.saturating_add(window / 256)),
+        )
+    } else {
+        by
+    }
+}
+
 /// The stamp below which quiet steps need no call: the clock that the pass was told allows them, and the own
-/// clock was published at most four lines before, which are a quarter of the window.
+/// clock was published lately.
 #[inline(always)]
 fn alone_until<W: Wire>(wire: &W, pass: &W::Pass, end: u64) -> u64
     ensures by_end { result ≤ end }
@@ -35,9 +52,8 @@ fn alone_until<W: Wire>(wire: &W, pass: &W::Pass, end: u64) -> u64
 {
     let window = window(wire.region());
     let known = wire.known(pass);
-    let clock = wire.clock(pass);
     end.min(known.saturating_add(window))
-        .min(clock.saturating_add(window / 4))
+        .min(publish_by(wire.clock(pass), known, window))
 }
 
 /// Makes the quiet steps that need no call, while there is room for the bytes of two more.
