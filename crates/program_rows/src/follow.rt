@@ -109,10 +109,12 @@ fn tell<R: Print>(rt: &R, nth: u32, part: &Outcome, whole: &Outcome) -> io::Resu
     if !is_begun(part, whole) {
         println!(rt; "  put {nth}: other bytes are left")?;
     }
-    if part.status == Status::WriteFault(Out::Say) && !is_same(part, whole) {
-        println!(rt; "  put {nth}: the line comes too early")?;
+    match part.status {
+        Status::WriteFault(Out::Say) if !is_same(part, whole) => {
+            println!(rt; "  put {nth}: the line comes too early")
+        }
+        _ => Ok(()),
     }
-    Ok(())
 }
 
 /// Lets the nth put of a row fail, and counts the answer. It answers whether it was one of a put that failed.

@@ -17,7 +17,7 @@
 //!
 //! Lines that run something:
 //!
-//! - `$ WORDS`: these words, with one space between two of them. `*N` stands for a word of N letters.
+//! - `$ WORDS`: these words, with one space between two of them.
 //! - `both WORDS`, `alike WORDS`: the command line `run WORDS`, and `serial WORDS`, which has to leave the same; of
 //!   `alike` only the lengths are printed.
 //! - `opening WORDS`: prints the line up to its sums.

@@ -5,7 +5,6 @@ use file_shelf::{MemShelf, Out, ShelfCall};
 use run_io::Argv;
 use snes_call::Status;
 use std::alloc::Global;
-use std::str;
 use std::thread::Threads;
 
 /// The nth call of this kind fails.
@@ -92,16 +91,6 @@ fn failure_of(text: &str) -> Option<Failure> {
     Some(Failure { call, nth })
 }
 
-/// Adds a word. A star and a number stand for so many letters.
-fn push(alloc: Global, argv: &mut Argv, word: &str) -> Option<()> {
-    let Some(count) = word.strip_prefix("*") else {
-        return argv.push(word).ok();
-    };
-    let count = usize::try_from(decimal(count.as_bytes())?).ok()?;
-    let letters = vec![in alloc; b'v'; count].ok()?;
-    argv.push(str::from_utf8(letters.as_slice()).ok()?).ok()
-}
-
 /// The words of a line, with one space between two of them.
 fn words_of(alloc: Global, line: &str) -> Option<Argv> {
     let mut argv = Argv::new(alloc);
@@ -109,7 +98,7 @@ fn words_of(alloc: Global, line: &str) -> Option<Argv> {
         return Some(argv);
     }
     for word in line.split(' ') {
-        push(alloc, &mut argv, word)?;
+        argv.push(word).ok()?;
     }
     Some(argv)
 }

@@ -11,7 +11,7 @@ const MOST_RUNS: usize = 6;
 const MOST_LETTERS: usize = 64;
 
 /// How much is told of an output.
-#[derive(Clone, Copy, Debug, PartialEq, Eq)]
+#[derive(Clone, Copy)]
 pub enum Detail {
     /// How many bytes it has.
     Length,
@@ -65,6 +65,15 @@ fn show_runs<R: Print>(rt: &R, bytes: &[u8]) -> io::Result<()> {
     Ok(())
 }
 
+/// Prints the runs of an output, or the sum of its bytes where there are many.
+fn show_bytes<R: Print>(rt: &R, bytes: &[u8]) -> io::Result<()> {
+    if are_few(bytes) {
+        show_runs(rt, bytes)
+    } else {
+        print!(rt; ", sum {}", sum(bytes))
+    }
+}
+
 /// Prints an output that was created.
 fn show_output<R: Print>(
     rt: &R,
@@ -85,12 +94,9 @@ fn show_output<R: Print>(
             bytes.len()
         )?;
     }
-    if detail == Detail::Bytes {
-        if are_few(bytes) {
-            show_runs(rt, bytes)?;
-        } else {
-            print!(rt; ", sum {}", sum(bytes))?;
-        }
+    match detail {
+        Detail::Length => {}
+        Detail::Bytes => show_bytes(rt, bytes)?,
     }
     println!(rt; "")
 }
