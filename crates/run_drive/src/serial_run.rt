@@ -33,15 +33,21 @@ pub fn run_serial<C: Machine + Drop, S: Machine + Drop, K: Sink>(
     ensures only { K.only_takes sink.old sink.new }
 {
     let mut serial = Serial::new(console, sound);
-    while !serial.finished(end) {
-        serial.console_turns(end);
-        let Ok(()) = pour(serial.console(), Side::Console, buffer, sink) else {
-            return Err(Side::Console);
-        };
-        serial.sound_turns(end);
-        let Ok(()) = pour(serial.sound(), Side::Sound, buffer, sink) else {
-            return Err(Side::Sound);
-        };
+    let mut video_at = 0;
+    let mut audio_at = 0;
+    while !serial.is_over(end) {
+        video_at = serial.console_leads(end, video_at);
+        audio_at = serial.sound_leads(end, audio_at);
+        // Of two bytes that wait the one that a serial console emits first, ties to the console.
+        if video_at <= audio_at {
+            let Ok(()) = pour(serial.console(), Side::Console, buffer, sink) else {
+                return Err(Side::Console);
+            };
+        } else {
+            let Ok(()) = pour(serial.sound(), Side::Sound, buffer, sink) else {
+                return Err(Side::Sound);
+            };
+        }
     }
     Ok(())
 }

@@ -1,3 +1,4 @@
+pub mod Lead
+pub mod LeadBegins
+pub mod Led
 pub mod Taken
-pub mod Turns
-pub mod Underway

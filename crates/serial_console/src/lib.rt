@@ -8,7 +8,7 @@
 // before each turn is enough), and the earlier stamp up to 2^62. `docs/SERIAL.md` has the rule.
 #![tactic(auto)]
 
-mod going;
+mod leading;
 mod serial;
 #[cfg(test)]
 mod tests;

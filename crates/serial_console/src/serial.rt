@@ -76,7 +76,7 @@ fn exchange(act: Act, incoming: &mut [u8; 4], outgoing: &mut [u8; 4])
 /// that the loop over quiet steps stays small.
 #[inline(never)]
 #[tactic(auto, using(crate::proofs::Taken::taken_got))]
-fn any_step<M: Machine>(machine: &mut M, incoming: &mut [u8; 4], outgoing: &mut [u8; 4])
+pub(crate) fn any_step<M: Machine>(machine: &mut M, incoming: &mut [u8; 4], outgoing: &mut [u8; 4])
     requires room { length (M.waiting machine.old) + M.MOST ≤ M.CAP }
     requires early { M.stamp_of machine.old ≤ 2 ^ 62 }
     ensures next { (m : M.State) → M.stands machine.old m → M.stands machine.new (M.moves.next m (got_of (M.moves.act m) incoming.old)) }
@@ -98,7 +98,7 @@ fn any_step<M: Machine>(machine: &mut M, incoming: &mut [u8; 4], outgoing: &mut 
 /// where the machine sees that it is quiet.
 #[inline(always)]
 #[tactic(auto, using(crate::proofs::Taken::quiet))]
-pub(crate) fn step<M: Machine>(machine: &mut M, incoming: &mut [u8; 4], outgoing: &mut [u8; 4])
+fn step<M: Machine>(machine: &mut M, incoming: &mut [u8; 4], outgoing: &mut [u8; 4])
     requires room { length (M.waiting machine.old) + M.MOST ≤ M.CAP }
     requires early { M.stamp_of machine.old ≤ 2 ^ 62 }
     ensures next { (m : M.State) → M.stands machine.old m → M.stands machine.new (M.moves.next m (got_of (M.moves.act m) incoming.old)) }
@@ -167,6 +167,14 @@ impl<C: Machine, S: Machine> Serial<C, S> {
         ensures past { (w : SerialState C.State S.State) → IsAt C.stands S.stands self.now w → IsTrue result ↔ IsPast C.moves S.moves end w }
     {
         self.console.stamp() >= end && self.sound.stamp() >= end
+    }
+
+    /// Whether both stamps are at least `end` and no byte of either machine waits.
+    #[inline(always)]
+    pub fn is_over(&self, end: u64) -> bool
+        ensures { IsTrue result ↔ ((end ≤ C.stamp_of (console_of self.now)) × (end ≤ S.stamp_of (sound_of self.now)) × (length (C.waiting (console_of self.now)) ≡ 0) × (length (S.waiting (sound_of self.now)) ≡ 0)) }
+    {
+        self.finished(end) && self.console.pending() == 0 && self.sound.pending() == 0
     }
 
     /// Lends the console.

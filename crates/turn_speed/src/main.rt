@@ -8,6 +8,9 @@
 //! - `serial N`, `turns N`: N frames of two machines each of whose steps costs some 200 ns, serially and by turns;
 //! - `serial-talk N`, `turns-talk N`: the same, with a write or a read of both sides each 32 steps.
 //!
+//! - `order N`: N frames of rows and samples by the serial run, and by turns of the serial console with a drain of
+//!   both after each, and whether both were handed on in the same order.
+//!
 //! Without arguments nothing is done. What it prints is the time by the clock, and a count: of the calls answered,
 //! of the turns made, or of the bytes emitted.
 #![tactic(auto)]
@@ -17,12 +20,14 @@ ghost use Rattle.std.specs.Prelude.{◌≡◌, ◌≤◌};
 mod calls;
 mod count;
 mod emitter;
+mod order;
 mod pairs;
 mod quiet;
 mod tapes;
 mod worker;
 
 use calls::{FAR, advances, reads, writes};
+use order::{by_run, by_turns};
 use pairs::{emitted, worked_by_turns, worked_serially};
 use port_lock::Ports;
 use quiet::quiet_turns;
@@ -156,6 +161,14 @@ fn main(rt: HostRuntime) -> io::Result<()> {
         return Ok(());
     };
     let count = count.as_str().parse::<u32>().unwrap_or(0);
+    if what.as_str() == "order" {
+        let frames = count.min(36_000);
+        let (Ok(run), Ok(turns)) = (by_run(rt.alloc(), frames), by_turns(rt.alloc(), frames)) else {
+            return Ok(());
+        };
+        let alike = run == turns;
+        return println!(rt; "rows {} samples {} in the order of turns: {alike}", run.rows, run.samples);
+    }
     let taken = run(&rt, what.as_str(), count)?;
     let nanos = taken.time.as_nanos();
     println!(rt; "{nanos} ns, {}", taken.count)

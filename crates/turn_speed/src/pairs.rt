@@ -15,14 +15,14 @@ use std::thread::Threads;
 use turn_drive::run_turns;
 
 /// A machine that emits as the console does.
-type Rows = Emitter<65536, 1024>;
+pub(crate) type Rows = Emitter<65536, 1024>;
 
 /// A machine that emits as the sound side does.
-type Samples = Emitter<4096, 4>;
+pub(crate) type Samples = Emitter<4096, 4>;
 
 /// Rows of 1,024 bytes as the console emits them, a step each 22 master clocks: 62 steps a line, and in a frame
 /// one row at each of the first 239 of 262 lines.
-fn rows(alloc: Global) -> Result<Rows, NoMemory>
+pub(crate) fn rows(alloc: Global) -> Result<Rows, NoMemory>
     ensures region { IfOk result (λ e. e.state.region ≡ Ntsc) }
     ensures starts { IfOk result (λ e. e.state.stamp ≡ 0) }
     ensures empty { IfOk result (λ e. e.waiting ≡ []) }
@@ -40,7 +40,7 @@ fn rows(alloc: Global) -> Result<Rows, NoMemory>
 }
 
 /// Samples of four bytes as the sound side emits them, one each 32 cycles.
-fn samples(alloc: Global) -> Result<Samples, NoMemory>
+pub(crate) fn samples(alloc: Global) -> Result<Samples, NoMemory>
     ensures region { IfOk result (λ e. e.state.region ≡ Ntsc) }
     ensures starts { IfOk result (λ e. e.state.stamp ≡ 0) }
     ensures empty { IfOk result (λ e. e.waiting ≡ []) }

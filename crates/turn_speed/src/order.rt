@@ -1,0 +1,94 @@
+// In which order the serial run hands on what two machines emit.
+ghost use Rattle.std.specs.Prelude.{◌≤◌};
+
+use crate::pairs::{rows, samples};
+use clock_ratio::end_stamp;
+use file_shelf::Failed;
+use run_drive::{Sink, pour, run_serial};
+use serial_console::Serial;
+use snes_defs::{NoMemory, Side};
+use std::alloc::Global;
+
+/// More turns than two machines of this crate make in a few frames.
+const MOST_TURNS: u64 = 10_000_000;
+
+/// The takes of a run: how many of each side, and a hash (64-bit FNV-1a) of their sides and sizes, in order.
+#[derive(Clone, Copy, Debug, PartialEq, Eq)]
+pub struct Order {
+    pub rows: u64,
+    pub samples: u64,
+    hash: u64,
+}
+
+/// Nothing taken.
+const NOTHING: Order = Order {
+    rows: 0,
+    samples: 0,
+    hash: 0xCBF2_9CE4_8422_2325,
+};
+
+impl Order {
+    fn add(&mut self, number: u64) {
+        self.hash = (self.hash ^ number).wrapping_mul(0x100_0000_01B3);
+    }
+}
+
+impl Sink for Order {
+    ghost holds = { λ _ _ _. Unit {0} };
+
+    ghost only_takes = { λ _ _. Unit {0} };
+
+    ghost failed = { λ _ _ _. ⊥ };
+
+    fn take(&mut self, side: Side, bytes: &[u8]) -> Result<(), Failed> {
+        match side {
+            Side::Console => {
+                self.rows = self.rows.wrapping_add(1);
+                self.add(1);
+            }
+            Side::Sound => {
+                self.samples = self.samples.wrapping_add(1);
+                self.add(2);
+            }
+        }
+        self.add(bytes.len() as u64);
+        Ok(())
+    }
+
+    ghost takes_none = { λ _. tt };
+
+    ghost takes_more = { λ _ _ _ _ _. tt };
+
+    ghost failed_since = { λ _ _ _ _ _ none. none };
+}
+
+/// Rows and samples of so many frames as the serial run hands them on.
+pub fn by_run(alloc: Global, frames: u32) -> Result<Order, NoMemory>
+    requires { frames ≤ 36000 }
+{
+    let console = rows(alloc)?;
+    let sound = samples(alloc)?;
+    let mut buffer = [0u8; 1024];
+    let mut order = NOTHING;
+    let _ = run_serial(console, sound, end_stamp(frames), &mut buffer, &mut order);
+    Ok(order)
+}
+
+/// The same with both machines drained after each turn of the serial console, the console first.
+pub fn by_turns(alloc: Global, frames: u32) -> Result<Order, NoMemory>
+    requires { frames ≤ 36000 }
+{
+    let end = end_stamp(frames);
+    let mut serial = Serial::new(rows(alloc)?, samples(alloc)?);
+    let mut buffer = [0u8; 1024];
+    let mut order = NOTHING;
+    'turns: for _ in 0..MOST_TURNS {
+        if serial.finished(end) {
+            break;
+        }
+        let _ = serial.turn();
+        let _ = pour(serial.console(), Side::Console, &mut buffer, &mut order);
+        let _ = pour(serial.sound(), Side::Sound, &mut buffer, &mut order);
+    }
+    Ok(order)
+}
