@@ -26,7 +26,7 @@ some_begins had more rest b count e =
     ∙ ap (λ v. v ++ rest) (append_assoc had (take count more) (drop count more) ∙ ap (λ v. had ++ v) (take-append-drop {A = ℕ} count more))
     ∙ e
 
-first_held : (Holds : List ℕ → Type 0) (had more rest b : List ℕ) (count : ℕ) → (had ++ more) ++ rest ≡ b → Holds (had ++ take count more)
+pub first_held : (Holds : List ℕ → Type 0) (had more rest b : List ℕ) (count : ℕ) → (had ++ more) ++ rest ≡ b → Holds (had ++ take count more)
     → Holds (take (length (had ++ take count more)) b)
 first_held Holds had more rest b count e h =
     subst Holds (sym (first_of (had ++ take count more) (drop count more ++ rest) b (some_begins had more rest b count e))) h
@@ -39,6 +39,19 @@ length-zero (x ∷ a) none = absurd (omega (arith, none))
 -- nothing more of a side whose bytes stay
 none_more : (Holds : List ℕ → Type 0) (had : List ℕ) → Holds had → Holds (had ++ [])
 none_more Holds had h = subst Holds (sym (append-nil had)) h
+
+module _ {C S CState SState : Type 0} (console_moves : Moves CState) (sound_moves : Moves SState) (console_stands : C → CState → Type 0) (sound_stands : S → SState → Type 0) (end : ℕ) (c : CState) (s : SState) where
+  -- all bytes are the first ones
+  pub whole_is_first : (holds : Side → List ℕ → Type 0) → TookRun console_moves sound_moves c s end holds → TookFirst console_moves sound_moves c s end holds
+  whole_is_first holds h = record {
+    video = h.video;
+    audio = h.audio;
+    output = h.output;
+    video_count = length h.video;
+    video_taken = subst (holds Console) (sym (take_all (length h.video) h.video (omega arith))) h.video_taken;
+    audio_count = length h.audio;
+    audio_taken = subst (holds Sound) (sym (take_all (length h.audio) h.audio (omega arith))) h.audio_taken;
+  }
 
 module _ {C S CState SState : Type 0} (console_moves : Moves CState) (sound_moves : Moves SState) (console_stands : C → CState → Type 0) (sound_stands : S → SState → Type 0)
     (console_waiting : C → List ℕ) (sound_waiting : S → List ℕ) (end : ℕ) (c : CState) (s : SState) where
@@ -186,15 +199,3 @@ module _ {C S CState SState : Type 0} (console_moves : Moves CState) (sound_move
         video_taken = r.video_taken;
         audio_taken = r.audio_taken;
       }
-
-  -- all bytes are the first ones
-  pub whole_is_first : (holds : Side → List ℕ → Type 0) → TookRun console_moves sound_moves c s end holds → TookFirst console_moves sound_moves c s end holds
-  whole_is_first holds h = record {
-    video = h.video;
-    audio = h.audio;
-    output = h.output;
-    video_count = length h.video;
-    video_taken = subst (holds Console) (sym (take_all (length h.video) h.video (omega arith))) h.video_taken;
-    audio_count = length h.audio;
-    audio_taken = subst (holds Sound) (sym (take_all (length h.audio) h.audio (omega arith))) h.audio_taken;
-  }

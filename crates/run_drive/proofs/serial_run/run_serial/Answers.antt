@@ -100,6 +100,6 @@ returns-clause-first g c = λ m n console sound.
     let S = g.S.Machine in
     let of_console = g.met.C.Machine g.world.𝓛 g.world.𝓜 g.world.𝓡 ((λ s x. x), (λ x. x), (λ x. x), λ x. x) in
     let of_sound = g.met.S.Machine g.world.𝓛 g.world.𝓜 g.world.𝓡 ((λ s x. x), (λ x. x), (λ x. x), λ x. x) in
-    whole_is_first C.moves S.moves C.stands S.stands C.waiting S.waiting c.args.end m n _
+    whole_is_first C.moves S.moves C.stands S.stands c.args.end m n _
     (run_is_whole C.moves S.moves C.stands S.stands C.waiting S.waiting c.args.end m n C.stamp_of S.stamp_of of_console.stands_stamp of_sound.stands_stamp _ _
     (c.loop-serial.invariant.running m n console sound) (search rules))
