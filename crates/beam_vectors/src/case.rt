@@ -1,4 +1,3 @@
-use crate::number::decimal;
 use beam::{Beam, Happens};
 use snes_defs::{IrqTime, Region};
 use std::str::SplitWhitespace;
@@ -28,14 +27,14 @@ fn begins(beam: &mut Beam, mut words: SplitWhitespace<'_>) -> Option<bool> {
 
 /// Whether so many steps give the events of a line, and the beam stands where it says.
 fn passes(beam: &mut Beam, mut words: SplitWhitespace<'_>) -> Option<bool> {
-    let clocks = decimal(words.next()?)?;
-    let times = decimal(words.next()?)?;
+    let clocks = words.next()?.parse::<u16>().ok()?;
+    let times = words.next()?.parse::<u16>().ok()?;
     let irq = IrqTime {
-        kind: u8::try_from(decimal(words.next()?)?).ok()?,
-        h: decimal(words.next()?)?,
-        v: decimal(words.next()?)?,
+        kind: words.next()?.parse().ok()?,
+        h: words.next()?.parse().ok()?,
+        v: words.next()?.parse().ok()?,
     };
-    let overscan = decimal(words.next()?)? == 1;
+    let overscan = words.next()?.parse::<u8>().ok()? == 1;
     let mut letters = words.next()?.as_bytes();
     if letters == b"-".as_slice() {
         letters = b"".as_slice();
@@ -61,9 +60,9 @@ fn passes(beam: &mut Beam, mut words: SplitWhitespace<'_>) -> Option<bool> {
             beam.go_on(rest);
         }
     }
-    let h = decimal(words.next()?)?;
-    let v = decimal(words.next()?)?;
-    let blank = decimal(words.next()?)? == 1;
+    let h = words.next()?.parse::<u16>().ok()?;
+    let v = words.next()?.parse::<u16>().ok()?;
+    let blank = words.next()?.parse::<u8>().ok()? == 1;
     let spot = beam.spot();
     let stands = spot.h == h && spot.v == v && spot.blank == blank;
     Some(same && letters.is_empty() && stands)

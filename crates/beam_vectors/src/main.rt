@@ -11,7 +11,6 @@
 #![tactic(auto)]
 
 mod case;
-mod number;
 
 use beam::Beam;
 use snes_defs::Region;

@@ -1,6 +1,6 @@
 use crate::image::{generated, zeros};
-use crate::number::hexadecimal;
 use cart_map::{CartEnd, CartRefused, Place, accept, clocks, place};
+use case_text::{hexadecimal, put};
 use snes_defs::{Cart, MapKind};
 use std::alloc::Global;
 use std::mem;
@@ -33,20 +33,21 @@ impl Case {
         let mut words = line.split_whitespace();
         let kind = words.next()?;
         if kind == "image" {
-            let size = words.next()?.parse::<usize>().ok()?;
-            let seed = hexadecimal(words.next()?.as_bytes())?;
-            let ands = hexadecimal(words.next()?.as_bytes())?;
+            let size = words.next()?.parse().ok()?;
+            let seed = hexadecimal(words.next()?)?;
+            let ands = hexadecimal(words.next()?)?;
             self.file = generated(self.alloc, size, seed, ands).ok()?;
             return Some(true);
         }
         if kind == "zeros" {
-            let size = words.next()?.parse::<usize>().ok()?;
+            let size = words.next()?.parse().ok()?;
             self.file = zeros(self.alloc, size).ok()?;
             return Some(true);
         }
         if kind == "p" {
-            let offset = hexadecimal(words.next()?.as_bytes())?;
-            return self.puts(offset as usize, words.next()?.as_bytes());
+            let offset = hexadecimal(words.next()?)?;
+            put(self.file.as_mut_slice(), offset, words.next()?)?;
+            return Some(true);
         }
         if kind == "accept" {
             return self.answers(words);
@@ -55,17 +56,6 @@ impl Case {
             return self.lies(words);
         }
         Some(kind == "cart" || kind == "end")
-    }
-
-    /// Puts bytes, two digits each, into the file.
-    fn puts(&mut self, offset: usize, digits: &[u8]) -> Option<bool> {
-        let mut at = offset;
-        for pair in digits.chunks(2) {
-            let byte = self.file.get_mut(at)?;
-            *byte = u8::try_from(hexadecimal(pair)?).ok()?;
-            at = at.checked_add(1)?;
-        }
-        Some(true)
     }
 
     /// Whether the file is accepted or refused as the words say.
@@ -98,7 +88,7 @@ impl Case {
     /// Whether an address has the place and the clocks that the words say. Where the file was refused
     /// they say nothing.
     fn lies(&mut self, mut words: SplitWhitespace<'_>) -> Option<bool> {
-        let addr = hexadecimal(words.next()?.as_bytes())?;
+        let addr = hexadecimal(words.next()?)?;
         let kind = words.next()?;
         if kind == "-" {
             return Some(self.cart.is_none());
@@ -106,7 +96,7 @@ impl Case {
         if addr >= 0x100_0000 {
             return None;
         }
-        let index = hexadecimal(words.next()?.as_bytes())?;
+        let index = hexadecimal::<u32>(words.next()?)?;
         let slow = words.next()?.parse::<u8>().ok()?;
         let fast = words.next()?.parse::<u8>().ok()?;
         let cart = self.cart.as_ref()?;
@@ -135,7 +125,7 @@ fn is_named(cause: CartRefused, kind: &str, byte: Option<&str>) -> Option<bool> 
         CartRefused::TooLong => Some(kind == "toolong"),
         CartRefused::NoHeader => Some(kind == "noheader"),
         CartRefused::Coprocessor(chip) => {
-            Some(kind == "coprocessor" && hexadecimal(byte?.as_bytes())? == u32::from(chip))
+            Some(kind == "coprocessor" && hexadecimal::<u8>(byte?)? == chip)
         }
         CartRefused::RamSize(size) => Some(kind == "ramsize" && byte?.parse::<u8>().ok()? == size),
     }

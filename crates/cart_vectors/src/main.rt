@@ -16,7 +16,6 @@
 
 mod case;
 mod image;
-mod number;
 
 use case::Case;
 use std::{env, fs, io};

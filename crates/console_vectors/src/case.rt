@@ -1,7 +1,6 @@
-use crate::generator::Generator;
 use crate::marks::{Frame, Marks, Track};
-use crate::number::{byte_in, decimal, hexadecimal};
 use cart_map::accept;
+use case_text::{Generator, hexadecimal, put};
 use input_files::{read_boot, read_script, read_table};
 use snes_defs::Job;
 use std::alloc::Global;
@@ -52,12 +51,16 @@ impl Case {
         match kind.as_bytes() {
             b"image" => self.image = image_of(alloc, words)?,
             b"fill" => self.image = filled(alloc, words)?,
-            b"turns" => self.turns = decimal(words.next()?.as_bytes())?,
+            b"turns" => self.turns = words.next()?.parse().ok()?,
             b"meet" => self.meets = true,
-            b"p" => put(self.image.as_mut_slice(), words)?,
-            b"boot" => self.boot = bytes_of(alloc, words.next()?.as_bytes())?,
-            b"table" => self.table = table_of(alloc, words.next()?.as_bytes())?,
-            b"frames" => self.frames = u32::try_from(decimal(words.next()?.as_bytes())?).ok()?,
+            b"p" => put(
+                self.image.as_mut_slice(),
+                hexadecimal(words.next()?)?,
+                words.next()?,
+            )?,
+            b"boot" => self.boot = hex::decode(alloc, words.next()?).ok()?,
+            b"table" => self.table = table_of(alloc, words.next()?)?,
+            b"frames" => self.frames = words.next()?.parse().ok()?,
             b"v" => expect_picture(&mut self.pictures, words)?,
             b"a" => expect_sound(&mut self.sounds, words)?,
             _ => return None,
@@ -94,10 +97,9 @@ impl Case {
 
 /// A cartridge's file: so many bytes of a generator.
 fn image_of(alloc: Global, mut words: SplitWhitespace<'_>) -> Option<Vec<u8>> {
-    let size = usize::try_from(decimal(words.next()?.as_bytes())?).ok()?;
-    let seed = u32::try_from(hexadecimal(words.next()?.as_bytes())?).ok()?;
-    let ands = decimal(words.next()?.as_bytes())?;
-    let mut generator = Generator::new(seed);
+    let size = words.next()?.parse::<usize>().ok()?;
+    let mut generator = Generator::new(hexadecimal(words.next()?)?);
+    let ands = words.next()?.parse().ok()?;
     let mut image = Vec::new(alloc);
     for _ in 0..size {
         image.push(generator.byte(ands)).ok()?;
@@ -107,44 +109,21 @@ fn image_of(alloc: Global, mut words: SplitWhitespace<'_>) -> Option<Vec<u8>> {
 
 /// A cartridge's file: so many times one byte.
 fn filled(alloc: Global, mut words: SplitWhitespace<'_>) -> Option<Vec<u8>> {
-    let size = usize::try_from(decimal(words.next()?.as_bytes())?).ok()?;
-    let byte = byte_in(words.next()?.as_bytes(), 0)?;
+    let size = words.next()?.parse().ok()?;
+    let byte = hexadecimal::<u8>(words.next()?)?;
     vec![in alloc; byte; size].ok()
 }
 
-/// Bytes put into it.
-fn put(image: &mut [u8], mut words: SplitWhitespace<'_>) -> Option<()> {
-    let offset = usize::try_from(hexadecimal(words.next()?.as_bytes())?).ok()?;
-    let digits = words.next()?.as_bytes();
-    for i in 0..digits.len() / 2 {
-        let at = offset.checked_add(i)?;
-        if at >= image.len() {
-            return None;
-        }
-        image[at] = byte_in(digits, 2 * i)?;
-    }
-    Some(())
-}
-
-/// The bytes of a word of digits.
-fn bytes_of(alloc: Global, digits: &[u8]) -> Option<Vec<u8>> {
-    let mut bytes = Vec::new(alloc);
-    for i in 0..digits.len() / 2 {
-        bytes.push(byte_in(digits, 2 * i)?).ok()?;
-    }
-    Some(bytes)
-}
-
 /// A table's file: the ramp, or that of a seed.
-fn table_of(alloc: Global, word: &[u8]) -> Option<Vec<u8>> {
+fn table_of(alloc: Global, word: &str) -> Option<Vec<u8>> {
     let mut file = Vec::new(alloc);
-    if word == b"ramp".as_slice() {
+    if word == "ramp" {
         for i in 0..512u32 {
             add_entry(&mut file, (4 * i).min(2047))?;
         }
         return Some(file);
     }
-    let mut generator = Generator::new(u32::try_from(hexadecimal(word)?).ok()?);
+    let mut generator = Generator::new(hexadecimal(word)?);
     for _ in 0..512u32 {
         add_entry(&mut file, generator.next() >> 21)?;
     }
@@ -159,10 +138,10 @@ fn add_entry(file: &mut Vec<u8>, entry: u32) -> Option<()> {
 
 /// A frame of the picture with its hash, in order.
 fn expect_picture(frames: &mut Vec<Frame>, mut words: SplitWhitespace<'_>) -> Option<()> {
-    if decimal(words.next()?.as_bytes())? != frames.len() as u64 {
+    if words.next()?.parse::<usize>().ok()? != frames.len() {
         return None;
     }
-    let hash = hexadecimal(words.next()?.as_bytes())?;
+    let hash = hexadecimal(words.next()?)?;
     frames
         .push(Frame {
             size: PICTURE,
@@ -173,10 +152,10 @@ fn expect_picture(frames: &mut Vec<Frame>, mut words: SplitWhitespace<'_>) -> Op
 
 /// A frame's samples, how many, with their hash, in order.
 fn expect_sound(frames: &mut Vec<Frame>, mut words: SplitWhitespace<'_>) -> Option<()> {
-    if decimal(words.next()?.as_bytes())? != frames.len() as u64 {
+    if words.next()?.parse::<usize>().ok()? != frames.len() {
         return None;
     }
-    let size = decimal(words.next()?.as_bytes())?.checked_mul(4)?;
-    let hash = hexadecimal(words.next()?.as_bytes())?;
+    let size = words.next()?.parse::<u64>().ok()?.checked_mul(4)?;
+    let hash = hexadecimal(words.next()?)?;
     frames.push(Frame { size, hash }).ok()
 }

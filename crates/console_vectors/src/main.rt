@@ -19,9 +19,7 @@
 #![tactic(auto)]
 
 mod case;
-mod generator;
 mod marks;
-mod number;
 mod play;
 mod tally;
 mod turns;

@@ -1,4 +1,4 @@
-use crate::number::{hexadecimal, part};
+use case_text::{hexadecimal, part};
 use cpu_tables::{Access, Regs};
 use cpu65816::Cpu;
 use std::str::SplitWhitespace;
@@ -24,7 +24,7 @@ fn result_of(line: &str) -> Option<bool> {
         Cpu::between(start)
     };
     for word in accesses.split_whitespace() {
-        if !makes(&mut cpu, word.as_bytes())? {
+        if !makes(&mut cpu, word)? {
             return Some(false);
         }
     }
@@ -34,41 +34,32 @@ fn result_of(line: &str) -> Option<bool> {
 /// The registers of a case.
 fn registers(mut words: SplitWhitespace<'_>) -> Option<Regs> {
     Some(Regs {
-        a: word(words.next()?)?,
-        x: word(words.next()?)?,
-        y: word(words.next()?)?,
-        s: word(words.next()?)?,
-        d: word(words.next()?)?,
-        pc: word(words.next()?)?,
-        pbr: byte(words.next()?)?,
-        dbr: byte(words.next()?)?,
-        p: byte(words.next()?)?,
-        e: byte(words.next()?)? == 1,
+        a: hexadecimal(words.next()?)?,
+        x: hexadecimal(words.next()?)?,
+        y: hexadecimal(words.next()?)?,
+        s: hexadecimal(words.next()?)?,
+        d: hexadecimal(words.next()?)?,
+        pc: hexadecimal(words.next()?)?,
+        pbr: hexadecimal(words.next()?)?,
+        dbr: hexadecimal(words.next()?)?,
+        p: hexadecimal(words.next()?)?,
+        e: hexadecimal::<u8>(words.next()?)? == 1,
     })
 }
 
-/// A register of 16 bits.
-fn word(text: &str) -> Option<u16> {
-    u16::try_from(hexadecimal(text.as_bytes())?).ok()
-}
-
-/// A register of 8 bits.
-fn byte(text: &str) -> Option<u8> {
-    u8::try_from(hexadecimal(text.as_bytes())?).ok()
-}
-
 /// Whether the next access is the one of this word; it is made then. `S` only gives the two levels.
-fn makes(cpu: &mut Cpu, word: &[u8]) -> Option<bool> {
-    let kind = *word.first()?;
+fn makes(cpu: &mut Cpu, word: &str) -> Option<bool> {
+    let kind = *word.as_bytes().first()?;
     if kind == b'S' {
-        cpu.signal(part(word, 1, 2)? == 1, part(word, 2, 3)? == 1);
+        let (nmi, irq) = (part::<u8>(word, 1, 2)?, part::<u8>(word, 2, 3)?);
+        cpu.signal(nmi == 1, irq == 1);
         return Some(true);
     }
     if kind == b'I' {
         return Some(idles(cpu));
     }
     let place = part(word, 1, 7)?;
-    let value = u8::try_from(part(word, 7, 9)?).ok()?;
+    let value = part(word, 7, 9)?;
     match kind {
         b'F' => Some(fetches(cpu, place, value)),
         b'R' => Some(reads(cpu, place, value)),

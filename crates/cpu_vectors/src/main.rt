@@ -11,7 +11,6 @@
 #![tactic(auto)]
 
 mod case;
-mod number;
 
 use std::{env, fs, io};
 

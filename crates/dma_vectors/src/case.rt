@@ -1,4 +1,4 @@
-use crate::number::{hexadecimal, part};
+use case_text::{Generator, hexadecimal, part};
 use dma_hdma::{Dma, Move};
 use std::str::SplitWhitespace;
 
@@ -6,7 +6,7 @@ use std::str::SplitWhitespace;
 #[derive(Drop)]
 pub struct Case {
     dma: Dma,
-    number: u32,
+    generator: Generator,
     /// The bytes are those that the moves name.
     given: bool,
 }
@@ -15,7 +15,7 @@ impl Case {
     pub fn new() -> Case {
         Case {
             dma: Dma::new(),
-            number: 0,
+            generator: Generator::new(0),
             given: false,
         }
     }
@@ -53,13 +53,13 @@ impl Case {
     /// Makes the call of a name.
     fn called(&mut self, kind: &str, mut words: SplitWhitespace<'_>) -> Option<bool> {
         if kind == "bytes" {
-            self.number = hexadecimal(words.next()?.as_bytes())?;
+            self.generator = Generator::new(hexadecimal(words.next()?)?);
         } else if kind == "given" {
             self.given = true;
         } else if kind == "start" {
-            self.dma.start(byte(words.next()?)?);
+            self.dma.start(hexadecimal(words.next()?)?);
         } else if kind == "enable" {
-            self.dma.enable(byte(words.next()?)?);
+            self.dma.enable(hexadecimal(words.next()?)?);
         } else if kind == "frame" {
             self.dma.frame();
         } else if kind == "line" {
@@ -73,8 +73,8 @@ impl Case {
     /// Writes registers: four digits of the address and two of the byte each.
     fn writes(&mut self, words: SplitWhitespace<'_>) -> Option<bool> {
         for word in words {
-            let addr = u16::try_from(part(word.as_bytes(), 0, 4)?).ok()?;
-            let v = u8::try_from(part(word.as_bytes(), 4, 6)?).ok()?;
+            let addr = part(word, 0, 4)?;
+            let v = part(word, 4, 6)?;
             if !(0x4300..=0x437f).contains(&addr) {
                 return None;
             }
@@ -85,9 +85,9 @@ impl Case {
 
     /// Whether a register gives the byte.
     fn reads(&mut self, mut words: SplitWhitespace<'_>) -> Option<bool> {
-        let addr = u16::try_from(hexadecimal(words.next()?.as_bytes())?).ok()?;
-        let bus = byte(words.next()?)?;
-        let got = byte(words.next()?)?;
+        let addr = hexadecimal(words.next()?)?;
+        let bus = hexadecimal(words.next()?)?;
+        let got = hexadecimal::<u8>(words.next()?)?;
         if !(0x4300..=0x437f).contains(&addr) {
             return None;
         }
@@ -104,7 +104,7 @@ impl Case {
         };
         let mut moved = 0u32;
         for word in words {
-            if !self.moves(word.as_bytes())? {
+            if !self.moves(word)? {
                 return Some(false);
             }
             moved = moved.checked_add(1)?;
@@ -128,44 +128,35 @@ impl Case {
     }
 
     /// Whether the next byte is moved as a word says; it is moved then.
-    fn moves(&mut self, word: &[u8]) -> Option<bool> {
-        let kind = *word.first()?;
+    fn moves(&mut self, word: &str) -> Option<bool> {
+        let kind = *word.as_bytes().first()?;
         let moved = self.byte_for(word)?;
         let Some(due) = self.dma.next() else {
             return Some(false);
         };
         self.dma.done(moved);
-        let place = part(word, 1, 7)?;
+        let place = part::<u32>(word, 1, 7)?;
         match due {
             Move::Load { from } => {
-                Some(kind == b'L' && from == place && part(word, 7, 9)? == u32::from(moved))
+                Some(kind == b'L' && from == place && part::<u8>(word, 7, 9)? == moved)
             }
             Move::ToB { from, port } => {
-                let same = from == place && part(word, 7, 9)? == u32::from(port);
-                Some(kind == b'B' && same && part(word, 9, 11)? == u32::from(moved))
+                let same = from == place && part::<u8>(word, 7, 9)? == port;
+                Some(kind == b'B' && same && part::<u8>(word, 9, 11)? == moved)
             }
             Move::ToA { port, to } => {
-                let same = to == place && part(word, 7, 9)? == u32::from(port);
-                Some(kind == b'A' && same && part(word, 9, 11)? == u32::from(moved))
+                let same = to == place && part::<u8>(word, 7, 9)? == port;
+                Some(kind == b'A' && same && part::<u8>(word, 9, 11)? == moved)
             }
         }
     }
 
     /// The byte of a move: the one at the word's end, or the next of the generator.
-    fn byte_for(&mut self, word: &[u8]) -> Option<u8> {
+    fn byte_for(&mut self, word: &str) -> Option<u8> {
         if self.given {
-            let from = word.len().checked_sub(2)?;
-            return u8::try_from(part(word, from, word.len())?).ok();
+            part(word, word.len().checked_sub(2)?, word.len())
+        } else {
+            Some(self.generator.byte(1))
         }
-        self.number = self
-            .number
-            .wrapping_mul(1_664_525)
-            .wrapping_add(1_013_904_223);
-        Some((self.number >> 24) as u8)
     }
-}
-
-/// A byte of two digits.
-fn byte(text: &str) -> Option<u8> {
-    u8::try_from(hexadecimal(text.as_bytes())?).ok()
 }

@@ -14,7 +14,6 @@
 #![tactic(auto)]
 
 mod case;
-mod number;
 
 use case::Case;
 use std::{env, fs, io};

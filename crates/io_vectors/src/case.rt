@@ -1,4 +1,4 @@
-use crate::number::{byte, decimal, word};
+use case_text::{hexadecimal, part};
 use io_math::Io;
 use snes_defs::{IrqTime, Spot};
 use std::str::SplitWhitespace;
@@ -40,10 +40,7 @@ pub fn holds(io: &mut Io, line: &str) -> bool {
 /// Makes some writes, each an address and a byte in six digits.
 fn writes(io: &mut Io, words: SplitWhitespace<'_>) -> bool {
     for text in words {
-        let (Some(address), Some(value)) = (text.get(0..4), text.get(4..6)) else {
-            return false;
-        };
-        let (Some(address), Some(value)) = (word(address), byte(value)) else {
+        let (Some(address), Some(value)) = (part(text, 0, 4), part(text, 4, 6)) else {
             return false;
         };
         io.write(address, value);
@@ -53,27 +50,31 @@ fn writes(io: &mut Io, words: SplitWhitespace<'_>) -> bool {
 
 /// Whether a read gets what it is to get.
 fn reads(io: &mut Io, mut words: SplitWhitespace<'_>) -> Option<bool> {
-    let address = word(words.next()?)?;
-    let bus = byte(words.next()?)?;
-    let h = decimal(words.next()?)?;
-    let v = decimal(words.next()?)?;
-    let blank = decimal(words.next()?)? == 1;
-    let got = byte(words.next()?)?;
-    Some(io.read(address, bus, Spot { h, v, blank }) == got)
+    let address = hexadecimal(words.next()?)?;
+    let bus = hexadecimal(words.next()?)?;
+    let spot = Spot {
+        h: words.next()?.parse().ok()?,
+        v: words.next()?.parse().ok()?,
+        blank: words.next()?.parse::<u8>().ok()? == 1,
+    };
+    let got = hexadecimal::<u8>(words.next()?)?;
+    Some(io.read(address, bus, spot) == got)
 }
 
 /// Whether the levels and the timer are those of a line.
 fn levels(io: &Io, mut words: SplitWhitespace<'_>) -> Option<bool> {
-    let levels = byte(words.next()?)?;
-    let kind = byte(words.next()?)?;
-    let h = decimal(words.next()?)?;
-    let v = decimal(words.next()?)?;
+    let levels = hexadecimal::<u8>(words.next()?)?;
+    let time = IrqTime {
+        kind: words.next()?.parse().ok()?,
+        h: words.next()?.parse().ok()?,
+        v: words.next()?.parse().ok()?,
+    };
     let (nmi, irq) = io.lines();
     let same = nmi == (levels / 16 == 1) && irq == (levels % 16 == 1);
-    Some(same && io.irq_time() == IrqTime { kind, h, v })
+    Some(same && io.irq_time() == time)
 }
 
 /// The words of two pads.
 fn pads(mut words: SplitWhitespace<'_>) -> Option<(u16, u16)> {
-    Some((word(words.next()?)?, word(words.next()?)?))
+    Some((hexadecimal(words.next()?)?, hexadecimal(words.next()?)?))
 }

@@ -10,7 +10,6 @@
 #![tactic(auto)]
 
 mod cache;
-mod number;
 mod random;
 mod scene;
 

@@ -1,6 +1,6 @@
 //! A unit with everything at random.
 
-use crate::scene::generated;
+use case_text::Generator;
 use ppu_regs::Ppu;
 
 fn write(ppu: &mut Ppu, register: u8, v: u8) {
@@ -9,25 +9,25 @@ fn write(ppu: &mut Ppu, register: u8, v: u8) {
 
 /// Sets all memories and registers by the generator, but for the mode, and full brightness.
 pub fn random_unit(ppu: &mut Ppu, mode: u8, seed: u32) {
-    let mut state = seed;
+    let mut generator = Generator::new(seed);
     write(ppu, 0x15, 0x80);
     for _ in 0..32768u32 {
-        let low = generated(&mut state, 1);
+        let low = generator.byte(1);
         write(ppu, 0x18, low);
-        let high = generated(&mut state, 1);
+        let high = generator.byte(1);
         write(ppu, 0x19, high);
     }
     for _ in 0..512u32 {
-        let v = generated(&mut state, 1);
+        let v = generator.byte(1);
         write(ppu, 0x22, v);
     }
     for _ in 0..544u32 {
-        let v = generated(&mut state, 1);
+        let v = generator.byte(1);
         write(ppu, 0x04, v);
     }
     for register in 1..52u8 {
-        let v = generated(&mut state, 1);
-        let again = generated(&mut state, 1);
+        let v = generator.byte(1);
+        let again = generator.byte(1);
         if register != 0x04
             && register != 0x05
             && register != 0x18
@@ -38,7 +38,7 @@ pub fn random_unit(ppu: &mut Ppu, mode: u8, seed: u32) {
             write(ppu, register, again);
         }
     }
-    let large = generated(&mut state, 1);
+    let large = generator.byte(1);
     write(ppu, 0x05, large / 8 * 8 + mode % 8);
     write(ppu, 0x00, 0x0f);
 }

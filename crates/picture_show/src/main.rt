@@ -71,7 +71,7 @@ fn main(rt: HostRuntime) -> io::Result<()> {
                 }
                 scene = scene.saturating_add(1);
             } else if let Some((ppu, _)) = &mut unit {
-                acts(ppu, line);
+                let _done = acts(ppu, line);
             }
         }
         fs::write(&rt, out.as_str(), bytes.as_slice())?;

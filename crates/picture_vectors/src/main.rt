@@ -62,8 +62,7 @@ fn does(ppu: &mut Ppu, tiles: &mut TileCache, tally: &mut Tally, line: &str) -> 
         }
         so
     } else {
-        acts(ppu, line);
-        true
+        acts(ppu, line).is_some()
     }
 }
 

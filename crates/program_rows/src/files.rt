@@ -1,4 +1,4 @@
-use crate::number::{byte_in, decimal, hexadecimal};
+use case_text::{Generator, hexadecimal, put};
 use std::alloc::Global;
 use std::str::SplitWhitespace;
 
@@ -54,6 +54,10 @@ impl Files {
             let bytes = self.find(name)?.to_vec(self.alloc).ok()?;
             return extend(&mut self.latest()?.bytes, bytes.as_slice());
         }
+        if let Some(digits) = line.strip_prefix("hex ") {
+            let bytes = hex::decode(self.alloc, digits).ok()?;
+            return extend(&mut self.latest()?.bytes, bytes.as_slice());
+        }
         let bytes = &mut self.latest()?.bytes;
         if let Some(text) = line.strip_prefix("text ") {
             return extend(bytes, text.as_bytes());
@@ -65,8 +69,11 @@ impl Files {
         let mut words = line.split_whitespace();
         match words.next()?.as_bytes() {
             b"fill" => fill(bytes, words),
-            b"hex" => hex(bytes, words),
-            b"put" => put(bytes, words),
+            b"put" => put(
+                bytes.as_mut_slice(),
+                hexadecimal(words.next()?)?,
+                words.next()?,
+            ),
             b"ramp" => ramp(bytes, words),
             b"noise" => noise(bytes, words),
             _ => None,
@@ -84,41 +91,17 @@ fn extend(bytes: &mut Vec<u8>, more: &[u8]) -> Option<()> {
 
 /// `fill COUNT BYTE`: so many times that byte.
 fn fill(bytes: &mut Vec<u8>, mut words: SplitWhitespace<'_>) -> Option<()> {
-    let count = decimal(words.next()?.as_bytes())?;
-    let byte = byte_in(words.next()?.as_bytes(), 0)?;
+    let count = words.next()?.parse::<u64>().ok()?;
+    let byte = hexadecimal(words.next()?)?;
     for _ in 0..count {
         bytes.push(byte).ok()?;
     }
     Some(())
 }
 
-/// `hex BYTES`: these bytes.
-fn hex(bytes: &mut Vec<u8>, mut words: SplitWhitespace<'_>) -> Option<()> {
-    let digits = words.next()?.as_bytes();
-    for i in 0..digits.len() / 2 {
-        bytes.push(byte_in(digits, 2 * i)?).ok()?;
-    }
-    Some(())
-}
-
-/// `put OFFSET BYTES`: these bytes in place of those at an offset.
-fn put(bytes: &mut Vec<u8>, mut words: SplitWhitespace<'_>) -> Option<()> {
-    let offset = usize::try_from(hexadecimal(words.next()?.as_bytes())?).ok()?;
-    let digits = words.next()?.as_bytes();
-    let file = bytes.as_mut_slice();
-    for i in 0..digits.len() / 2 {
-        let at = offset.checked_add(i)?;
-        if at >= file.len() {
-            return None;
-        }
-        file[at] = byte_in(digits, 2 * i)?;
-    }
-    Some(())
-}
-
 /// `ramp STEP`: 512 numbers of two bytes, the low one first, of which number i is i times the step.
 fn ramp(bytes: &mut Vec<u8>, mut words: SplitWhitespace<'_>) -> Option<()> {
-    let step = decimal(words.next()?.as_bytes())?;
+    let step = words.next()?.parse::<u64>().ok()?;
     let mut number = 0u64;
     for _ in 0..512 {
         bytes.push((number % 256) as u8).ok()?;
@@ -130,11 +113,10 @@ fn ramp(bytes: &mut Vec<u8>, mut words: SplitWhitespace<'_>) -> Option<()> {
 
 /// `noise NUMBER COUNT`: so many bytes of the generator that begins with a number.
 fn noise(bytes: &mut Vec<u8>, mut words: SplitWhitespace<'_>) -> Option<()> {
-    let mut x = u32::try_from(decimal(words.next()?.as_bytes())?).ok()?;
-    let count = decimal(words.next()?.as_bytes())?;
+    let mut generator = Generator::new(words.next()?.parse().ok()?);
+    let count = words.next()?.parse::<u64>().ok()?;
     for _ in 0..count {
-        x = x.wrapping_mul(1_664_525).wrapping_add(1_013_904_223);
-        bytes.push((x >> 24) as u8).ok()?;
+        bytes.push(generator.byte(1)).ok()?;
     }
     Some(())
 }

@@ -30,7 +30,6 @@ mod answer;
 mod compare;
 mod files;
 mod follow;
-mod number;
 mod rows;
 mod show;
 

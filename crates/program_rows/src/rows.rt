@@ -1,6 +1,5 @@
 use crate::answer::answer;
 use crate::files::Files;
-use crate::number::decimal;
 use file_shelf::{MemShelf, Out, ShelfCall};
 use run_io::Argv;
 use snes_call::Status;
@@ -43,7 +42,7 @@ impl Rows {
     /// A line that says what rows are run with.
     pub fn line(&mut self, line: &str) -> Option<()> {
         if let Some(count) = line.strip_prefix("room ") {
-            self.room = usize::try_from(decimal(count.as_bytes())?).ok()?;
+            self.room = count.parse().ok()?;
             return Some(());
         }
         match line.strip_prefix("fail ") {
@@ -88,7 +87,7 @@ fn failure_of(text: &str) -> Option<Failure> {
         b"say" => ShelfCall::Put(Some(Out::Say)),
         _ => return None,
     };
-    let nth = u32::try_from(decimal(words.next()?.as_bytes())?).ok()?;
+    let nth = words.next()?.parse().ok()?;
     Some(Failure { call, nth })
 }
 
@@ -97,7 +96,7 @@ fn push(alloc: Global, argv: &mut Argv, word: &str) -> Option<()> {
     let Some(count) = word.strip_prefix("*") else {
         return argv.push(word).ok();
     };
-    let count = usize::try_from(decimal(count.as_bytes())?).ok()?;
+    let count = count.parse().ok()?;
     let letters = vec![in alloc; b'v'; count].ok()?;
     argv.push(str::from_utf8(letters.as_slice()).ok()?).ok()
 }

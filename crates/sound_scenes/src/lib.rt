@@ -9,9 +9,6 @@
 //! stands on `sdsp_voice` and `sdsp_echo`; it is for programs that show or compare scenes.
 #![tactic(auto)]
 
-mod generator;
-mod number;
 mod unit;
 
-pub use number::decimal;
 pub use unit::{Outcome, Unit};

@@ -1,7 +1,6 @@
 ghost use Rattle.std.specs.Prelude.{◌≡◌, ◌≤◌, All, length};
 
-use crate::generator::Generator;
-use crate::number::{byte, byte_in, decimal, hexadecimal};
+use case_text::{Generator, hexadecimal, part, put};
 use sdsp_echo::Echo;
 use sdsp_voice::Voices;
 use snes_defs::Table;
@@ -44,9 +43,9 @@ impl Unit {
         let kind = words.next()?;
         match kind.as_bytes() {
             b"ram" => fill(ram, words)?,
-            b"p" => put(ram, words)?,
+            b"p" => put(ram, hexadecimal(words.next()?)?, words.next()?)?,
             b"table" => self.table = table(words)?,
-            b"start" => self.sample = decimal(words.next()?.as_bytes())?,
+            b"start" => self.sample = words.next()?.parse().ok()?,
             b"w" => self.write(words)?,
             b"s" => return self.play(ram, words),
             b"q" => return self.read(words),
@@ -68,15 +67,15 @@ impl Unit {
 
     /// Writes of registers, before a sample.
     fn write(&mut self, mut words: SplitWhitespace<'_>) -> Option<()> {
-        if decimal(words.next()?.as_bytes())? != self.sample {
+        if words.next()?.parse::<u64>().ok()? != self.sample {
             return None;
         }
         for word in words {
-            let reg = byte_in(word.as_bytes(), 0)?;
+            let reg = part::<u8>(word, 0, 2)?;
             if reg >= 128 {
                 return None;
             }
-            self.voices.write(reg, byte_in(word.as_bytes(), 2)?);
+            self.voices.write(reg, part(word, 2, 4)?);
         }
         Some(())
     }
@@ -85,10 +84,10 @@ impl Unit {
     fn play(&mut self, ram: &mut [u8], mut words: SplitWhitespace<'_>) -> Option<Outcome>
         requires { length ram.old ≡ 65536 }
     {
-        let mut left_to_play = decimal(words.next()?.as_bytes())?;
+        let mut left_to_play = words.next()?.parse::<u64>().ok()?;
         let mut outcome = Outcome::Holds;
         'samples: for word in words {
-            let expected = hexadecimal(word.as_bytes())?;
+            let expected = hexadecimal::<u64>(word)?;
             let (left, right) = self.next_sample(ram);
             left_to_play = left_to_play.checked_sub(1)?;
             let pair = left.cast_unsigned() as u64 * 65536 + right.cast_unsigned() as u64;
@@ -105,11 +104,11 @@ impl Unit {
 
     /// A register, compared with the line's byte.
     fn read(&self, mut words: SplitWhitespace<'_>) -> Option<Outcome> {
-        let reg = byte(words.next()?.as_bytes())?;
+        let reg = hexadecimal::<u8>(words.next()?)?;
         if reg >= 128 {
             return None;
         }
-        let expected = byte(words.next()?.as_bytes())?;
+        let expected = hexadecimal::<u8>(words.next()?)?;
         Some(told(self.voices.read(reg) == expected))
     }
 }
@@ -138,8 +137,7 @@ fn table(mut words: SplitWhitespace<'_>) -> Option<Table> {
     if word.as_bytes() == b"ramp".as_slice() {
         return Some(ramp());
     }
-    let seed = u32::try_from(hexadecimal(word.as_bytes())?).ok()?;
-    Some(random_table(seed))
+    Some(random_table(hexadecimal(word)?))
 }
 
 /// The table of a seed.
@@ -154,34 +152,17 @@ fn random_table(seed: u32) -> Table {
 
 /// RAM by a seed.
 fn fill(ram: &mut [u8], mut words: SplitWhitespace<'_>) -> Option<()> {
-    let seed = u32::try_from(hexadecimal(words.next()?.as_bytes())?).ok()?;
-    let ands = decimal(words.next()?.as_bytes())?;
-    let mut generator = Generator::new(seed);
+    let mut generator = Generator::new(hexadecimal(words.next()?)?);
+    let ands = words.next()?.parse().ok()?;
     for byte in ram {
         *byte = generator.byte(ands);
     }
     Some(())
 }
 
-/// Bytes put into RAM.
-fn put(ram: &mut [u8], mut words: SplitWhitespace<'_>) -> Option<()>
-    requires { length ram.old ≡ 65536 }
-{
-    let address = usize::try_from(hexadecimal(words.next()?.as_bytes())?).ok()?;
-    let digits = words.next()?.as_bytes();
-    'bytes: for i in 0..digits.len() / 2 {
-        let at = address.checked_add(i)?;
-        if at >= 65536 {
-            return None;
-        }
-        ram[at] = byte_in(digits, 2 * i)?;
-    }
-    Some(())
-}
-
 /// Whether RAM has the hash of a line: 64-bit FNV-1a.
 fn same_hash(ram: &[u8], mut words: SplitWhitespace<'_>) -> Option<Outcome> {
-    let expected = hexadecimal(words.next()?.as_bytes())?;
+    let expected = hexadecimal::<u64>(words.next()?)?;
     let mut hash = 0xCBF2_9CE4_8422_2325u64;
     for byte in ram {
         hash = (hash ^ *byte as u64).wrapping_mul(0x100_0000_01B3);

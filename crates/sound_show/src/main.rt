@@ -9,7 +9,7 @@
 
 ghost use Rattle.std.specs.Prelude.{◌≡◌, length};
 
-use sound_scenes::{Unit, decimal};
+use sound_scenes::Unit;
 use std::alloc::{AllocError, Global};
 use std::{env, fs, io};
 
@@ -23,7 +23,7 @@ fn samples_of(line: &str) -> Option<u64> {
     let mut words = line.split_whitespace();
     let kind = words.next()?;
     if kind.as_bytes() == b"s".as_slice() {
-        decimal(words.next()?.as_bytes())
+        words.next()?.parse().ok()
     } else {
         None
     }

@@ -1,4 +1,4 @@
-use crate::number::{hexadecimal, part};
+use case_text::{hexadecimal, part};
 use spc700::{Spc, SpcAccess, SpcRegs};
 use std::str::SplitWhitespace;
 
@@ -18,7 +18,7 @@ fn result_of(line: &str) -> Option<bool> {
     let _label = words.next()?;
     let mut spc = Spc::at(registers(words)?);
     for word in accesses.split_whitespace() {
-        if !makes(&mut spc, word.as_bytes())? {
+        if !makes(&mut spc, word)? {
             return Some(false);
         }
     }
@@ -28,33 +28,23 @@ fn result_of(line: &str) -> Option<bool> {
 /// The registers of a case.
 fn registers(mut words: SplitWhitespace<'_>) -> Option<SpcRegs> {
     Some(SpcRegs {
-        a: byte(words.next()?)?,
-        x: byte(words.next()?)?,
-        y: byte(words.next()?)?,
-        sp: byte(words.next()?)?,
-        pc: word(words.next()?)?,
-        psw: byte(words.next()?)?,
+        a: hexadecimal(words.next()?)?,
+        x: hexadecimal(words.next()?)?,
+        y: hexadecimal(words.next()?)?,
+        sp: hexadecimal(words.next()?)?,
+        pc: hexadecimal(words.next()?)?,
+        psw: hexadecimal(words.next()?)?,
     })
 }
 
-/// A register of 16 bits.
-fn word(text: &str) -> Option<u16> {
-    u16::try_from(hexadecimal(text.as_bytes())?).ok()
-}
-
-/// A register of 8 bits.
-fn byte(text: &str) -> Option<u8> {
-    u8::try_from(hexadecimal(text.as_bytes())?).ok()
-}
-
 /// Whether the next access is the one of this word; it is made then.
-fn makes(spc: &mut Spc, word: &[u8]) -> Option<bool> {
-    let kind = *word.first()?;
+fn makes(spc: &mut Spc, word: &str) -> Option<bool> {
+    let kind = *word.as_bytes().first()?;
     if kind == b'I' {
         return Some(idles(spc));
     }
-    let place = u16::try_from(part(word, 1, 5)?).ok()?;
-    let value = u8::try_from(part(word, 5, 7)?).ok()?;
+    let place = part(word, 1, 5)?;
+    let value = part(word, 5, 7)?;
     match kind {
         b'F' => Some(fetches(spc, place, value)),
         b'R' => Some(reads(spc, place, value)),

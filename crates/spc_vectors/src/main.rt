@@ -10,7 +10,6 @@
 #![tactic(auto)]
 
 mod case;
-mod number;
 
 use std::{env, fs, io};
 

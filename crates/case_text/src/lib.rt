@@ -1,0 +1,12 @@
+//! The words of a file of outside cases: numbers in digits, and the generator of bytes and tables.
+//!
+//! A file of cases has a case a line or a block, in words with spaces between. Decimal numbers are
+//! those of `str::parse`; `hexadecimal` reads the others. The crate stands on `hex` alone, and is for
+//! the programs that run cases, rows and scenes.
+#![tactic(auto)]
+
+mod generator;
+mod number;
+
+pub use generator::Generator;
+pub use number::{hexadecimal, part, put};
