@@ -12,7 +12,7 @@ use Rattle.cpu_alu.specs.Registers.{with_status, clear_flags, set_flags, exchang
 use Rattle.cpu_alu.specs.Results.{registers_after, is_accumulator}
 use Rattle.cpu_alu.specs.Sums.{add, subtract, compare, test_bits, take_sum}
 use Rattle.cpu_alu.specs.Width.{put_a, load_a, load_x, load_y}
-use Rattle.alu_laws.specs.Wide.{takes_all_of_a}
+use Rattle.cpu_alu_laws.specs.Wide.{takes_all_of_a}
 
 -- at 8 bits the high byte of A stays
 

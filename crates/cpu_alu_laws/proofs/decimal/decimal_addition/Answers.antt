@@ -1,5 +1,5 @@
-use Rattle.alu_laws.proofs.DecimalSums.{decimal_sum_after}
-use Rattle.alu_laws.proofs.decimal.decimal_addition.Goals as goal
+use Rattle.cpu_alu_laws.proofs.DecimalSums.{decimal_sum_after}
+use Rattle.cpu_alu_laws.proofs.decimal.decimal_addition.Goals as goal
 
 pub returns-clause-digits : goal.returns-clause-digits
 returns-clause-digits c =

@@ -10,9 +10,9 @@ use Rattle.cpu_alu.specs.declared.sums.Direction.TheVariants.{Addition, Subtract
 use Rattle.cpu_alu.specs.Sums.{digits, decimal_sum, sum_of, take_sum, add, subtract}
 use Rattle.cpu_alu.specs.Results.{registers_after}
 use Rattle.cpu_alu.specs.Width.{bit_of, put_a, load_a}
-use Rattle.alu_laws.specs.Numbers.{number, IsDecimal, digit_count}
-use Rattle.alu_laws.proofs.Digits.{IsComplement, digits_of_sum, digits_of_difference}
-use Rattle.alu_laws.proofs.StatusLemmas.{carry_of_put}
+use Rattle.cpu_alu_laws.specs.Numbers.{number, IsDecimal, digit_count}
+use Rattle.cpu_alu_laws.proofs.Digits.{IsComplement, digits_of_sum, digits_of_difference}
+use Rattle.cpu_alu_laws.proofs.StatusLemmas.{carry_of_put}
 
 -- a sum of one or three lower digits and a top one is that of two or four digits
 pub two_digits : (way : Direction) (a m : ℕ) (c : Bool) → (decimal_sum way 1 a m c).value ≡ (digits way 2 a m c).value

@@ -3,7 +3,7 @@ ghost use Rattle.status_bits.specs.StatusBits.{flag};
 ghost use Rattle.cpu_tables.specs.Status.{memory_size};
 ghost use Rattle.cpu_alu.specs.Results.{registers_after};
 ghost use Rattle.cpu_alu.specs.Width.{bit_of};
-ghost use Rattle.alu_laws.specs.Signed.{signed};
+ghost use Rattle.cpu_alu_laws.specs.Signed.{signed};
 
 use cpu_tables::{CARRY, DECIMAL, Mode, OVERFLOW, Op, Regs};
 

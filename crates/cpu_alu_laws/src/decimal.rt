@@ -2,7 +2,7 @@ ghost use Rattle.std.specs.Prelude.{◌≡◌, ◌+◌, ◌*◌, ◌^◌, true};
 ghost use Rattle.status_bits.specs.StatusBits.{flag};
 ghost use Rattle.cpu_alu.specs.Results.{registers_after};
 ghost use Rattle.cpu_alu.specs.Width.{bit_of};
-ghost use Rattle.alu_laws.specs.Numbers.{IsDecimal, digit_count, number};
+ghost use Rattle.cpu_alu_laws.specs.Numbers.{IsDecimal, digit_count, number};
 
 use cpu_tables::{CARRY, DECIMAL, Mode, Op, Regs};
 

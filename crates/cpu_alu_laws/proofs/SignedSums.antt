@@ -10,9 +10,9 @@ use Rattle.cpu_tables.specs.Status.{memory_size}
 use Rattle.cpu_alu.specs.Results.{registers_after}
 use Rattle.cpu_alu.specs.Sums.{overflow, add, subtract, take_sum, sum_of, binary_sum}
 use Rattle.cpu_alu.specs.Width.{bit_of, put_a, load_a}
-use Rattle.alu_laws.proofs.Digits.{small_bit}
-use Rattle.alu_laws.proofs.StatusLemmas.{put_64}
-use Rattle.alu_laws.specs.Signed.{signed}
+use Rattle.cpu_alu_laws.proofs.Digits.{small_bit}
+use Rattle.cpu_alu_laws.proofs.StatusLemmas.{put_64}
+use Rattle.cpu_alu_laws.specs.Signed.{signed}
 
 -- adding a complement and a carry is subtracting, less one where the carry is 0
 sum_to_difference : (x a s m : ℤ) (c : ℕ) → c < 2 → s ≡ neg_ℤ (m +ℤ pos 1) → x ≡ a +ℤ s +ℤ pos c → x ≡ a -ℤ m -ℤ pos (1 - c)

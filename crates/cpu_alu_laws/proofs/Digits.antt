@@ -5,7 +5,7 @@ use Rattle.cpu_alu.specs.declared.sums.Digits.{Digits}
 use Rattle.cpu_alu.specs.declared.sums.Direction.TheVariants.{Addition, Subtraction}
 use Rattle.cpu_alu.specs.Sums.{corrected, digits}
 use Rattle.cpu_alu.specs.Width.{bit_of}
-use Rattle.alu_laws.specs.Numbers.{number, IsDecimal}
+use Rattle.cpu_alu_laws.specs.Numbers.{number, IsDecimal}
 
 -- a corrected digit of an addition is the digit of the sum, and its carry the next one
 pub digit_of_sum : (t : ℕ) → t < 20 → ((corrected Addition t).value < 10) × ((corrected Addition t).value + 10 * bit_of (corrected Addition t).carry ≡ t)

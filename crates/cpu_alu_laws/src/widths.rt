@@ -1,7 +1,7 @@
 ghost use Rattle.std.specs.Prelude.{◌≡◌, ◌/◌, false, true};
 ghost use Rattle.status_bits.specs.StatusBits.{flag};
 ghost use Rattle.cpu_alu.specs.Results.{registers_after};
-ghost use Rattle.alu_laws.specs.Wide.{takes_all_of_a};
+ghost use Rattle.cpu_alu_laws.specs.Wide.{takes_all_of_a};
 
 use cpu_tables::{MEMORY_8, Mode, Op, Regs};
 

@@ -12,7 +12,7 @@ use Rattle.cpu_alu.specs.Registers.{with_flag}
 use Rattle.cpu_alu.specs.Results.{registers_after}
 use Rattle.cpu_alu.specs.Sums.{add, subtract, compare, take_sum, sum_of, binary_sum}
 use Rattle.cpu_alu.specs.Width.{accumulator, put_a, load_a, with_nz}
-use Rattle.alu_laws.proofs.StatusLemmas.{put_1, keep_8_1, keep_32_1, zero_of_put, decimal_after_sum, width_after_sum}
+use Rattle.cpu_alu_laws.proofs.StatusLemmas.{put_1, keep_8_1, keep_32_1, zero_of_put, decimal_after_sum, width_after_sum}
 
 -- COMPARISONS
 

@@ -1,5 +1,5 @@
-use Rattle.alu_laws.proofs.DecimalSums.{decimal_difference_after}
-use Rattle.alu_laws.proofs.decimal.decimal_subtraction.Goals as goal
+use Rattle.cpu_alu_laws.proofs.DecimalSums.{decimal_difference_after}
+use Rattle.cpu_alu_laws.proofs.decimal.decimal_subtraction.Goals as goal
 
 pub returns-clause-digits : goal.returns-clause-digits
 returns-clause-digits c =
