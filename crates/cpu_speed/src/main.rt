@@ -6,8 +6,8 @@
 
 ghost use Rattle.std.specs.Prelude.{◌+◌, ◌≤◌, length};
 
-use cpu_flat::run;
 use cpu65816::Cpu;
+use flat_memory::run;
 use std::env;
 
 /// The program at 00:8000: 16-bit loops over a table, with 8-bit work in between.

@@ -56,58 +56,25 @@ fn makes(cpu: &mut Cpu, word: &str) -> Option<bool> {
         return Some(true);
     }
     if kind == b'I' {
-        return Some(idles(cpu));
+        return Some(agrees(cpu, Access::Inner, 0));
     }
     let place = part(word, 1, 7)?;
     let value = part(word, 7, 9)?;
     match kind {
-        b'F' => Some(fetches(cpu, place, value)),
-        b'R' => Some(reads(cpu, place, value)),
-        b'W' => Some(writes(cpu, place, value)),
+        b'F' => Some(agrees(cpu, Access::Fetch(place), value)),
+        b'R' => Some(agrees(cpu, Access::Read(place), value)),
+        b'W' => Some(agrees(cpu, Access::Write(place, value), value)),
         _ => None,
     }
 }
 
-/// Whether the processor fetches there; it gets the byte then.
-fn fetches(cpu: &mut Cpu, place: u32, value: u8) -> bool {
-    match cpu.next() {
-        Access::Fetch(at) => {
-            cpu.took(value);
-            at == place
-        }
-        _ => false,
+/// Whether the next access is this one. It is made, and a fetch or a read gets the byte.
+fn agrees(cpu: &mut Cpu, access: Access, byte: u8) -> bool {
+    let next = cpu.next();
+    match next {
+        Access::Fetch(_) | Access::Read(_) => cpu.took(byte),
+        Access::Write(_, _) => cpu.wrote(),
+        Access::Inner => cpu.idle(),
     }
-}
-
-/// Whether the processor reads there; it gets the byte then.
-fn reads(cpu: &mut Cpu, place: u32, value: u8) -> bool {
-    match cpu.next() {
-        Access::Read(at) => {
-            cpu.took(value);
-            at == place
-        }
-        _ => false,
-    }
-}
-
-/// Whether the processor writes that byte there.
-fn writes(cpu: &mut Cpu, place: u32, value: u8) -> bool {
-    match cpu.next() {
-        Access::Write(at, byte) => {
-            cpu.wrote();
-            at == place && byte == value
-        }
-        _ => false,
-    }
-}
-
-/// Whether the processor has an internal cycle.
-fn idles(cpu: &mut Cpu) -> bool {
-    match cpu.next() {
-        Access::Inner => {
-            cpu.idle();
-            true
-        }
-        _ => false,
-    }
+    next == access
 }

@@ -6,7 +6,7 @@
 
 ghost use Rattle.std.specs.Prelude.{◌+◌, ◌≤◌, length};
 
-use spc_flat::run;
+use flat_memory::run;
 use spc700::Spc;
 use std::env;
 

@@ -41,58 +41,25 @@ fn registers(mut words: SplitWhitespace<'_>) -> Option<SpcRegs> {
 fn makes(spc: &mut Spc, word: &str) -> Option<bool> {
     let kind = *word.as_bytes().first()?;
     if kind == b'I' {
-        return Some(idles(spc));
+        return Some(agrees(spc, SpcAccess::Inner, 0));
     }
     let place = part(word, 1, 5)?;
     let value = part(word, 5, 7)?;
     match kind {
-        b'F' => Some(fetches(spc, place, value)),
-        b'R' => Some(reads(spc, place, value)),
-        b'W' => Some(writes(spc, place, value)),
+        b'F' => Some(agrees(spc, SpcAccess::Fetch(place), value)),
+        b'R' => Some(agrees(spc, SpcAccess::Read(place), value)),
+        b'W' => Some(agrees(spc, SpcAccess::Write(place, value), value)),
         _ => None,
     }
 }
 
-/// Whether the processor fetches there; it gets the byte then.
-fn fetches(spc: &mut Spc, place: u16, value: u8) -> bool {
-    match spc.next() {
-        SpcAccess::Fetch(at) => {
-            spc.took(value);
-            at == place
-        }
-        _ => false,
+/// Whether the next access is this one. It is made, and a fetch or a read gets the byte.
+fn agrees(spc: &mut Spc, access: SpcAccess, byte: u8) -> bool {
+    let next = spc.next();
+    match next {
+        SpcAccess::Fetch(_) | SpcAccess::Read(_) => spc.took(byte),
+        SpcAccess::Write(_, _) => spc.wrote(),
+        SpcAccess::Inner => spc.idle(),
     }
-}
-
-/// Whether the processor reads there; it gets the byte then.
-fn reads(spc: &mut Spc, place: u16, value: u8) -> bool {
-    match spc.next() {
-        SpcAccess::Read(at) => {
-            spc.took(value);
-            at == place
-        }
-        _ => false,
-    }
-}
-
-/// Whether the processor writes that byte there.
-fn writes(spc: &mut Spc, place: u16, value: u8) -> bool {
-    match spc.next() {
-        SpcAccess::Write(at, byte) => {
-            spc.wrote();
-            at == place && byte == value
-        }
-        _ => false,
-    }
-}
-
-/// Whether the processor has an internal cycle.
-fn idles(spc: &mut Spc) -> bool {
-    match spc.next() {
-        SpcAccess::Inner => {
-            spc.idle();
-            true
-        }
-        _ => false,
-    }
+    next == access
 }

@@ -1,0 +1,3 @@
+pub mod Flat
+pub mod FlatCpu
+pub mod FlatSpc

@@ -1,0 +1,36 @@
+ghost use Rattle.std.specs.Prelude.{◌^◌};
+ghost use Rattle.spc700.specs.Instruction.{Standing};
+ghost use Rattle.spc700.specs.Stands.{Stands};
+ghost use Rattle.flat_memory.specs.FlatSpc.{after_access};
+
+use crate::Processor;
+use spc700::{Spc, SpcAccess};
+
+impl Processor for Spc {
+    ghost State = { Standing };
+
+    ghost size = { 2 ^ 16 };
+
+    ghost stands = { Stands };
+
+    ghost after_access = { after_access };
+
+    #[inline(always)]
+    fn step(&mut self, memory: &mut [u8]) {
+        match self.next() {
+            SpcAccess::Fetch(at) => {
+                let byte = memory[at as usize];
+                self.took(byte);
+            }
+            SpcAccess::Read(at) => {
+                let byte = memory[at as usize];
+                self.took(byte);
+            }
+            SpcAccess::Write(at, byte) => {
+                memory[at as usize] = byte;
+                self.wrote();
+            }
+            SpcAccess::Inner => self.idle(),
+        }
+    }
+}
