@@ -1,10 +1,12 @@
-// The worked cases of the port log and of the passes over it, run.
+// The worked cases of stamps, of the port log and of the passes over it, run.
 //
-// The contracts of `port_log` and `port_lock` are proved for every call; what stands here are cases with
-// numbers from outside the code: calls over passes and over a whole, the ports through the trait of the
+// The contracts of `clock_ratio`, `port_log` and `port_lock` are proved for every call; what stands here are cases
+// with numbers from outside the code: the numbers of both regions, calls over passes and over a whole, the ports through the trait of the
 // wire, and a thousand writes in one thread against reads in another. It has no code of its own.
 #![tactic(auto)]
 
+#[cfg(test)]
+mod clocks;
 #[cfg(test)]
 mod lock;
 #[cfg(test)]

@@ -24,6 +24,3 @@ pub use lines::{
 };
 pub use names::{Files, Name, WordsEnd};
 pub use words::Argv;
-
-#[cfg(test)]
-mod tests;

@@ -10,7 +10,5 @@
 
 mod leading;
 mod serial;
-#[cfg(test)]
-mod tests;
 
 pub use serial::Serial;

@@ -1,7 +1,7 @@
 ghost use Rattle.std.specs.Prelude.{◌≡◌, [], IfOk};
 ghost use Rattle.side_law.specs.Tape.{IsBeat};
 
-use crate::serial::Serial;
+use serial_console::Serial;
 use side_law::{Beat, Machine, Tape};
 use snes_defs::{Act, Region, Side};
 use std::alloc::Global;
