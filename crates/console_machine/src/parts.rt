@@ -9,6 +9,7 @@ ghost use Rattle.console_machine.specs.Side.{IsSome, StandsAt};
 use crate::acts::due_act;
 use crate::step::{make_step, try_make};
 use circular_buffer::HeapCircularBuffer;
+use clock_ratio::{CONSOLE_RATE, PAL_CONSOLE_RATE};
 use console_bus::Bus;
 use cpu65816::Cpu;
 use snes_defs::{Act, Region};
@@ -36,8 +37,8 @@ fn stamps(region: Region, clocks: u8) -> u64
     ensures small { result ≤ 4096000 }
 {
     match region {
-        Region::Ntsc => 5632 * clocks as u64,
-        Region::Pal => 102_400 * clocks as u64,
+        Region::Ntsc => CONSOLE_RATE * clocks as u64,
+        Region::Pal => PAL_CONSOLE_RATE * clocks as u64,
     }
 }
 

@@ -18,6 +18,15 @@ use console_steps::{
 use cpu_tables::Access;
 use cpu65816::Cpu;
 
+/// Master clocks of a refresh of work RAM.
+const REFRESH_CLOCKS: u8 = 40;
+
+/// Master clocks of a byte that a transfer moves.
+const MOVE_CLOCKS: u8 = 8;
+
+/// Master clocks of an internal cycle of the processor, and of a reset.
+const INNER_CLOCKS: u8 = 6;
+
 /// How many clocks an access at an address lasts.
 #[inline(always)]
 #[tactic(auto, using(crate::proofs::Few::few_clocks, crate::proofs::Few::least_clocks))]
@@ -57,7 +66,7 @@ fn make_access(cpu: &mut Cpu, bus: &mut Bus, got: u8) -> u8
         }
         Access::Inner => {
             make_inner(cpu, bus);
-            6
+            INNER_CLOCKS
         }
     }
 }
@@ -73,17 +82,17 @@ fn make_effect(cpu: &mut Cpu, bus: &mut Bus, got: u8) -> u8
 {
     if bus.resets() {
         make_reset(cpu, bus);
-        return 6;
+        return INNER_CLOCKS;
     }
     if bus.refreshes() {
         bus.refreshed();
         give_lines(cpu, bus);
-        return 40;
+        return REFRESH_CLOCKS;
     }
     if let Some(due) = bus.transfer() {
         make_move(bus, due, got);
         give_lines(cpu, bus);
-        return 8;
+        return MOVE_CLOCKS;
     }
     make_access(cpu, bus, got)
 }
