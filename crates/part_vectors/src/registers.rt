@@ -1,10 +1,17 @@
+//! Cases of the processor's registers, as `data/io.txt`.
+//!
+//! A line `io K` begins with new registers. `w AAAAVV ..` are writes of addresses and bytes; `q AAAA
+//! BUS H V BLANK GOT` is a read, with the byte last on the bus, line clock, line and vertical blank (1
+//! where it has begun), and what it gets; `frame P1 P2`, `blank P1 P2` and `timer` are events; `l LEVELS
+//! KIND H V` are the levels of NMI and IRQ as two digits, and the timer. H, V and KIND are decimal.
+
 use case_text::{hexadecimal, part};
 use io_math::Io;
 use snes_defs::{IrqTime, Spot};
 use std::str::SplitWhitespace;
 
 /// Whether the registers do what a line says. A line of no known form doesn't hold.
-pub fn holds(io: &mut Io, line: &str) -> bool {
+pub fn act_as(io: &mut Io, line: &str) -> bool {
     let mut words = line.split_whitespace();
     match words.next() {
         Some("io") => {

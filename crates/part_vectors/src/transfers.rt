@@ -1,19 +1,29 @@
+//! Cases of transfers, as `data/dma.txt`.
+//!
+//! A case is a block of lines from `dma` to `end`, with new channels. `w AAAAVV ..` writes registers
+//! 4300 to 437F; `bytes SEED` makes the bytes that are moved those of the generator x = 1664525 x +
+//! 1013904223 modulo 2^32, upper byte, one a move, and `given` those that the moves name; `start MASK`,
+//! `enable MASK`, `frame` and `line` are the calls; `count N` moves N bytes, after which none is due.
+//! `go N MOVES` moves N bytes, or with `all` as long as one is due: `L` + from + byte for a load, `B` +
+//! from + port + byte to the B side, `A` + to + port + byte to the A side. `q AAAA BUS GOT` is a read.
+//! N is decimal, all other numbers are hexadecimal.
+
 use case_text::{Generator, hexadecimal, part};
 use dma_hdma::{Dma, Move};
 use std::str::SplitWhitespace;
 
 /// The case in hand: its channels, and the generator of the bytes that they move.
 #[derive(Drop)]
-pub struct Case {
+pub struct TransferCase {
     dma: Dma,
     generator: Generator,
     /// The bytes are those that the moves name.
     given: bool,
 }
 
-impl Case {
-    pub fn new() -> Case {
-        Case {
+impl TransferCase {
+    pub fn new() -> TransferCase {
+        TransferCase {
             dma: Dma::new(),
             generator: Generator::new(0),
             given: false,

@@ -1,22 +1,30 @@
-use crate::image::{generated, zeros};
+//! Cases of cartridges, as `data/cart.txt`: acceptance, places and clocks.
+//!
+//! A case is a block of lines from `cart` to `end`. `image SIZE SEED ANDS` makes its file from the
+//! generator x = 1664525 x + 1013904223 modulo 2^32, of whose upper bytes so many are joined by AND;
+//! `zeros SIZE` makes it of zeros; `p OFFSET BYTES` puts bytes into it. `accept ANSWER` says how it
+//! ends: `lorom` or `hirom` with the sizes of ROM and RAM, or the refusal. `at ADDRESS PLACE INDEX SLOW
+//! FAST` says what lies at an address and its clocks with MEMSEL bit 0 clear and set, `at ADDRESS -`
+//! that the file was refused. Sizes and clocks are decimal, all other numbers hexadecimal.
+
 use cart_map::{CartEnd, CartRefused, Place, accept, clocks, place};
-use case_text::{hexadecimal, put};
+use case_text::{Generator, hexadecimal, put};
 use snes_defs::{Cart, MapKind};
-use std::alloc::Global;
+use std::alloc::{AllocError, Global};
 use std::mem;
 use std::str::SplitWhitespace;
 
 /// The case in hand: its file until it is asked for, and then the cartridge that it gave, if any.
 #[derive(Drop)]
-pub struct Case {
+pub struct CartridgeCase {
     alloc: Global,
     file: Vec<u8>,
     cart: Option<Cart>,
 }
 
-impl Case {
-    pub fn new(alloc: Global) -> Case {
-        Case {
+impl CartridgeCase {
+    pub fn new(alloc: Global) -> CartridgeCase {
+        CartridgeCase {
             alloc,
             file: Vec::new(alloc),
             cart: None,
@@ -129,4 +137,19 @@ fn is_named(cause: CartRefused, kind: &str, byte: Option<&str>) -> Option<bool> 
         }
         CartRefused::RamSize(size) => Some(kind == "ramsize" && byte?.parse::<u8>().ok()? == size),
     }
+}
+
+/// A file of so many bytes of the generator: each is the AND of the upper bytes of so many numbers.
+fn generated(alloc: Global, size: usize, seed: u32, ands: u32) -> Result<Vec<u8>, AllocError> {
+    let mut bytes = Vec::new(alloc);
+    let mut generator = Generator::new(seed);
+    for _ in 0..size {
+        bytes.push(generator.byte(ands))?;
+    }
+    Ok(bytes)
+}
+
+/// A file of so many zeros.
+fn zeros(alloc: Global, size: usize) -> Result<Vec<u8>, AllocError> {
+    vec![in alloc; 0u8; size]
 }

@@ -1,9 +1,16 @@
+//! Cases of the beam, as `data/beam.txt`: what happens where it stands.
+//!
+//! A line `beam K REGION` begins a new beam, `ntsc` or `pal`. `p CLOCKS TIMES KIND H V OVERSCAN EVENTS
+//! LINECLOCK LINE BLANK` is TIMES steps of so many clocks with that timer and overscan bit. EVENTS are
+//! all their events in order, a letter each: L Line, B Blank, F HdmaFrame, R Refresh, D Draw, H
+//! HdmaLine, T Timer, and `-` where none came. The last three are where the beam stands after them.
+
 use beam::{Beam, Happens};
 use snes_defs::{IrqTime, Region};
 use std::str::SplitWhitespace;
 
 /// Whether the beam does what a line says. A line of no known form doesn't hold.
-pub fn holds(beam: &mut Beam, line: &str) -> bool {
+pub fn passes_as(beam: &mut Beam, line: &str) -> bool {
     let mut words = line.split_whitespace();
     match words.next() {
         Some("beam") => begins(beam, words).unwrap_or(false),

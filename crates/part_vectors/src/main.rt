@@ -1,0 +1,46 @@
+//! Runs outside cases of the console's parts through the proved code: which files are cartridges and what
+//! lies at an address, transfers, the processor's registers, and what happens where the beam stands.
+//!
+//! The program takes names of files of cases. A file is of one part, that of the word which begins its
+//! first case: `cart`, `dma`, `io` or `beam`. It may have lines of comment, from `#` on; each other line
+//! is done or compared. The page of each part's module has the form of its lines. The program prints
+//! each line that differs, and after the last file of a part how many lines of it there were.
+//!
+//! The cases of `data/cart.txt`, `dma.txt`, `io.txt` and `beam.txt` come from outside: two other
+//! programs agreed on them. Those of `data/*_worked.txt` were worked out by hand from the rules. Those
+//! of `data/*_differing.txt` are wrong in one thing each, and have to differ.
+#![tactic(auto)]
+
+mod cartridges;
+mod events;
+mod part;
+mod registers;
+mod tally;
+mod transfers;
+
+use part::{Case, Part};
+use std::{env, fs, io};
+use tally::Tally;
+
+fn main(rt: HostRuntime) -> io::Result<()> {
+    let mut part = None;
+    let mut tally = Tally::new();
+    for name in env::args(&rt)?.skip(1) {
+        let text = fs::read_to_string(&rt, name.as_str())?;
+        let Some(next) = Part::of(text.as_str()) else {
+            return println!(rt; "{name} has cases of no part");
+        };
+        if part.is_some_and(|part| part != next) {
+            tally.tell(&rt)?;
+            tally = Tally::new();
+        }
+        part = Some(next);
+        let mut case = Case::new(rt.alloc(), next);
+        for line in text.lines() {
+            if !line.starts_with('#') {
+                tally.compare(&rt, &mut case, line)?;
+            }
+        }
+    }
+    tally.tell(&rt)
+}

@@ -1,0 +1,70 @@
+use crate::cartridges::CartridgeCase;
+use crate::events::passes_as;
+use crate::registers::act_as;
+use crate::transfers::TransferCase;
+use beam::Beam;
+use io_math::Io;
+use snes_defs::Region;
+use std::alloc::Global;
+
+/// A part of the console that has cases.
+#[derive(Clone, Copy, PartialEq, Eq)]
+pub enum Part {
+    Cartridges,
+    Transfers,
+    Registers,
+    Beam,
+}
+
+impl Part {
+    /// The part whose cases a file has, if its first line that is no comment begins a case of one.
+    pub fn of(text: &str) -> Option<Part> {
+        for line in text.lines() {
+            if !line.starts_with('#') {
+                return Part::named(line.split_whitespace().next()?);
+            }
+        }
+        None
+    }
+
+    /// The part of which a case begins with this word.
+    fn named(word: &str) -> Option<Part> {
+        match word {
+            "cart" => Some(Part::Cartridges),
+            "dma" => Some(Part::Transfers),
+            "io" => Some(Part::Registers),
+            "beam" => Some(Part::Beam),
+            _ => None,
+        }
+    }
+}
+
+/// The case in hand, of one part.
+#[derive(Drop)]
+pub enum Case {
+    Cartridge(CartridgeCase),
+    Transfers(TransferCase),
+    Registers(Io),
+    Beam(Beam),
+}
+
+impl Case {
+    pub fn new(alloc: Global, part: Part) -> Case {
+        match part {
+            Part::Cartridges => Case::Cartridge(CartridgeCase::new(alloc)),
+            Part::Transfers => Case::Transfers(TransferCase::new()),
+            Part::Registers => Case::Registers(Io::new()),
+            Part::Beam => Case::Beam(Beam::new(Region::Ntsc)),
+        }
+    }
+
+    /// Whether a line holds. One that only tells what to do holds, and one that can't be read doesn't.
+    pub fn holds(&mut self, line: &str) -> bool {
+        match self {
+            Case::Cartridge(case) => case.holds(line),
+            Case::Transfers(case) => case.holds(line),
+            Case::Registers(registers) => act_as(registers, line),
+            Case::Beam(beam) => passes_as(beam, line),
+        }
+    }
+}
