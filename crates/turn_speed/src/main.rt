@@ -167,7 +167,10 @@ fn main(rt: HostRuntime) -> io::Result<()> {
             return Ok(());
         };
         let alike = run == turns;
-        return println!(rt; "rows {} samples {} in the order of turns: {alike}", run.rows, run.samples);
+        return println!(rt;
+            "rows {} samples {} in the order of turns: {alike}",
+            run.rows, run.samples
+        );
     }
     let taken = run(&rt, what.as_str(), count)?;
     let nanos = taken.time.as_nanos();
