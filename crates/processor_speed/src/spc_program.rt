@@ -1,14 +1,6 @@
-//! A mixed SPC700 program over a flat memory, to measure the time of a cycle.
-//!
-//! The argument is a number of cycles; without one nothing is done. What it prints are the registers
-//! and a sum over the memory after them, so that two builds can be compared.
-#![tactic(auto)]
+ghost use Rattle.std.specs.Prelude.{◌≤◌, length};
 
-ghost use Rattle.std.specs.Prelude.{◌+◌, ◌≤◌, length};
-
-use flat_memory::run;
-use spc700::Spc;
-use std::env;
+use crate::memory::load;
 
 /// The program at 0400: loops over a table, with words, bits, branches, calls, MUL and DIV in between.
 static MAIN: [u8; 71] = [
@@ -65,39 +57,11 @@ static ROUTINE: [u8; 15] = [
     0x6F, // RET
 ];
 
-/// Puts bytes into the memory.
-fn load(memory: &mut [u8], at: usize, bytes: &[u8])
-    requires { at + length bytes.now ≤ length memory.old }
+/// Puts the program, its subroutine and two pointers into the memory.
+pub fn load_spc_program(memory: &mut [u8])
+    requires { 65536 ≤ length memory.old }
 {
-    for (i, byte) in bytes.iter().enumerate() {
-        memory[at + i] = *byte;
-    }
-}
-
-/// The sum of all bytes, each by its place.
-fn sum(memory: &[u8]) -> u32 {
-    let mut sum: u32 = 0;
-    for byte in memory {
-        sum = sum.wrapping_mul(31).wrapping_add(*byte as u32);
-    }
-    sum
-}
-
-fn main(rt: HostRuntime) -> anyhow::Result<()> {
-    let mut arguments = env::args(&rt)?;
-    let _name = arguments.next();
-    let Some(text) = arguments.next() else {
-        return Ok(());
-    };
-    let cycles = text.as_str().parse::<u64>()?;
-    let mut bytes = vec![in rt.alloc(); 0u8; 65536]?;
-    let memory = bytes.as_mut_slice();
     load(memory, 0x0400, &MAIN);
     load(memory, 0x0500, &ROUTINE);
     load(memory, 0x20, &[0x00, 0x30, 0x00, 0x40]);
-    let mut spc = Spc::new(0x0400);
-    run(&mut spc, memory, cycles);
-    let r = spc.regs();
-    println!(rt; "{cycles} {:?} {}", r, sum(memory))?;
-    Ok(())
 }

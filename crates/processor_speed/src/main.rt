@@ -1,0 +1,64 @@
+//! Loops over both processors, each running a mixed program, to measure the time of an access or a step.
+//!
+//! The arguments are a loop and how often, and as many such pairs as are wanted (a number without a loop counts for the
+//! last one named, before the first for `cpu`):
+//!
+//! - `cpu N`: accesses of the 65C816 over a flat memory;
+//! - `spc N`: cycles of the SPC700 over a flat memory;
+//! - `cpu-step N`: steps of the 65C816 in a loop with the shape of the console's step. A step asks the processor's next
+//!   access, looks its page up for a place and a number of clocks, raises a stamp, makes the access, and compares the
+//!   stamp with that of the next event;
+//! - `spc-step N`: steps of the SPC700 in a loop with the shape of the sound side's step. A step asks the processor's
+//!   next access, keeps the registers 00F0 to 00FF apart from the memory, raises a stamp, makes the access, and compares
+//!   the stamp with that of the next tick.
+//!
+//! Without arguments nothing is done. What is printed are the number, the registers, in a step's loop the stamp and how
+//! many events or ticks came, and a sum over the memory, so that two builds can be compared. Each loop is a function
+//! of its own that isn't built into `main`. The 65C816's `idle` and `wrote` have two callers here, as in the console's
+//! program, and so stay out of line in both of its loops; in a program with one of them alone they are built into it.
+#![tactic(auto)]
+
+mod cpu_flat;
+mod cpu_program;
+mod cpu_step;
+mod memory;
+mod spc_flat;
+mod spc_program;
+mod spc_step;
+
+use cpu_flat::cpu_accesses;
+use cpu_step::cpu_steps;
+use spc_flat::spc_cycles;
+use spc_step::spc_steps;
+use std::env;
+
+/// What can be measured.
+#[derive(Clone, Copy)]
+enum Measured {
+    CpuAccesses,
+    SpcCycles,
+    CpuSteps,
+    SpcSteps,
+}
+
+fn main(rt: HostRuntime) -> anyhow::Result<()> {
+    let mut measured = Measured::CpuAccesses;
+    for word in env::args(&rt)?.skip(1) {
+        match word.as_str() {
+            "cpu" => measured = Measured::CpuAccesses,
+            "spc" => measured = Measured::SpcCycles,
+            "cpu-step" => measured = Measured::CpuSteps,
+            "spc-step" => measured = Measured::SpcSteps,
+            number => {
+                let count = number.parse::<u64>()?;
+                match measured {
+                    Measured::CpuAccesses => cpu_accesses(&rt, count)?,
+                    Measured::SpcCycles => spc_cycles(&rt, count)?,
+                    Measured::CpuSteps => cpu_steps(&rt, count)?,
+                    Measured::SpcSteps => spc_steps(&rt, count)?,
+                }
+            }
+        }
+    }
+    Ok(())
+}
