@@ -1,11 +1,12 @@
 // In which order the serial run hands on what two machines emit.
-ghost use Rattle.std.specs.Prelude.{◌≤◌};
+ghost use Rattle.std.specs.Prelude.{◌≡◌, ◌^◌, ◌≤◌, [], length};
 
 use crate::pairs::{rows, samples};
 use clock_ratio::end_stamp;
 use file_shelf::Failed;
 use run_drive::{Sink, pour, run_serial};
 use serial_console::Serial;
+use side_law::Machine;
 use snes_defs::{NoMemory, Side};
 use std::alloc::Global;
 
@@ -74,21 +75,41 @@ pub fn by_run(alloc: Global, frames: u32) -> Result<Order, NoMemory>
     Ok(order)
 }
 
-/// The same with both machines drained after each turn of the serial console, the console first.
-pub fn by_turns(alloc: Global, frames: u32) -> Result<Order, NoMemory>
-    requires { frames ≤ 36000 }
+/// Turns of the serial console of two machines, up to an end stamp, with both drained after each, the console first.
+fn turn_by_turn<C: Machine + Drop, S: Machine + Drop>(
+    console: C,
+    sound: S,
+    end: u64,
+    buffer: &mut [u8],
+    order: &mut Order,
+)
+    requires early { end ≤ 2 ^ 62 }
+    requires console_room { C.MOST ≤ C.CAP }
+    requires sound_room { S.MOST ≤ S.CAP }
+    requires console_fits { C.MOST ≤ length buffer.old }
+    requires sound_fits { S.MOST ≤ length buffer.old }
+    requires console_empty { C.waiting console ≡ [] }
+    requires sound_empty { S.waiting sound ≡ [] }
 {
-    let end = end_stamp(frames);
-    let mut serial = Serial::new(rows(alloc)?, samples(alloc)?);
-    let mut buffer = [0u8; 1024];
-    let mut order = NOTHING;
+    let mut serial = Serial::new(console, sound);
     'turns: for _ in 0..MOST_TURNS {
         if serial.finished(end) {
             break;
         }
         let _ = serial.turn();
-        let _ = pour(serial.console(), Side::Console, &mut buffer, &mut order);
-        let _ = pour(serial.sound(), Side::Sound, &mut buffer, &mut order);
+        let _ = pour(serial.console(), Side::Console, buffer, order);
+        let _ = pour(serial.sound(), Side::Sound, buffer, order);
     }
+}
+
+/// The same with both machines drained after each turn of the serial console, the console first.
+pub fn by_turns(alloc: Global, frames: u32) -> Result<Order, NoMemory>
+    requires { frames ≤ 36000 }
+{
+    let console = rows(alloc)?;
+    let sound = samples(alloc)?;
+    let mut buffer = [0u8; 1024];
+    let mut order = NOTHING;
+    turn_by_turn(console, sound, end_stamp(frames), &mut buffer, &mut order);
     Ok(order)
 }
