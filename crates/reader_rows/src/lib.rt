@@ -1,8 +1,6 @@
-//! Rows of the readers, of the files of the demo, of shelves and of lines for the user, as an outside reader
-//! expects them: each call that may want memory is made once with plenty of it, and its answer is compared.
+//! Rows of the readers and of the files of the demo, as an outside reader expects them: each call that
+//! may want memory is made once with plenty of it, and its answer is compared.
 #![tactic(auto)]
 
-#[cfg(test)]
-mod shelves;
 #[cfg(test)]
 mod tests;
