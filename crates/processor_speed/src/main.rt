@@ -14,8 +14,7 @@
 //!
 //! Without arguments nothing is done. What is printed are the number, the registers, in a step's loop the stamp and how
 //! many events or ticks came, and a sum over the memory, so that two builds can be compared. Each loop is a function
-//! of its own that isn't built into `main`. The 65C816's `idle` and `wrote` have two callers here, as in the console's
-//! program, and so stay out of line in both of its loops; in a program with one of them alone they are built into it.
+//! of its own that isn't built into `main`, so that its code is the same whatever else the crate holds.
 #![tactic(auto)]
 
 mod cpu_flat;
