@@ -5,28 +5,25 @@
 //!
 //! - `cpu N`: accesses of the 65C816 over a flat memory;
 //! - `spc N`: cycles of the SPC700 over a flat memory;
-//! - `cpu-step N`: steps of the 65C816 in a loop with the shape of the console's step. A step asks the processor's next
-//!   access, looks its page up for a place and a number of clocks, raises a stamp, makes the access, and compares the
-//!   stamp with that of the next event;
 //! - `spc-step N`: steps of the SPC700 in a loop with the shape of the sound side's step. A step asks the processor's
 //!   next access, keeps the registers 00F0 to 00FF apart from the memory, raises a stamp, makes the access, and compares
 //!   the stamp with that of the next tick.
 //!
 //! Without arguments nothing is done. What is printed are the number, the registers, in a step's loop the stamp and how
 //! many events or ticks came, and a sum over the memory, so that two builds can be compared. Each loop is a function
-//! of its own that isn't built into `main`, so that its code is the same whatever else the crate holds.
+//! of its own that isn't built into `main`. The 65C816 in a loop with the shape of a step is a program of its own,
+//! `cpu_step_speed`: a second loop over that processor here would have two callers of its `idle` and `wrote`, which
+//! are built into a loop only where it is their one caller.
 #![tactic(auto)]
 
 mod cpu_flat;
 mod cpu_program;
-mod cpu_step;
 mod memory;
 mod spc_flat;
 mod spc_program;
 mod spc_step;
 
 use cpu_flat::cpu_accesses;
-use cpu_step::cpu_steps;
 use spc_flat::spc_cycles;
 use spc_step::spc_steps;
 use std::env;
@@ -36,7 +33,6 @@ use std::env;
 enum Measured {
     CpuAccesses,
     SpcCycles,
-    CpuSteps,
     SpcSteps,
 }
 
@@ -46,14 +42,12 @@ fn main(rt: HostRuntime) -> anyhow::Result<()> {
         match word.as_str() {
             "cpu" => measured = Measured::CpuAccesses,
             "spc" => measured = Measured::SpcCycles,
-            "cpu-step" => measured = Measured::CpuSteps,
             "spc-step" => measured = Measured::SpcSteps,
             number => {
                 let count = number.parse::<u64>()?;
                 match measured {
                     Measured::CpuAccesses => cpu_accesses(&rt, count)?,
                     Measured::SpcCycles => spc_cycles(&rt, count)?,
-                    Measured::CpuSteps => cpu_steps(&rt, count)?,
                     Measured::SpcSteps => spc_steps(&rt, count)?,
                 }
             }
