@@ -24,3 +24,6 @@ pub use lines::{
 };
 pub use names::{Files, Name, WordsEnd};
 pub use words::Argv;
+
+#[cfg(test)]
+mod tests;

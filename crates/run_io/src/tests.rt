@@ -1,6 +1,6 @@
 // Each call that may find no memory, called once with plenty of it; what an outside reader expects of
 // planned failures and of real files; and the lines as they are printed.
-use run_io::{
+use crate::{
     Failed, FileShelf, Input, Line, LoadEnd, MemShelf, Out, Shelf, ShelfCall, SureShelf,
     cannot_read_line, cannot_write_line, frames_line, no_memory_line, usage_line,
 };
