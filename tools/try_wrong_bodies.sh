@@ -2,8 +2,7 @@
 # Tries the wrong bodies in tools/wrong_bodies/CRATE/*.edit, each of which the check of its crate has to refuse.
 #
 # They are of the same form as those in crates/CRATE/must-fail, which the gate tries. The gate has three or so of each
-# crate, so that it stays below 100 minutes on two processors; these are the others, and those of crates of laws
-# and of evidence.
+# crate, so that it stays below 100 minutes on two processors; these are the others.
 #
 # The words are names of crates; without words all are tried, which takes some two hours of processor time and as
 # much for the proofs that stand below, where this machine has not made them yet. Works on what is committed, in
