@@ -7,9 +7,9 @@ use serial_console::Serial;
 use side_law::Machine;
 use snes_defs::Side;
 
-/// Runs two machines of one region as the serial console does, each turn a step of the earlier one,
-/// until both stamps are at least `end`, and hands the sink what they emit: after each turn that
-/// emits, the bytes of that turn. Err names the side of which the sink failed to take some.
+/// Runs two machines of one region until both stamps are at least `end`, and hands the sink what the serial
+/// console of the two emits, the bytes of one step at a time. Each side goes on while its steps are quiet; what
+/// it emitted ahead of the other waits for it. Err names the side of which the sink failed to take some.
 pub fn run_serial<C: Machine + Drop, S: Machine + Drop, K: Sink>(
     console: C,
     sound: S,

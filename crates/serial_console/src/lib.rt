@@ -2,7 +2,7 @@
 //
 // Stands on the trait of a machine. `Serial` is the plain program beside which everything that runs
 // the two machines in another order is measured: its turn is exactly `turn` of the definitions of
-// `side_law`, for any two machines.
+// `side_law`, for any two machines. `leading` makes many steps of a side, ahead of the other by quiet ones.
 //
 // A caller needs room for the bytes of one step in the side whose turn it is (`Machine::ready`
 // before each turn is enough), and the earlier stamp up to 2^62. `docs/SERIAL.md` has the rule.
