@@ -1,5 +1,6 @@
 pub mod Counts
 pub mod Faults
+pub mod Given
 pub mod Memory
 pub mod Plan
 pub mod Shelves

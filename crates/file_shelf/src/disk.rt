@@ -1,8 +1,8 @@
-ghost use Rattle.std.specs.Prelude.{◌≡◌, ℕ, ◌<◌, ◌≤◌, [], length, take, vec_len, OnOk, OnErr, IfSome, IsErrOf};
-ghost use Rattle.std.specs.Io.KnownBytes.{Appends as AppendsKnown};
+ghost use Rattle.std.specs.Prelude.{◌≡◌, ℕ, ◌<◌, ◌≤◌, [], length, vec_len, OnOk, IfSome, IsErrOf};
 ghost use Rattle.file_shelf.specs.Shelves.{shown_by_files};
 ghost use Rattle.file_shelf.specs.Faults.{no_faults};
 
+use crate::buffered::{Buffered, write_whole};
 use crate::counts::Counts;
 use crate::shelves::{Failed, LoadEnd, Out, Shelf};
 use std::io::{Read, Write};
@@ -17,11 +17,13 @@ const READ: usize = 8192;
 ///
 /// It tells nothing of what it holds or has written. It counts the faults of all names together, and
 /// those of each output; every error of the system is a fault, and so is a write that takes nothing.
+/// Video and sound come in many small puts, so their bytes are gathered before they are written. After a fault
+/// an output takes nothing until it is created again.
 #[derive(Drop)]
 pub struct FileShelf<'a, R: Files + Print> {
     rt: &'a R,
-    video: Option<R::File>,
-    sound: Option<R::File>,
+    video: Option<Buffered<R::File>>,
+    sound: Option<Buffered<R::File>>,
     image: Option<R::File>,
     load_faults: u64,
     write_faults: Counts,
@@ -71,8 +73,8 @@ impl<R: Files + Print> Shelf for FileShelf<'_, R> {
             return Err(Failed);
         };
         match out {
-            Out::Video => self.video = Some(file),
-            Out::Sound => self.sound = Some(file),
+            Out::Video => self.video = Some(Buffered::new(file)),
+            Out::Sound => self.sound = Some(Buffered::new(file)),
             Out::Image => self.image = Some(file),
             Out::Say => {}
         }
@@ -81,10 +83,23 @@ impl<R: Files + Print> Shelf for FileShelf<'_, R> {
 
     fn put(&mut self, out: Out, bytes: &[u8]) -> Result<(), Failed> {
         let end = match out {
-            Out::Video => write_created(&mut self.video, bytes),
-            Out::Sound => write_created(&mut self.sound, bytes),
+            Out::Video => put_created(&mut self.video, bytes),
+            Out::Sound => put_created(&mut self.sound, bytes),
             Out::Image => write_created(&mut self.image, bytes),
             Out::Say => write_whole(&mut io::writer(self.rt), bytes),
+        };
+        if end.is_err() {
+            self.write_faults.raise(out);
+        }
+        end
+    }
+
+    fn flush(&mut self, out: Out) -> Result<(), Failed> {
+        let end = match out {
+            Out::Video => flush_created(&mut self.video),
+            Out::Sound => flush_created(&mut self.sound),
+            Out::Image => Ok(()),
+            Out::Say => Ok(()),
         };
         if end.is_err() {
             self.write_faults.raise(out);
@@ -125,17 +140,26 @@ fn write_created<F: Write>(file: &mut Option<F>, bytes: &[u8]) -> Result<(), Fai
     }
 }
 
-/// Writes all these bytes, by as many writes as it takes. A write that takes nothing is a fault.
-fn write_whole<W: Write>(file: &mut W, bytes: &[u8]) -> Result<(), Failed>
-    ensures whole { OnOk result (AppendsKnown (W.contents file.old) (W.contents file.new) bytes.now) }
-    ensures prefix { OnErr result ((count : ℕ) × AppendsKnown (W.contents file.old) (W.contents file.new) (take count bytes.now)) }
-{
-    let mut rest = bytes;
-    while !rest.is_empty() {
-        match file.write(rest) {
-            Ok(count) if count > 0 => rest = &rest[count..],
-            _ => return Err(Failed),
-        }
+/// Puts to an output that was created. One that fails is closed.
+fn put_created<F: Write + Drop>(file: &mut Option<Buffered<F>>, bytes: &[u8]) -> Result<(), Failed> {
+    let end = match file {
+        Some(file) => file.put(bytes),
+        None => Err(Failed),
+    };
+    if end.is_err() {
+        *file = None;
     }
-    Ok(())
+    end
+}
+
+/// Writes what an output that was created holds back. One that fails is closed.
+fn flush_created<F: Write + Drop>(file: &mut Option<Buffered<F>>) -> Result<(), Failed> {
+    let end = match file {
+        Some(file) => file.flush(),
+        None => Err(Failed),
+    };
+    if end.is_err() {
+        *file = None;
+    }
+    end
 }

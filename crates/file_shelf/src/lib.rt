@@ -8,6 +8,7 @@
 // A caller loads into an empty `Vec`, and creates each output but `Out::Say` before it puts to it.
 #![tactic(auto)]
 
+mod buffered;
 mod counts;
 mod disk;
 mod mem;

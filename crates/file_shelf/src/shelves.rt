@@ -76,4 +76,15 @@ pub trait Shelf {
         ensures failed { OnErr result (HasRisen ((shown self.old).write_faults out) ((shown self.new).write_faults out)) }
         ensures prefix { OnErr result (AppendsSome ((shown self.old).written out) ((shown self.new).written out) bytes.now) }
         ensures only { OnlyPuts (shown self.old) (shown self.new) out };
+
+    /// Writes the bytes of an output that the shelf still holds back, after the last put to it. A shelf that
+    /// writes at each put holds none back.
+    fn flush(&mut self, out: Out) -> Result<(), Failed>
+        ensures written { (shown self.new).written ≡ (shown self.old).written }
+        ensures failed { OnErr result (HasRisen ((shown self.old).write_faults out) ((shown self.new).write_faults out)) }
+        ensures only { OnlyPuts (shown self.old) (shown self.new) out }
+    {
+        let _ = out;
+        Ok(())
+    }
 }

@@ -16,6 +16,17 @@ use std::thread::yield_now;
 /// How often a side tries to publish its clock where the ports are held.
 const TELLS: u32 = 64;
 
+/// The most yields between two tries of a step.
+const WAITS: u32 = 8;
+
+/// Lets other threads run before a step is tried again: the longer, the more often it was tried. A side that waits
+/// for the other's clock, which is published every four lines, would else take the ports from it again and again.
+fn wait(tried: u32) {
+    for _ in 0..tried.saturating_add(1).min(WAITS) {
+        yield_now();
+    }
+}
+
 /// Tries once to publish a clock, and answers whether it is published.
 #[inline(always)]
 #[tactic(auto, using(crate::proofs::Refusals::advance_counts, crate::proofs::Refusals::refusal_counts))]
@@ -85,7 +96,7 @@ fn insist<W: Wire, M: Machine>(
     for tried in 0..tries - 1 {
         match attempt(wire, pass, machine) {
             Ok(()) => return Ok(()),
-            Err(_) => yield_now(),
+            Err(_) => wait(tried),
         }
     }
     attempt(wire, pass, machine)

@@ -67,15 +67,18 @@ fn both_legs<R: Threads, W: Wire, C: Machine, S: Machine, G: Gate>(
     ensures sound_drain { (result.1 ≡ LegEnd.Drain) ↔ ((S.stamp_of sound.new < end) × (¬ (length (S.waiting sound.new) + 2 * S.MOST ≤ S.CAP))) }
     ensures sound_spent { (m : S.State) → S.stands sound.new m → IfHeldBack result.1 (λ late. IsSpent (call_of (S.moves.act m)) (S.stamp_of sound.new) late tries_of_turn (W.seen sound_pass.old).half (W.seen sound_pass.new).half) }
 {
-    join_mut(
+    // The console has most of the work. It goes on in the caller's thread, which is running, and beside what it
+    // left in that processor's caches, while the other thread begins.
+    let (sound_end, console_end) = join_mut(
         rt,
-        &mut || -> LegEnd
-            requires { (W.is_pass_of wire.now console_pass.now) × (C.region_of console.now ≡ W.region_of wire.now) × (length (C.waiting console.now) + 2 * C.MOST ≤ C.CAP) × ((W.seen console_pass.now).half.at ≤ C.stamp_of console.now) × (end ≤ 2 ^ 62) }
-        { leg(wire, console_pass, console, gate, number, end, 4096) },
         &mut || -> LegEnd
             requires { (W.is_pass_of wire.now sound_pass.now) × (S.region_of sound.now ≡ W.region_of wire.now) × (length (S.waiting sound.now) + 2 * S.MOST ≤ S.CAP) × ((W.seen sound_pass.now).half.at ≤ S.stamp_of sound.now) × (end ≤ 2 ^ 62) }
         { leg(wire, sound_pass, sound, gate, number, end, 4096) },
-    )
+        &mut || -> LegEnd
+            requires { (W.is_pass_of wire.now console_pass.now) × (C.region_of console.now ≡ W.region_of wire.now) × (length (C.waiting console.now) + 2 * C.MOST ≤ C.CAP) × ((W.seen console_pass.now).half.at ≤ C.stamp_of console.now) × (end ≤ 2 ^ 62) }
+        { leg(wire, console_pass, console, gate, number, end, 4096) },
+    );
+    (console_end, sound_end)
 }
 
 /// Lets both machines run at once, each by itself over its pass, until each has come to `end` or can go on

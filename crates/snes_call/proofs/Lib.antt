@@ -5,6 +5,7 @@ pub mod Changing
 pub mod Clauses
 pub mod DemoCartridge
 pub mod Files
+pub mod Flushing
 pub mod InputLemmas
 pub mod Making
 pub mod Reading

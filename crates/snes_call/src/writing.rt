@@ -61,7 +61,25 @@ fn play_by<P: Player, R: Threads, H: Shelf>(
     }
 }
 
+/// Writes what the two outputs of a run still hold back. Err names the one that was not written.
+#[tactic(auto, using(crate::proofs::Flushing::flushes))]
+fn flush<H: Shelf>(shelf: &mut H) -> Result<(), Out>
+    ensures written { (H.shown shelf.new).written ≡ (H.shown shelf.old).written }
+    ensures of_run { IfErr result (λ out. (out ≡ Out.Video) ⊎ (out ≡ Out.Sound)) }
+    ensures failed { IfErr result (λ out. HasRisen ((H.shown shelf.old).write_faults out) ((H.shown shelf.new).write_faults out)) }
+    ensures only { OnlyFills (H.shown shelf.old) (H.shown shelf.new) }
+{
+    let Ok(()) = shelf.flush(Out::Video) else {
+        return Err(Out::Video);
+    };
+    let Ok(()) = shelf.flush(Out::Sound) else {
+        return Err(Out::Sound);
+    };
+    Ok(())
+}
+
 /// Plays into two outputs that were created. Err names the one that was not written.
+#[tactic(auto, using(crate::proofs::Flushing::flushed))]
 fn play<P: Player, R: Threads, H: Shelf>(
     rt: &R,
     player: P,
@@ -78,7 +96,7 @@ fn play<P: Player, R: Threads, H: Shelf>(
     ensures only { OnlyFills (H.shown shelf.old) (H.shown shelf.new) }
 {
     match play_by(rt, player, way, shelf) {
-        Ok(()) => Ok(()),
+        Ok(()) => flush(shelf),
         Err(side) => Err(out_of(side)),
     }
 }

@@ -1,6 +1,6 @@
 use Rattle.std.proofs.Common.{◌≡◌, ℕ, length, take, drop}
 use Rattle.std.specs.Io.KnownBytes.{Appends}
-use Rattle.file_shelf.proofs.disk.write_whole.Given as goal
+use Rattle.file_shelf.proofs.buffered.write_whole.Given as goal
 
 -- the first bytes were written, and the rest is still to be
 abbrev pub invariant-loop-rest : goal.invariant-loop-rest

@@ -2,7 +2,7 @@ use Rattle.std.proofs.Common.{◌+◌, drop, ap, ◌∙◌}
 use Rattle.std.proofs.lemmas.List.{take_rest, drop-drop}
 use Rattle.std.proofs.KnownBytes.{Appends-kept}
 use Rattle.file_shelf.proofs.EdgeLemmas.{more_written}
-use Rattle.file_shelf.proofs.disk.write_whole.Goals as goal
+use Rattle.file_shelf.proofs.buffered.write_whole.Goals as goal
 
 pub loop-rest-preserved : goal.loop-rest-preserved
 loop-rest-preserved g c =
