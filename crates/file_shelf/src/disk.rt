@@ -141,7 +141,10 @@ fn write_created<F: Write>(file: &mut Option<F>, bytes: &[u8]) -> Result<(), Fai
 }
 
 /// Puts to an output that was created. One that fails is closed.
-fn put_created<F: Write + Drop>(file: &mut Option<Buffered<F>>, bytes: &[u8]) -> Result<(), Failed> {
+fn put_created<F: Write + Drop>(
+    file: &mut Option<Buffered<F>>,
+    bytes: &[u8],
+) -> Result<(), Failed> {
     let end = match file {
         Some(file) => file.put(bytes),
         None => Err(Failed),

@@ -1,9 +1,11 @@
 use crate::compare::{are_alike, is_begun, is_same};
+use crate::disk::disk;
 use crate::rows::{Failure, Outcome, Rows, called};
 use crate::show::{Detail, show_answer, show_outputs};
 use file_shelf::{Out, ShelfCall};
 use snes_call::Status;
 use std::alloc::Global;
+use std::rt::Files;
 use std::thread::Threads;
 use std::{io, str};
 
@@ -213,6 +215,7 @@ enum Kind {
     Alike,
     Each,
     Part,
+    Disk,
     Look,
 }
 
@@ -225,13 +228,14 @@ fn kind_of(word: &str) -> Option<Kind> {
         b"alike" => Kind::Alike,
         b"each" => Kind::Each,
         b"part" => Kind::Part,
+        b"disk" => Kind::Disk,
         b"look" => Kind::Look,
         _ => return None,
     })
 }
 
 /// Follows a line that runs something. The failures were for it alone.
-fn run<R: AllocGlobal + Threads + Print>(
+fn run<R: AllocGlobal + Threads + Print + Files>(
     rt: &R,
     rows: &mut Rows,
     kind: Kind,
@@ -244,6 +248,7 @@ fn run<R: AllocGlobal + Threads + Print>(
         Kind::Alike => both(rt, rows, words, Detail::Length),
         Kind::Each => each(rt, rows, words),
         Kind::Part => part(rt, rows, words),
+        Kind::Disk => disk(rt, rows, words),
         Kind::Look => look(rt, rows, words),
     };
     rows.mend();
@@ -251,7 +256,7 @@ fn run<R: AllocGlobal + Threads + Print>(
 }
 
 /// Follows a line of a file of rows. Headings and rows are printed.
-pub fn follow<R: AllocGlobal + Threads + Print>(
+pub fn follow<R: AllocGlobal + Threads + Print + Files>(
     rt: &R,
     rows: &mut Rows,
     line: &str,

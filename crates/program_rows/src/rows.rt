@@ -102,7 +102,7 @@ fn push(alloc: Global, argv: &mut Argv, word: &str) -> Option<()> {
 }
 
 /// The words of a line, with one space between two of them.
-fn words_of(alloc: Global, line: &str) -> Option<Argv> {
+pub fn words_of(alloc: Global, line: &str) -> Option<Argv> {
     let mut argv = Argv::new(alloc);
     if line.is_empty() {
         return Some(argv);

@@ -1,0 +1,75 @@
+// Rows over real files.
+use crate::answer::answer;
+use crate::rows::{Outcome, Rows, called, words_of};
+use file_shelf::{FileShelf, Out};
+use snes_call::Status;
+use std::rt::Files;
+use std::thread::Threads;
+use std::{fs, io};
+
+/// Writes the files that the words name.
+fn lay<R: Files>(rt: &R, rows: &Rows, words: &str) -> io::Result<()> {
+    for word in words.split(' ') {
+        if let Some(bytes) = rows.files.find(word) {
+            fs::write(rt, word, bytes)?;
+        }
+    }
+    Ok(())
+}
+
+/// Removes the files that the words name, and the two outputs of a row unless they are devices.
+fn clear<R: Files>(rt: &R, rows: &Rows, words: &str, row: &Outcome) -> io::Result<()> {
+    for word in words.split(' ') {
+        if rows.files.find(word).is_some() {
+            fs::remove_file(rt, word)?;
+        }
+    }
+    for out in [Out::Video, Out::Sound] {
+        let name = row.shelf.named(out);
+        if !name.starts_with("/") {
+            fs::remove_file(rt, name)?;
+        }
+    }
+    Ok(())
+}
+
+/// Prints whether an output on the disk has the bytes of the output in memory.
+fn compare<R: AllocGlobal + Files + Print>(
+    rt: &R,
+    what: &str,
+    out: Out,
+    row: &Outcome,
+) -> io::Result<()> {
+    let bytes = fs::read(rt, row.shelf.named(out))?;
+    if bytes.as_slice() == row.shelf.written(out) {
+        println!(rt; "  {what} on the disk as in memory")
+    } else {
+        println!(rt;
+            "  {what} on the disk: {} bytes, others than in memory",
+            bytes.len()
+        )
+    }
+}
+
+/// `disk WORDS`: a row over real files in the folder where the program runs, which holds none of them before and
+/// after. Prints what is said, the exit status, and where that is 0 whether the outputs are those of the same row
+/// in memory. They are read while their shelf still stands, so that nothing is held back that was not flushed.
+pub fn disk<R: AllocGlobal + Threads + Print + Files>(
+    rt: &R,
+    rows: &Rows,
+    words: &str,
+) -> io::Result<()> {
+    let (Some(row), Some(argv)) = (called(rt, rows, words, None), words_of(rt.alloc(), words))
+    else {
+        return println!(rt; "  no memory, or no row");
+    };
+    lay(rt, rows, words)?;
+    let mut shelf = FileShelf::new(rt);
+    let status = answer(rt, &argv, &mut shelf);
+    println!(rt; "  exit {}", status.exit())?;
+    if status == Status::Ok {
+        compare(rt, "video", Out::Video, &row)?;
+        compare(rt, "sound", Out::Sound, &row)?;
+    }
+    clear(rt, rows, words, &row)
+}
