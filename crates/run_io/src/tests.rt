@@ -129,30 +129,6 @@ fn real_files_come_back(rt: HostRuntime) -> Result<(), Fail> {
 }
 
 #[test]
-fn small_puts_come_back_whole(rt: HostRuntime) -> Result<(), Fail> {
-    let mut path = env::temp_dir(&rt)?;
-    path.push("snes-run-io-test-of-puts")?;
-    let name = path.to_str().ok_or("no text")?;
-    let mut shelf = FileShelf::new(&rt);
-    assert_eq!(rt; shelf.create(Out::Sound, name), Ok(()));
-    let mut given = Vec::new(rt.alloc());
-    for number in 0..5000u32 {
-        let bytes = number.to_le_bytes();
-        given.extend_from_slice(&bytes)?;
-        assert_eq!(rt; shelf.put(Out::Sound, &bytes), Ok(()));
-    }
-    let rows = vec![in rt.alloc(); 7u8; 20_000]?;
-    given.extend_from_slice(rows.as_slice())?;
-    assert_eq!(rt; shelf.put(Out::Sound, rows.as_slice()), Ok(()));
-    given.extend_from_slice(b"last")?;
-    assert_eq!(rt; put(&mut shelf, Out::Sound, "last"), Ok(()));
-    assert_eq!(rt; shelf.flush(Out::Sound), Ok(()));
-    assert_eq!(rt; fs::read(&rt, name)?.as_slice(), given.as_slice());
-    fs::remove_file(&rt, name)?;
-    Ok(())
-}
-
-#[test]
 fn a_full_device_takes_nothing(rt: HostRuntime) -> Result<(), Fail> {
     let mut shelf = FileShelf::new(&rt);
     assert_eq!(rt; put(&mut shelf, Out::Video, "early"), Err(Failed));
