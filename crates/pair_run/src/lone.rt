@@ -10,9 +10,33 @@ ghost use Rattle.pair_run.specs.Tried.{Tried};
 use clock_ratio::window;
 use port_wire::Wire;
 use side_law::Machine;
+use snes_defs::Act;
 
-/// Makes the next step where the machine sees at once that it is quiet, and answers whether it did. Otherwise
-/// nothing has changed.
+/// Makes the next step where its act is quiet, and answers whether it did. Out of line, so that the loop over steps
+/// that are made at once stays small.
+#[inline(never)]
+fn quiet_step<M: Machine>(machine: &mut M) -> bool
+    requires room { length (M.waiting machine.old) + M.MOST ≤ M.CAP }
+    requires early { M.stamp_of machine.old ≤ 2 ^ 62 }
+    ensures same_region { M.region_of machine.new ≡ M.region_of machine.old }
+    ensures steps { IsTrue result → (side : Side) (window : ℕ) (half : Half) (before : History M.State) → M.stands machine.old before.now → before.entries ≡ half.mine → M.stamp_of machine.old ≤ half.known + window → Tried side M.moves window (M.stands machine.new) half (M.waiting machine.old) (M.waiting machine.new) before }
+    ensures rises { IsTrue result → M.stamp_of machine.old + least_of (M.region_of machine.old) ≤ M.stamp_of machine.new }
+    ensures emits_at_most { length (M.waiting machine.new) ≤ length (M.waiting machine.old) + M.MOST }
+    ensures stays { result ≡ false → machine.new ≡ machine.old }
+{
+    match machine.act() {
+        Act::Quiet => {
+            machine.step(0);
+            true
+        }
+        Act::Read(_) => false,
+        Act::Write(_, _) => false,
+        Act::Clear(_) => false,
+    }
+}
+
+/// Makes the next step where it is quiet, at once where the machine sees that it is, and answers whether it did.
+/// Otherwise nothing has changed.
 #[inline(always)]
 fn step_alone<M: Machine>(machine: &mut M) -> bool
     requires room { length (M.waiting machine.old) + M.MOST ≤ M.CAP }
@@ -23,7 +47,7 @@ fn step_alone<M: Machine>(machine: &mut M) -> bool
     ensures emits_at_most { length (M.waiting machine.new) ≤ length (M.waiting machine.old) + M.MOST }
     ensures stays { result ≡ false → machine.new ≡ machine.old }
 {
-    machine.try_step()
+    machine.try_step() || quiet_step(machine)
 }
 
 /// The stamp below which quiet steps need no call: the clock that the pass was told allows them, and the own
