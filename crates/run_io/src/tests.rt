@@ -129,7 +129,7 @@ fn real_files_come_back(rt: HostRuntime) -> Result<(), Fail> {
 }
 
 #[test]
-fn a_full_device_takes_nothing(rt: HostRuntime) -> Result<(), Fail> {
+fn a_full_device_takes_nothing(rt: HostRuntime) {
     let mut shelf = FileShelf::new(&rt);
     assert_eq!(rt; put(&mut shelf, Out::Video, "early"), Err(Failed));
     assert_eq!(rt; shelf.flush(Out::Video), Err(Failed));
@@ -138,15 +138,11 @@ fn a_full_device_takes_nothing(rt: HostRuntime) -> Result<(), Fail> {
     assert_eq!(rt; put(&mut shelf, Out::Video, "abc"), Ok(()));
     assert_eq!(rt; shelf.flush(Out::Video), Err(Failed));
     assert_eq!(rt; put(&mut shelf, Out::Video, "abc"), Err(Failed));
-    assert_eq!(rt; shelf.create(Out::Video, "/dev/full"), Ok(()));
-    let much = vec![in rt.alloc(); 1u8; 20_000]?;
-    assert_eq!(rt; shelf.put(Out::Video, much.as_slice()), Err(Failed));
     assert_eq!(rt; shelf.create(Out::Image, "/dev/full"), Ok(()));
     assert_eq!(rt; put(&mut shelf, Out::Image, "abc"), Err(Failed));
     assert_eq!(rt; shelf.create(Out::Video, "/dev/null"), Ok(()));
     assert_eq!(rt; put(&mut shelf, Out::Video, "abc"), Ok(()));
     assert_eq!(rt; shelf.flush(Out::Video), Ok(()));
-    Ok(())
 }
 
 fn prints(line: &Line, text: &str) -> bool {
