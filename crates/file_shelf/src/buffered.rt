@@ -1,4 +1,4 @@
-ghost use Rattle.std.specs.Prelude.{◌≡◌, ℕ, [], length, take, OnOk, OnErr};
+ghost use Rattle.std.specs.Prelude.{◌≡◌, ℕ, ◌++◌, [], length, take, OnOk, OnErr};
 ghost use Rattle.std.specs.Io.KnownBytes.{Appends as AppendsKnown};
 ghost use Rattle.file_shelf.specs.Given.{given_to};
 
@@ -42,16 +42,18 @@ impl<F: Write + Drop> Buffered<F> {
     }
 
     /// Gives the file these bytes, after those that it was given before.
+    #[tactic(auto, using(crate::proofs::EdgeLemmas::given_first))]
     pub(crate) fn put(&mut self, bytes: &[u8]) -> Result<(), Failed>
         ensures whole { OnOk result (AppendsKnown (given_to F.contents self.old) (given_to F.contents self.new) bytes.now) }
+        ensures prefix { OnErr result ((count : ℕ) × AppendsKnown (F.contents self.old.file) (F.contents self.new.file) (take count (self.old.gathered.items ++ bytes.now))) }
     {
-        if self.gathered.try_extend_from_slice(bytes).is_ok() {
+        let Err(_) = self.gathered.try_extend_from_slice(bytes) else {
             return Ok(());
-        }
+        };
         self.flush()?;
-        if self.gathered.try_extend_from_slice(bytes).is_ok() {
+        let Err(_) = self.gathered.try_extend_from_slice(bytes) else {
             return Ok(());
-        }
+        };
         write_whole(&mut self.file, bytes)
     }
 }
