@@ -1,8 +1,8 @@
 -- Lemmas on writes that take some of the bytes.
-use Rattle.std.proofs.Common.{◌≡◌, ℕ, ◌+◌, List, ◌++◌, length, take, drop, min, sym, ap, subst, ◌∙◌, Option, arith}
+use Rattle.std.proofs.Common.{◌≡◌, ℕ, ◌+◌, List, ◌++◌, length, take, drop, min, sym, ap, subst, ◌∙◌, Option, None, Some, [], arith}
 use Rattle.std.proofs.Math.Seq.{take-add, take-append-le, take-append-add}
-use Rattle.std.proofs.lemmas.List.{take_min}
-use Rattle.std.specs.Io.KnownBytes.{Appends}
+use Rattle.std.proofs.lemmas.List.{append-nil, take_min}
+use Rattle.std.specs.Io.KnownBytes.{Appends, Keeps, append_known}
 use Rattle.std.proofs.KnownBytes.{Appends-trans}
 
 -- the first k bytes, and then n more of the rest
@@ -26,3 +26,11 @@ then_first a b c gathered bytes before (count, h) =
     (length gathered + count, subst (Appends a c) (sym (take-append-add gathered bytes count)) (Appends-trans a b c _ _ before h))
 
 pub ruleset given_first = (gathered_first, then_first)
+
+-- what a file held and what was gathered are kept where all that was gathered is written
+pub all_kept : (a b : Option (List ℕ)) (gathered left : List ℕ) → left ≡ [] → Appends a b gathered → Keeps (append_known a gathered) (append_known b left)
+all_kept None b gathered left none h = tt
+all_kept (Some xs) (Some ys) gathered left none h = ap (λ l. ys ++ l) none ∙ append-nil ys ∙ h
+all_kept (Some xs) None gathered left none h = absurd h
+
+pub ruleset all_written = (all_kept)

@@ -1,5 +1,5 @@
 ghost use Rattle.std.specs.Prelude.{◌≡◌, ℕ, ◌++◌, [], length, take, OnOk, OnErr};
-ghost use Rattle.std.specs.Io.KnownBytes.{Appends as AppendsKnown};
+ghost use Rattle.std.specs.Io.KnownBytes.{Appends as AppendsKnown, Keeps};
 ghost use Rattle.file_shelf.specs.Given.{given_to};
 
 use crate::shelves::Failed;
@@ -12,7 +12,7 @@ const GATHERED: usize = 16_384;
 /// A file that is written, and the bytes that it was given and that are not yet written.
 ///
 /// A frame comes as some 240 rows and 530 samples, each in a put of its own, and a call of the system for each
-/// would take a tenth of the time of a run.
+/// would take a tenth to a fifth of the time of a run.
 pub(crate) struct Buffered<F: Write> {
     file: F,
     gathered: ArrayVec<u8, GATHERED>,
@@ -31,7 +31,9 @@ impl<F: Write + Drop> Buffered<F> {
     }
 
     /// Writes the gathered bytes. Where that fails some of them are lost, and none is kept.
+    #[tactic(auto, using(crate::proofs::EdgeLemmas::all_written))]
     pub(crate) fn flush(&mut self) -> Result<(), Failed>
+        ensures kept { OnOk result (Keeps (given_to F.contents self.old) (given_to F.contents self.new)) }
         ensures empty { self.new.gathered.items ≡ [] }
         ensures written { OnOk result (AppendsKnown (F.contents self.old.file) (F.contents self.new.file) self.old.gathered.items) }
         ensures prefix { OnErr result ((count : ℕ) × AppendsKnown (F.contents self.old.file) (F.contents self.new.file) (take count self.old.gathered.items)) }

@@ -1,4 +1,6 @@
-ghost use Rattle.std.specs.Prelude.{◌≡◌, ℕ, ◌<◌, ◌≤◌, [], length, vec_len, OnOk, IfSome, IsErrOf};
+ghost use Rattle.std.specs.Prelude.{◌≡◌, ℕ, ◌<◌, ◌≤◌, [], length, vec_len, OnOk, OnErr, IfSome, IsSome, IsNone, IsErrOf};
+ghost use Rattle.std.specs.Io.KnownBytes.{Appends as AppendsKnown, Keeps};
+ghost use Rattle.file_shelf.specs.Given.{given_to, written_to};
 ghost use Rattle.file_shelf.specs.Shelves.{shown_by_files};
 ghost use Rattle.file_shelf.specs.Faults.{no_faults};
 
@@ -133,7 +135,10 @@ fn read_whole<F: Read>(file: &mut F, limit: usize, into: &mut Vec<u8>) -> Result
 }
 
 /// Writes to an output that was created.
-fn write_created<F: Write>(file: &mut Option<F>, bytes: &[u8]) -> Result<(), Failed> {
+fn write_created<F: Write>(file: &mut Option<F>, bytes: &[u8]) -> Result<(), Failed>
+    ensures created { OnOk result (IsSome file.old) }
+    ensures whole { OnOk result (AppendsKnown (written_to F.contents file.old) (written_to F.contents file.new) bytes.now) }
+{
     match file {
         Some(file) => write_whole(file, bytes),
         None => Err(Failed),
@@ -141,10 +146,11 @@ fn write_created<F: Write>(file: &mut Option<F>, bytes: &[u8]) -> Result<(), Fai
 }
 
 /// Puts to an output that was created. One that fails is closed.
-fn put_created<F: Write + Drop>(
-    file: &mut Option<Buffered<F>>,
-    bytes: &[u8],
-) -> Result<(), Failed> {
+fn put_created<F: Write + Drop>(file: &mut Option<Buffered<F>>, bytes: &[u8]) -> Result<(), Failed>
+    ensures created { OnOk result (IsSome file.old) }
+    ensures whole { OnOk result (AppendsKnown (written_to (given_to F.contents) file.old) (written_to (given_to F.contents) file.new) bytes.now) }
+    ensures closed { OnErr result (IsNone file.new) }
+{
     let end = match file {
         Some(file) => file.put(bytes),
         None => Err(Failed),
@@ -156,7 +162,12 @@ fn put_created<F: Write + Drop>(
 }
 
 /// Writes what an output that was created holds back. One that fails is closed.
-fn flush_created<F: Write + Drop>(file: &mut Option<Buffered<F>>) -> Result<(), Failed> {
+fn flush_created<F: Write + Drop>(file: &mut Option<Buffered<F>>) -> Result<(), Failed>
+    ensures created { OnOk result (IsSome file.old) }
+    ensures empty { OnOk result (IfSome file.new (λ one. one.gathered.items ≡ [])) }
+    ensures kept { OnOk result (Keeps (written_to (given_to F.contents) file.old) (written_to (given_to F.contents) file.new)) }
+    ensures closed { OnErr result (IsNone file.new) }
+{
     let end = match file {
         Some(file) => file.flush(),
         None => Err(Failed),
