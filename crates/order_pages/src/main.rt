@@ -1,0 +1,43 @@
+//! Compares the tables of access orders on the pages about the processors with what the proved processors do.
+//!
+//! A page's table has a row for each order, `| instructions | opcodes | width | cycles |`, as a data sheet has. Each of
+//! its opcodes is run in many states, access by access: every cycle has to be of the kind that the row names, and the
+//! instruction has to end after the last one. Each opcode has to stand in just one row. The files of the program's words
+//! are read one by one; `data/PROCESSOR.md` is the page itself. The rows of `data/differing.md` are wrong in one thing
+//! each, and have to differ.
+#![tactic(auto)]
+
+mod cycle;
+mod row;
+mod state;
+mod trial;
+
+use row::Row;
+use std::{env, fs, io};
+
+fn main(rt: HostRuntime) -> io::Result<()> {
+    for name in env::args(&rt)?.skip(1) {
+        let text = fs::read_to_string(&rt, name.as_str())?;
+        let mut rows = 0u64;
+        let mut runs = 0u64;
+        let mut seen = [0u8; 256];
+        for line in text.lines() {
+            let Some(row) = Row::of(line) else {
+                continue;
+            };
+            rows = rows.saturating_add(1);
+            for word in row.begins.split_whitespace() {
+                let (made, fits) = trial::run_all(&row, word, &mut seen);
+                runs = runs.saturating_add(made);
+                if !fits {
+                    println!(rt; "differs: {word} in {line}")?;
+                }
+            }
+        }
+        let once = seen.iter().filter(|times| **times == 1).count();
+        println!(rt;
+            "{name}: {rows} orders, {once} opcodes in one row each, {runs} instructions run"
+        )?;
+    }
+    Ok(())
+}
