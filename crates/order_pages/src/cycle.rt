@@ -1,6 +1,4 @@
 use crate::row::Width;
-use crate::state::State;
-use cpu_tables::Access;
 
 /// What a cycle does on the bus.
 #[derive(Clone, Copy, PartialEq, Eq)]
@@ -11,19 +9,16 @@ pub(crate) enum Kind {
     Internal,
 }
 
-impl Kind {
-    /// The kind of an access.
-    pub(crate) fn of(access: Access) -> Kind {
-        match access {
-            Access::Fetch(_) => Kind::Fetch,
-            Access::Read(_) => Kind::Read,
-            Access::Write(_, _) => Kind::Write,
-            Access::Inner => Kind::Internal,
-        }
-    }
+/// What the state in which an instruction is run says of a row.
+pub(crate) trait State: Copy {
+    /// Whether an operation of this width has 16 bits.
+    fn is_wide(&self, width: Width) -> bool;
+
+    /// Whether a condition of a cycle holds for this opcode; nothing for one that the page doesn't name.
+    fn holds(&self, condition: &str, opcode: u8) -> Option<bool>;
 }
 
-/// What a cycle of a row stands for in a state: up to five kinds, one after another.
+/// What a cycle of a row stands for: up to five kinds, one after another.
 pub(crate) type Kinds = [Option<Kind>; 5];
 
 const NOTHING: Kinds = [None, None, None, None, None];
@@ -60,29 +55,19 @@ fn named(name: &str, wide: bool) -> Option<Kinds> {
     Some(by_width(kind, wide && doubles))
 }
 
-/// Whether a condition holds in a state.
-fn holds(condition: &str, state: &State) -> Option<bool> {
-    Some(match condition {
-        "D" => state.low_d,
-        "X" => !state.narrow_index || state.leaves,
-        "native" => !state.emulation,
-        "clear" => !state.flags,
-        "set" => state.flags,
-        "crossing" => state.emulation && state.leaves,
-        "clear and crossing" => !state.flags && state.emulation && state.leaves,
-        "set and crossing" => state.flags && state.emulation && state.leaves,
-        _ => return None,
-    })
-}
-
 /// What a cycle of a row stands for in a state; nothing for one that no page names.
-pub(crate) fn kinds_of(cycle: &str, width: Width, state: &State) -> Option<Kinds> {
+pub(crate) fn kinds_of<S: State>(
+    cycle: &str,
+    width: Width,
+    state: &S,
+    opcode: u8,
+) -> Option<Kinds> {
     let wide = state.is_wide(width);
     match cycle.split_once(" if ") {
         None => named(cycle, wide),
         Some((name, condition)) => {
             let kinds = named(name, wide)?;
-            Some(if holds(condition, state)? {
+            Some(if state.holds(condition, opcode)? {
                 kinds
             } else {
                 NOTHING

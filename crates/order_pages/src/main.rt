@@ -3,16 +3,20 @@
 //! A page's table has a row for each order, `| instructions | opcodes | width | cycles |`, as a data sheet has. Each of
 //! its opcodes is run in many states, access by access: every cycle has to be of the kind that the row names, and the
 //! instruction has to end after the last one. Each opcode has to stand in just one row. The files of the program's words
-//! are read one by one; `data/PROCESSOR.md` is the page itself. The rows of `data/differing.md` are wrong in one thing
-//! each, and have to differ.
+//! are read one by one; `data/PROCESSOR.md` and `data/SOUND-PROCESSOR.md` are the pages themselves. A page says by a line
+//! with `of the SPC700` in front of its table that it is about the sound side's processor. The rows of
+//! `data/differing.md` are wrong in one thing each, and have to differ.
 #![tactic(auto)]
 
+mod cpu;
 mod cycle;
 mod row;
-mod state;
+mod spc;
 mod trial;
 
+use cpu::CpuRun;
 use row::Row;
+use spc::SpcRun;
 use std::{env, fs, io};
 
 fn main(rt: HostRuntime) -> io::Result<()> {
@@ -21,13 +25,19 @@ fn main(rt: HostRuntime) -> io::Result<()> {
         let mut rows = 0u64;
         let mut runs = 0u64;
         let mut seen = [0u8; 256];
+        let mut is_spc = false;
         for line in text.lines() {
+            is_spc = is_spc || line.contains("of the SPC700");
             let Some(row) = Row::of(line) else {
                 continue;
             };
             rows = rows.saturating_add(1);
             for word in row.begins.split_whitespace() {
-                let (made, fits) = trial::run_all(&row, word, &mut seen);
+                let (made, fits) = if is_spc {
+                    trial::run_all::<SpcRun>(&row, word, &mut seen)
+                } else {
+                    trial::run_all::<CpuRun>(&row, word, &mut seen)
+                };
                 runs = runs.saturating_add(made);
                 if !fits {
                     println!(rt; "differs: {word} in {line}")?;

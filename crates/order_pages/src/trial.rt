@@ -1,13 +1,10 @@
-use crate::cycle::{Kind, kinds_of};
+use crate::cycle::{Kind, State, kinds_of};
 use crate::row::Row;
-use crate::state::State;
 use case_text::hexadecimal;
-use cpu_tables::{Access, Regs};
-use cpu65816::Cpu;
 
 /// What an instruction begins with.
 #[derive(Clone, Copy, PartialEq, Eq)]
-enum Begin {
+pub(crate) enum Begin {
     Opcode(u8),
     Nmi,
     Irq,
@@ -24,62 +21,69 @@ fn begin_of(word: &str) -> Option<Begin> {
     }
 }
 
-/// Makes the next access, which gets this byte.
-fn make(cpu: &mut Cpu, byte: u8) {
-    match cpu.next() {
-        Access::Fetch(_) | Access::Read(_) => cpu.took(byte),
-        Access::Write(_, _) => cpu.wrote(),
-        Access::Inner => cpu.idle(),
-    }
+/// A processor in the middle of an instruction.
+pub(crate) trait Processor: Drop + Sized {
+    type State: State;
+
+    /// How many states there are to run an instruction in.
+    const STATES: u8;
+
+    /// The state of a number below `STATES`.
+    fn state(number: u8) -> Self::State;
+
+    /// The processor at the beginning, its opcode fetched where there is one.
+    fn begun(state: &Self::State, begin: Begin) -> Self;
+
+    /// What the next cycle does.
+    fn kind(&self) -> Kind;
+
+    /// Makes the next cycle.
+    fn go_on(&mut self);
+
+    /// Whether the instruction that began isn't over.
+    fn is_under_way(&self) -> bool;
+
+    /// Whether it is over.
+    fn has_ended(&self) -> bool;
 }
 
-/// Whether the next access is of this kind, in the middle of the instruction that began with these registers. It is made.
-fn follows(cpu: &mut Cpu, kind: Kind, byte: u8, start: Regs) -> bool {
-    let fits = Kind::of(cpu.next()) == kind && cpu.regs() == start;
-    make(cpu, byte);
+/// Whether the next cycle is of this kind, in the middle of the instruction. It is made.
+fn follows<P: Processor>(processor: &mut P, kind: Kind) -> bool {
+    let fits = processor.kind() == kind && processor.is_under_way();
+    processor.go_on();
     fits
 }
 
-/// The processor at the beginning, its opcode fetched where there is one.
-fn begun(begin: Begin, state: &State) -> Cpu {
-    if begin == Begin::Reset {
-        return Cpu::new();
-    }
-    let mut cpu = Cpu::between(state.registers());
-    match begin {
-        Begin::Opcode(opcode) => make(&mut cpu, opcode),
-        Begin::Nmi => cpu.signal(true, false),
-        Begin::Irq => cpu.signal(false, true),
-        Begin::Reset => {}
-    }
-    cpu
-}
-
 /// Whether an instruction makes just the cycles of a row in a state; nothing where the row names no cycle.
-fn run(row: &Row<'_>, begin: Begin, state: &State) -> Option<bool> {
-    let mut cpu = begun(begin, state);
-    let start = cpu.regs();
-    let byte = state.byte();
+fn run<P: Processor>(row: &Row<'_>, begin: Begin, state: &P::State) -> Option<bool> {
+    let mut processor = P::begun(state, begin);
+    let opcode = match begin {
+        Begin::Opcode(opcode) => opcode,
+        _ => 0,
+    };
     let mut fits = true;
     for cycle in row.cycles.split(',') {
         let cycle = cycle.trim();
         if cycle == "internal for ever" {
             for _ in 0..9 {
-                fits = follows(&mut cpu, Kind::Internal, byte, start) && fits;
+                fits = follows(&mut processor, Kind::Internal) && fits;
             }
-            return Some(fits && cpu.next() == Access::Inner && cpu.regs() == start);
+            return Some(fits && processor.kind() == Kind::Internal && processor.is_under_way());
         }
-        for kind in kinds_of(cycle, row.width, state)?.iter().flatten() {
-            fits = follows(&mut cpu, *kind, byte, start) && fits;
+        for kind in kinds_of(cycle, row.width, state, opcode)?.iter().flatten() {
+            fits = follows(&mut processor, *kind) && fits;
         }
     }
-    let ended = cpu.regs() != start || begin == Begin::Reset;
-    Some(fits && ended && Kind::of(cpu.next()) == Kind::Fetch)
+    Some(fits && processor.has_ended() && processor.kind() == Kind::Fetch)
 }
 
 /// Runs what a word of a row begins in each state, counts its opcode in `seen`, and tells how many instructions were
 /// run and whether all of them fit.
-pub(crate) fn run_all(row: &Row<'_>, word: &str, seen: &mut [u8; 256]) -> (u64, bool) {
+pub(crate) fn run_all<P: Processor>(
+    row: &Row<'_>,
+    word: &str,
+    seen: &mut [u8; 256],
+) -> (u64, bool) {
     let Some(begin) = begin_of(word) else {
         return (0, false);
     };
@@ -89,9 +93,9 @@ pub(crate) fn run_all(row: &Row<'_>, word: &str, seen: &mut [u8; 256]) -> (u64, 
     }
     let mut runs = 0u64;
     let mut fits = true;
-    for number in 0..64u8 {
+    for number in 0..P::STATES {
         runs = runs.saturating_add(1);
-        fits = run(row, begin, &State::numbered(number)) == Some(true) && fits;
+        fits = run::<P>(row, begin, &P::state(number)) == Some(true) && fits;
     }
     (runs, fits)
 }
