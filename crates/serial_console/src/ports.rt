@@ -1,4 +1,4 @@
-// The eight bytes between the two machines.
+// The two machines, and the eight bytes between them.
 ghost use Rattle.std.specs.Prelude.{◌≡◌};
 ghost use Rattle.side_law.specs.Serial.{SerialState};
 ghost use Rattle.serial_console.specs.Serial.{IsAt, console_of, sound_of};
@@ -8,6 +8,15 @@ use crate::serial::Serial;
 use side_law::Machine;
 
 impl<C: Machine, S: Machine> Serial<C, S> {
+    /// The two machines, the console first.
+    #[inline(always)]
+    pub fn machines(&self) -> (&C, &S)
+        ensures console { result.0.now ≡ console_of self.now }
+        ensures sound { result.1.now ≡ sound_of self.now }
+    {
+        (&self.console, &self.sound)
+    }
+
     /// The bytes that go to the sound side, then those that go to the console, each by its port.
     pub fn ports(&self) -> ([u8; 4], [u8; 4])
         ensures to_sound { result.0 ≡ bytes_to_sound self.now }
