@@ -8,6 +8,8 @@ use clock_ratio::{FRAME_STAMPS, PAL_FRAME_STAMPS, PAL_SOUND_RATE, SOUND_RATE};
 use snes_defs::Region;
 use std::marker::Model;
 
+mod copy;
+
 /// The clock of the sound side.
 #[derive(Drop)]
 pub struct CycleClock {

@@ -16,6 +16,8 @@ use snes_defs::{Act, Job, NoMemory, Region, Spans, Table};
 use std::alloc::Global;
 use std::marker::Model;
 
+mod copy;
+
 /// The sound side of a console.
 #[derive(Drop)]
 pub struct AudioSide {

@@ -6,6 +6,8 @@ use crate::events::Happens;
 use snes_defs::{IrqTime, Region, Spot};
 use std::marker::Model;
 
+mod copy;
+
 /// The master clocks of a line.
 const LINE: u16 = 1364;
 

@@ -3,3 +3,4 @@ pub mod Addresses
 pub mod Pages
 pub mod Zeros
 pub mod Starts
+mod Copies

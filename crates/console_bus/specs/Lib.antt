@@ -2,3 +2,4 @@ pub mod Rest
 pub mod Places
 pub mod Memory
 pub mod Happenings
+pub mod Playing

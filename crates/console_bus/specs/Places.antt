@@ -51,8 +51,8 @@ register_written r register v =
     if nat_lt register 0x40 then (record r { picture = picture_writes.after_write r.picture register v })
     else if register == 0x80 then (record r { memory = slice_set r.memory r.port v; port = (r.port + 1) % 0x20000 })
     -- 2181-3 WMADDL, WMADDM, WMADDH
-    else if register == 0x81 then (record r { port = r.port / 0x100 * 0x100 + v })
-    else if register == 0x82 then (record r { port = r.port / 0x10000 * 0x10000 + 0x100 * v + r.port % 0x100 })
+    else if register == 0x81 then (record r { port = r.port / 0x100 * 0x100 + v % 0x100 })
+    else if register == 0x82 then (record r { port = r.port / 0x10000 * 0x10000 + 0x100 * (v % 0x100) + r.port % 0x100 })
     else if register == 0x83 then (record r { port = 0x10000 * (v % 2) + r.port % 0x10000 })
     else r
 

@@ -9,6 +9,7 @@
 mod address_map;
 mod board;
 mod bus;
+mod copy;
 mod happenings;
 mod start;
 

@@ -1,3 +1,4 @@
+mod Copies
 pub mod AtOnce
 pub mod Few
 pub mod Steps

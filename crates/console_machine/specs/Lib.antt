@@ -5,3 +5,4 @@ pub mod Side
 pub mod SideLaws
 pub mod Standing
 pub mod Taken
+pub mod Playing

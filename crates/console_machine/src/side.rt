@@ -11,6 +11,8 @@ use snes_defs::{Act, Job, NoMemory, Region};
 use std::alloc::Global;
 use std::marker::Model;
 
+mod copy;
+
 /// How many emitted bytes can wait.
 const ROOM: usize = 65_536;
 

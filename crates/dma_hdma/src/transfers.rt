@@ -5,6 +5,8 @@ use crate::turns::decided;
 use crate::whose::Turn;
 use std::marker::Model;
 
+mod copy;
+
 /// The eight channels, with the next byte kept beside them.
 #[derive(Drop)]
 pub struct Dma {

@@ -1,3 +1,4 @@
 pub mod Fields
 pub mod Script
 pub mod Table
+pub mod Plan

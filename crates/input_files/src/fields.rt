@@ -20,7 +20,7 @@ pub(crate) fn span_of(line: &[u8]) -> Option<Span>
 
 /// The bytes up to the first space, and those behind the spaces that follow.
 #[tactic(auto, unfolding(crate::specs::Fields::word_of, crate::specs::Fields::behind))]
-fn split_word(text: &[u8]) -> (&[u8], &[u8])
+pub(crate) fn split_word(text: &[u8]) -> (&[u8], &[u8])
     ensures word { result.0.now ≡ word_of text.now }
     ensures rest { result.1.now ≡ behind text.now }
 {

@@ -5,6 +5,8 @@ use crate::registers::{Arithmetic, Interrupts, IoRegisters, Pad};
 use snes_defs::{IrqTime, Spot};
 use std::marker::Model;
 
+mod copy;
+
 /// The processor's own registers, seen in contracts as `IoRegisters`.
 #[derive(Drop)]
 pub struct Io {

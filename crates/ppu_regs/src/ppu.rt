@@ -11,6 +11,8 @@ use snes_defs::{NoMemory, Spot};
 use std::alloc::Global;
 use std::marker::Model;
 
+mod copy;
+
 /// The words of VRAM.
 const VRAM_WORDS: usize = 32_768;
 

@@ -9,6 +9,7 @@
 #![tactic(auto)]
 
 mod leading;
+mod ports;
 mod serial;
 
 pub use serial::Serial;

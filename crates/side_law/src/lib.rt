@@ -15,7 +15,9 @@
 mod beat;
 mod machine;
 mod tape;
+mod waiting;
 
 pub use beat::Beat;
 pub use machine::Machine;
 pub use tape::Tape;
+pub use waiting::copy_waiting;

@@ -59,7 +59,7 @@ pub record IsDemoJob (number frames : ℕ) (job : Job) : Type 0 where
   pub boot : job.boot ≡ demo_boot
   pub table_size : length job.table ≡ 512
   pub table : (i : ℕ) → i < 512 → slice_index job.table i ≡ 2 * i
-  pub script : job.script ≡ record { region = Ntsc; spans = []; resets = [] }
+  pub script : job.script ≡ record { region = Ntsc; spans = []; resets = []; room = 0 }
   pub frames_are : job.frames ≡ frames
   pub region : job.region ≡ Ntsc
 

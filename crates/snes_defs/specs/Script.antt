@@ -11,6 +11,8 @@ pub record Script : Type 0 where
   pub spans : List Span
   -- the numbers of the frames that begin with a reset
   pub resets : List ℕ
+  -- for how many spans it has memory. No machine looks at it
+  pub room : ℕ
 
 -- how many frames the spans last
 abbrev pub frames_of : List Span → ℕ

@@ -1,4 +1,4 @@
-ghost use Rattle.std.specs.Prelude.{◌≡◌, ◌≤◌, List, [], if◌then◌else◌, IfOk};
+ghost use Rattle.std.specs.Prelude.{◌≡◌, ◌≤◌, List, [], if◌then◌else◌, IfOk, length};
 ghost use Rattle.snes_defs.specs.declared.region.Region.TheVariants.{Ntsc};
 ghost use Rattle.snes_defs.specs.declared.script.Span.{Span};
 ghost use Rattle.snes_defs.specs.Script.{Script, IsScript, RiseWithin, frames_of, pads_at, is_reset};
@@ -7,6 +7,8 @@ use crate::NoMemory;
 use crate::region::Region;
 use std::alloc::Global;
 use std::marker::Model;
+
+mod growing;
 
 /// A run of frames with the same pads.
 ///
@@ -27,23 +29,26 @@ pub struct Spans {
     region: Region,
     spans: Vec<Span>,
     resets: Vec<u32>,
+    /// For how many spans there is memory.
+    room: usize,
 }
 
 impl Model for Spans {
+    ghost use Rattle.std.specs.Prelude.{◌≤◌, vec_len, vec_capacity};
     ghost use Rattle.snes_defs.specs.Script.{Script, IsScript};
 
     ghost Value = { Script };
 
-    ghost view = { λ s. record { region = s.region; spans = s.spans.items; resets = s.resets.items } };
+    ghost view = { λ s. record { region = s.region; spans = s.spans.items; resets = s.resets.items; room = s.room } };
 
-    ghost invariant = { λ s. IsScript (record { region = s.region; spans = s.spans.items; resets = s.resets.items }) };
+    ghost invariant = { λ s. IsScript (record { region = s.region; spans = s.spans.items; resets = s.resets.items; room = s.room }) × (vec_len s.spans ≤ s.room) × (s.room ≤ vec_capacity s.spans) };
 }
 
 impl Spans {
     /// Keeps the list as an Ntsc script without resets. No memory is taken.
     pub fn of(alloc: Global, v: Vec<Span>) -> Spans
         requires { frames_of v.items ≤ 36000 }
-        ensures kept { result ≡ record { region = Ntsc; spans = v.items; resets = [] } }
+        ensures kept { result ≡ record { region = Ntsc; spans = v.items; resets = []; room = length v.items } }
     {
         Spans::versioned(v, Region::Ntsc, Vec::new(alloc))
     }
@@ -52,20 +57,25 @@ impl Spans {
     pub fn versioned(v: Vec<Span>, region: Region, resets: Vec<u32>) -> Spans
         requires frames { frames_of v.items ≤ 36000 }
         requires resets { RiseWithin 1 36000 resets.items }
-        ensures kept { result ≡ record { region = region; spans = v.items; resets = resets.items } }
+        ensures kept { result ≡ record { region = region; spans = v.items; resets = resets.items; room = length v.items } }
     {
+        let room = v.len();
         Spans {
             region,
             spans: v,
             resets,
+            room,
         }
     }
 
-    /// A script of its own with the same content. Refused only for want of memory.
+    /// A script of its own with the same content and memory for as many spans. Refused only for want of memory.
     pub fn copied(&self, alloc: Global) -> Result<Spans, NoMemory>
         ensures { IfOk result (λ copy. copy ≡ self.now) }
     {
-        let Ok(spans) = Vec::from_slice(alloc, self.spans.as_slice()) else {
+        let Ok(mut spans) = Vec::from_slice(alloc, self.spans.as_slice()) else {
+            return Err(NoMemory);
+        };
+        let Ok(()) = spans.reserve(self.room - self.spans.len()) else {
             return Err(NoMemory);
         };
         let Ok(resets) = Vec::from_slice(alloc, self.resets.as_slice()) else {
@@ -75,6 +85,7 @@ impl Spans {
             region: self.region,
             spans,
             resets,
+            room: self.room,
         })
     }
 

@@ -9,6 +9,8 @@ use snes_defs::NoMemory;
 use std::alloc::Global;
 use std::marker::Model;
 
+mod copy;
+
 /// The words of VRAM.
 const WORDS: usize = 32_768;
 

@@ -1,0 +1,18 @@
+// A clock taken over into another one.
+ghost use Rattle.std.specs.Prelude.{◌≡◌, []};
+
+use super::CycleClock;
+
+impl CycleClock {
+    /// Makes the other clock the same one, where neither has resets.
+    pub fn copy_into(&self, into: &mut CycleClock)
+        requires no_resets { self.now.resets ≡ [] }
+        requires none_there { into.old.resets ≡ [] }
+        ensures same { into.new ≡ self.now }
+    {
+        into.region = self.region;
+        into.cycle = self.cycle;
+        into.rate = self.rate;
+        into.stamp = self.stamp;
+    }
+}

@@ -1,0 +1,41 @@
+// A sound side taken over whole into another one.
+ghost use Rattle.std.specs.Prelude.{◌≡◌, []};
+ghost use Rattle.audio_side.specs.Sound.{SoundState, StandsAt};
+
+use super::AudioSide;
+use crate::board::Hardware;
+use side_law::copy_waiting;
+
+/// Makes the other board the same one, where both have one boot ROM and one table.
+fn copy_board(from: &Hardware, into: &mut Hardware)
+    requires boot { from.now.boot ≡ into.old.boot }
+    requires table { from.now.table ≡ into.old.table }
+    ensures { into.new ≡ from.now }
+{
+    into.ram.as_mut_slice().copy_from_slice(from.ram.as_slice());
+    into.voices = from.voices;
+    into.echo = from.echo;
+    into.timer0 = from.timer0;
+    into.timer1 = from.timer1;
+    into.timer2 = from.timer2;
+    into.boot_seen = from.boot_seen;
+    into.address = from.address;
+}
+
+impl AudioSide {
+    /// Makes the other sound side the same one, with an instruction under way, the echo, the timers and the bytes
+    /// that wait. Both need one boot ROM and one table, and no resets. No memory is taken.
+    pub fn copy_into(&self, into: &mut AudioSide)
+        requires boot { self.now.board.boot ≡ into.old.board.boot }
+        requires table { self.now.board.table ≡ into.old.board.table }
+        requires no_resets { self.now.clock.resets ≡ [] }
+        requires none_there { into.old.clock.resets ≡ [] }
+        ensures same { into.new ≡ self.now }
+        ensures stands { (m : SoundState) → StandsAt self.now m → StandsAt into.new m }
+    {
+        into.parts.spc = self.parts.spc;
+        copy_board(&self.parts.board, &mut into.parts.board);
+        self.parts.clock.copy_into(&mut into.parts.clock);
+        copy_waiting(&self.parts.waiting, &mut into.parts.waiting);
+    }
+}

@@ -1,0 +1,23 @@
+-- A script that goes on: the console that plays the longer one.
+use Rattle.std.specs.Prelude.{ℕ, List, [], ◌∷◌, ◌++◌}
+use Rattle.snes_defs.specs.declared.script.Span.{Span}
+use Rattle.snes_defs.specs.Script.{Script, pads_at}
+use Rattle.io_math.specs.Words.{with_words}
+use Rattle.console_bus.specs.Rest.{Rest}
+
+-- a script with one span more
+abbrev pub lengthened : Script → Span → Script
+lengthened script span = record script { spans = script.spans ++ span ∷ [] }
+
+-- a script with memory for so many spans
+abbrev pub with_room : Script → ℕ → Script
+with_room script n = record script { room = n }
+
+-- another script, whose pads in this frame are held
+abbrev pub told : Script → Rest → Rest
+told script r =
+    record r { script = script; io = with_words r.io (pads_at script.spans r.frame).0 (pads_at script.spans r.frame).1 }
+
+-- the script goes on by a span
+abbrev pub played : Rest → Span → Rest
+played r span = told (lengthened r.script span) r

@@ -1,0 +1,64 @@
+// A bus taken over into another one, and a script that goes on.
+ghost use Rattle.std.specs.Prelude.{◌≡◌, ◌+◌, ◌<◌, ◌≤◌, ◌++◌, [], length, max, take, drop, OnOk, OnErr};
+ghost use Rattle.snes_defs.specs.Script.{frames_of};
+ghost use Rattle.console_bus.specs.Playing.{played, with_room};
+
+use crate::bus::{Bus, WORK_RAM};
+use snes_defs::{NoMemory, Span};
+
+/// Makes the first so many bytes those of another list.
+fn copy_first(from: &[u8], into: &mut [u8], count: usize)
+    requires there { count ≤ length from.now }
+    requires here { count ≤ length into.old }
+    ensures { into.new ≡ take count from.now ++ drop count into.old }
+{
+    into[..count].copy_from_slice(&from[..count]);
+}
+
+impl Bus {
+    /// Makes the other bus the same one. Both need one cartridge, of which the ROM is not copied, and no resets, and
+    /// the other needs room for the spans of the script; its room stays. No memory is taken.
+    #[tactic(auto, using(crate::proofs::Copies::same_memory))]
+    pub fn copy_into(&self, into: &mut Bus)
+        requires board { self.now.board ≡ into.old.board }
+        requires rom { drop (131072 + self.now.board.ram) self.now.memory ≡ drop (131072 + self.now.board.ram) into.old.memory }
+        requires room { length self.now.script.spans ≤ into.old.script.room }
+        requires no_resets { self.now.script.resets ≡ [] }
+        requires none_there { into.old.script.resets ≡ [] }
+        ensures same { into.new ≡ record self.now { script = with_room self.now.script into.old.script.room } }
+    {
+        let ram = WORK_RAM + self.map.board().ram as usize;
+        copy_first(self.memory.as_slice(), into.memory.as_mut_slice(), ram);
+        self.script.copy_into(&mut into.script);
+        self.io.copy_into(&mut into.io);
+        self.dma.copy_into(&mut into.dma);
+        self.ppu.copy_into(&mut into.ppu);
+        self.tiles.copy_into(&mut into.tiles);
+        self.beam.copy_into(&mut into.beam);
+        into.port = self.port;
+        into.frame = self.frame;
+        into.last = self.last;
+        into.refresh = self.refresh;
+        into.reset = self.reset;
+    }
+
+    /// Makes room for so many more spans of the script. Refused only for want of memory; then nothing has changed.
+    pub fn reserve(&mut self, spans: usize) -> Result<(), NoMemory>
+        ensures ok { OnOk result (self.new ≡ record self.old { script = with_room self.old.script (max self.old.script.room (length self.old.script.spans + spans)) }) }
+        ensures err { OnErr result (self.new ≡ self.old) }
+    {
+        self.script.reserve(spans)
+    }
+
+    /// Puts a span at the end of the script, where there is room for one, and gives both pads the words that the
+    /// longer script has for the frame. No memory is taken.
+    pub fn play(&mut self, span: Span)
+        requires room { length self.old.script.spans < self.old.script.room }
+        requires frames { frames_of self.old.script.spans + span.count ≤ 36000 }
+        ensures played { self.new ≡ played self.old span }
+    {
+        self.script.add(span);
+        let (pad1, pad2) = self.script.pads(self.frame as u32);
+        self.io.set_words(pad1, pad2);
+    }
+}

@@ -1,0 +1,55 @@
+// A console side taken over whole into another one, and a script that goes on.
+ghost use Rattle.std.specs.Prelude.{◌≡◌, ◌+◌, ◌<◌, ◌≤◌, [], length, max, drop, OnOk, OnErr};
+ghost use Rattle.snes_defs.specs.Script.{frames_of};
+ghost use Rattle.console_steps.specs.World.{World};
+ghost use Rattle.console_machine.specs.Side.{StandsAt};
+ghost use Rattle.console_machine.specs.Playing.{value_played, value_with_room, world_played, world_with_room};
+
+use super::ConsoleSide;
+use side_law::copy_waiting;
+use snes_defs::{NoMemory, Span};
+
+impl ConsoleSide {
+    /// Makes the other console side the same one, with an instruction or a transfer under way, the decoded tiles and
+    /// the bytes that wait. Both need one cartridge, of which the ROM is not copied, and no resets, and the other needs
+    /// room for the spans of the script; its room stays. No memory is taken.
+    #[tactic(auto, using(crate::proofs::Copies::copied))]
+    pub fn copy_into(&self, into: &mut ConsoleSide)
+        requires board { self.now.rest.board ≡ into.old.rest.board }
+        requires rom { drop (131072 + self.now.rest.board.ram) self.now.rest.memory ≡ drop (131072 + self.now.rest.board.ram) into.old.rest.memory }
+        requires room { length self.now.rest.script.spans ≤ into.old.rest.script.room }
+        requires no_resets { self.now.rest.script.resets ≡ [] }
+        requires none_there { into.old.rest.script.resets ≡ [] }
+        ensures same { into.new ≡ value_with_room self.now into.old.rest.script.room }
+        ensures stands { (w : World) → StandsAt self.now w → StandsAt into.new (world_with_room w into.old.rest.script.room) }
+    {
+        into.parts.cpu = self.parts.cpu;
+        self.parts.bus.copy_into(&mut into.parts.bus);
+        into.parts.region = self.parts.region;
+        into.parts.stamp = self.parts.stamp;
+        copy_waiting(&self.parts.waiting, &mut into.parts.waiting);
+    }
+
+    /// Makes room for so many more spans of the script. Refused only for want of memory; then nothing has changed.
+    #[tactic(auto, using(crate::proofs::Copies::copied))]
+    pub fn reserve(&mut self, spans: usize) -> Result<(), NoMemory>
+        ensures ok { OnOk result (self.new ≡ value_with_room self.old (max self.old.rest.script.room (length self.old.rest.script.spans + spans))) }
+        ensures stands { OnOk result ((w : World) → StandsAt self.old w → StandsAt self.new (world_with_room w (max self.old.rest.script.room (length self.old.rest.script.spans + spans)))) }
+        ensures err { OnErr result (self.new ≡ self.old) }
+    {
+        self.parts.bus.reserve(spans)
+    }
+
+    /// Puts a span at the end of the script, where there is room for one, and gives both pads the words that the
+    /// longer script has for the frame. As a frame begins that is the console that has played the longer script all
+    /// the time. No memory is taken.
+    #[tactic(auto, using(crate::proofs::Copies::goes_on))]
+    pub fn play(&mut self, span: Span)
+        requires room { length self.old.rest.script.spans < self.old.rest.script.room }
+        requires frames { frames_of self.old.rest.script.spans + span.count ≤ 36000 }
+        ensures played { self.new ≡ value_played self.old span }
+        ensures stands { (w : World) → StandsAt self.old w → StandsAt self.new (world_played w span) }
+    {
+        self.parts.bus.play(span);
+    }
+}

@@ -1,0 +1,78 @@
+ghost use Rattle.std.specs.Prelude.{◌≡◌, ℕ, Ok, Err, IfOk};
+ghost use Rattle.input_files.specs.Plan.{plan_of};
+
+use crate::planning::Planning;
+use bstr::ByteSlice;
+use std::alloc::Global;
+use std::marker::Model;
+
+/// A step of a plan.
+#[derive(Clone, Copy, Debug, PartialEq, Eq)]
+pub enum PlanStep {
+    /// So many frames with these pads.
+    Go { count: u32, pad1: u16, pad2: u16 },
+    /// The present moment is kept in a slot, 0 to 7.
+    Keep(u8),
+    /// The moment that a slot holds is the present one again.
+    Back(u8),
+}
+
+/// The plan of a rewinder: its steps, in order.
+#[derive(Drop)]
+pub struct Plan {
+    steps: Vec<PlanStep>,
+}
+
+impl Model for Plan {
+    ghost use Rattle.std.specs.Prelude.{List};
+    ghost use Rattle.input_files.specs.declared.plan.PlanStep.{PlanStep};
+
+    ghost Value = { List PlanStep };
+
+    ghost view = { λ p. p.steps.items };
+}
+
+impl Plan {
+    /// Keeps the steps. No memory is taken.
+    pub(crate) fn of(steps: Vec<PlanStep>) -> Plan
+        ensures { result ≡ steps.items }
+    {
+        Plan { steps }
+    }
+
+    /// The steps, in order.
+    pub fn steps(&self) -> &[PlanStep]
+        ensures { result.now ≡ self.now }
+    {
+        self.steps.as_slice()
+    }
+}
+
+/// Why a plan was not read.
+#[derive(Clone, Copy, Debug, PartialEq, Eq)]
+pub enum PlanEnd {
+    /// The first line, from 1, that is of no form.
+    Line(u32),
+    /// There was no memory for its steps.
+    NoMemory,
+}
+
+/// Reads the plan of a rewinder.
+///
+/// Lines end with LF or CR LF, and the last end may be missing. An empty line says nothing. Every other line is
+/// `go COUNT PAD1 PAD2`, with the fields of a script, `keep SLOT` or `back SLOT`, a slot being a digit 0 to 7, with one
+/// or more spaces between. The first line of none of these forms, at which the sum of the counts passes 36,000, or that
+/// goes back to a slot which no line before it keeps, is told by its number.
+#[tactic(auto, unfolding(crate::specs::Plan::plan_of))]
+pub fn read_plan(alloc: Global, file: &[u8]) -> Result<Plan, PlanEnd>
+    ensures plan { IfOk result (λ plan. plan_of file.now ≡ Ok plan) }
+    ensures refused { (line : ℕ) → result ≡ Err (PlanEnd.Line line) → plan_of file.now ≡ Err line }
+{
+    let mut planning = Planning::new(alloc);
+    let mut number = 1u32;
+    for line in file.lines() {
+        planning.take(number, line)?;
+        number = number.saturating_add(1);
+    }
+    Ok(planning.plan())
+}

@@ -1,0 +1,17 @@
+// Decoded tiles taken over from another cache.
+ghost use Rattle.std.specs.Prelude.{◌≡◌, List, ℕ};
+ghost use Rattle.tile_cache.specs.Planes.{IsInStep};
+
+use super::TileCache;
+
+impl TileCache {
+    /// Makes the other cache the same one, so that it is in step with whatever VRAM this one is. No memory is taken.
+    pub fn copy_into(&self, into: &mut TileCache)
+        ensures same { into.new ≡ self.now }
+        ensures step { (vram : List ℕ) → IsInStep self.now vram → IsInStep into.new vram }
+    {
+        into.eights
+            .as_mut_slice()
+            .copy_from_slice(self.eights.as_slice());
+    }
+}
