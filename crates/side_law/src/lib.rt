@@ -14,8 +14,10 @@
 
 mod beat;
 mod machine;
+mod pause;
 mod tape;
 
 pub use beat::Beat;
 pub use machine::Machine;
+pub use pause::Pause;
 pub use tape::Tape;
