@@ -1,3 +1,4 @@
 pub mod Cleared
+pub mod QuietRuns
 pub mod SerialKeeps
 pub mod SerialRuns

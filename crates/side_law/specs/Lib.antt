@@ -1,4 +1,5 @@
 pub mod Moves
+pub mod Quiet
 pub mod Serial
 pub mod SerialRun
 pub mod Tape

@@ -14,10 +14,12 @@
 
 mod beat;
 mod machine;
+mod pause;
 mod tape;
 mod waiting;
 
 pub use beat::Beat;
 pub use machine::Machine;
+pub use pause::Pause;
 pub use tape::Tape;
 pub use waiting::copy_waiting;

@@ -2,7 +2,9 @@ ghost use Rattle.std.specs.Prelude.{◌≡◌, ◌+◌, ◌*◌, ◌^◌, ◌<�
 ghost use Rattle.snes_defs.specs.declared.region.Region.{Region};
 ghost use Rattle.clock_ratio.specs.Stamp.{least_of, most_of};
 ghost use Rattle.side_law.specs.Moves.{Moves, IsLawful, IsAtPorts, taken};
+ghost use Rattle.side_law.specs.Quiet.{HasGoneQuietly};
 
+use crate::pause::Pause;
 use snes_defs::{Act, Region};
 
 /// A machine that goes on by steps, each at a stamp, and touches four ports that another one shares.
@@ -53,6 +55,7 @@ pub trait Machine: Send {
     /// The stamp of the next step.
     fn stamp(&self) -> u64
         ensures stamp { result ≡ stamp_of self.now }
+        ensures of_the_state { (m : State) → stands self.now m → moves.stamp m ≡ result }
         ensures stands { ∥ ((m : State) × stands self.now m) ∥₁ };
 
     /// What the next step does at the ports.
@@ -129,4 +132,38 @@ pub trait Machine: Send {
     ghost stands_stamp: { (x : Self) (m : State) → stands x m → moves.stamp m ≡ stamp_of x };
 
     ghost lawful: { (region : Region) → IsLawful region (valid region) MOST moves };
+
+    /// Makes quiet steps, as many as the machine likes to make in one call, which may be none, and answers where it
+    /// stands then. Each is begun before the stamp `before`, and none after one that emitted bytes. Who wants the
+    /// machine to go on asks again, and where its stamp hasn't risen, `step` serves.
+    #[inline(always)]
+    fn quiet(&mut self, before: u64) -> Pause
+        requires room { length (waiting self.old) + MOST ≤ CAP }
+        requires early { before ≤ 2 ^ 62 }
+        ensures went { (m : State) → stands self.old m → HasGoneQuietly moves before (stands self.new) (waiting self.old) (waiting self.new) result.at m }
+        ensures at_ports { IsAtPorts result.act }
+        ensures act { (m : State) → stands self.new m → moves.act m ≡ result.act }
+        ensures forward { stamp_of self.old ≤ stamp_of self.new }
+        ensures silent { length (waiting self.new) ≡ length (waiting self.old) → result.at ≡ stamp_of self.new }
+        ensures emitted { length (waiting self.old) < length (waiting self.new) → (stamp_of self.old ≤ result.at) × (result.at < before) × (result.at < stamp_of self.new) }
+        ensures emits_at_most { length (waiting self.new) ≤ length (waiting self.old) + MOST }
+        ensures same_region { region_of self.new ≡ region_of self.old }
+    {
+        let at = self.stamp();
+        let waited = self.pending();
+        if at >= before {
+            let act = self.act();
+            return Pause { at, act };
+        }
+        if !self.try_step() {
+            let act = self.act();
+            return Pause { at, act };
+        }
+        let act = self.act();
+        if self.pending() > waited {
+            return Pause { at, act };
+        }
+        let at = self.stamp();
+        Pause { at, act }
+    }
 }
