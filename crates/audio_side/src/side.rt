@@ -1,6 +1,7 @@
 ghost use Rattle.std.specs.Prelude.{◌≡◌, ◌++◌, [], ◌∷◌, All, IfOk, OnOk, length, if◌then◌else◌};
 ghost use Rattle.audio_side.specs.Board.{table_of, zeros};
 ghost use Rattle.audio_side.specs.Clock.{reset_frames};
+ghost use Rattle.audio_side.specs.Effect.{loaded};
 ghost use Rattle.audio_side.specs.Sound.{IsRunning, StandsAt, sound_start};
 
 use crate::board::Hardware;
@@ -13,6 +14,7 @@ use sdsp_echo::Echo;
 use sdsp_voice::Voices;
 use side_law::Machine;
 use snes_defs::{Act, Job, NoMemory, Region, Spans, Table};
+use spc700::Spc;
 use std::alloc::Global;
 use std::marker::Model;
 
@@ -131,6 +133,20 @@ impl AudioSide {
                 waiting,
             },
         })
+    }
+
+    /// The processor, to look at what it is about to do.
+    pub fn processor(&self) -> &Spc
+        ensures { result.now ≡ self.now.processor }
+    {
+        &self.parts.spc
+    }
+
+    /// The byte that a fetch or a read of an address gets now, where an incoming port has `got`.
+    pub fn byte_at(&self, at: u16, got: u8) -> u8
+        ensures { result ≡ loaded self.now.board at got }
+    {
+        self.parts.board.load(at, got)
     }
 
     /// The processor stands for some instruction.

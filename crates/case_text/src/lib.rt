@@ -1,4 +1,5 @@
-//! The words of a file of outside cases: numbers in digits, and the generator of bytes and tables.
+//! The words of a file of outside cases: numbers in digits, the generator of bytes and tables, and the hash by which
+//! long outputs are named.
 //!
 //! A file of cases has a case a line or a block, in words with spaces between. Decimal numbers are
 //! those of `str::parse`; `hexadecimal` reads the others. The crate stands on `hex` alone, and is for
@@ -6,7 +7,9 @@
 #![tactic(auto)]
 
 mod generator;
+mod hash;
 mod number;
 
 pub use generator::Generator;
+pub use hash::{hashed, no_hash};
 pub use number::{hexadecimal, part, put};

@@ -56,6 +56,20 @@ impl ConsoleSide {
         })
     }
 
+    /// The processor, to look at what it is about to do.
+    pub fn processor(&self) -> &Cpu
+        ensures { result.now ≡ self.now.cpu }
+    {
+        &self.parts.cpu
+    }
+
+    /// All else on its bus, to look at what is due there.
+    pub fn bus(&self) -> &Bus
+        ensures { result.now ≡ self.now.rest }
+    {
+        &self.parts.bus
+    }
+
     /// The value stands for some world.
     #[inline(always)]
     fn standing(&self)

@@ -1,4 +1,5 @@
 use crate::marks::{Frame, Marks, Track};
+use crate::record::{Beginning, Record};
 use cart_map::accept;
 use case_text::{Generator, hexadecimal, put};
 use input_files::{read_boot, read_script, read_table};
@@ -23,6 +24,8 @@ pub struct Case {
     pub meets: bool,
     pictures: Vec<Frame>,
     sounds: Vec<Frame>,
+    console_steps: Vec<Beginning>,
+    sound_steps: Vec<Beginning>,
 }
 
 impl Case {
@@ -37,6 +40,8 @@ impl Case {
             meets: false,
             pictures: Vec::new(alloc),
             sounds: Vec::new(alloc),
+            console_steps: Vec::new(alloc),
+            sound_steps: Vec::new(alloc),
         }
     }
 
@@ -63,6 +68,8 @@ impl Case {
             b"frames" => self.frames = words.next()?.parse().ok()?,
             b"v" => expect_picture(&mut self.pictures, words)?,
             b"a" => expect_sound(&mut self.sounds, words)?,
+            b"c" => expect_steps(&mut self.console_steps, words)?,
+            b"d" => expect_steps(&mut self.sound_steps, words)?,
             _ => return None,
         }
         Some(())
@@ -92,6 +99,13 @@ impl Case {
             video: Track::of(self.pictures.as_slice().to_vec(alloc).ok()?),
             sound: Track::of(self.sounds.as_slice().to_vec(alloc).ok()?),
         })
+    }
+
+    /// The first steps that are expected: the console's, then the sound side's.
+    pub fn records(&self, alloc: Global) -> Option<(Record, Record)> {
+        let console = self.console_steps.as_slice().to_vec(alloc).ok()?;
+        let sound = self.sound_steps.as_slice().to_vec(alloc).ok()?;
+        Some((Record::of(console), Record::of(sound)))
     }
 }
 
@@ -158,4 +172,18 @@ fn expect_sound(frames: &mut Vec<Frame>, mut words: SplitWhitespace<'_>) -> Opti
     let size = words.next()?.parse::<u64>().ok()?.checked_mul(4)?;
     let hash = hexadecimal(words.next()?)?;
     frames.push(Frame { size, hash }).ok()
+}
+
+/// So many first steps with the hash of their records, more than those before.
+fn expect_steps(beginnings: &mut Vec<Beginning>, mut words: SplitWhitespace<'_>) -> Option<()> {
+    let steps = words.next()?.parse::<u64>().ok()?;
+    let before = match beginnings.last() {
+        Some(beginning) => beginning.steps,
+        None => 0,
+    };
+    if steps <= before {
+        return None;
+    }
+    let hash = hexadecimal(words.next()?)?;
+    beginnings.push(Beginning { steps, hash }).ok()
 }

@@ -15,12 +15,22 @@
 //! ANDS` and `p OFFSET BYTES` are the cartridge's file, each byte the AND of so many bytes of a generator;
 //! `boot BYTES`, `table ramp` (the lesser of 4 i and 2047 for entry i) or `table SEED`, `script TEXT` for
 //! each line, `frames N`; `v FRAME HASH` and `a FRAME SAMPLES HASH` are 64-bit FNV-1a hashes of a frame's
-//! dots and samples. `fill LENGTH BYTE` is a cartridge's file of one byte, and `turns N` the most turns of a run.
+//! dots and samples. `c N HASH` and `d N HASH` are hashes of the records of the first N steps of the console and of
+//! the sound side, with the earlier side always next. A console step's record has 14 bytes: the clock before the
+//! step (8 bytes, low first), a letter, the address (3 bytes), the port and the byte; a sound step's has 12: the
+//! number of the cycle (8), a letter, the address (2) and the byte. The letters are `F` fetch, `R` read, `W` write,
+//! `I` internal cycle, `z` reset, `r` refresh, `l` a byte loaded by HDMA, `b` one moved by it, `B` and `A` a byte of DMA
+//! to the B bus and to the A side; the address of a transfer is that of the A side, and the port its register of
+//! the B bus. What isn't there is 0.
+//!
+//! `fill LENGTH BYTE` is a cartridge's file of one byte, and `turns N` the most turns of a run.
 #![tactic(auto)]
 
 mod case;
 mod marks;
 mod play;
+mod record;
+mod steps;
 mod tally;
 mod turns;
 mod watch;
@@ -50,5 +60,9 @@ fn main(rt: HostRuntime) -> io::Result<()> {
     println!(rt;
         "{} jobs: {} differ, {} differ by turns, the workers met in {}",
         tally.jobs, tally.different, tally.different_by_turns, tally.met
+    )?;
+    println!(rt;
+        "{} hashes of first steps: {} differ",
+        tally.beginnings, tally.beginnings_different
     )
 }

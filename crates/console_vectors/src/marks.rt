@@ -1,9 +1,7 @@
+use case_text::{hashed, no_hash};
 use file_shelf::Failed;
 use run_drive::Sink;
 use snes_defs::Side;
-
-/// Where the hash of a frame begins: 64-bit FNV-1a.
-const START: u64 = 0xCBF2_9CE4_8422_2325;
 
 /// The bytes that one side emits in a frame: how many, and their hash.
 #[derive(Clone, Copy, Debug, PartialEq, Eq)]
@@ -29,18 +27,18 @@ impl Track {
             agree: 0,
             next: 0,
             size: 0,
-            hash: START,
+            hash: no_hash(),
         }
     }
 
-    /// Whether every expected frame came and agrees.
+    /// Whether every expected frame came and agrees, and no byte behind the last.
     pub fn agrees(&self) -> bool {
-        self.agree == self.frames.len()
+        self.agree == self.frames.len() && self.size == 0
     }
 
     /// One byte more.
     fn add(&mut self, byte: u8) {
-        self.hash = (self.hash ^ byte as u64).wrapping_mul(0x100_0000_01B3);
+        self.hash = hashed(self.hash, byte);
         self.size = self.size.saturating_add(1);
         if let Some(frame) = self.frames.get(self.next) {
             if frame.size == self.size {
@@ -49,7 +47,7 @@ impl Track {
                 }
                 self.next = self.next.saturating_add(1);
                 self.size = 0;
-                self.hash = START;
+                self.hash = no_hash();
             }
         }
     }

@@ -1,5 +1,6 @@
 use crate::case::Case;
 use crate::play::play;
+use crate::steps::record_steps;
 use crate::turns::play_on_two;
 use crate::watch::Watch;
 use std::alloc::Global;
@@ -14,6 +15,9 @@ pub struct Tally {
     pub different_by_turns: u64,
     /// The jobs in which both workers were seen under way at once, of those that ask for it.
     pub met: u64,
+    /// The hashes of first steps, and those that differ.
+    pub beginnings: usize,
+    pub beginnings_different: usize,
 }
 
 impl Tally {
@@ -23,6 +27,8 @@ impl Tally {
             different: 0,
             different_by_turns: 0,
             met: 0,
+            beginnings: 0,
+            beginnings_different: 0,
         }
     }
 }
@@ -33,6 +39,34 @@ fn agrees(alloc: Global, case: &Case) -> Option<bool> {
     let mut marks = case.marks(alloc)?;
     play(alloc, &job, &mut marks)?;
     Some(marks.video.agrees() && marks.sound.agrees())
+}
+
+/// How many hashes of a job's first steps there are, and how many agree.
+fn steps_that_agree(alloc: Global, case: &Case) -> Option<(usize, usize)> {
+    let job = case.job(alloc)?;
+    let (mut console, mut sound) = case.records(alloc)?;
+    record_steps(alloc, &job, &mut console, &mut sound)?;
+    let (of_console, console_agree) = console.count();
+    let (of_sound, sound_agree) = sound.count();
+    Some((
+        of_console.saturating_add(of_sound),
+        console_agree.saturating_add(sound_agree),
+    ))
+}
+
+/// Compares the first steps of a job, and names it where one of their hashes differs.
+fn compare_steps<R: AllocGlobal + Print>(rt: &R, case: &Case, tally: &mut Tally) -> io::Result<()> {
+    let job = tally.jobs;
+    let Some((beginnings, agree)) = steps_that_agree(rt.alloc(), case) else {
+        return println!(rt; "job {job} makes too few steps");
+    };
+    tally.beginnings = tally.beginnings.saturating_add(beginnings);
+    if agree != beginnings {
+        let different = beginnings.saturating_sub(agree);
+        tally.beginnings_different = tally.beginnings_different.saturating_add(different);
+        println!(rt; "job {job} has other steps")?;
+    }
+    Ok(())
 }
 
 /// What came of a job by turns.
@@ -83,5 +117,5 @@ pub fn compare<R: AllocGlobal + Threads + Print>(
     if case.meets && by_turns.met {
         tally.met = tally.met.saturating_add(1);
     }
-    Ok(())
+    compare_steps(rt, case, tally)
 }

@@ -1,69 +1,100 @@
-//! Compares rows of `ppu_line` with those of `picture_slow` over units with everything at random, in all modes.
+//! Compares rows of `ppu_line` with those of `picture_slow`, which stands on nothing but registers and memories.
 //!
-//! The program prints how many rows it drew, and how many differ.
+//! Each screen begins with all memories and registers at random, in one of the eight modes, and registers, VRAM, objects
+//! and colours are written at random between its rows, so the decoded tiles of `ppu_line` are those that writes
+//! have kept in step.
+//!
+//! After each row three things are made wrong, one at a time, by a write at random (of the registers that take a
+//! memory's bytes, many writes), and the row worked out then is compared with the one drawn before: a comparison that
+//! sees nothing would find no difference. Each register is written so in turn. Those that change no picture are
+//! 2115 to 2117 and 2121, which only say where the next byte of VRAM or CGRAM goes; every other one has to be told.
+//!
+//! The program prints how many rows were compared, how many differ, and the registers of which no row was told.
 #![tactic(auto)]
 
-use picture_scenes::{random_unit, renew};
-use picture_slow::draw_slowly;
-use ppu_line::draw;
-use ppu_regs::Ppu;
+mod random;
+mod screen;
+
+use case_text::Generator;
+use random::{REGISTERS, begin, change, make_wrong};
+use screen::Screen;
+use std::alloc::Global;
 use std::io;
-use tile_cache::TileCache;
 
-/// The units of each mode.
-const UNITS: u32 = 16;
+/// The screens of each mode.
+const SCREENS: u32 = 16;
 
-/// The rows of each unit, every tenth.
+/// The rows of each screen, every tenth.
 const ROWS: u16 = 24;
 
-/// Whether a row is drawn alike both ways.
-fn is_alike(ppu: &Ppu, tiles: &mut TileCache, row: u16) -> bool {
-    if row >= 239 {
-        return false;
-    }
-    renew(ppu, tiles);
-    let mut slow = [0u16; 512];
-    let slow_over = draw_slowly(ppu, row + 1, &mut slow);
-    let mut drawn = [0u16; 512];
-    let over = draw(ppu, tiles, row + 1, &mut drawn);
-    let mut alike = over.range == slow_over.range && over.time == slow_over.time;
-    for e in 0..512usize {
-        if drawn[e] != slow[e] {
-            alike = false;
-        }
-    }
-    alike
+/// The things made wrong after each row.
+const WRONGS: u32 = 3;
+
+/// What came of the rows.
+#[derive(Clone, Copy)]
+struct Tally {
+    rows: u64,
+    differing: u64,
+    /// For each register, whether a row was told from the right one after it was written.
+    told: [bool; 64],
+    /// The register that is made wrong next.
+    register: u8,
 }
 
-/// How many rows of a unit differ.
-fn differing(ppu: &Ppu, tiles: &mut TileCache) -> u64 {
-    let mut count = 0u64;
-    for k in 0..ROWS {
-        if !is_alike(ppu, tiles, 10 * k) {
-            count = count.saturating_add(1);
-        }
+/// One row: both ways, and then with one thing wrong after another.
+fn compare_row(screen: &mut Screen, generator: &mut Generator, row: u16, tally: &mut Tally) {
+    if row >= 239 {
+        return;
     }
-    count
+    let drawn = screen.drawn(row);
+    tally.rows = tally.rows.saturating_add(1);
+    if !drawn.is(&screen.worked_out(row)) {
+        tally.differing = tally.differing.saturating_add(1);
+    }
+    for _ in 0..WRONGS {
+        let before = screen.drawn(row);
+        let register = tally.register % REGISTERS;
+        make_wrong(screen, generator, register);
+        if !before.is(&screen.worked_out(row)) {
+            tally.told[register as usize] = true;
+        }
+        tally.register = (register + 1) % REGISTERS;
+    }
+}
+
+/// The rows of one screen.
+fn compare_screen(alloc: Global, mode: u8, seed: u32, tally: &mut Tally) -> Option<()> {
+    let mut screen = Screen::new(alloc)?;
+    let mut generator = Generator::new(seed);
+    begin(&mut screen, &mut generator, mode);
+    for k in 0..ROWS {
+        compare_row(&mut screen, &mut generator, 10 * k, tally);
+        change(&mut screen, &mut generator);
+    }
+    Some(())
 }
 
 fn main(rt: HostRuntime) -> io::Result<()> {
-    let mut rows = 0u64;
-    let mut different = 0u64;
+    let mut tally = Tally {
+        rows: 0,
+        differing: 0,
+        told: [false; 64],
+        register: 0,
+    };
     for mode in 0..8u8 {
-        for seed in 0..UNITS {
-            if let (Ok(mut ppu), Ok(mut tiles)) = (
-                Ppu::new(rt.alloc()),
-                TileCache::new(rt.alloc()),
-            ) {
-                random_unit(
-                    &mut ppu,
-                    mode,
-                    seed.wrapping_mul(977).wrapping_add(mode as u32),
-                );
-                rows = rows.saturating_add(ROWS as u64);
-                different = different.saturating_add(differing(&ppu, &mut tiles));
+        for screen in 0..SCREENS {
+            let seed = screen.wrapping_mul(977).wrapping_add(mode as u32);
+            if compare_screen(rt.alloc(), mode, seed, &mut tally).is_none() {
+                return println!(rt; "no memory");
             }
         }
     }
-    println!(rt; "{rows} rows, {different} differ")
+    println!(rt; "{} rows, {} differ", tally.rows, tally.differing)?;
+    print!(rt; "told after a write of every register but")?;
+    for register in 0..REGISTERS {
+        if !tally.told[register as usize] {
+            print!(rt; " 21{register:02X}")?;
+        }
+    }
+    println!(rt; "")
 }

@@ -5,14 +5,11 @@
 //! the start of vertical blank, `n` that of a frame; `q RR BUS H V GOT` is a read of 21RR; `r ROW OVER DOTS` is a
 //! row with its flags (range, time) and its 512 dots of four digits. Numbers are hexadecimal with capital digits,
 //! N, H, V and ROW decimal. The crate stands on `ppu_regs` and
-//! `tile_cache`; it is for programs that show or compare scenes. `renew` brings a cache in step, `random_unit` sets all registers
-//! and memories at random.
+//! `tile_cache`; it is for programs that show or compare scenes. `renew` brings a cache in step.
 #![tactic(auto)]
 
 mod cache;
-mod random;
 mod scene;
 
 pub use cache::renew;
-pub use random::random_unit;
 pub use scene::{acts, read_holds, row_holds, row_number};

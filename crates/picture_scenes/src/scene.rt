@@ -81,8 +81,8 @@ pub fn row_holds(line: &str, over: Over, drawn: &[u16; 512]) -> bool {
     is_row(line, over, drawn).unwrap_or(false)
 }
 
-/// Does a line that writes registers or begins a frame or vertical blank; any other line does nothing.
-/// Nothing comes of a line whose words are none of its kind.
+/// Does a line that writes registers or begins a frame or vertical blank; an empty line, one that begins with `#`
+/// and a scene's end say nothing. Nothing comes of any other line, or of one whose words are none of its kind.
 pub fn acts(ppu: &mut Ppu, line: &str) -> Option<()> {
     let mut words = line.split_whitespace();
     match words.next() {
@@ -96,6 +96,7 @@ pub fn acts(ppu: &mut Ppu, line: &str) -> Option<()> {
             ppu.frame();
             Some(())
         }
+        Some(word) if word != "end" && !word.starts_with("#") => None,
         _ => Some(()),
     }
 }

@@ -1,194 +1,190 @@
-//! One dot of a background of modes 0 to 6.
+//! One dot of a background of the modes 0 to 6.
 
 ghost use Rattle.std.specs.Prelude.{◌≡◌, ◌<◌, ◌≤◌};
 
-use ppu_regs::{Background, Candidate, Ppu};
+use crate::memory::{Seen, direct_colour, palette_colour, tile_pixel, word};
+use ppu_regs::{Background, Ppu, Registers};
 
-/// The bits a pixel of a layer has, 0 where the mode hasn't the layer.
-fn depth(mode: u8, layer: u8) -> u8
-    ensures { result ≤ 8 }
-{
-    match (mode, layer) {
-        (0, 1..=4) => 2,
-        (1, 1..=2) => 4,
-        (1, 3) => 2,
-        (2, 1..=2) => 4,
-        (3, 1) => 8,
-        (3, 2) => 4,
-        (4, 1) => 8,
-        (4, 2) => 2,
-        (5, 1) => 4,
-        (5, 2) => 2,
-        (6, 1) => 4,
-        _ => 0,
+/// The bits of a pixel of BG1 to BG4 in the modes 0 to 6. 0: the mode lacks the layer.
+const DEPTHS: [[u8; 4]; 7] = [
+    [2, 2, 2, 2],
+    [4, 4, 2, 0],
+    [4, 4, 0, 0],
+    [8, 4, 0, 0],
+    [8, 2, 0, 0],
+    [4, 2, 0, 0],
+    [4, 0, 0, 0],
+];
+
+/// The depth of a layer, 0 where it is none.
+fn depth_of(mode: u8, layer: u8) -> u8 {
+    if mode < 7 && layer >= 1 && layer <= 4 {
+        DEPTHS[mode as usize][(layer - 1) as usize]
+    } else {
+        0
     }
 }
 
-fn word(p: &Ppu, address: u32) -> u32
+/// The registers of BG1 to BG4.
+fn registers_of(r: &Registers, layer: u8) -> &Background {
+    match layer {
+        1 => &r.bg1,
+        2 => &r.bg2,
+        3 => &r.bg3,
+        _ => &r.bg4,
+    }
+}
+
+/// Where a dot lies in the plane of a layer, in pixels of that plane, and the widths of the map's tiles.
+#[derive(Clone, Copy)]
+struct Spot {
+    x: u32,
+    y: u32,
+    tile_width: u32,
+    tile_height: u32,
+}
+
+/// The entry of the map under a spot. The map is one screen of 32 by 32 entries, or two, or four.
+fn entry_at(p: &Ppu, b: &Background, spot: Spot) -> u32
+    requires width { 8 ≤ spot.tile_width }
+    requires height { 8 ≤ spot.tile_height }
     ensures { result < 65536 }
 {
-    p.vram()[(address % 32768) as usize] as u32
+    let column = spot.x / spot.tile_width;
+    let line = spot.y / spot.tile_height;
+    let right = if b.wide { column / 32 % 2 } else { 0 };
+    let below = if b.tall { line / 32 % 2 } else { 0 };
+    let screen = if b.wide { right + 2 * below } else { below };
+    word(
+        p,
+        b.map_base as u32 + 0x400 * screen + 32 * (line % 32) + column % 32,
+    )
 }
 
-/// The word of a layer's map at the pixel (x, y) of its plane.
-fn map_entry(p: &Ppu, b: &Background, wide_tiles: bool, x: u32, y: u32) -> u32
-    requires x { x < 65536 }
-    requires y { y < 65536 }
-    ensures { result < 65536 }
-{
-    let column = if wide_tiles || b.large { x / 16 } else { x / 8 };
-    let line = if b.large { y / 16 } else { y / 8 };
-    let mut address = b.map_base as u32 + line % 32 * 32 + column % 32;
-    if b.wide && column / 32 % 2 == 1 {
-        address += 0x400;
-    }
-    if b.tall && line / 32 % 2 == 1 {
-        address += if b.wide { 0x800 } else { 0x400 };
-    }
-    word(p, address)
-}
-
-fn blocked(is_on: bool, mosaic: u8, n: u32) -> u32
+/// The first number of the mosaic block in which n lies, where mosaic is on.
+pub fn block_start(on: bool, size: u8, n: u32) -> u32
     ensures { result ≤ n }
 {
-    if is_on {
-        n - n % (mosaic as u32 + 1)
-    } else {
-        n
-    }
+    if on { n - n % (size as u32 + 1) } else { n }
 }
 
-/// The scroll of a layer at a column, by the offsets of BG3 in modes 2, 4 and 6.
-fn offsets(p: &Ppu, layer: u8, x: u32) -> (u32, u32)
+/// How far a layer is moved at pixel `x`, across and down: by its own scroll, or in the modes 2, 4 and 6 by the
+/// entries of BG3's map, which has one for each eight pixels from the second on.
+fn moved_by(p: &Ppu, layer: u8, x: u32) -> (u32, u32)
     requires { x < 256 }
     ensures across { result.0 < 1024 }
     ensures down { result.1 < 1024 }
 {
     let r = p.registers();
-    let b = r.background(layer);
-    let across = b.scroll_x as u32 % 1024;
-    let down = b.scroll_y as u32 % 1024;
+    let own = registers_of(r, layer);
+    let across = own.scroll_x as u32 % 1024;
+    let down = own.scroll_y as u32 % 1024;
     let column = (x + across % 8) / 8;
-    if column == 0 || layer > 2 || (r.mode != 2 && r.mode != 4 && r.mode != 6) {
+    let has_offsets = r.mode == 2 || r.mode == 4 || r.mode == 6;
+    if !has_offsets || layer > 2 || column == 0 {
         return (across, down);
     }
-    let wide = r.mode == 6;
-    let at_x = 8 * (column - 1) + r.bg3.scroll_x as u32 % 1024 / 8 * 8;
-    let at_y = r.bg3.scroll_y as u32 % 1024;
-    let first = map_entry(p, &r.bg3, wide, at_x, at_y);
-    let acts = if layer == 1 { 0x2000 } else { 0x4000 };
-    if r.mode == 4 {
-        if first / acts % 2 == 0 {
-            (across, down)
-        } else if first / 0x8000 % 2 == 1 {
-            (across, first % 1024)
-        } else {
-            (first % 1024 / 8 * 8 + across % 8, down)
-        }
+    let of_first = Spot {
+        x: 8 * (column - 1) + r.bg3.scroll_x as u32 % 1024 / 8 * 8,
+        y: r.bg3.scroll_y as u32 % 1024,
+        tile_width: if r.mode == 6 || r.bg3.large { 16 } else { 8 },
+        tile_height: if r.bg3.large { 16 } else { 8 },
+    };
+    let first = entry_at(p, &r.bg3, of_first);
+    let mut second = first;
+    if r.mode != 4 {
+        let mut of_second = of_first;
+        of_second.y += 8;
+        second = entry_at(p, &r.bg3, of_second);
+    }
+    // The bit that says that an entry is for this layer, and in mode 4 the one that says for which direction.
+    let mine = 12 + layer as u32;
+    let first_acts = mine < 16 && first >> mine & 1 == 1;
+    let second_acts = mine < 16 && second >> mine & 1 == 1;
+    let is_down = r.mode == 4 && first / 0x8000 == 1;
+    let takes_across = first_acts && !is_down;
+    let takes_down = if r.mode == 4 {
+        first_acts && is_down
     } else {
-        let second = map_entry(p, &r.bg3, wide, at_x, at_y + 8);
-        let new_across = if first / acts % 2 == 1 {
+        second_acts
+    };
+    (
+        if takes_across {
             first % 1024 / 8 * 8 + across % 8
         } else {
             across
-        };
-        let new_down = if second / acts % 2 == 1 {
-            second % 1024
-        } else {
-            down
-        };
-        (new_across, new_down)
-    }
+        },
+        if takes_down { second % 1024 } else { down },
+    )
 }
 
-fn bit(word: u32, n: u32) -> u32
-    requires { n < 16 }
-    ensures { result < 2 }
-{
-    (word >> n) % 2
-}
-
-/// The two bits of a word at the pixel `x` from the left.
-fn pair(word: u32, x: u32) -> u32
-    requires { x < 8 }
-    ensures { result < 4 }
-{
-    bit(word, 7 - x) + 2 * bit(word, 15 - x)
-}
-
-/// The value of a tile's pixel, its planes two by two.
-fn value(p: &Ppu, address: u32, depth: u8, x: u32) -> u8
-    requires address { address < 1000000 }
-    requires x { x < 8 }
-{
-    let first = pair(word(p, address), x);
-    let second = pair(word(p, address + 8), x);
-    let third = pair(word(p, address + 16), x);
-    let fourth = pair(word(p, address + 24), x);
-    let value = match depth {
-        2 => first,
-        4 => first + 4 * second,
-        8 => first + 4 * second + 16 * third + 64 * fourth,
-        _ => 0,
-    };
-    value as u8
-}
-
-/// What a background has at the dot `e` (0 to 511) of a row.
-pub fn background_dot(p: &Ppu, layer: u8, row: u16, e: u16) -> Candidate
-    requires row { row < 239 }
-    requires e { e < 512 }
-    ensures { result.palette < 8 }
-{
-    let r = p.registers();
-    let b = r.background(layer);
-    let depth = depth(r.mode, layer);
-    let hires = r.mode == 5 || r.mode == 6;
-    let x = blocked(b.mosaic, r.mosaic, e as u32 / 2);
-    let y = blocked(b.mosaic, r.mosaic, row as u32) + 1;
-    let (across, down) = offsets(p, layer, x);
-    let plane_x = if hires {
-        2 * x + e as u32 % 2 + 2 * across
-    } else {
-        x + across
-    };
-    let plane_y = y + down;
-    let entry = map_entry(p, b, hires, plane_x, plane_y);
-    let width = if hires || b.large { 16 } else { 8 };
-    let height = if b.large { 16 } else { 8 };
-    let in_x = plane_x % width;
-    let in_y = plane_y % height;
-    let tile_x = if entry / 0x4000 % 2 == 1 {
-        width - 1 - in_x
-    } else {
-        in_x
-    };
-    let tile_y = if entry / 0x8000 % 2 == 1 {
-        height - 1 - in_y
-    } else {
-        in_y
-    };
-    let tile = (entry + tile_x / 8 + 16 * (tile_y / 8)) % 1024;
-    let address = b.tile_base as u32 + tile * (4 * depth as u32) + tile_y % 8;
-    let value = value(p, address, depth, tile_x % 8);
-    let palette = (entry / 0x400 % 8) as u8;
-    let direct = depth == 8 && r.colour.direct && (r.mode == 3 || r.mode == 4);
-    let group = if r.mode == 0 {
-        32 * ((layer as u32 + 3) % 4)
-    } else {
-        0
-    };
+/// The number in CGRAM of a pixel's value.
+fn number_of(mode: u8, layer: u8, depth: u8, palette: u32, value: u8) -> u8 {
     let number = match depth {
-        2 => group + 4 * palette as u32 + value as u32,
-        4 => 16 * palette as u32 + value as u32,
+        2 => {
+            let before = if mode == 0 {
+                32 * (layer as u32 % 8).saturating_sub(1)
+            } else {
+                0
+            };
+            before + palette % 8 * 4 + value as u32
+        }
+        4 => palette % 8 * 16 + value as u32,
         _ => value as u32,
     };
-    Candidate {
-        on: value != 0,
-        priority: (entry / 0x2000 % 2) as u8,
-        number: (number % 256) as u8,
-        direct,
-        palette: if direct { palette } else { 0 },
-        math: true,
+    (number % 256) as u8
+}
+
+/// What a background shows at the dot `e` (0 to 511) of a row, if anything.
+pub fn background_at(p: &Ppu, layer: u8, row: u16, e: u32) -> Option<Seen>
+    requires row { row < 239 }
+    requires e { e < 512 }
+{
+    let r = p.registers();
+    let own = registers_of(r, layer);
+    let depth = depth_of(r.mode, layer);
+    if depth == 0 {
+        return None;
     }
+    let fine = r.mode == 5 || r.mode == 6;
+    let x = block_start(own.mosaic, r.mosaic, e / 2);
+    let line = block_start(own.mosaic, r.mosaic, row as u32) + 1;
+    let (across, down) = moved_by(p, layer, x);
+    let spot = Spot {
+        x: if fine {
+            2 * (x + across) + e % 2
+        } else {
+            x + across
+        },
+        y: line + down,
+        tile_width: if fine || own.large { 16 } else { 8 },
+        tile_height: if own.large { 16 } else { 8 },
+    };
+    let entry = entry_at(p, own, spot);
+    let mut in_x = spot.x % spot.tile_width;
+    let mut in_y = spot.y % spot.tile_height;
+    if entry >> 14 & 1 == 1 {
+        in_x = spot.tile_width - 1 - in_x;
+    }
+    if entry >> 15 & 1 == 1 {
+        in_y = spot.tile_height - 1 - in_y;
+    }
+    let tile = (entry + in_x / 8 + in_y / 8 * 16) % 1024;
+    let tile_at = own.tile_base as u32 + tile * 4 * depth as u32;
+    let value = tile_pixel(p, tile_at, depth, in_x % 8, in_y % 8);
+    if value == 0 {
+        return None;
+    }
+    let palette = entry >> 10 & 7;
+    let is_direct = r.colour.direct && depth == 8;
+    let colour = if is_direct {
+        direct_colour(value, palette)
+    } else {
+        palette_colour(p, number_of(r.mode, layer, depth, palette, value))
+    };
+    Some(Seen {
+        colour,
+        priority: (entry >> 13 & 1) as u8,
+        in_arithmetic: true,
+    })
 }

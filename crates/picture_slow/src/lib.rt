@@ -1,14 +1,19 @@
 //! A row of the picture, dot by dot, as slow and as plain as it can be: the comparison for the fast rows.
 //!
-//! The crate stands on `ppu_regs`, and on the public calls for objects, mode 7, windows and arithmetic. The
-//! backgrounds of modes 0 to 6 are worked out here anew for each dot, straight from VRAM, and what stands in
-//! front is sought in the order of the mode, place by place. It is proved safe and total; that it shows the
-//! same rows as `ppu_line` is tested, by the cases of `picture_vectors` and by rows made at random.
+//! The crate stands on `ppu_regs` alone, and of that on the registers and the three memories: backgrounds,
+//! objects, mode 7, windows, the order of the layers and the arithmetic of colours are all worked out here, in words
+//! of their own, straight from VRAM, OAM and CGRAM, and nothing is kept from dot to dot but what the objects of a
+//! row show. It is proved safe and total; that it shows the same rows as `ppu_line` is tested, by the cases of
+//! `picture_vectors` and by the rows at random of `picture_compare`.
 #![tactic(auto)]
 
 mod background;
-mod composing;
-mod orders;
+mod colours;
+mod layers;
+mod memory;
+mod mode_seven;
+mod objects;
+mod row;
+mod windows;
 
-pub use background::background_dot;
-pub use composing::draw_slowly;
+pub use row::draw_slowly;
