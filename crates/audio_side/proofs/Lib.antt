@@ -2,3 +2,4 @@ pub mod Frames
 pub mod Zeros
 pub mod Moves
 pub mod Ticks
+pub mod FromParts

@@ -5,3 +5,4 @@ pub mod Effect
 pub mod Sound
 pub mod Parts
 pub mod SoundLaws
+pub mod FromParts

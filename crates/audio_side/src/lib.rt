@@ -9,6 +9,7 @@
 
 mod board;
 mod clock;
+mod from_parts;
 mod parts;
 mod side;
 mod step;

@@ -23,7 +23,7 @@ mod copy;
 /// The sound side of a console.
 #[derive(Drop)]
 pub struct AudioSide {
-    parts: Parts,
+    pub(crate) parts: Parts,
 }
 
 impl Model for AudioSide {
@@ -87,7 +87,7 @@ fn zeroed(alloc: Global, size: usize) -> Result<Vec<u8>, NoMemory>
 }
 
 /// A table of its own with the same numbers.
-fn copied(table: &Table) -> Table
+pub(crate) fn copied(table: &Table) -> Table
     ensures { result ≡ table_of table.now }
 {
     let mut numbers = [0u16; 512];
