@@ -6,18 +6,22 @@
 #![tactic(auto)]
 
 mod adler;
+mod apart;
 mod checksums;
 mod colours;
 mod film;
+mod mixed;
 mod numbers;
 mod png;
 mod rows;
 mod wav;
 
 pub use adler::Adler;
+pub use apart::first_apart;
 pub use checksums::crc_of_chunk;
 pub use colours::Colour;
 pub use film::{Piece, read_piece};
+pub use mixed::{SMALL_WIDTH, push_marked_row, push_small_row};
 pub use numbers::{push_big4, push_little2, push_little4};
 pub use png::png_file;
 pub use rows::{dot_of_row, push_row};
