@@ -1,0 +1,3 @@
+pub mod MixedLemmas
+pub mod ReadLemmas
+pub mod RowLemmas

@@ -1,0 +1,43 @@
+// The files that `snes` writes, and the ones that other programs open: their bytes.
+//
+// `film` reads raw frames and samples piece by piece from any reader, and tells a cut file from a whole one.
+// `colours` makes 24-bit colours of 15-bit ones; `png` and `wav` make whole files of pictures and of samples.
+// Every call that makes bytes says them exactly, by the definitions in `specs/`; nothing here opens a file.
+#![tactic(auto)]
+
+mod adler;
+mod apart;
+mod checksums;
+mod colours;
+mod film;
+mod mixed;
+mod numbers;
+mod png;
+mod rows;
+mod wav;
+
+pub use adler::Adler;
+pub use apart::first_apart;
+pub use checksums::crc_of_chunk;
+pub use colours::Colour;
+pub use film::{Piece, read_piece};
+pub use mixed::{SMALL_WIDTH, push_marked_row, push_small_row};
+pub use numbers::{push_big4, push_little2, push_little4};
+pub use png::png_file;
+pub use rows::{dot_of_row, push_row};
+pub use wav::wav_header;
+
+/// The dots of a row.
+pub const WIDTH: usize = 512;
+
+/// The rows of a frame.
+pub const HEIGHT: usize = 239;
+
+/// The bytes of a row: two a dot.
+pub const ROW_BYTES: usize = 1024;
+
+/// The bytes of a frame.
+pub const FRAME_BYTES: usize = 244_736;
+
+/// The bytes of a sample: left, then right.
+pub const SAMPLE_BYTES: usize = 4;
