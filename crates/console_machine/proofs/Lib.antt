@@ -1,3 +1,4 @@
 pub mod AtOnce
 pub mod Few
+pub mod Quiets
 pub mod Steps
