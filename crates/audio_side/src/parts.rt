@@ -1,14 +1,16 @@
-ghost use Rattle.std.specs.Prelude.{◌≡◌, false, IsTrue, ◌≤◌, ◌+◌, ◌^◌, ◌++◌, length};
+ghost use Rattle.std.specs.Prelude.{◌≡◌, false, IsTrue, ◌<◌, ◌≤◌, ◌+◌, ◌^◌, ◌++◌, length};
 ghost use Rattle.snes_defs.specs.declared.ports.Act.TheVariants.{Quiet};
 ghost use Rattle.side_law.specs.Moves.{IsAtPorts, taken};
+ghost use Rattle.side_law.specs.Quiet.{HasGoneQuietly};
 ghost use Rattle.audio_side.specs.Clock.{gone_on, stamp_now};
 ghost use Rattle.audio_side.specs.Effect.{emitted};
-ghost use Rattle.audio_side.specs.Sound.{IsRunning, SoundState, StandsAt, board_before_end, sound_act, sound_next};
+ghost use Rattle.audio_side.specs.Sound.{IsRunning, SoundState, StandsAt, board_before_end, sound_act, sound_moves, sound_next};
 
 use crate::board::Hardware;
 use crate::clock::CycleClock;
 use crate::step::{begin, finish, next_act, try_access};
 use circular_buffer::HeapCircularBuffer;
+use side_law::Pause;
 use snes_defs::Act;
 use spc700::Spc;
 
@@ -81,5 +83,39 @@ impl Parts {
         finish(&mut self.board, cycle, &mut self.waiting);
         self.clock.go_on();
         true
+    }
+
+    /// Makes quiet steps, each begun before a stamp, up to the first that emits bytes, and answers where it stands
+    /// then.
+    #[inline(never)]
+    pub fn quiet(&mut self, before: u64) -> Pause
+        requires room { length self.old.waiting.items + 4 ≤ self.old.waiting.capacity }
+        requires early { before ≤ 2 ^ 62 }
+        ensures went { (m : SoundState) → StandsAt (value_of self.old) m → HasGoneQuietly sound_moves before (StandsAt (value_of self.new)) self.old.waiting.items self.new.waiting.items result.at m }
+        ensures at_ports { IsAtPorts result.act }
+        ensures act { (m : SoundState) → StandsAt (value_of self.new) m → sound_act m ≡ result.act }
+        ensures forward { stamp_now self.old.clock ≤ stamp_now self.new.clock }
+        ensures silent { length self.new.waiting.items ≡ length self.old.waiting.items → result.at ≡ stamp_now self.new.clock }
+        ensures emitted { length self.old.waiting.items < length self.new.waiting.items → (stamp_now self.old.clock ≤ result.at) × (result.at < before) × (result.at < stamp_now self.new.clock) }
+        ensures region { self.new.clock.region ≡ self.old.clock.region }
+        ensures capacity { self.new.waiting.capacity ≡ self.old.waiting.capacity }
+        ensures few { length self.new.waiting.items ≤ length self.old.waiting.items + 4 }
+        ensures runs { IsRunning self.old.spc → IsRunning self.new.spc }
+    {
+        let waited = self.waiting.len();
+        let mut at = self.clock.stamp();
+        'steps: while at < before {
+            if !self.try_step() {
+                let act = self.act();
+                return Pause { at, act };
+            }
+            if self.waiting.len() > waited {
+                let act = self.act();
+                return Pause { at, act };
+            }
+            at = self.clock.stamp();
+        }
+        let act = self.act();
+        Pause { at, act }
     }
 }

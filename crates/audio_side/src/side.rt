@@ -12,7 +12,7 @@ use crate::timer::stopped_timer;
 use circular_buffer::HeapCircularBuffer;
 use sdsp_echo::Echo;
 use sdsp_voice::Voices;
-use side_law::Machine;
+use side_law::{Machine, Pause};
 use snes_defs::{Act, Job, NoMemory, Region, Spans, Table};
 use spc700::Spc;
 use std::alloc::Global;
@@ -192,6 +192,7 @@ impl Machine for AudioSide {
         self.parts.clock.region
     }
 
+    #[tactic(auto, using(crate::specs::SoundLaws::stamp_stands))]
     #[inline(always)]
     fn stamp(&self) -> u64 {
         self.running();
@@ -211,6 +212,11 @@ impl Machine for AudioSide {
     #[inline(always)]
     fn try_step(&mut self) -> bool {
         self.parts.try_step()
+    }
+
+    #[inline(always)]
+    fn quiet(&mut self, before: u64) -> Pause {
+        self.parts.quiet(before)
     }
 
     #[inline(always)]

@@ -1,4 +1,5 @@
 mod Copies
 pub mod AtOnce
 pub mod Few
+pub mod Quiets
 pub mod Steps

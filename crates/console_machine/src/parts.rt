@@ -1,9 +1,11 @@
-ghost use Rattle.std.specs.Prelude.{◌≡◌, ◌≤◌, ◌+◌, ◌*◌, ◌^◌, ◌++◌, ℕ, [], false, IsTrue, length};
+ghost use Rattle.std.specs.Prelude.{◌≡◌, ◌<◌, ◌≤◌, ◌+◌, ◌*◌, ◌^◌, ◌++◌, ℕ, [], false, IsTrue, length};
 ghost use Rattle.snes_defs.specs.declared.ports.Act.TheVariants.{Quiet};
 ghost use Rattle.snes_defs.specs.declared.ports.Side.TheVariants.{Console};
 ghost use Rattle.clock_ratio.specs.Stamp.{least_of, most_of, rate_of};
 ghost use Rattle.side_law.specs.Moves.{IsAtPorts, taken};
-ghost use Rattle.console_steps.specs.World.{World, act_of, due_of, world_after, bytes_after};
+ghost use Rattle.side_law.specs.Quiet.{HasGoneQuietly};
+ghost use Rattle.side_law.proofs.QuietRuns.{IsSilent};
+ghost use Rattle.console_steps.specs.World.{World, act_of, due_of, world_after, bytes_after, console_moves};
 ghost use Rattle.console_machine.specs.Side.{IsSome, StandsAt};
 
 use crate::acts::due_act;
@@ -12,6 +14,7 @@ use circular_buffer::HeapCircularBuffer;
 use clock_ratio::{CONSOLE_RATE, PAL_CONSOLE_RATE};
 use console_bus::Bus;
 use cpu65816::Cpu;
+use side_law::Pause;
 use snes_defs::{Act, Region};
 
 /// The parts of a console side.
@@ -39,6 +42,19 @@ fn stamps(region: Region, clocks: u8) -> u64
     match region {
         Region::Ntsc => CONSOLE_RATE * clocks as u64,
         Region::Pal => PAL_CONSOLE_RATE * clocks as u64,
+    }
+}
+
+/// Whether an act is quiet.
+#[inline(always)]
+fn is_quiet(act: Act) -> bool
+    ensures { IsTrue result → act ≡ Quiet }
+{
+    match act {
+        Act::Quiet => true,
+        Act::Read(_) => false,
+        Act::Write(_, _) => false,
+        Act::Clear(_) => false,
     }
 }
 
@@ -95,5 +111,59 @@ impl Parts {
             }
             None => false,
         }
+    }
+
+    /// Makes the steps, each begun before a stamp, that are seen at once to be quiet and to emit nothing.
+    #[inline(always)]
+    fn hurry(&mut self, before: u64)
+        requires early { before ≤ 2 ^ 62 }
+        ensures gone { (w : World) → StandsAt (value_of self.old) w → IsSilent console_moves before (StandsAt (value_of self.new)) self.old.waiting.items w self.new.waiting.items }
+        ensures keeps { IsSome (value_of self.old) → IsSome (value_of self.new) }
+        ensures forward { self.old.stamp ≤ self.new.stamp }
+        ensures region { self.new.region ≡ self.old.region }
+        ensures waiting { self.new.waiting ≡ self.old.waiting }
+    {
+        'steps: while self.stamp < before {
+            if !self.try_step() {
+                return;
+            }
+        }
+    }
+
+    /// Makes quiet steps, each begun before a stamp, up to the first that emits bytes, and answers where it stands
+    /// then.
+    #[inline(never)]
+    pub fn quiet(&mut self, before: u64) -> Pause
+        requires room { length self.old.waiting.items + 1024 ≤ self.old.waiting.capacity }
+        requires early { before ≤ 2 ^ 62 }
+        ensures went { (w : World) → StandsAt (value_of self.old) w → HasGoneQuietly console_moves before (StandsAt (value_of self.new)) self.old.waiting.items self.new.waiting.items result.at w }
+        ensures keeps { IsSome (value_of self.old) → IsSome (value_of self.new) }
+        ensures at_ports { IsAtPorts result.act }
+        ensures act { (w : World) → StandsAt (value_of self.new) w → act_of w.rest (due_of w) ≡ result.act }
+        ensures forward { self.old.stamp ≤ self.new.stamp }
+        ensures silent { length self.new.waiting.items ≡ length self.old.waiting.items → result.at ≡ self.new.stamp }
+        ensures emitted { length self.old.waiting.items < length self.new.waiting.items → (self.old.stamp ≤ result.at) × (result.at < before) × (result.at < self.new.stamp) }
+        ensures region { self.new.region ≡ self.old.region }
+        ensures capacity { self.new.waiting.capacity ≡ self.old.waiting.capacity }
+        ensures few { length self.new.waiting.items ≤ length self.old.waiting.items + 1024 }
+    {
+        let waited = self.waiting.len();
+        self.hurry(before);
+        let mut at = self.stamp;
+        let mut act = self.act();
+        'steps: while at < before {
+            if !is_quiet(act) {
+                return Pause { at, act };
+            }
+            self.step(0);
+            if self.waiting.len() > waited {
+                act = self.act();
+                return Pause { at, act };
+            }
+            self.hurry(before);
+            at = self.stamp;
+            act = self.act();
+        }
+        Pause { at, act }
     }
 }

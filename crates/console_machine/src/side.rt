@@ -6,7 +6,7 @@ use crate::parts::Parts;
 use circular_buffer::HeapCircularBuffer;
 use console_bus::Bus;
 use cpu65816::Cpu;
-use side_law::Machine;
+use side_law::{Machine, Pause};
 use snes_defs::{Act, Job, NoMemory, Region};
 use std::alloc::Global;
 use std::marker::Model;
@@ -114,6 +114,7 @@ impl Machine for ConsoleSide {
         self.parts.region
     }
 
+    #[tactic(auto, using(crate::specs::Standing::stamp_stands))]
     #[inline(always)]
     fn stamp(&self) -> u64 {
         self.standing();
@@ -133,6 +134,11 @@ impl Machine for ConsoleSide {
     #[inline(always)]
     fn try_step(&mut self) -> bool {
         self.parts.try_step()
+    }
+
+    #[inline(always)]
+    fn quiet(&mut self, before: u64) -> Pause {
+        self.parts.quiet(before)
     }
 
     #[inline(always)]

@@ -1,4 +1,5 @@
 pub mod Lead
 pub mod LeadBegins
 pub mod Led
+pub mod SideRuns
 pub mod Taken

@@ -73,10 +73,17 @@ fn exchange(act: Act, incoming: &mut [u8; 4], outgoing: &mut [u8; 4])
 }
 
 /// One step of a machine against the bytes that come in to it and go out from it, by its act. Out of line, so
-/// that the loop over quiet steps stays small.
+/// that what makes quiet steps stays small.
 #[inline(never)]
 #[tactic(auto, using(crate::proofs::Taken::taken_got))]
-pub(crate) fn any_step<M: Machine>(machine: &mut M, incoming: &mut [u8; 4], outgoing: &mut [u8; 4])
+pub(crate) fn step_by<M: Machine>(
+    act: Act,
+    machine: &mut M,
+    incoming: &mut [u8; 4],
+    outgoing: &mut [u8; 4],
+)
+    requires at_ports { IsAtPorts act }
+    requires act { (m : M.State) → M.stands machine.old m → M.moves.act m ≡ act }
     requires room { length (M.waiting machine.old) + M.MOST ≤ M.CAP }
     requires early { M.stamp_of machine.old ≤ 2 ^ 62 }
     ensures next { (m : M.State) → M.stands machine.old m → M.stands machine.new (M.moves.next m (got_of (M.moves.act m) incoming.old)) }
@@ -88,9 +95,7 @@ pub(crate) fn any_step<M: Machine>(machine: &mut M, incoming: &mut [u8; 4], outg
     ensures emits_at_most { length (M.waiting machine.new) ≤ length (M.waiting machine.old) + M.MOST }
     ensures same_region { M.region_of machine.new ≡ M.region_of machine.old }
 {
-    let act = machine.act();
-    let byte = got(act, incoming);
-    machine.step(byte);
+    machine.step(got(act, incoming));
     exchange(act, incoming, outgoing);
 }
 
@@ -111,7 +116,8 @@ fn step<M: Machine>(machine: &mut M, incoming: &mut [u8; 4], outgoing: &mut [u8;
     ensures same_region { M.region_of machine.new ≡ M.region_of machine.old }
 {
     if !machine.try_step() {
-        any_step(machine, incoming, outgoing);
+        let act = machine.act();
+        step_by(act, machine, incoming, outgoing);
     }
 }
 

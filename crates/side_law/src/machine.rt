@@ -126,13 +126,6 @@ pub trait Machine: Send {
         ensures same_stamp { stamp_of self.new ≡ stamp_of self.old }
         ensures same_region { region_of self.new ≡ region_of self.old };
 
-    // The state of a value is valid in its region, and has its stamp.
-    ghost stands_valid: { (x : Self) (m : State) → stands x m → valid (region_of x) m };
-
-    ghost stands_stamp: { (x : Self) (m : State) → stands x m → moves.stamp m ≡ stamp_of x };
-
-    ghost lawful: { (region : Region) → IsLawful region (valid region) MOST moves };
-
     /// Makes quiet steps, as many as the machine likes to make in one call, which may be none, and answers where it
     /// stands then. Each is begun before the stamp `before`, and none after one that emitted bytes. Who wants the
     /// machine to go on asks again, and where its stamp hasn't risen, `step` serves.
@@ -166,4 +159,11 @@ pub trait Machine: Send {
         let at = self.stamp();
         Pause { at, act }
     }
+
+    // The state of a value is valid in its region, and has its stamp.
+    ghost stands_valid: { (x : Self) (m : State) → stands x m → valid (region_of x) m };
+
+    ghost stands_stamp: { (x : Self) (m : State) → stands x m → moves.stamp m ≡ stamp_of x };
+
+    ghost lawful: { (region : Region) → IsLawful region (valid region) MOST moves };
 }

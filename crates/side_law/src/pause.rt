@@ -1,3 +1,5 @@
+ghost use Rattle.std.specs.Prelude.{◌≡◌, ◌↔◌, IsTrue};
+
 use snes_defs::Act;
 
 /// Where a machine stands after quiet steps.
@@ -8,4 +10,19 @@ pub struct Pause {
     pub at: u64,
     /// What the step that is next does at the ports.
     pub act: Act,
+}
+
+impl Pause {
+    /// Whether the step that is next is quiet.
+    #[inline(always)]
+    pub fn is_quiet(&self) -> bool
+        ensures { IsTrue result ↔ (self.now.act ≡ Act.Quiet) }
+    {
+        match self.act {
+            Act::Quiet => true,
+            Act::Read(_) => false,
+            Act::Write(_, _) => false,
+            Act::Clear(_) => false,
+        }
+    }
 }

@@ -8,6 +8,7 @@ invariant-steps g l =
     let wire = g.W.Wire in
     let machine = g.M.Machine in
     record {
+      next : l.stamp ≡ machine.stamp_of l.machine;
       forward : machine.stamp_of l.initial.machine ≤ machine.stamp_of l.machine;
       region : machine.region_of l.machine ≡ machine.region_of l.initial.machine;
       room : length (machine.waiting l.machine) + machine.MOST ≤ machine.CAP;
@@ -15,4 +16,4 @@ invariant-steps g l =
     }
 
 abbrev pub decreases-steps : goal.decreases-steps
-decreases-steps g l = l.until - g.M.Machine.stamp_of l.machine
+decreases-steps g l = l.until - l.stamp

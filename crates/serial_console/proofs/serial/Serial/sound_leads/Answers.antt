@@ -1,26 +1,14 @@
-use Rattle.std.proofs.Common.{◌<◌, rules, arith}
-use Rattle.std.proofs.lemmas.Grind.{common_steps}
+use Rattle.std.proofs.Common.{◌≤◌, ◌+◌, arith}
 use Rattle.serial_console.specs.Serial.{sound_of}
+use Rattle.serial_console.proofs.Led.{led_sound}
 use Rattle.serial_console.proofs.serial.Serial.sound_leads.Goals as goal
 
-pub returns-then-not-sound_goes-clause-led : goal.returns-then-not-sound_goes-clause-led
-returns-then-not-sound_goes-clause-led g c = λ from video audio led.
-    let before : g.S.Machine.stamp_of (sound_of c.loop-stamp.self) < c.args.end = omega (arith, c.loop-stamp.invariant.next, c.loop-stamp-test.true) in
-    c.sound_goes.ensures.led c.args.end from video audio before (c.loop-stamp.invariant.led from video audio led)
-
-pub returns-then-pending-gt0-2-clause-led : goal.returns-then-pending-gt0-2-clause-led
-returns-then-pending-gt0-2-clause-led g c = λ from video audio led.
-    let before : g.S.Machine.stamp_of (sound_of c.loop-stamp.self) < c.args.end = omega (arith, c.loop-stamp.invariant.next, c.loop-stamp-test.true) in
-    c.sound_goes.ensures.led c.args.end from video audio before (c.loop-stamp.invariant.led from video audio led)
-
-pub loop-stamp-preserved : goal.loop-stamp-preserved
-loop-stamp-preserved g c = record {
-  led = λ from video audio led.
-      let before : g.S.Machine.stamp_of (sound_of c.loop-stamp.self) < c.args.end = omega (arith, c.loop-stamp.invariant.next, c.loop-stamp-test.true) in
-      c.sound_goes.ensures.led c.args.end from video audio before (c.loop-stamp.invariant.led from video audio led);
-  next = search rules;
-  empty = grind (arith, common_steps);
-  forward = grind (arith, common_steps);
-  region = search rules;
-  stays = search rules;
-}
+pub returns-clause-led : goal.returns-clause-led
+returns-clause-led g c = λ from video audio led.
+    let C = g.C.Machine in
+    let S = g.S.Machine in
+    let of_console = g.met.C.Machine g.world.𝓛 g.world.𝓜 g.world.𝓡 ((λ s x. x), (λ x. x), (λ x. x), λ x. x) in
+    let of_sound = g.met.S.Machine g.world.𝓛 g.world.𝓜 g.world.𝓡 ((λ s x. x), (λ x. x), (λ x. x), λ x. x) in
+    led_sound C.moves S.moves C.stands S.stands C.stamp_of S.stamp_of of_console.stands_stamp of_sound.stands_stamp
+    c.args.end from c.args.self.now video audio c.stamp-first.result c.lead.new.machine (S.waiting (sound_of c.args.self.now)) (S.waiting c.lead.new.machine)
+    c.lead.new.incoming c.lead.new.outgoing (omega (arith, c.stamp-first.ensures.stamp)) c.lead.ensures.made led
