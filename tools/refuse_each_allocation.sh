@@ -4,14 +4,17 @@
 #
 # It is no part of the gate. It needs the program (`./snes demo 7 --frames 0` builds it) and a C compiler,
 # with which it makes a small library, outside of the repository, that stands before malloc and realloc.
-# It says how many requests were refused; its status is 1 where an answer was neither. Where no memory is found
+# It says how many requests were refused; its status is 1 where an answer was neither, where no request was refused at
+# all (the library was not taken, as by a static program), or where there were more than MOST (5000). Where no memory is found
 # for the words themselves the program says nothing and ends with the same status, 5.
 top=$(cd "$(dirname "${BASH_SOURCE[0]}")/.." && pwd) || exit 1
-program=${1:-$top/crates/snes_run/out/snes_run}
+program=$(realpath "${1:-$top/crates/snes_run/out/snes_run}") || exit 2
 data=$top/crates/snes_run/data
 [ -x "$program" ] || { echo "no program: $program" >&2; exit 2; }
 work=$(mktemp -d) || exit 2
 trap 'rm -rf "$work"' EXIT
+# A path of a library that is to be loaded first may have neither a space nor a colon, so it is named from there.
+cd "$work" || exit 2
 
 cat >"$work/refuse.c" <<'C'
 /* The request for memory of this number, from 1, finds none; the file MARK is made then. */
@@ -53,7 +56,7 @@ head -c 2128 /dev/zero >"$work/silence"
 # Calls the program with one request refused, and tells what came of it: whole, none or neither.
 call() {
   rm -f "$work/video" "$work/audio" "$work/mark"
-  REFUSED=$2 MARK=$work/mark LD_PRELOAD=$work/refuse.so "$program" "$1" \
+  REFUSED=$2 MARK=$work/mark LD_PRELOAD=./refuse.so "$program" "$1" \
     --cart "$data/red.sfc" --boot "$data/boot.bin" --table "$data/table.bin" --script "$data/script.txt" \
     --frames 1 --video "$work/video" --audio "$work/audio" >"$work/said" 2>"$work/errors"
   status=$?
@@ -71,7 +74,7 @@ call() {
 
 bad=0
 for command in run serial; do
-  whole=0 none=0
+  whole=0 none=0 ended=no
   for number in $(seq "${MOST:-5000}"); do
     call "$command" "$number"
     # Where there were no more requests nothing was refused, and the run has to be whole.
@@ -82,8 +85,15 @@ for command in run serial; do
     elif [ -e "$work/mark" ]; then
       eval "$came=\$(($came + 1))"
     fi
-    [ -e "$work/mark" ] || break
+    [ -e "$work/mark" ] || { ended=yes && break; }
   done
+  if [ $ended = no ]; then
+    bad=$((bad + 1))
+    echo "$command: there are more than ${MOST:-5000} requests"
+  elif [ $((none + whole)) -eq 0 ]; then
+    bad=$((bad + 1))
+    echo "$command: no request was refused, so the library was not taken"
+  fi
   echo "$command: $((none + whole)) requests refused in turn, $none times no memory, $whole times the whole run"
 done
 exit $((bad > 0))

@@ -1,9 +1,9 @@
 //! A mixed 65C816 program in a loop with the shape of the console's step, to measure the time of a step.
 //!
-//! The argument is a number of steps. A step asks the processor's next access, looks its page up for a
+//! The arguments are a number of steps and, if registers, stamp and sums are to be printed too, so that two builds can be
+//! compared, the word `sums`. A step asks the processor's next access, looks its page up for a
 //! place and a number of clocks, raises a stamp, makes the access, and compares the stamp with that of
-//! the next event. What is printed are the registers, the stamp and a sum over the memory, so that two
-//! builds can be compared.
+//! the next event.
 #![tactic(auto)]
 
 ghost use Rattle.std.specs.Prelude.{◌+◌, ◌≤◌, length};
@@ -205,11 +205,11 @@ fn main(rt: HostRuntime) -> anyhow::Result<()> {
         events: 0,
     };
     machine.run(steps);
-    let (stamp, events) = (machine.bus.stamp, machine.events);
-    println!(rt;
-        "{steps} {:?} {stamp} {events} {}",
-        machine.cpu.regs(),
-        sum(machine.bus.memory.as_slice())
-    )?;
+    println!(rt; "{steps} steps of the 65C816")?;
+    if arguments.next().is_some() {
+        let (stamp, events) = (machine.bus.stamp, machine.events);
+        let sum = sum(machine.bus.memory.as_slice());
+        println!(rt; "{:?} {stamp} {events} {sum}", machine.cpu.regs())?;
+    }
     Ok(())
 }

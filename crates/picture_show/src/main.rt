@@ -2,7 +2,8 @@
 //!
 //! `picture_show FILE OUT FROM UPTO`: the scenes FROM to UPTO (decimal) of FILE, each as 224 rows of 512 dots after its last
 //! line, go one after another into OUT. A dot is two bytes, low first: 15 bits, red in bits 4-0, green in 9-5, blue
-//! in 14-10. A PNG comes of it by `ffmpeg -f rawvideo -pix_fmt bgr555le -video_size 512x224 -i OUT p%03d.png`.
+//! in 14-10. A PNG comes of it by `ffmpeg -f rawvideo -pix_fmt bgr555le -video_size 512x224 -i OUT p%03d.png`. The program prints how many scenes and bytes it
+//! wrote, and names each line that is none of a scene.
 #![tactic(auto)]
 
 ghost use Rattle.std.specs.Prelude.{◌<◌};
@@ -46,35 +47,56 @@ fn show(ppu: &Ppu, tiles: &mut TileCache, bytes: &mut Vec<u8>) -> Result<(), All
     Ok(())
 }
 
-fn main(rt: HostRuntime) -> io::Result<()> {
-    let mut words = env::args(&rt)?.skip(1);
-    if let (Some(name), Some(out), Some(from), Some(upto)) = (
-        words.next(),
-        words.next(),
-        words.next(),
-        words.next(),
-    ) {
-        let from = from.as_str().parse::<u64>().unwrap_or(0);
-        let upto = upto.as_str().parse::<u64>().unwrap_or(0);
-        let text = fs::read_to_string(&rt, name.as_str())?;
-        let mut bytes = Vec::new(rt.alloc());
-        let mut unit = new_unit(rt.alloc());
-        let mut scene = 0u64;
-        for line in text.lines() {
-            if line.starts_with("scene ") {
-                unit = new_unit(rt.alloc());
-            } else if line.starts_with("end") {
-                if let Some((ppu, tiles)) = &mut unit {
-                    if from <= scene && scene <= upto {
-                        show(ppu, tiles, &mut bytes)?;
-                    }
+/// The pictures of the scenes of a text from one to another, of which it prints how many there were.
+fn show_scenes(
+    rt: &impl Print,
+    alloc: Global,
+    text: &str,
+    from: u64,
+    upto: u64,
+) -> io::Result<Vec<u8>> {
+    let mut bytes = Vec::new(alloc);
+    let mut unit = new_unit(alloc);
+    let mut scene = 0u64;
+    let mut shown = 0u64;
+    for line in text.lines() {
+        if line.starts_with("scene ") {
+            unit = new_unit(alloc);
+        } else if let Some((ppu, tiles)) = &mut unit {
+            if line == "end" {
+                if from <= scene && scene <= upto {
+                    show(ppu, tiles, &mut bytes)?;
+                    shown = shown.saturating_add(1);
                 }
                 scene = scene.saturating_add(1);
-            } else if let Some((ppu, _)) = &mut unit {
-                let _done = acts(ppu, line);
+            } else if !is_answer(line) && acts(ppu, line).is_none() {
+                println!(rt; "no line of a scene: {line}")?;
             }
         }
-        fs::write(&rt, out.as_str(), bytes.as_slice())?;
     }
-    Ok(())
+    println!(rt; "{shown} scenes, {} bytes", bytes.len())?;
+    Ok(bytes)
+}
+
+/// Whether a line is an answer to be compared, which a picture doesn't ask for.
+fn is_answer(line: &str) -> bool {
+    line.starts_with("q ") || line.starts_with("r ")
+}
+
+fn main(rt: HostRuntime) -> io::Result<()> {
+    let mut words = env::args(&rt)?.skip(1);
+    let (Some(name), Some(out), Some(from), Some(upto)) = (
+        words.next(),
+        words.next(),
+        words.next(),
+        words.next(),
+    ) else {
+        return println!(rt; "usage: picture_show FILE OUT FROM UPTO");
+    };
+    let (Ok(from), Ok(upto)) = (from.as_str().parse::<u64>(), upto.as_str().parse::<u64>()) else {
+        return println!(rt; "usage: picture_show FILE OUT FROM UPTO");
+    };
+    let text = fs::read_to_string(&rt, name.as_str())?;
+    let bytes = show_scenes(&rt, rt.alloc(), text.as_str(), from, upto)?;
+    fs::write(&rt, out.as_str(), bytes.as_slice())
 }

@@ -4,14 +4,18 @@ use cpu65816::Cpu;
 use flat_memory::run;
 use std::io;
 
-/// So many accesses of the 65C816 over a flat memory. Prints their number, the registers and a sum over the memory.
+/// So many accesses of the 65C816 over a flat memory. Prints their number, and with `sums` the registers and a sum
+/// over the memory.
 #[inline(never)]
-pub fn cpu_accesses<R: AllocGlobal + Print>(rt: &R, accesses: u64) -> io::Result<()> {
+pub fn cpu_accesses<R: AllocGlobal + Print>(rt: &R, accesses: u64, sums: bool) -> io::Result<()> {
     let mut bytes = vec![in rt.alloc(); 0u8; 16_777_216]?;
     let memory = bytes.as_mut_slice();
     load_cpu_program(memory);
     let mut cpu = Cpu::new();
     run(&mut cpu, memory, accesses);
-    let r = cpu.regs();
-    println!(rt; "{accesses} {:?} {}", r, sum(memory))
+    println!(rt; "{accesses} accesses of the 65C816")?;
+    if sums {
+        println!(rt; "{:?} {}", cpu.regs(), sum(memory))?;
+    }
+    Ok(())
 }

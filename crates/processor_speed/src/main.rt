@@ -9,8 +9,10 @@
 //!   next access, keeps the registers 00F0 to 00FF apart from the memory, raises a stamp, makes the access, and compares
 //!   the stamp with that of the next tick.
 //!
-//! Without arguments nothing is done. What is printed are the number, the registers, in a step's loop the stamp and how
-//! many events or ticks came, and a sum over the memory, so that two builds can be compared. Each loop is a function
+//! - `sums`: from here on the registers and a sum over the memory are printed too, so that two builds can be compared.
+//!
+//! What is printed are the number, and in a step's loop the stamp (118,125 a step) and how many ticks (one each sixteen
+//! steps) came. Each loop is a function
 //! of its own that isn't built into `main`. The 65C816 in a loop with the shape of a step is a program of its own,
 //! `cpu_step_speed`: a second loop over that processor here would have two callers of its `idle` and `wrote`, which
 //! are built into a loop only where it is their one caller.
@@ -38,17 +40,19 @@ enum Measured {
 
 fn main(rt: HostRuntime) -> anyhow::Result<()> {
     let mut measured = Measured::CpuAccesses;
+    let mut sums = false;
     for word in env::args(&rt)?.skip(1) {
         match word.as_str() {
             "cpu" => measured = Measured::CpuAccesses,
             "spc" => measured = Measured::SpcCycles,
             "spc-step" => measured = Measured::SpcSteps,
+            "sums" => sums = true,
             number => {
                 let count = number.parse::<u64>()?;
                 match measured {
-                    Measured::CpuAccesses => cpu_accesses(&rt, count)?,
-                    Measured::SpcCycles => spc_cycles(&rt, count)?,
-                    Measured::SpcSteps => spc_steps(&rt, count)?,
+                    Measured::CpuAccesses => cpu_accesses(&rt, count, sums)?,
+                    Measured::SpcCycles => spc_cycles(&rt, count, sums)?,
+                    Measured::SpcSteps => spc_steps(&rt, count, sums)?,
                 }
             }
         }

@@ -4,14 +4,18 @@ use flat_memory::run;
 use spc700::Spc;
 use std::io;
 
-/// So many cycles of the SPC700 over a flat memory. Prints their number, the registers and a sum over the memory.
+/// So many cycles of the SPC700 over a flat memory. Prints their number, and with `sums` the registers and a sum over
+/// the memory.
 #[inline(never)]
-pub fn spc_cycles<R: AllocGlobal + Print>(rt: &R, cycles: u64) -> io::Result<()> {
+pub fn spc_cycles<R: AllocGlobal + Print>(rt: &R, cycles: u64, sums: bool) -> io::Result<()> {
     let mut bytes = vec![in rt.alloc(); 0u8; 65536]?;
     let memory = bytes.as_mut_slice();
     load_spc_program(memory);
     let mut spc = Spc::new(0x0400);
     run(&mut spc, memory, cycles);
-    let r = spc.regs();
-    println!(rt; "{cycles} {:?} {}", r, sum(memory))
+    println!(rt; "{cycles} cycles of the SPC700")?;
+    if sums {
+        println!(rt; "{:?} {}", spc.regs(), sum(memory))?;
+    }
+    Ok(())
 }

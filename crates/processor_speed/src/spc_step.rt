@@ -69,10 +69,10 @@ impl Machine {
     }
 }
 
-/// So many steps of the SPC700. Prints their number, the registers, the stamp, how many ticks came, and a sum over the
-/// memory.
+/// So many steps of the SPC700. Prints their number, the stamp and how many ticks came, and with `sums` the registers
+/// and a sum over the memory.
 #[inline(never)]
-pub fn spc_steps<R: AllocGlobal + Print>(rt: &R, steps: u64) -> io::Result<()> {
+pub fn spc_steps<R: AllocGlobal + Print>(rt: &R, steps: u64, sums: bool) -> io::Result<()> {
     let mut memory = vec![in rt.alloc(); 0u8; 65536]?;
     load_spc_program(memory.as_mut_slice());
     let mut machine = Machine {
@@ -85,9 +85,13 @@ pub fn spc_steps<R: AllocGlobal + Print>(rt: &R, steps: u64) -> io::Result<()> {
     };
     machine.run(steps);
     let (stamp, ticks) = (machine.stamp, machine.ticks);
-    println!(rt;
-        "{steps} {:?} {stamp} {ticks} {}",
-        machine.spc.regs(),
-        sum(machine.memory.as_slice())
-    )
+    println!(rt; "{steps} steps of the SPC700, stamp {stamp}, {ticks} ticks")?;
+    if sums {
+        println!(rt;
+            "{:?} {}",
+            machine.spc.regs(),
+            sum(machine.memory.as_slice())
+        )?;
+    }
+    Ok(())
 }

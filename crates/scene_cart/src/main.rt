@@ -3,7 +3,7 @@
 //!
 //! `scene_cart FOLDER` writes the cartridge `scene.sfc` into FOLDER, which it makes, and what else a run of it needs:
 //! `boot.bin`, `table.bin` and the empty `script.txt`. Without a word it writes nothing. It always prints the
-//! cartridge's length and a sum over it.
+//! cartridge's length.
 #![tactic(auto)]
 
 mod assembler;
@@ -35,15 +35,6 @@ fn cartridge(alloc: Global) -> Result<Option<Image>, AllocError> {
     Ok(if code.fits() { Some(image) } else { None })
 }
 
-/// A sum in which each byte's place counts.
-fn sum_over(bytes: &[u8]) -> u32 {
-    let mut sum = 0u32;
-    for byte in bytes {
-        sum = sum.wrapping_mul(31).wrapping_add(u32::from(*byte));
-    }
-    sum
-}
-
 /// The bytes of the demo's interpolation table.
 fn table_bytes(alloc: Global) -> Result<Vec<u8>, AllocError> {
     let table = demo_table();
@@ -61,11 +52,7 @@ fn main(rt: HostRuntime) -> io::Result<()> {
     let Some(image) = cartridge(alloc)? else {
         return println!(rt; "the program doesn't fit");
     };
-    println!(rt;
-        "scene.sfc: {} bytes, sum {:08x}",
-        image.bytes().len(),
-        sum_over(image.bytes())
-    )?;
+    println!(rt; "scene.sfc: {} bytes", image.bytes().len())?;
     if let Some(folder) = env::args(&rt)?.skip(1).next() {
         fs::create_dir_all(&rt, folder.as_str())?;
         fs::write(&rt, format!(in alloc; "{folder}/scene.sfc")?, image.bytes())?;

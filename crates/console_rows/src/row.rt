@@ -1,0 +1,118 @@
+//! What a line of a file of rows does.
+
+use crate::cartridge::Cartridge;
+use crate::picture::show_picture;
+use crate::run::{Run, Show};
+use snes_defs::Job;
+use std::alloc::Global;
+use std::io;
+use std::str::SplitWhitespace;
+
+/// A row in the making.
+#[derive(Drop)]
+pub struct Row {
+    cartridge: Cartridge,
+    /// What a line `keep` kept.
+    kept: Cartridge,
+    is_torn: bool,
+}
+
+/// The next number of a line.
+fn number(words: &mut SplitWhitespace<'_>) -> Option<u64> {
+    words.next()?.parse().ok()
+}
+
+/// Acts from one clock to another.
+fn between(show: Show, mut words: SplitWhitespace<'_>) -> Option<(Show, u64, u64)> {
+    let from = number(&mut words)?;
+    Some((show, from, number(&mut words)?))
+}
+
+/// Which acts a line shows, from which clock on, and up to which.
+fn shown(line: &str) -> Option<(Show, u64, u64)> {
+    let mut words = line.split_whitespace();
+    let kind = words.next()?;
+    match kind.as_bytes() {
+        b"acts" => between(Show::Places, words),
+        b"lines" => between(Show::Lines, words),
+        b"since" => between(Show::Differences, words),
+        b"bytes" => Some((Show::Bytes, 0, number(&mut words)?)),
+        _ => None,
+    }
+}
+
+/// The frame of a line `picture FRAME`.
+fn frame_of(line: &str) -> Option<u64> {
+    line.strip_prefix("picture ")?.parse().ok()
+}
+
+impl Row {
+    pub fn new(alloc: Global) -> Row {
+        Row {
+            cartridge: Cartridge::new(alloc),
+            kept: Cartridge::new(alloc),
+            is_torn: false,
+        }
+    }
+
+    /// A line that makes the row's cartridge or script.
+    fn prepare(&mut self, alloc: Global, line: &str) -> Option<()> {
+        if let Some(text) = line.strip_prefix("script ") {
+            return self.cartridge.script(text);
+        }
+        let mut words = line.split_whitespace();
+        let kind = words.next()?;
+        match kind.as_bytes() {
+            b"code" => self.cartridge.code(words),
+            b"set" => self.cartridge.set(words),
+            b"line" => self.cartridge.wait(words),
+            b"put" => self.cartridge.put(words),
+            b"keep" => {
+                self.kept = self.cartridge.copied(alloc)?;
+                Some(())
+            }
+            b"kept" => {
+                self.cartridge = self.kept.copied(alloc)?;
+                Some(())
+            }
+            b"torn" => {
+                self.is_torn = true;
+                Some(())
+            }
+            _ => None,
+        }
+    }
+
+    /// Runs the row as a line asks for, or nothing where the line doesn't.
+    fn run(&self, rt: &impl Print, job: &Job, alloc: Global, line: &str) -> io::Result<bool> {
+        if let Some((show, from, to)) = shown(line) {
+            Run::new(show, from, to, self.is_torn).acts(rt, alloc, job)?;
+            return Ok(true);
+        }
+        if let Some(frame) = frame_of(line) {
+            show_picture(rt, alloc, job, frame)?;
+            return Ok(true);
+        }
+        Ok(false)
+    }
+
+    /// Does what a line says. A line that says nothing is named.
+    pub fn follow(&mut self, rt: &impl Print, alloc: Global, line: &str) -> io::Result<()> {
+        if let Some(title) = line.strip_prefix("row ") {
+            self.is_torn = false;
+            if self.cartridge.begin(alloc).is_none() {
+                return println!(rt; "no memory");
+            }
+            return println!(rt; "{title}");
+        }
+        if self.prepare(alloc, line).is_some() {
+            return Ok(());
+        }
+        if let Some(job) = self.cartridge.job(alloc) {
+            if self.run(rt, &job, alloc, line)? {
+                return Ok(());
+            }
+        }
+        println!(rt; "no line of a row: {line}")
+    }
+}

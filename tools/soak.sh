@@ -1,0 +1,74 @@
+#!/usr/bin/env bash
+# Runs jobs at random by `serial` and by two workers, and compares every byte, the line that is said and the exit status.
+#
+# `tools/soak.sh COUNT [FIRST]`: the jobs of the numbers FIRST (0, where it isn't given) to FIRST + COUNT - 1, made by the program of
+# crates/wild_jobs. Each is run by `serial` once, by `run` on all processors, and by `run` on one processor, while as many
+# other processes as there are processors keep these busy (none with LOAD=0). Four jobs are under way at once (JOBS=N).
+#
+# It is no part of the gate. It needs the two programs: ./snes demo 7 --frames 0, and in crates/wild_jobs `rt run`. It
+# says how many jobs were alike; each that wasn't is named, with its files kept under /tmp/snes-soak. The status is 1 where
+# one wasn't, or where fewer were compared than were asked for.
+#
+# What it can't show: that the two workers' steps fell between each other in any particular way. It can only try many ways,
+# of which a busy machine makes more than an idle one; that all of them give the bytes of `serial` is the theorem.
+top=$(cd "$(dirname "${BASH_SOURCE[0]}")/.." && pwd) || exit 2
+count=${1:-} first=${2:-0}
+[[ $count =~ ^[1-9][0-9]*$ && $first =~ ^[0-9]+$ ]] || { echo "usage: tools/soak.sh COUNT [FIRST]" >&2; exit 2; }
+export snes=${SNES:-$top/crates/snes_run/out/snes_run} jobs=${WILD_JOBS:-$top/crates/wild_jobs/out/wild_jobs}
+for program in "$snes" "$jobs"; do
+  [ -x "$program" ] || { echo "no program: $program" >&2; exit 2; }
+done
+export processor
+processor=$(taskset -pc $$ | sed 's/.*: *//; s/[-,].*//') || exit 2
+export work
+work=$(mktemp -d) || exit 2
+export kept=/tmp/snes-soak
+load=()
+for _ in $(seq "${LOAD:-$(nproc)}"); do
+  (while :; do :; done) &
+  load+=($!)
+done
+trap 'kill "${load[@]}" 2>/dev/null; rm -rf "$work"' EXIT
+
+# One run of a job: the command's words are $1.., its outputs go to FOLDER/NAME.
+one() {
+  local folder=$1 name=$2 frames=$3 command=$4
+  shift 4
+  "$@" "$snes" "$command" --cart "$folder/cart.sfc" --boot "$folder/boot.bin" --table "$folder/table.bin" \
+    --script "$folder/script.txt" --frames "$frames" --video "$folder/$name.video" --audio "$folder/$name.audio" \
+    >"$folder/$name.said" 2>&1
+  echo "status $?" >>"$folder/$name.said"
+}
+
+# A job by its number: prints `alike`, `other` or `none`.
+job() {
+  local number=$1 folder=$work/$1 frames
+  frames=$("$jobs" "$number" "$folder") || { echo none; return; }
+  frames=${frames% frames}
+  [[ $frames =~ ^[0-9]+$ ]] || { echo none; return; }
+  one "$folder" serial "$frames" serial env
+  one "$folder" all "$frames" run env
+  one "$folder" one "$frames" run taskset -c "$processor"
+  local same=alike part name
+  grep -q '^frames ' "$folder/serial.said" && grep -qx 'status 0' "$folder/serial.said" || same=none
+  # A frame has 244,736 bytes; a run without pictures would compare nothing.
+  [ "$(stat -c %s "$folder/serial.video")" = $((244736 * frames)) ] || same=none
+  for name in all one; do
+    for part in said video audio; do
+      cmp -s "$folder/serial.$part" "$folder/$name.$part" || same=other
+    done
+  done
+  if [ $same != alike ]; then
+    mkdir -p "$kept" && cp -r "$folder" "$kept/"
+    echo "job $number: $same" >&2
+  fi
+  rm -rf "$folder"
+  echo $same
+}
+export -f one job
+
+started=$(date +%s)
+seq "$first" $((first + count - 1)) | xargs -P "${JOBS:-4}" -I {} bash -c 'job {}' >"$work/told"
+alike=$(grep -cx alike "$work/told")
+echo "$count jobs: $alike alike by serial, by run on all processors and by run on one, $((count - alike)) not, in $(($(date +%s) - started)) s"
+[ "$alike" = "$count" ]
