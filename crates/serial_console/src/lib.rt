@@ -11,4 +11,4 @@
 mod leading;
 mod serial;
 
-pub use serial::Serial;
+pub use serial::{Serial, step};
