@@ -12,4 +12,4 @@ mod leading;
 mod ports;
 mod serial;
 
-pub use serial::Serial;
+pub use serial::{Serial, step};

@@ -103,7 +103,7 @@ pub(crate) fn step_by<M: Machine>(
 /// where the machine sees that it is quiet.
 #[inline(always)]
 #[tactic(auto, using(crate::proofs::Taken::quiet))]
-fn step<M: Machine>(machine: &mut M, incoming: &mut [u8; 4], outgoing: &mut [u8; 4])
+pub fn step<M: Machine>(machine: &mut M, incoming: &mut [u8; 4], outgoing: &mut [u8; 4])
     requires room { length (M.waiting machine.old) + M.MOST ≤ M.CAP }
     requires early { M.stamp_of machine.old ≤ 2 ^ 62 }
     ensures next { (m : M.State) → M.stands machine.old m → M.stands machine.new (M.moves.next m (got_of (M.moves.act m) incoming.old)) }

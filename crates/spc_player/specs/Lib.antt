@@ -1,0 +1,3 @@
+pub mod SoundFile
+pub mod Play
+pub mod Player

@@ -1,0 +1,104 @@
+ghost use Rattle.std.specs.Prelude.{◌≡◌, ◌+◌, ◌*◌, ◌/◌, ◌^◌, ◌<◌, ◌≤◌, ◌++◌, ℕ, [], IfOk, length, min, take, drop};
+ghost use Rattle.spc_player.specs.Play.{Playing, after_steps, output, play_start, step_emits, stepped, to_sample};
+ghost use Rattle.spc_player.specs.Player.{IsPlaying, stamp_of, waiting_of};
+
+use crate::image::SpcImage;
+use audio_side::AudioSide;
+use clock_ratio::SOUND_RATE;
+use serial_console::step;
+use side_law::Machine;
+use snes_defs::{NoMemory, Table};
+use std::alloc::Global;
+use std::marker::Model;
+
+/// The stamps from one sample to the next: 32 cycles.
+const SAMPLE_STAMPS: u64 = 32 * SOUND_RATE;
+
+/// A sound side that plays by itself.
+#[derive(Drop)]
+pub struct Player {
+    pub(crate) side: AudioSide,
+    /// The bytes at the incoming ports.
+    ports: [u8; 4],
+}
+
+impl Model for Player {
+    ghost use Rattle.std.specs.Prelude.{◌≡◌};
+    ghost use Rattle.snes_defs.specs.declared.region.Region.TheVariants.{Ntsc};
+    ghost use Rattle.spc_player.specs.Player.{PlayerValue};
+
+    ghost Value = { PlayerValue };
+
+    ghost view = { λ p. record { side = p.side; ports = p.ports } };
+
+    ghost invariant = { λ p. p.side.clock.region ≡ Ntsc };
+}
+
+/// The stamp at which the steps to the next sample have been made.
+#[inline(always)]
+fn after_sample(stamp: u64) -> u64
+    requires { stamp ≤ 2 ^ 61 }
+    ensures later { stamp < result }
+    ensures near { result ≤ stamp + 3780000 }
+    ensures whole { (cycle : ℕ) → stamp ≡ 118125 * cycle → result ≡ 118125 * (32 * (cycle / 32) + 32) }
+{
+    (stamp / SAMPLE_STAMPS + 1) * SAMPLE_STAMPS
+}
+
+impl Player {
+    /// The player of a sound file at its start, with an interpolation table. It takes the room for RAM
+    /// and for the bytes that wait, and refuses only for want of memory.
+    pub fn new(alloc: Global, image: &SpcImage, table: &Table) -> Result<Player, NoMemory>
+        ensures starts { IfOk result (λ p. IsPlaying p (play_start image.now table.now)) }
+        ensures empty { IfOk result (λ p. waiting_of p ≡ []) }
+        ensures at_zero { IfOk result (λ p. stamp_of p ≡ 0) }
+    {
+        let ram = image.ram();
+        let side = AudioSide::of_parts(alloc, image.regs(), ram, image.dsp(), table)?;
+        Ok(Player {
+            side,
+            ports: [ram[0xF4], ram[0xF5], ram[0xF6], ram[0xF7]],
+        })
+    }
+
+    /// Makes a step.
+    #[inline(always)]
+    pub fn turn(&mut self)
+        requires room { length (waiting_of self.old) + 4 ≤ 4096 }
+        requires early { stamp_of self.old ≤ 2 ^ 62 }
+        ensures next { (w : Playing) → IsPlaying self.old w → IsPlaying self.new (stepped w) }
+        ensures emits { (w : Playing) → IsPlaying self.old w → waiting_of self.new ≡ waiting_of self.old ++ step_emits w }
+        ensures rises { stamp_of self.old < stamp_of self.new }
+        ensures emits_at_most { length (waiting_of self.new) ≤ length (waiting_of self.old) + 4 }
+    {
+        let mut unheard = [0; 4];
+        step(&mut self.side, &mut self.ports, &mut unheard);
+    }
+
+    /// Makes all steps up to the next sample, and that one, which emits its four bytes.
+    #[inline(never)]
+    pub fn to_next_sample(&mut self)
+        requires room { length (waiting_of self.old) + 4 ≤ 4096 }
+        requires early { stamp_of self.old ≤ 2 ^ 61 }
+        ensures next { (w : Playing) → IsPlaying self.old w → IsPlaying self.new (after_steps w (to_sample w)) }
+        ensures emits { (w : Playing) → IsPlaying self.old w → waiting_of self.new ≡ waiting_of self.old ++ output w (to_sample w) }
+        ensures emits_at_most { length (waiting_of self.new) ≤ length (waiting_of self.old) + 4 }
+        ensures late { stamp_of self.new ≤ stamp_of self.old + 3780000 }
+    {
+        let end = after_sample(self.side.stamp());
+        while self.side.stamp() < end {
+            self.turn();
+        }
+    }
+
+    /// Moves out the first of the bytes that wait, as many as wait or fit, and answers how many.
+    pub fn drain(&mut self, into: &mut [u8]) -> usize
+        ensures count { result ≡ min (length (waiting_of self.old)) (length into.old) }
+        ensures moved { into.new ≡ take result (waiting_of self.old) ++ drop result into.old }
+        ensures left { waiting_of self.new ≡ drop result (waiting_of self.old) }
+        ensures same_place { (w : Playing) → IsPlaying self.old w → IsPlaying self.new w }
+        ensures same_stamp { stamp_of self.new ≡ stamp_of self.old }
+    {
+        self.side.drain(into)
+    }
+}
