@@ -1,3 +1,4 @@
 pub mod MixedLemmas
+pub mod PictureLemmas
 pub mod ReadLemmas
 pub mod RowLemmas

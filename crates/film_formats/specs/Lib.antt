@@ -4,5 +4,6 @@ pub mod Colours
 pub mod Film
 pub mod Mixed
 pub mod Numbers
+pub mod Pictures
 pub mod Png
 pub mod Wav

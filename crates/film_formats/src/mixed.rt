@@ -1,4 +1,4 @@
-ghost use Rattle.std.specs.Prelude.{◌≡◌, ℕ, ◌+◌, ◌*◌, ◌/◌, ◌<◌, ◌≤◌, ◌++◌, length, OnOk};
+ghost use Rattle.std.specs.Prelude.{◌≡◌, ℕ, ◌+◌, ◌*◌, ◌/◌, ◌<◌, ◌≤◌, ◌++◌, length, OnOk, vec_len};
 ghost use Rattle.film_formats.specs.Colours.{colour_of, dot_at};
 ghost use Rattle.film_formats.specs.Mixed.{dimmed, marked, marked_row, sum4, mean_of, small_row};
 
@@ -36,7 +36,8 @@ fn marked_dot(first: u16, second: u16) -> Colour
 pub fn push_marked_row(out: &mut Vec<u8>, first: &[u8], second: &[u8]) -> Result<(), AllocError>
     requires first { length first.now ≡ ROW_BYTES }
     requires second { length second.now ≡ ROW_BYTES }
-    ensures { OnOk result (out.new.items ≡ out.old.items ++ marked_row first.now second.now WIDTH) }
+    ensures items { OnOk result (out.new.items ≡ out.old.items ++ marked_row first.now second.now WIDTH) }
+    ensures len { OnOk result (vec_len out.new ≡ vec_len out.old + 1536) }
 {
     for column in 0..WIDTH {
         let colour = marked_dot(dot_of_row(first, column), dot_of_row(second, column));

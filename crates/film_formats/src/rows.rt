@@ -1,4 +1,4 @@
-ghost use Rattle.std.specs.Prelude.{◌≡◌, ℕ, ◌+◌, ◌*◌, ◌<◌, ◌++◌, length, OnOk};
+ghost use Rattle.std.specs.Prelude.{◌≡◌, ℕ, ◌+◌, ◌*◌, ◌<◌, ◌++◌, length, OnOk, vec_len};
 ghost use Rattle.film_formats.specs.Colours.{shown, dot_at};
 
 use crate::colours::Colour;
@@ -19,7 +19,8 @@ pub fn dot_of_row(row: &[u8], column: usize) -> u16
 #[tactic(auto, using(crate::proofs::RowLemmas::shown_steps))]
 pub fn push_row(out: &mut Vec<u8>, row: &[u8]) -> Result<(), AllocError>
     requires { length row.now ≡ ROW_BYTES }
-    ensures { OnOk result (out.new.items ≡ out.old.items ++ shown row.now WIDTH) }
+    ensures items { OnOk result (out.new.items ≡ out.old.items ++ shown row.now WIDTH) }
+    ensures len { OnOk result (vec_len out.new ≡ vec_len out.old + 1536) }
 {
     for column in 0..WIDTH {
         let colour = Colour::of_dot(dot_of_row(row, column));

@@ -1,7 +1,9 @@
-//! Films and sounds as they are read: piece by piece, with the number of each.
+//! Films as they are read: frame by frame, with the number of each.
+
+ghost use Rattle.std.specs.Prelude.{◌≡◌, length, vec_len};
 
 use anyhow::{Context, Result, bail};
-use film_formats::{FRAME_BYTES, Piece, SAMPLE_BYTES, read_piece};
+use film_formats::{FRAME_BYTES, Piece, read_piece};
 use std::alloc::{AllocError, Global};
 use std::fs;
 use std::io::Read;
@@ -11,6 +13,18 @@ use std::rt::Files;
 pub fn open<R: Files>(rt: &R, name: &str) -> Result<R::File> {
     let path = if name == "-" { "/dev/stdin" } else { name };
     fs::open(rt, path).context(format_args!("cannot read {name}"))
+}
+
+/// A new file of a name; `-` is standard output.
+pub fn create<R: Files>(rt: &R, name: &str) -> Result<R::File> {
+    let path = if name == "-" { "/dev/stdout" } else { name };
+    fs::create(rt, path).context(format_args!("cannot write {name}"))
+}
+
+/// Writes a file of a name whole.
+pub fn write<R: Files>(rt: &R, name: &str, bytes: &[u8]) -> Result<()> {
+    let path = if name == "-" { "/dev/stdout" } else { name };
+    fs::write(rt, path, bytes).context(format_args!("cannot write {name}"))
 }
 
 /// The length of a regular file, and nothing of anything else, as a pipe.

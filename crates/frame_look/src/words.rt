@@ -85,6 +85,15 @@ fn sheet<'a>(alloc: Global) -> Result<Command<'a>, AllocError> {
         .arg(every)
 }
 
+fn avi<'a>(alloc: Global) -> Result<Command<'a>, AllocError> {
+    Command::new(alloc, "avi")
+        .about("Picture and sound as AVI, uncompressed: 512 by 478, at the region's exact rate")
+        .arg(placed(alloc, "VIDEO", "raw frames; - is standard input"))?
+        .arg(placed(alloc, "AUDIO", "raw samples"))?
+        .arg(placed(alloc, "OUT", "the AVI"))?
+        .arg(region(alloc))
+}
+
 /// All commands.
 pub fn command<'a>(alloc: Global) -> Result<Command<'a>, AllocError> {
     Command::new(alloc, "look")
@@ -95,5 +104,6 @@ pub fn command<'a>(alloc: Global) -> Result<Command<'a>, AllocError> {
         .subcommand(wav(alloc)?)?
         .subcommand(sums(alloc)?)?
         .subcommand(diff(alloc)?)?
-        .subcommand(sheet(alloc)?)
+        .subcommand(sheet(alloc)?)?
+        .subcommand(avi(alloc)?)
 }

@@ -1,6 +1,9 @@
-use Rattle.std.proofs.Common.{◌≡◌, ◌++◌}
+use Rattle.std.proofs.Common.{◌≡◌, ◌+◌, ◌*◌, ◌++◌, vec_len}
 use Rattle.film_formats.specs.Colours.{shown}
 use Rattle.film_formats.proofs.rows.push_row.Given as goal
 
 abbrev pub invariant-loop-column : goal.invariant-loop-column
-invariant-loop-column l = l.out.items ≡ l.initial.out.items ++ shown l.row l.column
+invariant-loop-column l = record {
+  items : l.out.items ≡ l.initial.out.items ++ shown l.row l.column;
+  len : vec_len l.out ≡ vec_len l.initial.out + 3 * l.column;
+}

@@ -1,0 +1,182 @@
+//! A film with its sound as AVI.
+
+ghost use Rattle.std.specs.Prelude.{◌<◌, ◌≤◌};
+
+use crate::films::{self, Frames};
+use crate::regions::{MOST_FRAMES, name_of, region_of, samples_upto};
+use crate::sounds::Sounds;
+use anyhow::{Context, Result, bail, ensure};
+use clap::ArgMatches;
+use film_avi::{Layout, PART_FRAMES, PICTURE_BYTES, file_head, indexes, part_head, push_head, push_turned};
+use film_formats::{FRAME_BYTES, SAMPLE_BYTES};
+use snes_defs::Region;
+use std::alloc::Global;
+use std::collections::VecDeque;
+use std::io::{BufWriter, Read, Seek, SeekFrom, Write};
+use std::rt::Files;
+
+/// How many frames of the picture are read before the first one's samples, as `look sums` does.
+const AHEAD: usize = 12;
+
+/// The pictures of a film as their chunks are written, some of them read ahead.
+#[derive(Drop)]
+struct Chunks<'a, F: Read + Drop> {
+    frames: Frames<'a, F>,
+    ahead: VecDeque<Vec<u8>>,
+    ended: bool,
+}
+
+impl<F: Read + Drop> Chunks<'_, F> {
+    /// Reads ahead.
+    fn fill(&mut self, alloc: Global) -> Result<()> {
+        for _ in self.ahead.len()..AHEAD {
+            if self.ended {
+                break;
+            }
+            if self.frames.next()? {
+                let mut chunk = Vec::new(alloc);
+                push_head(&mut chunk, b"00db", PICTURE_BYTES)?;
+                push_turned(&mut chunk, self.frames.frame())?;
+                self.ahead.push_back(chunk)?;
+            } else {
+                self.ended = true;
+            }
+        }
+        Ok(())
+    }
+
+    /// The chunk of the next picture, or nothing behind the last one.
+    fn next(&mut self, alloc: Global) -> Result<Option<Vec<u8>>> {
+        self.fill(alloc)?;
+        Ok(self.ahead.pop_front())
+    }
+
+    /// Whether there is no further picture.
+    fn is_over(&mut self, alloc: Global) -> Result<bool> {
+        self.fill(alloc)?;
+        Ok(self.ahead.is_empty())
+    }
+}
+
+/// The film that becomes an AVI, and the file.
+#[derive(Drop)]
+struct Making<'a, F: Read + Drop, W: Write + Drop> {
+    chunks: Chunks<'a, F>,
+    sounds: Sounds<'a, F>,
+    out: BufWriter<W>,
+}
+
+impl<F: Read + Drop, W: Write + Drop> Making<'_, F, W> {
+    /// Writes the chunks of a part's frames, as many as are left; says how many.
+    fn write_chunks(&mut self, alloc: Global) -> Result<u32> {
+        let mut written = 0u32;
+        for frame in 0..PART_FRAMES {
+            let Some(picture) = self.chunks.next(alloc)? else {
+                break;
+            };
+            self.out.write_all(picture.as_slice())?;
+            let sound = self.sounds.next()?;
+            let mut head = Vec::new(alloc);
+            push_head(&mut head, b"01wb", sound.len() as u64)?;
+            self.out.write_all(head.as_slice())?;
+            self.out.write_all(sound)?;
+            written = frame + 1;
+        }
+        Ok(written)
+    }
+}
+
+/// Writes all parts, whose heads tell so many frames; says how many there are.
+fn write_parts<F: Read + Drop, W: Write + Drop>(alloc: Global, making: &mut Making<'_, F, W>, region: Region, told: u32) -> Result<u32>
+    requires { told ≤ 36000 }
+{
+    let told = Layout::new(region, told);
+    let mut frames = 0u32;
+    for part in 0..20u32 {
+        let head = part_head(alloc, told, part)?;
+        making.out.write_all(head.as_slice())?;
+        let written = making.write_chunks(alloc)?;
+        frames = frames.saturating_add(written).min(MOST_FRAMES);
+        let index = indexes(alloc, Layout::new(region, frames), part)?;
+        making.out.write_all(index.as_slice())?;
+        if making.chunks.is_over(alloc)? {
+            break;
+        }
+    }
+    if !making.chunks.is_over(alloc)? {
+        bail!("more than {MOST_FRAMES} frames: a run has no more");
+    }
+    making.sounds.end()?;
+    Ok(frames)
+}
+
+/// Writes the heads of the first and of the last part once more, now that the frames are counted.
+fn write_heads<W: Write + Seek + Drop>(alloc: Global, out: &mut BufWriter<W>, layout: Layout) -> Result<()> {
+    let last = layout.parts().saturating_sub(1);
+    let head = part_head(alloc, layout, last)?;
+    out.seek(SeekFrom::Start(layout.start(last)))?;
+    out.write_all(head.as_slice())?;
+    let head = file_head(alloc, layout)?;
+    out.seek(SeekFrom::Start(0))?;
+    out.write_all(head.as_slice())?;
+    Ok(())
+}
+
+/// The frames of a film whose length is known, which has to be a whole number of them.
+fn known_frames<R: Files>(rt: &R, name: &str) -> Result<Option<u32>> {
+    let Some(length) = films::length(rt, name) else {
+        return Ok(None);
+    };
+    let frames = length / FRAME_BYTES as u64;
+    ensure!(length % FRAME_BYTES as u64 == 0, "{name} is cut: {length} bytes are no whole number of frames");
+    match u32::try_from(frames) {
+        Ok(frames) if frames <= MOST_FRAMES => Ok(Some(frames)),
+        _ => bail!("{name} has more than {MOST_FRAMES} frames: a run has no more"),
+    }
+}
+
+/// The samples of a film whose frames are known have to be as many, where their length is known too.
+fn check_sound<R: Files>(rt: &R, name: &str, region: Region, frames: u32) -> Result<()> {
+    let wanted = samples_upto(region, frames)?;
+    match films::length(rt, name) {
+        Some(length) if length != wanted.saturating_mul(SAMPLE_BYTES as u64) => bail!(
+            "{name} has {length} bytes, but the {wanted} samples of {frames} frames of {} have 4 each",
+            name_of(region)
+        ),
+        _ => Ok(()),
+    }
+}
+
+/// `look avi VIDEO AUDIO OUT`. Where the frames of VIDEO can't be known before, as of a pipe, OUT has to be a file:
+/// two heads in it are written once more at the end.
+pub fn write_avi<R: Files + Print + AllocGlobal>(rt: &R, words: &ArgMatches<'_>) -> Result<u8> {
+    let alloc = rt.alloc();
+    let video = words.get_str("VIDEO").unwrap_or("-");
+    let audio = words.get_str("AUDIO").unwrap_or("-");
+    let name = words.get_str("OUT").unwrap_or("-");
+    let region = region_of(rt, words, video, audio);
+    let known = known_frames(rt, video)?;
+    if let Some(frames) = known {
+        check_sound(rt, audio, region, frames)?;
+    }
+    let frames = Frames::new(alloc, video, films::open(rt, video)?)?;
+    let sounds = Sounds::new(alloc, audio, films::open(rt, audio)?, region)?;
+    let chunks = Chunks {
+        frames,
+        ahead: VecDeque::new(alloc),
+        ended: false,
+    };
+    let out = BufWriter::new(alloc, films::create(rt, name)?)?;
+    let mut making = Making {
+        chunks,
+        sounds,
+        out,
+    };
+    let told = known.unwrap_or(MOST_FRAMES).min(MOST_FRAMES);
+    let frames = write_parts(alloc, &mut making, region, told)?;
+    if known != Some(frames) && frames <= MOST_FRAMES {
+        write_heads(alloc, &mut making.out, Layout::new(region, frames)).context(format_args!("cannot go back in {name}"))?;
+    }
+    making.out.flush().context(format_args!("cannot write {name}"))?;
+    Ok(0)
+}

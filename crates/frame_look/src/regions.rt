@@ -1,0 +1,48 @@
+//! Which region a film is of, and how many samples its frames have.
+
+use crate::films;
+use anyhow::{Result, bail};
+use clap::ArgMatches;
+use clock_ratio::{end_stamp_in, samples_before_in};
+use film_formats::{FRAME_BYTES, SAMPLE_BYTES};
+use snes_defs::Region;
+use std::rt::Files;
+
+/// The most frames of a run.
+pub const MOST_FRAMES: u32 = 36_000;
+
+/// How many samples the first frames have.
+pub fn samples_upto(region: Region, frames: u32) -> Result<u64> {
+    if frames > MOST_FRAMES {
+        bail!("a run has at most {MOST_FRAMES} frames");
+    }
+    Ok(samples_before_in(region, end_stamp_in(region, frames)))
+}
+
+/// The name of a region.
+pub fn name_of(region: Region) -> &'static str {
+    match region {
+        Region::Ntsc => "ntsc",
+        Region::Pal => "pal",
+    }
+}
+
+/// Whether files of these lengths are frames and samples of a region.
+fn fits(region: Region, video: u64, audio: u64) -> bool {
+    match u32::try_from(video / FRAME_BYTES as u64) {
+        Ok(frames) => samples_upto(region, frames).is_ok_and(|samples| samples == audio / SAMPLE_BYTES as u64),
+        Err(_) => false,
+    }
+}
+
+/// The region of a film: as it is told, else as the lengths of the two files say. Of a pipe it is Ntsc.
+pub fn region_of<R: Files>(rt: &R, words: &ArgMatches<'_>, video: &str, audio: &str) -> Region {
+    match words.get_str("region") {
+        Some("pal") => Region::Pal,
+        Some(_) => Region::Ntsc,
+        None => match (films::length(rt, video), films::length(rt, audio)) {
+            (Some(video), Some(audio)) if fits(Region::Pal, video, audio) && !fits(Region::Ntsc, video, audio) => Region::Pal,
+            _ => Region::Ntsc,
+        },
+    }
+}

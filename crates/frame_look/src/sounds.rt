@@ -1,0 +1,124 @@
+//! Raw samples: as a film's sound, frame by frame, and as WAV.
+
+ghost use Rattle.std.specs.Prelude.{◌≡◌, IfOk, vec_len};
+
+use crate::films;
+use crate::regions::samples_upto;
+use anyhow::{Context, Result, bail, ensure};
+use clap::ArgMatches;
+use film_formats::{Piece, SAMPLE_BYTES, read_piece, wav_header};
+use snes_defs::Region;
+use std::alloc::{AllocError, Global};
+use std::io::{BufReader, BufWriter, Read, Seek, SeekFrom, Write};
+use std::rt::Files;
+
+/// The sound of a film, read frame by frame.
+#[derive(Drop)]
+pub struct Sounds<'a, F: Read + Drop> {
+    name: &'a str,
+    file: BufReader<F>,
+    region: Region,
+    bytes: Vec<u8>,
+    frames: u32,
+}
+
+impl<'a, F: Read + Drop> Sounds<'a, F> {
+    /// The sound in a file of this name, of which no frame is read yet.
+    pub fn new(alloc: Global, name: &'a str, file: F, region: Region) -> Result<Sounds<'a, F>> {
+        Ok(Sounds {
+            name,
+            file: BufReader::new(alloc, file)?,
+            region,
+            bytes: Vec::new(alloc),
+            frames: 0,
+        })
+    }
+
+    /// The bytes of the samples of the next frame, which has to be there whole.
+    pub fn next(&mut self) -> Result<&[u8]> {
+        let before = samples_upto(self.region, self.frames)?;
+        let upto = samples_upto(self.region, self.frames.saturating_add(1))?;
+        let count = upto.saturating_sub(before) as usize;
+        self.bytes.clear();
+        self.bytes.resize(count.saturating_mul(SAMPLE_BYTES), 0)?;
+        if count > 0 {
+            match read_piece(&mut self.file, self.bytes.as_mut_slice()).context(format_args!("cannot read {}", self.name))? {
+                Piece::Whole => {}
+                _ => bail!("{} is cut: it ends in frame {}; is the region right?", self.name, self.frames),
+            }
+        }
+        self.frames = self.frames.saturating_add(1);
+        Ok(self.bytes.as_slice())
+    }
+
+    /// Nothing may be left behind the last frame.
+    pub fn end(&mut self) -> Result<()> {
+        let mut byte = [0u8; 1];
+        match read_piece(&mut self.file, &mut byte).context(format_args!("cannot read {}", self.name))? {
+            Piece::End => Ok(()),
+            _ => bail!("{} goes on behind the last of {} frames; is the region right?", self.name, self.frames),
+        }
+    }
+}
+
+/// Bytes that are copied at once.
+const COPIED: usize = 65_536;
+
+/// Room for the bytes that are copied at once.
+fn part_of_copy(alloc: Global) -> Result<Vec<u8>, AllocError>
+    ensures { IfOk result (λ v. vec_len v ≡ COPIED) }
+{
+    vec![in alloc; 0u8; COPIED]
+}
+
+/// Copies all samples, and says how many bytes they have.
+fn copy_samples<F: Read, W: Write>(alloc: Global, name: &str, from: &mut F, to: &mut W) -> Result<u64> {
+    let mut part = part_of_copy(alloc)?;
+    let mut copied = 0u64;
+    for _ in 0..u64::MAX {
+        let count = match read_piece(from, part.as_mut_slice()).context(format_args!("cannot read {name}"))? {
+            Piece::Whole => COPIED,
+            Piece::End => break,
+            Piece::Cut(count) => count,
+        };
+        if let Some(bytes) = part.as_slice().get(..count) {
+            to.write_all(bytes)?;
+        }
+        copied = copied.saturating_add(count as u64);
+        if count < COPIED {
+            break;
+        }
+    }
+    Ok(copied)
+}
+
+/// What stands before so many bytes of samples.
+fn header_of(alloc: Global, name: &str, bytes: u64) -> Result<Vec<u8>> {
+    ensure!(bytes % SAMPLE_BYTES as u64 == 0, "{name} is cut: {bytes} bytes are no whole number of samples");
+    match u32::try_from(bytes) {
+        Ok(bytes) if bytes <= u32::MAX - 36 => Ok(wav_header(alloc, bytes)?),
+        _ => bail!("{name} is too long for a WAV file: {bytes} bytes"),
+    }
+}
+
+/// `look wav AUDIO OUT`. The header tells the length: where that isn't known before, as of a pipe, OUT has to be a
+/// file, whose header is written once more at the end.
+pub fn write_wav<R: Files + Print + AllocGlobal>(rt: &R, words: &ArgMatches<'_>) -> Result<u8> {
+    let alloc = rt.alloc();
+    let name = words.get_str("AUDIO").unwrap_or("-");
+    let out = words.get_str("OUT").unwrap_or("-");
+    let mut from = films::open(rt, name)?;
+    let known = films::length(rt, name);
+    let header = header_of(alloc, name, known.unwrap_or(0))?;
+    let file = films::create(rt, out)?;
+    let mut to = BufWriter::new(alloc, file)?;
+    to.write_all(header.as_slice()).context(format_args!("cannot write {out}"))?;
+    let copied = copy_samples(alloc, name, &mut from, &mut to).context(format_args!("cannot write {out}"))?;
+    if known != Some(copied) {
+        let header = header_of(alloc, name, copied)?;
+        to.seek(SeekFrom::Start(0)).context(format_args!("cannot go back in {out}"))?;
+        to.write_all(header.as_slice()).context(format_args!("cannot write {out}"))?;
+    }
+    to.flush().context(format_args!("cannot write {out}"))?;
+    Ok(0)
+}
