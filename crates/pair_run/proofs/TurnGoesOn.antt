@@ -1,5 +1,5 @@
 -- A turn: two legs that meet, and the step of the earlier side.
-use Rattle.std.proofs.Common.{◌≡◌, ℕ, zero, suc, ◌+◌, ◌*◌, ◌<◌, ◌≤◌, ◌⊎◌, List, [], ◌++◌, Some, refl, ap, sym, ◌∙◌, subst, ⊎_elim, arith, append_assoc, length, length-append}
+use Rattle.std.proofs.Common.{◌≡◌, ℕ, zero, suc, ◌+◌, ◌*◌, ◌<◌, ◌≤◌, ◌⊎◌, ◌↔◌, List, [], ◌++◌, Some, refl, ap, sym, ◌∙◌, subst, ⊎_elim, arith, append_assoc, length, length-append}
 use Rattle.std.proofs.lemmas.List.{append-nil}
 use Rattle.snes_defs.specs.declared.region.Region.{Region}
 use Rattle.snes_defs.specs.declared.ports.Side.{Side}
@@ -20,7 +20,8 @@ use Rattle.pair_run.specs.declared.ends.LegEnd.TheVariants.{Done, Drain, Behind,
 use Rattle.port_wire.specs.declared.late.PassLate.{PassLate}
 use Rattle.pair_run.specs.Leg.{LegRan, IfHeldBack, IsSpent}
 use Rattle.pair_run.specs.Tried.{Tried, call_of, as_heard}
-use Rattle.pair_run.specs.Turn.{StandsBy, IsStepped, HasStepped, HasTurned, tries_of_turn}
+use Rattle.pair_run.specs.declared.ends.LegEnd.TheVariants as ends
+use Rattle.pair_run.specs.Turn.{StandsBy, IsStepped, HasStepped, LegEnded, HasGone, HasTurned, tries_of_turn}
 use Rattle.pair_run.proofs.Meets.{legs_meet, console_goes, sound_goes}
 
 -- what was emitted and waits, one after the other
@@ -150,6 +151,60 @@ held_still (Behind need other) name at now tries old mid new h same is = spent_s
 held_still (Ahead too other) name at now tries old mid new h same is = spent_still name at now tries _ old mid new h same is
 held_still (Held by) name at now tries old mid new h same is = spent_still name at now tries _ old mid new h same is
 
+-- a leg that ran, and what its side says of its end
+leg_ended : {State : Type 0} (side : Side) (moves : Moves State) (window end most cap at : ℕ) (mid : State → Type 0) (legs old new : Half)
+    (waited kept : List ℕ) (leg_end : LegEnd) (before : History State)
+    → (ran : LegRan side moves window end mid legs waited kept before) → moves.stamp ran.after.now ≡ at
+    → (leg_end ≡ ends.Done) ↔ (end ≤ at)
+    → (leg_end ≡ ends.Drain) ↔ ((at < end) × (¬ (length kept + 2 * most ≤ cap)))
+    → IfHeldBack leg_end (λ late. IsSpent (call_of (moves.act ran.after.now)) (moves.stamp ran.after.now) late tries_of_turn (parted old) new)
+    → LegEnded side moves end most cap waited leg_end old new before ran.after
+leg_ended side moves window end most cap at mid legs old new waited kept leg_end before ran is done drain spent = record {
+  heard = legs.heard;
+  upto = legs.upto;
+  leg = ran.leg;
+  emitted = ran.emitted;
+  emitted_is = ran.emitted_is;
+  done = subst (λ n. (leg_end ≡ ends.Done) ↔ (end ≤ n)) (sym is) done;
+  drain = subst (λ n. (leg_end ≡ ends.Drain) ↔ ((n < end) × (¬ (length (waited ++ ran.emitted) + 2 * most ≤ cap)))) (sym is)
+      (subst (λ l. (leg_end ≡ ends.Drain) ↔ ((at < end) × (¬ (length l + 2 * most ≤ cap)))) (sym ran.waits_is) drain);
+  spent = spent;
+}
+
+module _ {C S : Type 0} (cm : Moves C) (sm : Moves S) where
+  pub has_gone : (window end console_most console_cap sound_most sound_cap console_at sound_at : ℕ) (console_mid console_stands : C → Type 0) (sound_mid sound_stands : S → Type 0)
+      (old legs new : Both) (console_waited console_kept console_waits sound_waited sound_kept sound_waits : List ℕ)
+      (console_end sound_end : LegEnd) (stepped : Stepped) (c : History C) (s : History S)
+      → LegRan Console cm window end console_mid legs.console console_waited console_kept c
+      → LegRan Sound sm window end sound_mid legs.sound sound_waited sound_kept s
+      → ((m : C) → console_mid m → cm.stamp m ≡ console_at) → ((m : S) → sound_mid m → sm.stamp m ≡ sound_at)
+      → ((a : History C) (b : History S) → console_mid a.now → sound_mid b.now → a.entries ≡ legs.console.mine → b.entries ≡ legs.sound.mine
+      → HasStepped cm sm end console_stands sound_stands new console_kept console_waits sound_kept sound_waits stepped a b)
+      → (console_end ≡ ends.Done) ↔ (end ≤ console_at)
+      → (console_end ≡ ends.Drain) ↔ ((console_at < end) × (¬ (length console_kept + 2 * console_most ≤ console_cap)))
+      → ((m : C) → console_mid m → IfHeldBack console_end (λ late. IsSpent (call_of (cm.act m)) (cm.stamp m) late tries_of_turn (parted old.console) new.console))
+      → (sound_end ≡ ends.Done) ↔ (end ≤ sound_at)
+      → (sound_end ≡ ends.Drain) ↔ ((sound_at < end) × (¬ (length sound_kept + 2 * sound_most ≤ sound_cap)))
+      → ((m : S) → sound_mid m → IfHeldBack sound_end (λ late. IsSpent (call_of (sm.act m)) (sm.stamp m) late tries_of_turn (parted old.sound) new.sound))
+      → HasGone cm sm end console_most console_cap sound_most sound_cap console_stands sound_stands old new console_waited console_waits sound_waited sound_waits console_end sound_end stepped c s
+  has_gone window end console_most console_cap sound_most sound_cap console_at sound_at console_mid console_stands sound_mid sound_stands old legs new
+      console_waited console_kept console_waits sound_waited sound_kept sound_waits console_end sound_end stepped c s by_console by_sound console_is sound_is steps
+      console_done console_drain console_spent sound_done sound_drain sound_spent =
+      let then = steps by_console.after by_sound.after by_console.now_stands by_sound.now_stands by_console.entries by_sound.entries in
+      record {
+        leg_c = by_console.after;
+        leg_s = by_sound.after;
+        console_leg = leg_ended Console cm window end console_most console_cap console_at console_mid legs.console old.console new.console console_waited console_kept console_end c
+            by_console (console_is by_console.after.now by_console.now_stands) console_done console_drain (console_spent by_console.after.now by_console.now_stands);
+        sound_leg = leg_ended Sound sm window end sound_most sound_cap sound_at sound_mid legs.sound old.sound new.sound sound_waited sound_kept sound_end s
+            by_sound (sound_is by_sound.after.now by_sound.now_stands) sound_done sound_drain (sound_spent by_sound.after.now by_sound.now_stands);
+        after_c = then.after_c;
+        after_s = then.after_s;
+        stepped_is = then.stepped_is;
+        console = stands_then console_mid console_stands Console cm window end legs.console new.console console_waited console_kept console_waits c then.after_c by_console then.console;
+        sound = stands_then sound_mid sound_stands Sound sm window end legs.sound new.sound sound_waited sound_kept sound_waits s then.after_s by_sound then.sound;
+      }
+
 module _ {C S : Type 0} (region : Region) (console_valid : C → Type 0) (sound_valid : S → Type 0) (console_most sound_most : ℕ)
     (cm : Moves C) (sm : Moves S)
     (console_lawful : IsLawful region console_valid console_most cm) (sound_lawful : IsLawful region sound_valid sound_most sm)
@@ -184,6 +239,14 @@ module _ {C S : Type 0} (region : Region) (console_valid : C → Type 0) (sound_
         on = went.on;
         below = λ below. went.below (there.below below);
         further = further cm sm end stepped c by_console.after then.after_c s by_sound.after then.after_s legs.console legs.sound by_console.leg by_sound.leg then.stepped_is before;
+        legs_are = record {
+          heard_by_console = legs.console.heard;
+          console_upto = legs.console.upto;
+          console = by_console.leg;
+          heard_by_sound = legs.sound.heard;
+          sound_upto = legs.sound.upto;
+          sound = by_sound.leg;
+        };
         stepped_is = then.stepped_is;
         console = stands_then console_mid console_stands Console cm window end legs.console new.console console_waited console_kept console_waits c then.after_c by_console then.console;
         sound = stands_then sound_mid sound_stands Sound sm window end legs.sound new.sound sound_waited sound_kept sound_waits s then.after_s by_sound then.sound;

@@ -1,12 +1,16 @@
 -- What a turn has done to a pair of machines on the serial run. This project's own profile.
-use Rattle.std.specs.Prelude.{◌≡◌, ℕ, ◌+◌, ◌<◌, ◌≤◌, List, ◌++◌}
+use Rattle.std.specs.Prelude.{◌≡◌, ℕ, ◌+◌, ◌*◌, ◌<◌, ◌≤◌, ◌↔◌, List, ◌++◌, length}
+use Rattle.snes_defs.specs.declared.ports.Side.{Side}
 use Rattle.snes_defs.specs.declared.ports.Side.TheVariants.{Console, Sound}
+use Rattle.port_entries.specs.Entry.{Entry}
 use Rattle.side_law.specs.Moves.{Moves}
 use Rattle.commute_laws.specs.History.{History}
 use Rattle.commute_laws.specs.Heard.{heard_step}
+use Rattle.commute_laws.specs.Leg.{IsLeg}
 use Rattle.commute_laws.specs.OnRun.{IsOnRun, StaysBelow}
 use Rattle.port_wire.specs.Seen.{Half, Both, parted}
 use Rattle.pair_run.specs.declared.ends.LegEnd.{LegEnd}
+use Rattle.pair_run.specs.declared.ends.LegEnd.TheVariants as ends
 use Rattle.pair_run.specs.declared.stepped.Stepped.{Stepped}
 use Rattle.pair_run.specs.declared.stepped.Stepped.TheVariants.{Made, Ended}
 use Rattle.pair_run.specs.Leg.{IfHeldBack, IsSpent}
@@ -25,6 +29,18 @@ pub record StandsBy {State : Type 0} (stands : State → Type 0) (half : Half) (
   pub emitted_is : before.emitted ++ emitted ≡ after.emitted
   pub waits_is : waited ++ emitted ≡ waits
 
+-- a leg from `before` to `after`, against a list that was heard, with the cause of its end: the machine has come to
+-- the end stamp, it has not and has no room for the bytes of two more steps, or the calls of its next step were refused
+pub record LegEnded {State : Type 0} (side : Side) (moves : Moves State) (end most cap : ℕ) (waited : List ℕ) (leg_end : LegEnd) (old new : Half) (before after : History State) : Type 0 where
+  pub heard : List Entry
+  pub upto : ℕ
+  pub leg : IsLeg side moves heard upto end before after
+  pub emitted : List ℕ
+  pub emitted_is : before.emitted ++ emitted ≡ after.emitted
+  pub done : (leg_end ≡ ends.Done) ↔ (end ≤ moves.stamp after.now)
+  pub drain : (leg_end ≡ ends.Drain) ↔ ((moves.stamp after.now < end) × (¬ (length (waited ++ emitted) + 2 * most ≤ cap)))
+  pub spent : IfHeldBack leg_end (λ late. IsSpent (call_of (moves.act after.now)) (moves.stamp after.now) late tries_of_turn (parted old) new)
+
 module _ {C S : Type 0} (console_moves : Moves C) (sound_moves : Moves S) where
   -- one step of the earlier side, against all that the other side has logged, or none where both have come
   -- to the end
@@ -38,12 +54,35 @@ module _ {C S : Type 0} (console_moves : Moves C) (sound_moves : Moves S) where
   IsStepped end Ended c s after_c after_s =
       (end ≤ console_moves.stamp c.now) × (end ≤ sound_moves.stamp s.now) × (after_c ≡ c) × (after_s ≡ s)
 
+  -- two legs, each against a list that its side has heard
+  pub record AreLegs (end : ℕ) (c leg_c : History C) (s leg_s : History S) : Type 0 where
+    pub heard_by_console : List Entry
+    pub console_upto : ℕ
+    pub console : IsLeg Console console_moves heard_by_console console_upto end c leg_c
+    pub heard_by_sound : List Entry
+    pub sound_upto : ℕ
+    pub sound : IsLeg Sound sound_moves heard_by_sound sound_upto end s leg_s
+
   -- the caller's step
   pub record HasStepped (end : ℕ) (console_stands : C → Type 0) (sound_stands : S → Type 0) (new : Both)
       (console_waited console_waits sound_waited sound_waits : List ℕ) (stepped : Stepped) (c : History C) (s : History S) : Type 0 where
     pub after_c : History C
     pub after_s : History S
     pub stepped_is : IsStepped end stepped c s after_c after_s
+    pub console : StandsBy console_stands new.console console_waited console_waits c after_c
+    pub sound : StandsBy sound_stands new.sound sound_waited sound_waits s after_s
+
+  -- wherever the pair stands: the two legs, each with the cause of its end, and then the caller's step
+  pub record HasGone (end console_most console_cap sound_most sound_cap : ℕ) (console_stands : C → Type 0) (sound_stands : S → Type 0)
+      (old new : Both) (console_waited console_waits sound_waited sound_waits : List ℕ)
+      (console_end sound_end : LegEnd) (stepped : Stepped) (c : History C) (s : History S) : Type 0 where
+    pub leg_c : History C
+    pub leg_s : History S
+    pub console_leg : LegEnded Console console_moves end console_most console_cap console_waited console_end old.console new.console c leg_c
+    pub sound_leg : LegEnded Sound sound_moves end sound_most sound_cap sound_waited sound_end old.sound new.sound s leg_s
+    pub after_c : History C
+    pub after_s : History S
+    pub stepped_is : IsStepped end stepped leg_c leg_s after_c after_s
     pub console : StandsBy console_stands new.console console_waited console_waits c after_c
     pub sound : StandsBy sound_stands new.sound sound_waited sound_waits s after_s
 
@@ -59,6 +98,7 @@ module _ {C S : Type 0} (console_moves : Moves C) (sound_moves : Moves S) where
     pub below : StaysBelow console_moves sound_moves console_start sound_start end c s
         → StaysBelow console_moves sound_moves console_start sound_start end after_c after_s
     pub further : c.steps + s.steps < after_c.steps + after_s.steps
+    pub legs_are : AreLegs end c leg_c s leg_s
     pub stepped_is : IsStepped end stepped leg_c leg_s after_c after_s
     pub console : StandsBy console_stands new.console console_waited console_waits c after_c
     pub sound : StandsBy sound_stands new.sound sound_waited sound_waits s after_s

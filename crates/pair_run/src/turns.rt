@@ -5,7 +5,7 @@ ghost use Rattle.commute_laws.specs.History.{History};
 ghost use Rattle.commute_laws.specs.OnRun.{IsOnRun};
 ghost use Rattle.pair_run.specs.Leg.{HasRun, IfHeldBack, IsSpent};
 ghost use Rattle.pair_run.specs.Tried.{call_of};
-ghost use Rattle.pair_run.specs.Turn.{HasTurned, tries_of_turn};
+ghost use Rattle.pair_run.specs.Turn.{HasGone, HasTurned, tries_of_turn};
 
 use crate::ends::LegEnd;
 use crate::legs::leg;
@@ -110,6 +110,7 @@ pub fn turn<R: Threads, W: Wire, C: Machine, S: Machine, G: Gate>(
     ensures console_room { length (C.waiting console.new) ≤ C.CAP }
     ensures sound_room { length (S.waiting sound.new) ≤ S.CAP }
     ensures turned { (console_start : C.State) (sound_start : S.State) → C.valid (W.region_of wire.now) console_start → S.valid (W.region_of wire.now) sound_start → (c : History C.State) (s : History S.State) → IsOnRun C.moves S.moves console_start sound_start c s → C.stands console.old c.now → S.stands sound.old s.now → c.entries ≡ (W.both whole).console.mine → s.entries ≡ (W.both whole).sound.mine → HasTurned C.moves S.moves console_start sound_start end (C.stands console.new) (S.stands sound.new) (W.both whole) (W.both result.whole) (C.waiting console.old) (C.waiting console.new) (S.waiting sound.old) (S.waiting sound.new) result.console result.sound result.stepped c s }
+    ensures gone { (c : History C.State) (s : History S.State) → C.stands console.old c.now → S.stands sound.old s.now → c.entries ≡ (W.both whole).console.mine → s.entries ≡ (W.both whole).sound.mine → HasGone C.moves S.moves end C.MOST C.CAP S.MOST S.CAP (C.stands console.new) (S.stands sound.new) (W.both whole) (W.both result.whole) (C.waiting console.old) (C.waiting console.new) (S.waiting sound.old) (S.waiting sound.new) result.console result.sound result.stepped c s }
     ensures console_done { result.console ≡ LegEnd.Done → end ≤ C.stamp_of console.new }
     ensures sound_done { result.sound ≡ LegEnd.Done → end ≤ S.stamp_of sound.new }
     ensures console_drain { result.console ≡ LegEnd.Drain → ¬ (length (C.waiting console.new) + 2 * C.MOST ≤ C.CAP) }

@@ -8,7 +8,7 @@ use Rattle.commute_laws.specs.History.{History}
 use Rattle.pair_run.specs.Leg.{LegRan, IfHeldBack, IsSpent}
 use Rattle.pair_run.specs.Tried.{call_of}
 use Rattle.pair_run.specs.Turn.{tries_of_turn}
-use Rattle.pair_run.proofs.TurnGoesOn.{has_turned, held_still, still_full}
+use Rattle.pair_run.proofs.TurnGoesOn.{has_turned, has_gone, held_still, still_full}
 use Rattle.pair_run.proofs.turns.turn.Goals as goal
 
 pub returns-clause-turned : goal.returns-clause-turned
@@ -62,6 +62,62 @@ returns-clause-turned g c = λ c0 s0 c0_valid s0_valid a b on a_stands b_stands 
     parts.console (legs.console_spent m stands))
     (of_console.stands_stamp ran.console m stands)
     (step.console_tally ∙ told_too.own.other.tally ∙ told.own.tally ∙ ap tally met.console))
+    (λ m stands. held_still c.both_legs-console_end.result.1 (call_of (sound.moves.act m)) (sound.stamp_of ran.sound) (sound.moves.stamp m) tries_of_turn
+    (parted old.sound) second new.sound
+    (subst (λ (q : Seen). IfHeldBack c.both_legs-console_end.result.1 (λ late. IsSpent (call_of (sound.moves.act m)) (sound.stamp_of ran.sound) late tries_of_turn q.half second))
+    parts.sound (legs.sound_spent m stands))
+    (of_sound.stands_stamp ran.sound m stands)
+    (step.sound_tally ∙ told_too.own.tally ∙ told.own.other.tally ∙ ap tally met.sound))
+
+pub returns-clause-gone : goal.returns-clause-gone
+returns-clause-gone g c = λ a b a_stands b_stands a_is b_is.
+    let wire = g.W.Wire in
+    let console = g.C.Machine in
+    let sound = g.S.Machine in
+    let region = wire.region_of c.args.wire.now in
+    let window = window_of region in
+    let end = c.args.end in
+    let of_console = g.met.C.Machine g.world.𝓛 g.world.𝓜 g.world.𝓡 ((λ s x. x), (λ x. x), (λ x. x), λ x. x) in
+    let of_sound = g.met.S.Machine g.world.𝓛 g.world.𝓜 g.world.𝓡 ((λ s x. x), (λ x. x), (λ x. x), λ x. x) in
+    let parts = c.part-console_pass.ensures in
+    let legs = c.both_legs-console_end.ensures in
+    let ran = c.both_legs-console_end.new in
+    let met = c.reunite-whole.ensures in
+    let told = c.advance_whole.ensures in
+    let told_too = c.advance_whole-2.ensures in
+    let step = c.step_earlier-stepped.ensures in
+    let old = wire.both c.args.whole in
+    let new = wire.both c.step_earlier-stepped.new.whole in
+    let first = (wire.seen ran.console_pass).half in
+    let second = (wire.seen ran.sound_pass).half in
+    let console_mid = console.stands ran.console in
+    let sound_mid = sound.stands ran.sound in
+    let mine : Half → List Entry = λ h. h.mine in
+    let tally : Half → Tally = λ h. h.tally in
+    let by_console = subst (λ side. LegRan side console.moves window end console_mid first (console.waiting c.args.console.now) (console.waiting ran.console) a)
+    (ap (λ (q : Seen). q.side) parts.console)
+    (legs.console_ran.from a a_stands (a_is ∙ sym (ap (λ (q : Seen). q.half.mine) parts.console))) in
+    let by_sound = subst (λ side. LegRan side sound.moves window end sound_mid second (sound.waiting c.args.sound.now) (sound.waiting ran.sound) b)
+    (ap (λ (q : Seen). q.side) parts.sound)
+    (legs.sound_ran.from b b_stands (b_is ∙ sym (ap (λ (q : Seen). q.half.mine) parts.sound))) in
+    has_gone console.moves sound.moves window end console.MOST console.CAP sound.MOST sound.CAP (console.stamp_of ran.console) (sound.stamp_of ran.sound)
+    console_mid (console.stands c.step_earlier-stepped.new.console) sound_mid (sound.stands c.step_earlier-stepped.new.sound)
+    old (record { console = first; sound = second }) new
+    (console.waiting c.args.console.now) (console.waiting ran.console) (console.waiting c.step_earlier-stepped.new.console)
+    (sound.waiting c.args.sound.now) (sound.waiting ran.sound) (sound.waiting c.step_earlier-stepped.new.sound)
+    c.both_legs-console_end.result.0 c.both_legs-console_end.result.1 c.step_earlier-stepped.result a b by_console by_sound
+    (of_console.stands_stamp ran.console) (of_sound.stands_stamp ran.sound)
+    (λ p q p_stands q_stands p_is q_is. step.stepped p q p_stands q_stands
+    (p_is ∙ sym (ap mine met.console) ∙ sym told.advances.mine ∙ sym told_too.own.other.mine)
+    (q_is ∙ sym (ap mine met.sound) ∙ sym told.own.other.mine ∙ sym told_too.advances.mine))
+    legs.console_done legs.console_drain
+    (λ m stands. held_still c.both_legs-console_end.result.0 (call_of (console.moves.act m)) (console.stamp_of ran.console) (console.moves.stamp m) tries_of_turn
+    (parted old.console) first new.console
+    (subst (λ (q : Seen). IfHeldBack c.both_legs-console_end.result.0 (λ late. IsSpent (call_of (console.moves.act m)) (console.stamp_of ran.console) late tries_of_turn q.half first))
+    parts.console (legs.console_spent m stands))
+    (of_console.stands_stamp ran.console m stands)
+    (step.console_tally ∙ told_too.own.other.tally ∙ told.own.tally ∙ ap tally met.console))
+    legs.sound_done legs.sound_drain
     (λ m stands. held_still c.both_legs-console_end.result.1 (call_of (sound.moves.act m)) (sound.stamp_of ran.sound) (sound.moves.stamp m) tries_of_turn
     (parted old.sound) second new.sound
     (subst (λ (q : Seen). IfHeldBack c.both_legs-console_end.result.1 (λ late. IsSpent (call_of (sound.moves.act m)) (sound.stamp_of ran.sound) late tries_of_turn q.half second))
