@@ -1,5 +1,5 @@
 -- A run by turns on its way, of which all that was emitted was taken.
-use Rattle.std.proofs.Common.{◌≡◌, ℕ, ◌+◌, ◌*◌, ◌≤◌, List, [], ◌++◌, length, take, refl, ap, sym, ◌∙◌, subst, arith}
+use Rattle.std.proofs.Common.{◌≡◌, ℕ, suc, ◌+◌, add-one, ◌*◌, ◌≤◌, List, [], ◌++◌, length, take, refl, ap, sym, ◌∙◌, subst, arith}
 use mathlib.Core.Logic.{∥∥₁_elim}
 use Rattle.std.proofs.Math.Bridge.{le_prop}
 use Rattle.snes_defs.specs.declared.region.Region.{Region}
@@ -22,9 +22,13 @@ use Rattle.clock_ratio.specs.Stamp.{end_stamp_of}
 use Rattle.run_laws.specs.TurnBound.{most_turns}
 use Rattle.run_laws.proofs.RunBound.{run_bounded}
 use Rattle.turn_drive.specs.Cycle.{StepsByCycle}
+use Rattle.turn_drive.specs.Turns.{CameByTurns, HasMadeTurns}
 use Rattle.run_drive.specs.Run.{Adds, AddsSome, TookRun, TookFirst}
 use Rattle.run_drive.proofs.Running.{first_held}
 use Rattle.turn_drive.proofs.Counted.{steps_below, steps_of_run}
+
+one_more : (n : ℕ) → n + 1 ≡ suc n
+one_more n = rw add-one refl
 
 -- a bound that holds of whatever states two machines stand for, where each stands for some
 pub bound_of : {C S : Type 0} (console_stands : C → Type 0) (sound_stands : S → Type 0) (a b : ℕ)
@@ -54,6 +58,7 @@ module _ {C S : Type 0} (cm : Moves C) (sm : Moves S) (c0 : C) (s0 : S) where
     pub video_taken : holds Console c.emitted
     pub audio_taken : holds Sound s.emitted
     pub turns_stepped : turns ≤ c.steps + s.steps
+    pub came : CameByTurns cm sm c0 s0 turns c s
 
   -- what stays below an end stays below a later one
   pub below_later : (near later : ℕ) (c : History C) (s : History S) → near ≤ later
@@ -77,6 +82,7 @@ module _ {C S : Type 0} (cm : Moves C) (sm : Moves S) (c0 : C) (s0 : S) where
     video_taken = going.video_taken;
     audio_taken = going.audio_taken;
     turns_stepped = going.turns_stepped;
+    came = going.came;
   }
 
   -- no more turns than the serial run has
@@ -108,6 +114,7 @@ module _ {C S : Type 0} (region : Region) (console_valid : C → Type 0) (sound_
     video_taken = video;
     audio_taken = audio;
     turns_stepped = omega arith;
+    came = (refl, refl);
   }
 
   module _ (near turns : ℕ) (console_stands console_turned : C → Type 0) (sound_stands sound_turned : S → Type 0) (both new : Both)
@@ -145,6 +152,20 @@ module _ {C S : Type 0} (region : Region) (console_valid : C → Type 0) (sound_
         audio_taken = subst (later Sound) (emits_waiting sound_turned new.sound sound_waited sound_waits going.s turned.after_s turned.sound no_sound)
             (audio going.s.emitted going.audio_taken);
         turns_stepped = omega (arith, going.turns_stepped, turned.further);
+        came = subst (λ n. CameByTurns cm sm c0 s0 n turned.after_c turned.after_s) (sym (one_more turns)) (
+          going.c,
+          going.s,
+          going.came,
+          record {
+            near = near;
+            leg_c = turned.leg_c;
+            leg_s = turned.leg_s;
+            legs = turned.legs_are;
+            stepped = stepped;
+            stepped_is = turned.stepped_is;
+            further = turned.further;
+          },
+        );
       }
 
       -- a turn of whose bytes some were taken
@@ -183,6 +204,20 @@ module _ {C S : Type 0} (region : Region) (console_valid : C → Type 0) (sound_
         run_bounded region console_valid sound_valid console_most sound_most cm sm console_lawful sound_lawful by_a_cycle c0 s0 c0_valid s0_valid
             frames out.2.turns (subst (λ at. RunsFor cm sm (serial_of c0 s0) at out.2.turns) e out.2.runs),
       )
+
+  -- the turns of a run that has come to its end
+  pub going_is_made : (near end turns : ℕ) (console_stands : C → Type 0) (sound_stands : S → Type 0) (both : Both) (holds : Side → List ℕ → Type 0)
+      → (going : IsGoing cm sm c0 s0 near turns console_stands sound_stands both holds)
+      → end ≤ cm.stamp going.c.now → end ≤ sm.stamp going.s.now → HasMadeTurns cm sm c0 s0 end turns holds
+  going_is_made near end turns console_stands sound_stands both holds going console_done sound_done = record {
+    c = going.c;
+    s = going.s;
+    came = going.came;
+    console_done = console_done;
+    sound_done = sound_done;
+    video_held = going.video_taken;
+    audio_held = going.audio_taken;
+  }
 
   -- a run that has come to its end
   pub going_is_whole : (near end turns : ℕ) (console_stands : C → Type 0) (sound_stands : S → Type 0) (both : Both) (holds : Side → List ℕ → Type 0)

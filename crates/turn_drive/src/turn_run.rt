@@ -5,6 +5,7 @@ ghost use Rattle.clock_ratio.specs.Stamp.{end_stamp_of};
 ghost use Rattle.run_laws.specs.TurnBound.{most_turns};
 ghost use Rattle.run_drive.specs.Run.{TookRun, TookFirst};
 ghost use Rattle.turn_drive.specs.Cycle.{StepsByCycle};
+ghost use Rattle.turn_drive.specs.Turns.{HasMadeTurns};
 
 use crate::both::{both_at, pour_both};
 use crate::ends::Ends;
@@ -17,7 +18,7 @@ use std::thread::Threads;
 
 /// Runs two machines of one region by turns, each in a worker of its own, until both stamps are at least
 /// `end`, and hands the sink what they emit: after each turn the bytes of that turn. It answers how many turns
-/// it made, no more than the serial run has. Err names the side of which the sink failed to take some.
+/// it made: just so many lead from the start to the end, and no more than the serial run has. Err names the side of which the sink failed to take some.
 pub fn run_turns<R: Threads, W: Wire, C: Machine + Drop, S: Machine + Drop, G: Gate, K: Sink>(
     rt: &R,
     wire: &W,
@@ -49,6 +50,7 @@ where
     requires no_sound { K.holds sink.old Side.Sound [] }
     ensures whole { OnOk result ((c : C.State) (s : S.State) → C.stands console c → S.stands sound s → TookRun C.moves S.moves c s end (K.holds sink.new)) }
     ensures first { (c : C.State) (s : S.State) → C.stands console c → S.stands sound s → TookFirst C.moves S.moves c s end (K.holds sink.new) }
+    ensures made { IfOk result (λ turns. (c : C.State) (s : S.State) → C.stands console c → S.stands sound s → HasMadeTurns C.moves S.moves c s end turns (K.holds sink.new)) }
     ensures turns { IfOk result (λ turns. (c : C.State) (s : S.State) (most : ℕ) → C.stands console c → S.stands sound s → RunsFor C.moves S.moves (serial_of c s) end most → turns ≤ most) }
     ensures bounded { IfOk result (λ turns. (c : C.State) (s : S.State) (frames : ℕ) → C.stands console c → S.stands sound s → C.moves.stamp c ≡ 0 → S.moves.stamp s ≡ 0 → StepsByCycle (W.region_of wire.now) (S.valid (W.region_of wire.now)) S.moves → end ≡ end_stamp_of (W.region_of wire.now) frames → turns ≤ most_turns (W.region_of wire.now) frames) }
     ensures failed { IfErr result (K.failed sink.old sink.new) }

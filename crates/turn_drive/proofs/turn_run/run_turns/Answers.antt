@@ -1,6 +1,6 @@
 use Rattle.std.proofs.Common.{◌+◌, ◌*◌, ◌≤◌, subst, rules, arith}
 use Rattle.run_drive.proofs.Running.{whole_is_first}
-use Rattle.turn_drive.proofs.Going.{bound_of, going_starts, going_nearer, going_is_short, going_is_bounded, turns_are_few, going_on, going_stops, going_is_whole}
+use Rattle.turn_drive.proofs.Going.{bound_of, going_starts, going_nearer, going_is_short, going_is_bounded, turns_are_few, going_on, going_stops, going_is_made, going_is_whole}
 use Rattle.turn_drive.proofs.turn_run.run_turns.Given.{Over}
 use Rattle.turn_drive.proofs.turn_run.run_turns.Goals as goal
 
@@ -124,6 +124,21 @@ returns-clause-whole g c = λ m n console sound.
     let going = c.loop-ends.invariant.going m n console sound in
     going_is_whole region (C.valid region) (S.valid region) C.MOST S.MOST C.moves S.moves (of_console.lawful region) (of_sound.lawful region) m n console_ok sound_ok
     _ _ _ _ _ _ _ (omega (arith, c.loop-ends.ends.within, c.loop-ends.invariant.to_end)) going
+    (search (rules, of_console.stands_stamp c.loop-ends.console going.c.now going.console_now))
+    (search (rules, of_sound.stands_stamp c.loop-ends.sound going.s.now going.sound_now))
+
+pub returns-clause-made : goal.returns-clause-made
+returns-clause-made g c = λ m n console sound.
+    let C = g.C.Machine in
+    let S = g.S.Machine in
+    let of_console = g.met.C.Machine g.world.𝓛 g.world.𝓜 g.world.𝓡 ((λ s x. x), (λ x. x), (λ x. x), λ x. x) in
+    let of_sound = g.met.S.Machine g.world.𝓛 g.world.𝓜 g.world.𝓡 ((λ s x. x), (λ x. x), (λ x. x), λ x. x) in
+    let region = g.W.Wire.region_of c.args.wire.now in
+    let console_ok = subst (λ r. C.valid r m) c.requires.console_region (of_console.stands_valid c.args.console m console) in
+    let sound_ok = subst (λ r. S.valid r n) c.requires.sound_region (of_sound.stands_valid c.args.sound n sound) in
+    let going = c.loop-ends.invariant.going m n console sound in
+    going_is_made region (C.valid region) (S.valid region) C.MOST S.MOST C.moves S.moves (of_console.lawful region) (of_sound.lawful region) m n console_ok sound_ok
+    _ _ _ _ _ _ _ going
     (search (rules, of_console.stands_stamp c.loop-ends.console going.c.now going.console_now))
     (search (rules, of_sound.stands_stamp c.loop-ends.sound going.s.now going.sound_now))
 
