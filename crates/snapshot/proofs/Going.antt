@@ -1,0 +1,142 @@
+-- A path that goes on by a span, and steps on the way.
+use Rattle.std.proofs.Common.{◌≡◌, ℕ, ◌+◌, ◌*◌, ◌<◌, ◌≤◌, Bool, true, false, List, [], ◌∷◌, ◌++◌, length, length-append, refl, ap, sym, ◌∙◌, subst, append_assoc, ⊎_elim, arith}
+use Rattle.std.proofs.lemmas.Bool.{cases_lt}
+use Rattle.std.proofs.lemmas.List.{append-nil}
+use Rattle.snes_defs.specs.declared.cart.Job.{Job}
+use Rattle.snes_defs.specs.declared.script.Span.{Span}
+use Rattle.snes_defs.specs.Script.{Script, frames_of}
+use Rattle.side_law.specs.Moves.{Moves}
+use Rattle.side_law.specs.Serial.{SerialState, got_of, is_console_first, console_step, sound_step, turn, console_emits, sound_emits}
+use Rattle.side_law.specs.SerialRun.{IsPast, IsUnderway}
+use Rattle.side_law.proofs.SerialKeeps.{TurnOf, by_console, by_sound, turn_of, turn_console, turn_sound}
+use Rattle.side_law.proofs.SerialRuns.{run_is_over}
+use Rattle.serial_console.specs.declared.serial.Serial.{Serial}
+use Rattle.serial_console.specs.Serial.{IsAt}
+use Rattle.serial_console.specs.Lead.{IsLead, IsLed}
+use Rattle.serial_console.proofs.Lead.{lead_console_turn, lead_sound_turn, console_gives, sound_gives}
+use Rattle.console_steps.specs.World.{World, console_moves}
+use Rattle.console_machine.specs.Side.{ConsoleValue}
+use Rattle.console_machine.specs.Side as console_side
+use Rattle.console_machine.specs.Playing.{world_played}
+use Rattle.audio_side.specs.Sound.{AudioValue, SoundState, sound_moves}
+use Rattle.audio_side.specs.Sound as sound_side
+use Rattle.snapshot.specs.declared.run.Run.{Run}
+use Rattle.snapshot.specs.declared.rewind.Rewind.{Rewind}
+use Rattle.snapshot.specs.Path.{Paths, gone, path_script, start_of, end_of_path}
+use Rattle.snapshot.specs.Standing.{IsDone, IsRested, IsGoing}
+use Rattle.snapshot.proofs.Runs.{goes_on, frames_more}
+use Rattle.snapshot.proofs.Copying.{done_script}
+
+-- a run that has not gone ahead
+lead_at : {C S : Type 0} (cm : Moves C) (sm : Moves S) (end : ℕ) (from at : SerialState C S) (video audio all_video all_audio : List ℕ)
+    → IsUnderway cm sm from end at video audio → video ≡ all_video → audio ≡ all_audio → IsLead cm sm end from at all_video all_audio
+lead_at cm sm end from at video audio all_video all_audio under v a = record {
+  turned = at;
+  turned_video = video;
+  turned_audio = audio;
+  underway = under;
+  early_video = [];
+  console = record { steps = 0; quiet = (refl, refl) };
+  early_audio = [];
+  sound = record { steps = 0; quiet = (refl, refl) };
+  to_sound = refl;
+  to_console = refl;
+  video_is = append-nil video ∙ v;
+  audio_is = append-nil audio ∙ a;
+}
+
+-- nothing more
+still : (v w : List ℕ) → w ≡ [] → v ≡ (v ++ []) ++ w
+still v w none = sym (append-nil v) ∙ sym (append-nil (v ++ [])) ∙ ap (λ x. (v ++ []) ++ x) (sym none)
+
+pub begun : (job : Job) (n : ℕ) (paths : Paths) (r : Rewind) (span : Span) (x : ConsoleValue)
+    → length r.run.serial.console.rest.script.spans < r.run.serial.console.rest.script.room → frames_of r.run.serial.console.rest.script.spans + span.count ≤ 36000
+    → ((w : World) → console_side.StandsAt r.run.serial.console w → console_side.StandsAt x (world_played w span)) → x.waiting ≡ r.run.serial.console.waiting
+    → IsRested job n paths r
+    → IsGoing job n (gone paths span) paths.path [] []
+    (record { run = record { serial = record { console = x; sound = r.run.serial.sound; to_sound = r.run.serial.to_sound; to_console = r.run.serial.to_console }; end = r.run.end + 2012696576 * span.count }; slots = r.slots })
+begun job n paths r span x room few stands waits h =
+    let (video, audio, d) = h.now in
+    let script = done_script job n paths.path r.run video audio d in
+    let fits : frames_of paths.path + span.count ≤ 36000 = subst (λ s. frames_of s.spans + span.count ≤ 36000) script few in
+    let short : length paths.path < n = subst (λ s. length s.spans < s.room) script room in
+    let more = frames_more paths.path span in
+    let size = length-append paths.path (span ∷ []) in
+    let end = d.end_is in
+    record {
+      first_video = video;
+      first_audio = audio;
+      first = run_is_over console_moves sound_moves (start_of job n paths.path) (end_of_path paths.path) d.at video audio d.underway d.past;
+      led = record {
+        at = record d.at { console = world_played d.at.console span };
+        stands = record { console = stands d.at.console d.stands.console; sound = d.stands.sound; to_sound = d.stands.to_sound; to_console = d.stands.to_console };
+        lead = lead_at console_moves sound_moves (end_of_path (gone paths span).path) (start_of job n (gone paths span).path) (record d.at { console = world_played d.at.console span }) video audio
+            ((video ++ []) ++ x.waiting) ((audio ++ []) ++ r.run.serial.sound.waiting)
+            (goes_on job n paths.path span d.at video audio fits d.underway d.past) (still video x.waiting (waits ∙ d.no_video)) (still audio r.run.serial.sound.waiting d.no_audio);
+      };
+      end_is = omega (arith, end, more);
+      few = omega (arith, more, fits);
+      room = omega (arith, size, short);
+      slots = h.slots;
+    }
+
+-- ---- a turn
+
+pub not_past_early : (end : ℕ) (w : SerialState World SoundState) → ¬ IsPast console_moves sound_moves end w
+    → (console_moves.stamp w.console ≤ sound_moves.stamp w.sound → console_moves.stamp w.console < end) × (sound_moves.stamp w.sound < console_moves.stamp w.console → sound_moves.stamp w.sound < end)
+not_past_early end w short = (
+  λ le. ⊎_elim (λ lt. lt) (λ ge. absurd (short (record { console = ge; sound = omega (arith, ge, le) }))) (cases_lt (console_moves.stamp w.console) end),
+  λ lt. ⊎_elim (λ l. l) (λ ge. absurd (short (record { console = omega (arith, ge, lt); sound = ge }))) (cases_lt (sound_moves.stamp w.sound) end),
+)
+
+lead_turn : (end : ℕ) (from at : SerialState World SoundState) (video audio : List ℕ) → IsLead console_moves sound_moves end from at video audio → ¬ IsPast console_moves sound_moves end at
+    → IsLead console_moves sound_moves end from (turn console_moves sound_moves at) (video ++ console_emits console_moves sound_moves at) (audio ++ sound_emits console_moves sound_moves at)
+lead_turn end from at video audio lead short = go (turn_of console_moves sound_moves at)
+  where
+    go : TurnOf console_moves sound_moves at → IsLead console_moves sound_moves end from (turn console_moves sound_moves at) (video ++ console_emits console_moves sound_moves at) (audio ++ sound_emits console_moves sound_moves at)
+    go (by_console le e) =
+        let gives = console_gives console_moves sound_moves end from at e in
+        let early = (not_past_early end at short).0 le in
+        subst (λ w. IsLead console_moves sound_moves end from w (video ++ console_emits console_moves sound_moves at) (audio ++ sound_emits console_moves sound_moves at)) (sym (turn_console console_moves sound_moves at e))
+        (subst (λ v. IsLead console_moves sound_moves end from (console_step console_moves sound_moves at) (video ++ v) (audio ++ sound_emits console_moves sound_moves at)) (sym gives.0)
+        (subst (λ a. IsLead console_moves sound_moves end from (console_step console_moves sound_moves at) (video ++ console_moves.bytes at.console (got_of (console_moves.act at.console) at.to_console)) a) (sym (append-nil audio) ∙ ap (λ a. audio ++ a) (sym gives.1))
+        (lead_console_turn console_moves sound_moves end from at video audio lead le early)))
+    go (by_sound lt e) =
+        let gives = sound_gives console_moves sound_moves end from at e in
+        let early = (not_past_early end at short).1 lt in
+        subst (λ w. IsLead console_moves sound_moves end from w (video ++ console_emits console_moves sound_moves at) (audio ++ sound_emits console_moves sound_moves at)) (sym (turn_sound console_moves sound_moves at e))
+        (subst (λ a. IsLead console_moves sound_moves end from (sound_step console_moves sound_moves at) (video ++ console_emits console_moves sound_moves at) (audio ++ a)) (sym gives.1)
+        (subst (λ v. IsLead console_moves sound_moves end from (sound_step console_moves sound_moves at) v (audio ++ sound_moves.bytes at.sound (got_of (sound_moves.act at.sound) at.to_sound))) (sym (append-nil video) ∙ ap (λ v. video ++ v) (sym gives.0))
+        (lead_sound_turn console_moves sound_moves end from at video audio lead lt early)))
+
+pub turned : (job : Job) (n : ℕ) (paths : Paths) (before : List Span) (video audio : List ℕ) (r : Rewind) (s : Serial ConsoleValue AudioValue)
+    → ((w : SerialState World SoundState) → IsAt console_side.StandsAt sound_side.StandsAt r.run.serial w → ¬ IsPast console_moves sound_moves r.run.end w)
+    → ((w : SerialState World SoundState) → IsAt console_side.StandsAt sound_side.StandsAt r.run.serial w → IsAt console_side.StandsAt sound_side.StandsAt s (turn console_moves sound_moves w))
+    → ((w : SerialState World SoundState) → IsAt console_side.StandsAt sound_side.StandsAt r.run.serial w → s.console.waiting ≡ r.run.serial.console.waiting ++ console_emits console_moves sound_moves w)
+    → ((w : SerialState World SoundState) → IsAt console_side.StandsAt sound_side.StandsAt r.run.serial w → s.sound.waiting ≡ r.run.serial.sound.waiting ++ sound_emits console_moves sound_moves w)
+    → IsGoing job n paths before video audio r
+    → IsGoing job n paths before video audio (record { run = record { serial = s; end = r.run.end }; slots = r.slots })
+turned job n paths before video audio r s short turns console_out sound_out h =
+    let at = h.led.at in
+    let here = h.led.stands in
+    let not_past = subst (λ e. ¬ IsPast console_moves sound_moves e at) h.end_is (short at here) in
+    let v = h.first_video ++ video in
+    let a = h.first_audio ++ audio in
+    record {
+      first_video = h.first_video;
+      first_audio = h.first_audio;
+      first = h.first;
+      led = record {
+        at = turn console_moves sound_moves at;
+        stands = turns at here;
+        lead = subst (λ x. IsLead console_moves sound_moves (end_of_path paths.path) (start_of job n paths.path) (turn console_moves sound_moves at) x (a ++ s.sound.waiting))
+            (append_assoc v r.run.serial.console.waiting _ ∙ ap (λ x. v ++ x) (sym (console_out at here)))
+            (subst (λ x. IsLead console_moves sound_moves (end_of_path paths.path) (start_of job n paths.path) (turn console_moves sound_moves at) ((v ++ r.run.serial.console.waiting) ++ console_emits console_moves sound_moves at) x)
+            (append_assoc a r.run.serial.sound.waiting _ ∙ ap (λ x. a ++ x) (sym (sound_out at here)))
+            (lead_turn (end_of_path paths.path) (start_of job n paths.path) at (v ++ r.run.serial.console.waiting) (a ++ r.run.serial.sound.waiting) h.led.lead not_past));
+      };
+      end_is = h.end_is;
+      few = h.few;
+      room = h.room;
+      slots = h.slots;
+    }

@@ -1,0 +1,12 @@
+pub mod Effects
+pub mod Clocks
+pub mod Worlds
+pub mod Sounding
+pub mod Arrives
+pub mod Runs
+pub mod Copying
+pub mod Slots
+pub mod Going
+pub mod Starting
+pub mod Drives
+pub mod Over

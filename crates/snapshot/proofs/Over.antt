@@ -1,0 +1,188 @@
+-- Bytes that are handed out on the way, and the end of a path.
+use Rattle.std.proofs.Common.{◌≡◌, ℕ, ◌≤◌, List, [], ◌++◌, take, drop, refl, ap, sym, ◌∙◌, subst, append_assoc, arith}
+use Rattle.std.proofs.lemmas.List.{append-nil, take-append-drop}
+use Rattle.snes_defs.specs.declared.cart.Job.{Job}
+use Rattle.snes_defs.specs.declared.ports.Side.{Side}
+use Rattle.snes_defs.specs.declared.ports.Side.TheVariants.{Console, Sound}
+use Rattle.snes_defs.specs.declared.script.Span.{Span}
+use Rattle.side_law.specs.Serial.{SerialState, serial_of}
+use Rattle.side_law.specs.SerialRun.{IsPast}
+use Rattle.side_law.proofs.SerialRuns.{run_is_over}
+use Rattle.serial_console.specs.Lead.{IsLead, IsLed}
+use Rattle.serial_console.specs.declared.serial.Serial.{Serial}
+use Rattle.console_steps.specs.World.{World, console_moves}
+use Rattle.console_machine.specs.Side.{ConsoleValue}
+use Rattle.console_machine.specs.Side as console_side
+use Rattle.console_machine.specs.Standing.{stamp_stands as console_stamp}
+use Rattle.audio_side.specs.Sound.{AudioValue, SoundState, sound_moves}
+use Rattle.audio_side.specs.Clock.{stamp_now}
+use Rattle.audio_side.specs.Sound as sound_side
+use Rattle.audio_side.specs.SoundLaws.{stamp_stands as sound_stamp}
+use Rattle.snapshot.specs.declared.run.Run.{Run}
+use Rattle.snapshot.specs.declared.rewind.Rewind.{Rewind}
+use Rattle.snapshot.specs.Path.{Paths, start_of, end_of_path}
+use Rattle.snapshot.specs.Standing.{IsDone, IsRested, IsGoing, IsBeyond}
+use Rattle.snes_defs.specs.declared.region.Region.TheVariants.{Ntsc}
+use Rattle.side_law.specs.SerialRun.{IsOutput}
+use Rattle.side_law.proofs.SerialRuns.{run_ends}
+use Rattle.side_law.proofs.SerialKeeps.{serving_at_first}
+use Rattle.console_machine.specs.Side.{IsConsoleOf}
+use Rattle.console_machine.specs.SideLaws.{console_is_lawful}
+use Rattle.audio_side.specs.Sound.{IsSound}
+use Rattle.audio_side.specs.SoundLaws.{sound_is_lawful}
+use Rattle.run_drive.specs.Run.{TookFirst}
+use Rattle.snapshot.specs.Path.{console_of_path, sound_of_path}
+use Rattle.snapshot.specs.Driven.{Since, TookOn, Ends, by_side}
+use Rattle.snapshot.specs.Handed.{Gave, GaveSome}
+use Rattle.snapshot.proofs.Arrives.{lead_arrives}
+
+-- a path that has come to its end, and of which no byte waits
+pub arrived : (job : Job) (n : ℕ) (paths : Paths) (before : List Span) (video audio : List ℕ) (r : Rewind)
+    → r.run.end ≤ r.run.serial.console.stamp → r.run.end ≤ stamp_now r.run.serial.sound.clock
+    → r.run.serial.console.waiting ≡ [] → r.run.serial.sound.waiting ≡ []
+    → IsGoing job n paths before video audio r → IsRested job n paths r × IsBeyond job n before paths.path video audio
+arrived job n paths before video audio r console sound no_video no_audio h =
+    let end = end_of_path paths.path in
+    let from = start_of job n paths.path in
+    let at = h.led.at in
+    let console_is = console_stamp r.run.serial.console at.console h.led.stands.console in
+    let sound_is = sound_stamp r.run.serial.sound at.sound h.led.stands.sound in
+    let end_is = h.end_is in
+    let past : IsPast console_moves sound_moves end at = record { console = omega (arith, console, console_is, end_is); sound = omega (arith, sound, sound_is, end_is) } in
+    let v = h.first_video ++ video in
+    let a = h.first_audio ++ audio in
+    let lead = subst (λ x. IsLead console_moves sound_moves end from at x a) (ap (λ w. v ++ w) no_video ∙ append-nil v)
+    (subst (λ x. IsLead console_moves sound_moves end from at (v ++ r.run.serial.console.waiting) x) (ap (λ w. a ++ w) no_audio ∙ append-nil a) h.led.lead) in
+    let under = lead_arrives console_moves sound_moves end from at v a lead past in (
+      record {
+        now = (v, a, record { at = at; stands = h.led.stands; underway = under; past = past; no_video = no_video; no_audio = no_audio; end_is = h.end_is; few = h.few; room = h.room });
+        slots = h.slots;
+      },
+      record { first_video = h.first_video; first_audio = h.first_audio; first = h.first; whole = run_is_over console_moves sound_moves from end at v a under past },
+    )
+
+-- the first bytes that wait were handed out
+handed : (f v w : List ℕ) (k : ℕ) → (f ++ v) ++ w ≡ (f ++ (v ++ take k w)) ++ drop k w
+handed f v w k =
+    ap (λ x. (f ++ v) ++ x) (sym (take-append-drop {A = ℕ} k w)) ∙ sym (append_assoc (f ++ v) (take k w) (drop k w)) ∙ ap (λ x. x ++ drop k w) (append_assoc f v (take k w))
+
+pub video_handed : (job : Job) (n : ℕ) (paths : Paths) (before : List Span) (video audio : List ℕ) (r : Rewind) (x : ConsoleValue) (k : ℕ)
+    → ((w : World) → console_side.StandsAt r.run.serial.console w → console_side.StandsAt x w) → x.waiting ≡ drop k r.run.serial.console.waiting
+    → IsGoing job n paths before video audio r
+    → IsGoing job n paths before (video ++ take k r.run.serial.console.waiting) audio
+    (record { run = record { serial = record { console = x; sound = r.run.serial.sound; to_sound = r.run.serial.to_sound; to_console = r.run.serial.to_console }; end = r.run.end }; slots = r.slots })
+video_handed job n paths before video audio r x k same left h = record {
+  first_video = h.first_video;
+  first_audio = h.first_audio;
+  first = h.first;
+  led = record {
+    at = h.led.at;
+    stands = record { console = same h.led.at.console h.led.stands.console; sound = h.led.stands.sound; to_sound = h.led.stands.to_sound; to_console = h.led.stands.to_console };
+    lead = subst (λ v. IsLead console_moves sound_moves (end_of_path paths.path) (start_of job n paths.path) h.led.at v ((h.first_audio ++ audio) ++ r.run.serial.sound.waiting))
+        (handed h.first_video video r.run.serial.console.waiting k ∙ ap (λ w. (h.first_video ++ (video ++ take k r.run.serial.console.waiting)) ++ w) (sym left)) h.led.lead;
+  };
+  end_is = h.end_is;
+  few = h.few;
+  room = h.room;
+  slots = h.slots;
+}
+
+pub audio_handed : (job : Job) (n : ℕ) (paths : Paths) (before : List Span) (video audio : List ℕ) (r : Rewind) (x : AudioValue) (k : ℕ)
+    → ((m : SoundState) → sound_side.StandsAt r.run.serial.sound m → sound_side.StandsAt x m) → x.waiting ≡ drop k r.run.serial.sound.waiting
+    → IsGoing job n paths before video audio r
+    → IsGoing job n paths before video (audio ++ take k r.run.serial.sound.waiting)
+    (record { run = record { serial = record { console = r.run.serial.console; sound = x; to_sound = r.run.serial.to_sound; to_console = r.run.serial.to_console }; end = r.run.end }; slots = r.slots })
+audio_handed job n paths before video audio r x k same left h = record {
+  first_video = h.first_video;
+  first_audio = h.first_audio;
+  first = h.first;
+  led = record {
+    at = h.led.at;
+    stands = record { console = h.led.stands.console; sound = same h.led.at.sound h.led.stands.sound; to_sound = h.led.stands.to_sound; to_console = h.led.stands.to_console };
+    lead = subst (λ a. IsLead console_moves sound_moves (end_of_path paths.path) (start_of job n paths.path) h.led.at ((h.first_video ++ video) ++ r.run.serial.console.waiting) a)
+        (handed h.first_audio audio r.run.serial.sound.waiting k ∙ ap (λ w. (h.first_audio ++ (audio ++ take k r.run.serial.sound.waiting)) ++ w) (sym left)) h.led.lead;
+  };
+  end_is = h.end_is;
+  few = h.few;
+  room = h.room;
+  slots = h.slots;
+}
+
+-- ---- a whole span
+
+pub path_ends : (job : Job) (n : ℕ) (path : List Span) (end : ℕ) → Ends console_moves sound_moves (console_of_path job.cart n path) (sound_of_path job.boot job.table) end
+path_ends job n path end =
+    run_ends Ntsc (IsConsoleOf Ntsc) (IsSound Ntsc) 1024 4 console_moves sound_moves (console_is_lawful Ntsc) (sound_is_lawful Ntsc) (start_of job n path) end
+    (serving_at_first (IsConsoleOf Ntsc) (IsSound Ntsc) (console_of_path job.cart n path) (sound_of_path job.boot job.table) (record { region = refl; line = omega arith }) refl)
+
+-- nothing waited, and nothing waits
+none_between : (f w more x : List ℕ) → w ≡ [] → x ≡ [] → ((f ++ []) ++ w) ++ more ≡ (f ++ more) ++ x
+none_between f w more x was is =
+    ap (λ v. v ++ more) (ap (λ v. (f ++ []) ++ v) was ∙ append-nil (f ++ []) ∙ append-nil f) ∙ sym (append-nil (f ++ more)) ∙ ap (λ v. (f ++ more) ++ v) (sym is)
+
+none_more : (f w more : List ℕ) → w ≡ [] → ((f ++ []) ++ w) ++ more ≡ f ++ more
+none_more f w more was = ap (λ v. v ++ more) (ap (λ v. (f ++ []) ++ v) was ∙ append-nil (f ++ []) ∙ append-nil f)
+
+-- what had been emitted when the span began
+abbrev pub emitted_of : (job : Job) (n : ℕ) (paths : Paths) (before : List Span) (r : Rewind) → IsGoing job n paths before [] [] r → Side → List ℕ
+emitted_of job n paths before r h = by_side ((h.first_video ++ []) ++ r.run.serial.console.waiting) ((h.first_audio ++ []) ++ r.run.serial.sound.waiting)
+
+pub drove : (job : Job) (n : ℕ) (paths : Paths) (before : List Span) (r : Rewind) (s : Serial ConsoleValue AudioValue) (base : Side → List ℕ) (holds : Side → List ℕ → Type 0)
+    → r.run.serial.console.waiting ≡ [] → r.run.serial.sound.waiting ≡ []
+    → r.run.end ≤ s.console.stamp → r.run.end ≤ stamp_now s.sound.clock → s.console.waiting ≡ [] → s.sound.waiting ≡ []
+    → (h : IsGoing job n paths before [] [] r)
+    → TookOn console_moves sound_moves console_side.StandsAt sound_side.StandsAt (console_of_path job.cart n paths.path) (sound_of_path job.boot job.table) r.run.end s (Since holds base (emitted_of job n paths before r h))
+    → Gave job n paths before base holds (record { run = record { serial = s; end = r.run.end }; slots = r.slots })
+drove job n paths before r s base holds no_video no_audio console sound none_video none_audio h took =
+    let (video, video_is, video_held) = took.video_taken in
+    let (audio, audio_is, audio_held) = took.audio_taken in
+    let new : Rewind = record { run = record { serial = s; end = r.run.end }; slots = r.slots } in
+    let end = end_of_path paths.path in
+    let from = start_of job n paths.path in
+    let going : IsGoing job n paths before video audio new = record {
+      first_video = h.first_video;
+      first_audio = h.first_audio;
+      first = h.first;
+      led = subst (λ v. IsLed console_moves sound_moves console_side.StandsAt sound_side.StandsAt end from s v ((h.first_audio ++ audio) ++ s.sound.waiting))
+          (sym video_is ∙ none_between h.first_video r.run.serial.console.waiting video s.console.waiting no_video none_video)
+          (subst (λ a. IsLed console_moves sound_moves console_side.StandsAt sound_side.StandsAt end from s took.video a)
+          (sym audio_is ∙ none_between h.first_audio r.run.serial.sound.waiting audio s.sound.waiting no_audio none_audio)
+          (subst (λ e. IsLed console_moves sound_moves console_side.StandsAt sound_side.StandsAt e from s took.video took.audio) h.end_is took.led));
+      end_is = h.end_is;
+      few = h.few;
+      room = h.room;
+      slots = h.slots;
+    } in
+    let done = arrived job n paths before video audio new console sound none_video none_audio going in
+    record { video = video; audio = audio; beyond = done.1; rested = done.0; video_taken = video_held; audio_taken = audio_held }
+
+pub drove_some : (job : Job) (n : ℕ) (paths : Paths) (before : List Span) (r : Rewind) (base : Side → List ℕ) (holds : Side → List ℕ → Type 0)
+    → r.run.serial.console.waiting ≡ [] → r.run.serial.sound.waiting ≡ []
+    → (h : IsGoing job n paths before [] [] r)
+    → TookFirst console_moves sound_moves (console_of_path job.cart n paths.path) (sound_of_path job.boot job.table) r.run.end (Since holds base (emitted_of job n paths before r h))
+    → GaveSome job n paths before base holds
+drove_some job n paths before r base holds no_video no_audio h took =
+    let (video, video_is, video_held) = took.video_taken in
+    let (audio, audio_is, audio_held) = took.audio_taken in
+    record {
+      first_video = h.first_video;
+      first_audio = h.first_audio;
+      first = h.first;
+      whole_video = took.video;
+      whole_audio = took.audio;
+      whole = subst (λ e. IsOutput console_moves sound_moves (start_of job n paths.path) e took.video took.audio) h.end_is took.output;
+      video = video;
+      video_count = took.video_count;
+      video_is = sym (none_more h.first_video r.run.serial.console.waiting video no_video) ∙ video_is;
+      video_taken = video_held;
+      audio = audio;
+      audio_count = took.audio_count;
+      audio_is = sym (none_more h.first_audio r.run.serial.sound.waiting audio no_audio) ∙ audio_is;
+      audio_taken = audio_held;
+    }
+
+-- where the run of a span stands as it begins
+pub stands_led : (job : Job) (n : ℕ) (paths : Paths) (before : List Span) (r : Rewind) (h : IsGoing job n paths before [] [] r)
+    → IsLed console_moves sound_moves console_side.StandsAt sound_side.StandsAt r.run.end (start_of job n paths.path) r.run.serial (emitted_of job n paths before r h Console) (emitted_of job n paths before r h Sound)
+stands_led job n paths before r h =
+    subst (λ e. IsLed console_moves sound_moves console_side.StandsAt sound_side.StandsAt e (start_of job n paths.path) r.run.serial (emitted_of job n paths before r h Console) (emitted_of job n paths before r h Sound)) (sym h.end_is) h.led

@@ -1,0 +1,54 @@
+-- The machines of a job at its start are those of the empty path.
+use Rattle.std.proofs.Common.{◌≡◌, ℕ, ◌+◌, ◌≤◌, List, [], ◌∷◌, length, max, refl, ap, sym, ◌∙◌, subst, arith}
+use Rattle.snes_defs.specs.declared.cart.Job.{Job}
+use Rattle.snes_defs.specs.declared.region.Region.{Region}
+use Rattle.snes_defs.specs.declared.region.Region.TheVariants.{Ntsc}
+use Rattle.snes_defs.specs.Script.{Script}
+use Rattle.side_law.specs.Serial.{SerialState, serial_of}
+use Rattle.side_law.proofs.SerialRuns.{run_begins}
+use Rattle.serial_console.specs.declared.serial.Serial.{Serial}
+use Rattle.serial_console.specs.Serial.{IsAt}
+use Rattle.console_steps.specs.World.{World, console_start, console_moves}
+use Rattle.console_machine.specs.Side.{ConsoleValue}
+use Rattle.console_machine.specs.Side as console_side
+use Rattle.console_machine.specs.Playing.{world_with_room}
+use Rattle.audio_side.specs.Sound.{AudioValue, SoundState, sound_start, sound_moves}
+use Rattle.audio_side.specs.Sound as sound_side
+use Rattle.snapshot.specs.Path.{path_script, start_of, end_of_path, console_of_path, sound_of_path}
+use Rattle.snapshot.specs.Standing.{IsDone}
+
+pub first_done : (job : Job) (spans : ℕ) (s : Serial ConsoleValue AudioValue) (old new : ConsoleValue) (sound : AudioValue)
+    → job.script ≡ path_script job.script.room [] → job.region ≡ Ntsc
+    → console_side.StandsAt old (console_start job.cart job.script job.region)
+    → ((w : World) → console_side.StandsAt old w → console_side.StandsAt new (world_with_room w (max old.rest.script.room (length old.rest.script.spans + spans))))
+    → sound_side.StandsAt sound (sound_start job.region job.script.resets job.boot job.table)
+    → ((c : World) (m : SoundState) → console_side.StandsAt new c → sound_side.StandsAt sound m → IsAt console_side.StandsAt sound_side.StandsAt s (serial_of c m))
+    → s.console.waiting ≡ [] → s.sound.waiting ≡ []
+    → IsDone job (max job.script.room spans) [] (record { serial = s; end = 0 }) [] []
+first_done job spans s old new sound script region starts roomy sounds joins no_video no_audio =
+    let n = max job.script.room spans in
+    let old_script : old.rest.script ≡ job.script = ap (λ r. r.script) starts.at.rest in
+    let room : max old.rest.script.room (length old.rest.script.spans + spans) ≡ n =
+    ap (λ v. max v.room (length v.spans + spans)) old_script ∙ ap (λ v. max job.script.room (length v.spans + spans)) script ∙ ap (max job.script.room) (omega arith) in
+    let world : (v : Script) (r : Region) → v ≡ path_script job.script.room [] → r ≡ Ntsc → world_with_room (console_start job.cart v r) n ≡ console_of_path job.cart n [] =
+    λ v r e f. ap (λ x. world_with_room (console_start job.cart x r) n) e ∙ ap (λ x. world_with_room (console_start job.cart (path_script job.script.room []) x) n) f in
+    let console = subst (λ w. console_side.StandsAt new w) (world job.script job.region script region)
+    (subst (λ m. console_side.StandsAt new (world_with_room (console_start job.cart job.script job.region) m)) room (roomy (console_start job.cart job.script job.region) starts)) in
+    let there = subst (λ m. sound_side.StandsAt sound m)
+    (ap (λ r. sound_start r job.script.resets job.boot job.table) region ∙ ap (λ (v : Script). sound_start Ntsc v.resets job.boot job.table) script) sounds in
+    record {
+      at = start_of job n [];
+      stands = joins (console_of_path job.cart n []) (sound_of_path job.boot job.table) console there;
+      underway = run_begins console_moves sound_moves (start_of job n []) (end_of_path []);
+      past = record { console = omega arith; sound = omega arith };
+      no_video = no_video;
+      no_audio = no_audio;
+      end_is = refl;
+      few = omega arith;
+      room = omega arith;
+    }
+
+-- no number waits
+pub nothing_waits : (a : List ℕ) → length a ≡ 0 → a ≡ []
+nothing_waits [] none = refl
+nothing_waits (x ∷ a) none = absurd (omega (arith, none))

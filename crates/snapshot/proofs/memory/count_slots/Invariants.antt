@@ -1,0 +1,6 @@
+use Rattle.std.proofs.Common.{◌≡◌, drop}
+use Rattle.snapshot.specs.Plans.{slots_from}
+use Rattle.snapshot.proofs.memory.count_slots.Given as goal
+
+abbrev pub invariant-loop-step : goal.invariant-loop-step
+invariant-loop-step l = slots_from l.steps 0 ≡ slots_from (drop l.step-index l.steps) l.count

@@ -1,0 +1,5 @@
+pub mod Path
+pub mod Plans
+pub mod Standing
+pub mod Driven
+pub mod Handed

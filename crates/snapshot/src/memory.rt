@@ -1,0 +1,65 @@
+// How much memory a plan needs, and the runs that take it.
+ghost use Rattle.std.specs.Prelude.{◌≡◌, ◌<◌, ℕ, [], length, max, slice_index_or, IfOk};
+ghost use Rattle.snes_defs.specs.declared.region.Region.TheVariants.{Ntsc};
+ghost use Rattle.snapshot.specs.declared.run.Run.{Run};
+ghost use Rattle.snapshot.specs.Path.{path_script};
+ghost use Rattle.snapshot.specs.Plans.{goes_of, slots_of};
+ghost use Rattle.snapshot.specs.Standing.{HoldsPath};
+
+use crate::run::{Run, first_run};
+use input_files::PlanStep;
+use snes_defs::{Job, NoMemory};
+use std::alloc::Global;
+
+/// How many goes a plan has.
+pub fn count_goes(steps: &[PlanStep]) -> usize
+    ensures { result ≡ goes_of steps.now }
+{
+    let mut count = 0;
+    for step in steps {
+        match step {
+            PlanStep::Go { .. } => count += 1,
+            PlanStep::Keep(_) => {}
+            PlanStep::Back(_) => {}
+        }
+    }
+    count
+}
+
+/// How many slots there are up to the highest that a plan keeps.
+pub fn count_slots(steps: &[PlanStep]) -> usize
+    ensures { result ≡ slots_of steps.now }
+{
+    let mut count = 0;
+    for step in steps {
+        match step {
+            PlanStep::Go { .. } => {}
+            PlanStep::Keep(slot) => count = count.max(*slot as usize + 1),
+            PlanStep::Back(_) => {}
+        }
+    }
+    count
+}
+
+/// So many runs of an Ntsc job at its start. Refused only for want of memory.
+pub fn first_runs(
+    alloc: Global,
+    job: &Job,
+    spans: usize,
+    count: usize,
+) -> Result<Vec<Run>, NoMemory>
+    requires script { job.now.script ≡ path_script job.now.script.room [] }
+    requires region { job.now.region ≡ Ntsc }
+    ensures count { IfOk result (λ runs. length runs.items ≡ count) }
+    ensures starts { IfOk result (λ runs. (k : ℕ) (other : Run) → k < length runs.items → HoldsPath job.now (max job.now.script.room spans) [] (slice_index_or runs.items k other)) }
+{
+    let mut runs = Vec::new(alloc);
+    'runs: for _ in 0..count {
+        let run = first_run(alloc, job, spans)?;
+        match runs.push(run) {
+            Ok(()) => {}
+            Err(_) => return Err(NoMemory),
+        }
+    }
+    Ok(runs)
+}

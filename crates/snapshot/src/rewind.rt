@@ -1,0 +1,103 @@
+ghost use Rattle.std.specs.Prelude.{◌≡◌, ◌+◌, ◌<◌, ◌≤◌, ◌↔◌, ℕ, List, [], length, max, IfOk, IfSome, IsSome, IsNone};
+ghost use Rattle.snes_defs.specs.declared.cart.Job.{Job};
+ghost use Rattle.snes_defs.specs.declared.script.Span.{Span};
+ghost use Rattle.snes_defs.specs.declared.region.Region.TheVariants.{Ntsc};
+ghost use Rattle.snes_defs.specs.Script.{frames_of};
+ghost use Rattle.snapshot.specs.Path.{Paths, no_paths, gone, kept, back, path_script};
+ghost use Rattle.snapshot.specs.Plans.{goes_of, slots_of};
+ghost use Rattle.side_law.specs.Serial.{SerialState, turn};
+ghost use Rattle.console_steps.specs.World.{World, console_moves};
+ghost use Rattle.audio_side.specs.Sound.{SoundState, sound_moves};
+ghost use Rattle.snapshot.specs.Standing.{IsRested, IsGoing, StandsIn, HasEnded, next_side, slot_count, video_waiting, audio_waiting};
+
+use crate::memory::{count_goes, count_slots, first_runs};
+use crate::run::{Run, copy_run, first_run};
+use clock_ratio::FRAME_STAMPS;
+use input_files::Plan;
+use snes_defs::{Job, NoMemory, Side, Span};
+use std::alloc::Global;
+
+mod going;
+
+/// A console and a sound side on a path, and the moments that are kept in slots.
+#[derive(Drop)]
+pub struct Rewind {
+    run: Run,
+    slots: Vec<Run>,
+}
+
+impl Rewind {
+    /// The machines of an Ntsc job with an empty script, at its start, and the slots of a plan, which hold the start too.
+    /// It takes all memory that the plan needs, and refuses only for want of it.
+    pub fn new(alloc: Global, job: &Job, plan: &Plan) -> Result<Rewind, NoMemory>
+        requires script { job.now.script ≡ path_script job.now.script.room [] }
+        requires region { job.now.region ≡ Ntsc }
+        ensures rested { IfOk result (λ r. IsRested job.now (max job.now.script.room (goes_of plan.now)) no_paths r) }
+        ensures slots { IfOk result (λ r. slot_count r ≡ slots_of plan.now) }
+    {
+        let goes = count_goes(plan.steps());
+        let run = first_run(alloc, job, goes)?;
+        let slots = first_runs(alloc, job, goes, count_slots(plan.steps()))?;
+        Ok(Rewind { run, slots })
+    }
+
+    /// How many slots there are.
+    pub fn slots(&self) -> usize
+        ensures { result ≡ slot_count self.now }
+    {
+        self.slots.len()
+    }
+
+    /// Puts a span at the end of the path, and sets out on it. No memory is taken.
+    pub fn begin(&mut self, span: Span)
+        requires rested { (job : Job) × (n : ℕ) × (paths : Paths) × IsRested job n paths self.old × (length paths.path < n) × (frames_of paths.path + span.count ≤ 36000) }
+        ensures going { (job : Job) (n : ℕ) (paths : Paths) → IsRested job n paths self.old → IsGoing job n (gone paths span) paths.path [] [] self.new }
+        ensures no_video { video_waiting self.new ≡ [] }
+        ensures no_audio { audio_waiting self.new ≡ [] }
+        ensures slots { slot_count self.new ≡ slot_count self.old }
+    {
+        self.run.serial.console().play(span);
+        self.run.end += FRAME_STAMPS * span.count as u64;
+    }
+
+    /// Makes one step of the earlier side, ties to the console, and answers that side; none exactly where both stamps
+    /// have come to the end of the path.
+    pub fn turn(&mut self) -> Option<Side>
+        requires going { (job : Job) × (n : ℕ) × (paths : Paths) × (before : List Span) × (video : List ℕ) × (audio : List ℕ) × IsGoing job n paths before video audio self.old }
+        requires console_room { length (video_waiting self.old) + 1024 ≤ 65536 }
+        requires sound_room { length (audio_waiting self.old) + 4 ≤ 4096 }
+        ensures going { (job : Job) (n : ℕ) (paths : Paths) (before : List Span) (video audio : List ℕ) → IsGoing job n paths before video audio self.old → IsGoing job n paths before video audio self.new }
+        ensures ended { IsNone result ↔ HasEnded self.old }
+        ensures stays { IsNone result → self.new ≡ self.old }
+        ensures side { IfSome result (λ side. side ≡ next_side self.old) }
+        ensures step { IsSome result → (w : SerialState World SoundState) → StandsIn self.old w → StandsIn self.new (turn console_moves sound_moves w) }
+        ensures few_video { length (video_waiting self.new) ≤ length (video_waiting self.old) + 1024 }
+        ensures few_audio { length (audio_waiting self.new) ≤ length (audio_waiting self.old) + 4 }
+        ensures slots { slot_count self.new ≡ slot_count self.old }
+    {
+        if self.run.serial.finished(self.run.end) {
+            return None;
+        }
+        Some(self.run.serial.turn())
+    }
+
+    /// Stores the path and its machines in a slot. No memory is taken.
+    pub fn keep(&mut self, slot: u8)
+        requires rested { (job : Job) × (n : ℕ) × (paths : Paths) × IsRested job n paths self.old }
+        requires slot { slot < slot_count self.old }
+        ensures kept { (job : Job) (n : ℕ) (paths : Paths) → IsRested job n paths self.old → IsRested job n (kept paths slot) self.new }
+        ensures slots { slot_count self.new ≡ slot_count self.old }
+    {
+        copy_run(&self.run, &mut self.slots[slot as usize]);
+    }
+
+    /// Makes the path that a slot holds the path, with its machines. No memory is taken.
+    pub fn back(&mut self, slot: u8)
+        requires rested { (job : Job) × (n : ℕ) × (paths : Paths) × IsRested job n paths self.old }
+        requires slot { slot < slot_count self.old }
+        ensures back { (job : Job) (n : ℕ) (paths : Paths) → IsRested job n paths self.old → IsRested job n (back paths slot) self.new }
+        ensures slots { slot_count self.new ≡ slot_count self.old }
+    {
+        copy_run(&self.slots[slot as usize], &mut self.run);
+    }
+}

@@ -1,0 +1,65 @@
+// The steps of a span, and the bytes that they emit.
+ghost use Rattle.std.specs.Prelude.{◌≡◌, ◌≤◌, ◌+◌, ℕ, List, [], ◌++◌, length, take, drop, min, IsTrue, OnOk, OnErr, IfErr};
+ghost use Rattle.snes_defs.specs.declared.cart.Job.{Job};
+ghost use Rattle.snes_defs.specs.declared.ports.Side.{Side};
+ghost use Rattle.snes_defs.specs.declared.script.Span.{Span};
+ghost use Rattle.snapshot.specs.Path.{Paths};
+ghost use Rattle.snapshot.specs.Standing.{IsRested, IsGoing, IsBeyond, slot_count, video_waiting, audio_waiting};
+ghost use Rattle.snapshot.specs.Handed.{Gave, GaveSome};
+
+use super::Rewind;
+use crate::driving::drive;
+use run_drive::Sink;
+use side_law::Machine;
+use snes_defs::Side;
+
+impl Rewind {
+    /// Moves out the first of the bytes that wait in a side, as many as wait or fit, and answers how many.
+    pub fn drain(&mut self, side: Side, into: &mut [u8]) -> usize
+        ensures video_count { side ≡ Side.Console → result ≡ min (length (video_waiting self.old)) (length into.old) }
+        ensures video_moved { side ≡ Side.Console → into.new ≡ take result (video_waiting self.old) ++ drop result into.old }
+        ensures video_left { side ≡ Side.Console → video_waiting self.new ≡ drop result (video_waiting self.old) }
+        ensures video { side ≡ Side.Console → (job : Job) (n : ℕ) (paths : Paths) (before : List Span) (video audio : List ℕ) → IsGoing job n paths before video audio self.old
+            → IsGoing job n paths before (video ++ take result (video_waiting self.old)) audio self.new }
+        ensures audio_count { side ≡ Side.Sound → result ≡ min (length (audio_waiting self.old)) (length into.old) }
+        ensures audio_moved { side ≡ Side.Sound → into.new ≡ take result (audio_waiting self.old) ++ drop result into.old }
+        ensures audio_left { side ≡ Side.Sound → audio_waiting self.new ≡ drop result (audio_waiting self.old) }
+        ensures audio { side ≡ Side.Sound → (job : Job) (n : ℕ) (paths : Paths) (before : List Span) (video audio : List ℕ) → IsGoing job n paths before video audio self.old
+            → IsGoing job n paths before video (audio ++ take result (audio_waiting self.old)) self.new }
+        ensures slots { slot_count self.new ≡ slot_count self.old }
+    {
+        match side {
+            Side::Console => self.run.serial.console().drain(into),
+            Side::Sound => self.run.serial.sound().drain(into),
+        }
+    }
+
+    /// Whether both stamps have come to the end of the path and no byte waits.
+    pub fn is_over(&self) -> bool
+        ensures over { IsTrue result → (job : Job) (n : ℕ) (paths : Paths) (before : List Span) (video audio : List ℕ) → IsGoing job n paths before video audio self.now
+            → IsRested job n paths self.now × IsBeyond job n before paths.path video audio }
+    {
+        self.run.serial.is_over(self.run.end)
+    }
+
+    /// Makes all steps to the end of the path, and hands the sink what they emit. Err names the side of which the sink
+    /// failed to take some.
+    pub fn go_on<K: Sink>(&mut self, buffer: &mut [u8], sink: &mut K) -> Result<(), Side>
+        requires going { (job : Job) × (n : ℕ) × (paths : Paths) × (before : List Span) × IsGoing job n paths before [] [] self.old }
+        requires no_video { video_waiting self.old ≡ [] }
+        requires no_audio { audio_waiting self.old ≡ [] }
+        requires fits { 1024 ≤ length buffer.old }
+        ensures whole { OnOk result ((job : Job) (n : ℕ) (paths : Paths) (before : List Span) (base : Side → List ℕ) → IsGoing job n paths before [] [] self.old
+            → K.holds sink.old Side.Console (base Side.Console) → K.holds sink.old Side.Sound (base Side.Sound) → Gave job n paths before base (K.holds sink.new) self.new) }
+        ensures some { OnErr result ((job : Job) (n : ℕ) (paths : Paths) (before : List Span) (base : Side → List ℕ) → IsGoing job n paths before [] [] self.old
+            → K.holds sink.old Side.Console (base Side.Console) → K.holds sink.old Side.Sound (base Side.Sound) → GaveSome job n paths before base (K.holds sink.new)) }
+        ensures failed { IfErr result (K.failed sink.old sink.new) }
+        ensures only { K.only_takes sink.old sink.new }
+        ensures slots { slot_count self.new ≡ slot_count self.old }
+    {
+        match drive(&mut self.run.serial, self.run.end, buffer, sink) {
+            Ok(()) => Ok(()),
+            Err(side) => Err(side),
+        }
+    }
+}
