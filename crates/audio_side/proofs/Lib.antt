@@ -3,3 +3,4 @@ pub mod Zeros
 pub mod Moves
 pub mod Ticks
 pub mod FromParts
+pub mod BootOver

@@ -6,3 +6,4 @@ pub mod Sound
 pub mod Parts
 pub mod SoundLaws
 pub mod FromParts
+pub mod Kept

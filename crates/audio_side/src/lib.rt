@@ -10,6 +10,7 @@
 mod board;
 mod clock;
 mod from_parts;
+mod kept;
 mod parts;
 mod side;
 mod step;

@@ -1,4 +1,4 @@
-ghost use Rattle.std.specs.Prelude.{◌≡◌, IsTrue};
+ghost use Rattle.std.specs.Prelude.{◌≡◌, IfSome, IsTrue};
 
 use spc_modes::micro::Micro;
 use spc_modes::next::next;
@@ -21,7 +21,7 @@ impl Spc {
       registers_of,
     };
     ghost use Rattle.spc_modes.specs.Plan.{gets_byte, is_inner, is_write};
-    ghost use Rattle.spc700.specs.Stands.{Advances, Stands, access_of};
+    ghost use Rattle.spc700.specs.Stands.{Advances, Stands, access_of, begins_with};
 
     /// A processor after a reset, whose vector at FFFE holds `pc`: all other registers are 0.
     pub fn new(pc: u16) -> Spc
@@ -117,6 +117,18 @@ impl Spc {
         ensures { (s : Standing) → Stands self.old s → Stands self.new (moved_on s 0) }
     {
         self.advance_idle();
+    }
+
+    /// The registers with which the next instruction begins, where the last one has ended: the processor
+    /// stands before an opcode fetch. Within an instruction there are none.
+    pub fn begins(&self) -> Option<SpcRegs>
+        ensures now { result ≡ begins_with self.now }
+        ensures standing { IfSome result (λ regs. Stands self.now (between regs)) }
+    {
+        match self.micro.place {
+            Place::Between => Some(self.micro.here),
+            _ => None,
+        }
     }
 
     /// The registers at the start of the instruction in hand; where the last one has ended, those

@@ -69,6 +69,7 @@ impl Player {
         ensures next { (w : Playing) → IsPlaying self.old w → IsPlaying self.new (stepped w) }
         ensures emits { (w : Playing) → IsPlaying self.old w → waiting_of self.new ≡ waiting_of self.old ++ step_emits w }
         ensures rises { stamp_of self.old < stamp_of self.new }
+        ensures rises_at_most { stamp_of self.new ≤ stamp_of self.old + 225280 }
         ensures emits_at_most { length (waiting_of self.new) ≤ length (waiting_of self.old) + 4 }
     {
         let mut unheard = [0; 4];
