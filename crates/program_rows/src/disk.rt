@@ -33,14 +33,18 @@ fn clear<R: Files>(rt: &R, rows: &Rows, words: &str, row: &Outcome) -> io::Resul
     Ok(())
 }
 
-/// Prints whether an output on the disk has the bytes of the output in memory.
+/// Prints whether an output on the disk has the bytes of the output in memory. A device may go on without end.
 fn compare<R: AllocGlobal + Files + Print>(
     rt: &R,
     what: &str,
     out: Out,
     row: &Outcome,
 ) -> io::Result<()> {
-    let bytes = fs::read(rt, row.shelf.named(out))?;
+    let name = row.shelf.named(out);
+    if name.starts_with("/") {
+        return println!(rt; "  {what} on a device, which isn't read back");
+    }
+    let bytes = fs::read(rt, name)?;
     if bytes.as_slice() == row.shelf.written(out) {
         println!(rt; "  {what} on the disk as in memory")
     } else {

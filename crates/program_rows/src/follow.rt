@@ -173,8 +173,8 @@ fn each<R: AllocGlobal + Threads + Print>(rt: &R, rows: &Rows, words: &str) -> i
     }
 }
 
-/// A row of words some call of which fails: prints the answer, and whether first bytes are left of what the row
-/// leaves without a failure. How many depends on where the two workers met.
+/// A row of words some put of which fails: prints the answer, and whether first bytes are left, at least one of the
+/// output that failed, of what the row leaves without a failure. How many depends on where the two workers met.
 fn part<R: AllocGlobal + Threads + Print>(rt: &R, rows: &mut Rows, words: &str) -> io::Result<()> {
     let Some(part) = called(rt, rows, words, None) else {
         return println!(rt; "{NO_ROW}");
@@ -188,7 +188,13 @@ fn part<R: AllocGlobal + Threads + Print>(rt: &R, rows: &mut Rows, words: &str) 
 
 fn show_part<R: Print>(rt: &R, part: &Outcome, whole: &Outcome) -> io::Result<()> {
     show_answer(rt, part)?;
-    if is_begun(part, whole) {
+    let left = match part.status {
+        Status::WriteFault(out) => part.shelf.written(out).len(),
+        _ => 0,
+    };
+    if left == 0 {
+        println!(rt; "  no bytes are left")
+    } else if is_begun(part, whole) {
         println!(rt; "  first bytes are left")
     } else {
         println!(rt; "  other bytes are left")

@@ -22,7 +22,8 @@
 //!   `alike` only the lengths are printed.
 //! - `opening WORDS`: prints the line up to its sums.
 //! - `each WORDS`: each put fails in turn.
-//! - `part WORDS`: prints the answer, and whether first bytes are left of what the row leaves without a failure.
+//! - `part WORDS`: prints the answer, and whether first bytes are left of what the row leaves without a failure, at least
+//!   one of the output that failed.
 //! - `disk WORDS`: the same over real files: prints the answer, and whether the outputs are those in memory.
 //! - `look NAME`: a file's length, and its byte at 8000.
 #![tactic(auto)]

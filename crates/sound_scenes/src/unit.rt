@@ -1,6 +1,6 @@
 ghost use Rattle.std.specs.Prelude.{◌≡◌, ◌≤◌, All, length};
 
-use case_text::{Generator, hexadecimal, part, put};
+use case_text::{Generator, hashed, hexadecimal, no_hash, part, put};
 use sdsp_echo::Echo;
 use sdsp_voice::Voices;
 use snes_defs::Table;
@@ -163,9 +163,9 @@ fn fill(ram: &mut [u8], mut words: SplitWhitespace<'_>) -> Option<()> {
 /// Whether RAM has the hash of a line: 64-bit FNV-1a.
 fn same_hash(ram: &[u8], mut words: SplitWhitespace<'_>) -> Option<Outcome> {
     let expected = hexadecimal::<u64>(words.next()?)?;
-    let mut hash = 0xCBF2_9CE4_8422_2325u64;
+    let mut hash = no_hash();
     for byte in ram {
-        hash = (hash ^ *byte as u64).wrapping_mul(0x100_0000_01B3);
+        hash = hashed(hash, *byte);
     }
     Some(told(hash == expected))
 }

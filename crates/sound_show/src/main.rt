@@ -4,7 +4,8 @@
 //! another into OUT, 32,000 a second, each four bytes: left, then right, signed, low byte first. The
 //! lines are those of `sound_scenes`; a line `s N` makes N samples, whatever it gives to compare. A WAV
 //! comes of it by `ffmpeg -f s16le -ar 32000 -ac 2 -i OUT scenes.wav`, and
-//! `aplay -f S16_LE -r 32000 -c 2 OUT` plays it at once.
+//! `aplay -f S16_LE -r 32000 -c 2 OUT` plays it at once. The program prints how many scenes and samples it wrote, and
+//! names each line that is none of a scene.
 #![tactic(auto)]
 
 ghost use Rattle.std.specs.Prelude.{◌≡◌, length};
@@ -58,41 +59,52 @@ fn make(
     Ok(())
 }
 
-/// The samples of the scenes of a text from one to another.
-fn show(alloc: Global, text: &str, from: u64, upto: u64) -> io::Result<Vec<u8>> {
+/// Whether a line of a scene says anything.
+fn says_something(line: &str) -> bool {
+    !line.is_empty() && !line.starts_with("#")
+}
+
+/// The samples of the scenes of a text from one to another, of which it prints how many there were.
+fn show(rt: &impl Print, alloc: Global, text: &str, from: u64, upto: u64) -> io::Result<Vec<u8>> {
     let mut bytes = Vec::new(alloc);
     let mut ram = zeros(alloc, 65536)?;
     let mut unit = Unit::new();
     let mut scene = 0u64;
+    let mut shown = 0u64;
     for line in text.lines() {
         if line.starts_with("sound ") {
             unit = Unit::new();
             ram.as_mut_slice().fill(0);
         } else if line == "end" {
+            if from <= scene && scene <= upto {
+                shown = shown.saturating_add(1);
+            }
             scene = scene.saturating_add(1);
         } else if let Some(count) = samples_of(line) {
             let wanted = from <= scene && scene <= upto;
             make(&mut unit, ram.as_mut_slice(), count, wanted, &mut bytes)?;
-        } else {
-            let _done = unit.line(ram.as_mut_slice(), line);
+        } else if says_something(line) && unit.line(ram.as_mut_slice(), line).is_none() {
+            println!(rt; "no line of a scene: {line}")?;
         }
     }
+    println!(rt; "{shown} scenes, {} samples", bytes.len() / 4)?;
     Ok(bytes)
 }
 
 fn main(rt: HostRuntime) -> io::Result<()> {
     let mut words = env::args(&rt)?.skip(1);
-    if let (Some(name), Some(out), Some(from), Some(upto)) = (
+    let (Some(name), Some(out), Some(from), Some(upto)) = (
         words.next(),
         words.next(),
         words.next(),
         words.next(),
-    ) {
-        let from = from.as_str().parse::<u64>().unwrap_or(0);
-        let upto = upto.as_str().parse::<u64>().unwrap_or(0);
-        let text = fs::read_to_string(&rt, name.as_str())?;
-        let bytes = show(rt.alloc(), text.as_str(), from, upto)?;
-        fs::write(&rt, out.as_str(), bytes.as_slice())?;
-    }
-    Ok(())
+    ) else {
+        return println!(rt; "usage: sound_show FILE OUT FROM UPTO");
+    };
+    let (Ok(from), Ok(upto)) = (from.as_str().parse::<u64>(), upto.as_str().parse::<u64>()) else {
+        return println!(rt; "usage: sound_show FILE OUT FROM UPTO");
+    };
+    let text = fs::read_to_string(&rt, name.as_str())?;
+    let bytes = show(&rt, rt.alloc(), text.as_str(), from, upto)?;
+    fs::write(&rt, out.as_str(), bytes.as_slice())
 }
