@@ -17,8 +17,8 @@
 #
 # tools/many_runs.sbatch does the same as an array job of Slurm. docs/MANY-RUNS.md has both, and figures.
 top=$(cd "$(dirname "${BASH_SOURCE[0]}")/.." && pwd) || exit 2
-snes=$top/crates/snes_run/out/snes_run
-look=$top/crates/frame_look/out/frame_look
+snes=${SNES:-$top/crates/snes_run/out/snes_run}
+look=${LOOK:-$top/crates/frame_look/out/frame_look}
 frames=600
 every=60
 jobs=
@@ -59,12 +59,14 @@ run_one() {
   fi
   [ -f "$dir/$name.txt" ] && script=$dir/$name.txt
   rm -rf "$part" && mkdir "$part" && mkfifo "$part/video" "$part/audio" "$part/copy" || return 2
-  # Both ends of each pipe are opened here, so that none waits for a program that never opens it.
+  # Both ends of each pipe are opened here, so that none waits for a program that never opens it. `look` opens its
+  # inputs by name, and an opened end of a named pipe would be opened anew, and wait: `cat` stands between.
   exec 3<>"$part/video" 4<>"$part/audio" 5<"$part/video" 6<"$part/audio" 7<>"$part/copy" 8<"$part/copy"
   tee "$part/copy" <&5 2>/dev/null 3>&- 4>&- 6<&- 7>&- 8<&- |
-    "$look" sums - /dev/fd/6 >"$part/csv" 2>"$part/fault" 3>&- 4>&- 5<&- 7>&- 8<&- &
+    "$look" sums - <(cat <&6 3>&- 4>&- 5<&- 7>&- 8<&-) >"$part/csv" 2>"$part/fault" 3>&- 4>&- 5<&- 7>&- 8<&- &
   local summing=$!
-  "$look" sheet - "$part/png" --every "$every" <&8 >/dev/null 2>"$part/sheet_fault" 3>&- 4>&- 5<&- 6<&- 7>&- 8<&- &
+  cat <&8 3>&- 4>&- 5<&- 6<&- 7>&- |
+    "$look" sheet - "$part/png" --every "$every" >/dev/null 2>"$part/sheet_fault" 3>&- 4>&- 5<&- 6<&- 7>&- 8<&- &
   local drawing=$!
   exec 5<&- 6<&- 8<&-
   "$snes" serial --cart "$dir/$name.sfc" --boot "$dir/boot.bin" --table "$dir/table.bin" --script "$script" \

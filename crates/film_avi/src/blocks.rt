@@ -67,7 +67,11 @@ pub(crate) fn main_bytes(alloc: Global, region: Region, frames: u64) -> Result<V
 }
 
 /// The bytes of the picture's `strh`.
-pub(crate) fn picture_bytes(alloc: Global, region: Region, frames: u64) -> Result<Vec<u8>, AllocError>
+pub(crate) fn picture_bytes(
+    alloc: Global,
+    region: Region,
+    frames: u64,
+) -> Result<Vec<u8>, AllocError>
     ensures { IfOk result (λ v. v.items ≡ picture_header region frames) }
 {
     let (rate, scale) = rate(region);
@@ -150,7 +154,12 @@ pub(crate) fn sound_format_bytes(alloc: Global) -> Result<Vec<u8>, AllocError>
 }
 
 /// Adds the entry of a part to the index of a stream.
-pub(crate) fn push_part_entry(out: &mut Vec<u8>, offset: u64, size: u64, duration: u64) -> Result<(), AllocError>
+pub(crate) fn push_part_entry(
+    out: &mut Vec<u8>,
+    offset: u64,
+    size: u64,
+    duration: u64,
+) -> Result<(), AllocError>
     ensures { OnOk result (out.new.items ≡ out.old.items ++ part_entry offset size duration) }
 {
     push_little8(out, offset)?;
@@ -167,7 +176,12 @@ pub(crate) fn push_chunk_entry(out: &mut Vec<u8>, offset: u64, size: u64) -> Res
 }
 
 /// Adds an entry to the old index.
-pub(crate) fn push_old_entry(out: &mut Vec<u8>, name: &[u8], offset: u64, size: u64) -> Result<(), AllocError>
+pub(crate) fn push_old_entry(
+    out: &mut Vec<u8>,
+    name: &[u8],
+    offset: u64,
+    size: u64,
+) -> Result<(), AllocError>
     ensures { OnOk result (out.new.items ≡ out.old.items ++ old_entry name.now offset size) }
 {
     out.extend_from_slice(name)?;

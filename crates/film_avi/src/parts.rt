@@ -1,8 +1,8 @@
 ghost use Rattle.std.specs.Prelude.{◌≡◌, ◌+◌, ◌<◌, ◌≤◌, ◌^◌};
 
 use crate::blocks::{
-    main_bytes, picture_bytes, picture_format_bytes, push_chunk, push_chunk_entry, push_head, push_old_entry,
-    push_part_entry, sound_bytes, sound_format_bytes,
+    main_bytes, picture_bytes, picture_format_bytes, push_chunk, push_chunk_entry, push_head,
+    push_old_entry, push_part_entry, sound_bytes, sound_format_bytes,
 };
 use crate::layout::{Layout, chunk_bytes, samples_upto};
 use film_formats::{push_little2, push_little4, push_little8};
@@ -40,7 +40,9 @@ impl Layout {
     {
         let mut at = 0u64;
         for earlier in 0..part {
-            at = at.saturating_add(8).saturating_add(self.riff_bytes(earlier));
+            at = at
+                .saturating_add(8)
+                .saturating_add(self.riff_bytes(earlier));
         }
         at
     }
@@ -63,7 +65,12 @@ impl Layout {
 }
 
 /// Adds the index of parts of a stream: 0 is the picture, 1 the sound.
-fn push_part_index(alloc: Global, out: &mut Vec<u8>, layout: Layout, stream: usize) -> Result<(), AllocError>
+fn push_part_index(
+    alloc: Global,
+    out: &mut Vec<u8>,
+    layout: Layout,
+    stream: usize,
+) -> Result<(), AllocError>
     requires { stream < 2 }
 {
     let parts = layout.parts();
@@ -86,7 +93,10 @@ fn push_part_index(alloc: Global, out: &mut Vec<u8>, layout: Layout, stream: usi
         if stream == 0 {
             push_part_entry(&mut index, at, size, upto.saturating_sub(from) as u64)?;
         } else {
-            let samples = samples_upto(layout.region, upto).saturating_sub(samples_upto(layout.region, from));
+            let samples = samples_upto(layout.region, upto).saturating_sub(samples_upto(
+                layout.region,
+                from,
+            ));
             push_part_entry(&mut index, at.saturating_add(size), size, samples)?;
         }
     }
@@ -166,7 +176,13 @@ pub fn part_head(alloc: Global, layout: Layout, part: u32) -> Result<Vec<u8>, Al
 }
 
 /// Adds the index of one stream's chunks in a part.
-fn push_index(alloc: Global, out: &mut Vec<u8>, layout: Layout, part: u32, stream: usize) -> Result<(), AllocError>
+fn push_index(
+    alloc: Global,
+    out: &mut Vec<u8>,
+    layout: Layout,
+    part: u32,
+    stream: usize,
+) -> Result<(), AllocError>
     requires part { part < 32 }
     requires stream { stream < 2 }
 {
@@ -183,11 +199,18 @@ fn push_index(alloc: Global, out: &mut Vec<u8>, layout: Layout, part: u32, strea
         if stream == 0 {
             push_chunk_entry(&mut index, behind + 8, PICTURE_BYTES)?;
         } else {
-            let samples = samples_upto(layout.region, frame + 1).saturating_sub(samples_upto(layout.region, frame));
+            let samples = samples_upto(layout.region, frame + 1).saturating_sub(samples_upto(
+                layout.region,
+                frame,
+            ));
             push_chunk_entry(&mut index, behind + 8 + PICTURE_BYTES + 8, 4 * samples)?;
         }
     }
-    push_chunk(out, if stream == 0 { b"ix00" } else { b"ix01" }, index.as_slice())
+    push_chunk(
+        out,
+        if stream == 0 { b"ix00" } else { b"ix01" },
+        index.as_slice(),
+    )
 }
 
 /// The indexes of a part, which stand behind its chunks; behind those of the first part stands the index in the old
@@ -209,7 +232,10 @@ fn push_old_index(alloc: Global, out: &mut Vec<u8>, layout: Layout) -> Result<()
     let mut index = Vec::new(alloc);
     for frame in 0..layout.upto(0) {
         let at = 4 + chunk_bytes(layout.region, 0, frame);
-        let samples = samples_upto(layout.region, frame + 1).saturating_sub(samples_upto(layout.region, frame));
+        let samples = samples_upto(layout.region, frame + 1).saturating_sub(samples_upto(
+            layout.region,
+            frame,
+        ));
         push_old_entry(&mut index, b"00db", at, PICTURE_BYTES)?;
         push_old_entry(&mut index, b"01wb", at + 8 + PICTURE_BYTES, 4 * samples)?;
     }

@@ -11,7 +11,7 @@ abbrev pub colour_of : ℕ → Colour
 colour_of dot = record {
   red = widened (dot % 32);
   green = widened (dot / 32 % 32);
-  blue = widened (dot / 1024 % 32)
+  blue = widened (dot / 1024 % 32);
 }
 
 -- the dot in a row's column: two bytes, low byte first

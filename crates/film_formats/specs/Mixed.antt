@@ -31,7 +31,7 @@ abbrev pub mean_of : List ℕ → List ℕ → ℕ → Colour
 mean_of upper lower column = record {
   red = (sum4 (λ c. c.red) upper column + sum4 (λ c. c.red) lower column) / 8;
   green = (sum4 (λ c. c.green) upper column + sum4 (λ c. c.green) lower column) / 8;
-  blue = (sum4 (λ c. c.blue) upper column + sum4 (λ c. c.blue) lower column) / 8
+  blue = (sum4 (λ c. c.blue) upper column + sum4 (λ c. c.blue) lower column) / 8;
 }
 
 -- the first dots of a small picture's row

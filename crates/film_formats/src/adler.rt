@@ -15,7 +15,10 @@ impl Adler {
     pub fn new() -> Adler
         ensures { result ≡ adler_start }
     {
-        Adler { plain: 1, summed: 0 }
+        Adler {
+            plain: 1,
+            summed: 0,
+        }
     }
 
     /// One byte more.

@@ -1,8 +1,6 @@
 ghost use Rattle.std.specs.Prelude.{◌≡◌, ◌<◌, ◌^◌, ◌-◌, ◌+◌, ◌*◌};
 ghost use Rattle.film_formats.specs.Checksums.{crc_bit, crc_byte, crc_over, crc_of};
 
-
-
 /// One bit of the division by the polynomial of CRC-32.
 #[inline(always)]
 fn divided(crc: u32) -> u32

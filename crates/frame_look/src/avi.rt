@@ -7,7 +7,9 @@ use crate::regions::{MOST_FRAMES, name_of, region_of, samples_upto};
 use crate::sounds::Sounds;
 use anyhow::{Context, Result, bail, ensure};
 use clap::ArgMatches;
-use film_avi::{Layout, PART_FRAMES, PICTURE_BYTES, file_head, indexes, part_head, push_head, push_turned};
+use film_avi::{
+    Layout, PART_FRAMES, PICTURE_BYTES, file_head, indexes, part_head, push_head, push_turned,
+};
 use film_formats::{FRAME_BYTES, SAMPLE_BYTES};
 use snes_defs::Region;
 use std::alloc::Global;
@@ -87,7 +89,12 @@ impl<F: Read + Drop, W: Write + Drop> Making<'_, F, W> {
 }
 
 /// Writes all parts, whose heads tell so many frames; says how many there are.
-fn write_parts<F: Read + Drop, W: Write + Drop>(alloc: Global, making: &mut Making<'_, F, W>, region: Region, told: u32) -> Result<u32>
+fn write_parts<F: Read + Drop, W: Write + Drop>(
+    alloc: Global,
+    making: &mut Making<'_, F, W>,
+    region: Region,
+    told: u32,
+) -> Result<u32>
     requires { told ≤ 36000 }
 {
     let told = Layout::new(region, told);
@@ -111,7 +118,11 @@ fn write_parts<F: Read + Drop, W: Write + Drop>(alloc: Global, making: &mut Maki
 }
 
 /// Writes the heads of the first and of the last part once more, now that the frames are counted.
-fn write_heads<W: Write + Seek + Drop>(alloc: Global, out: &mut BufWriter<W>, layout: Layout) -> Result<()> {
+fn write_heads<W: Write + Seek + Drop>(
+    alloc: Global,
+    out: &mut BufWriter<W>,
+    layout: Layout,
+) -> Result<()> {
     let last = layout.parts().saturating_sub(1);
     let head = part_head(alloc, layout, last)?;
     out.seek(SeekFrom::Start(layout.start(last)))?;
@@ -128,7 +139,10 @@ fn known_frames<R: Files>(rt: &R, name: &str) -> Result<Option<u32>> {
         return Ok(None);
     };
     let frames = length / FRAME_BYTES as u64;
-    ensure!(length % FRAME_BYTES as u64 == 0, "{name} is cut: {length} bytes are no whole number of frames");
+    ensure!(
+        length % FRAME_BYTES as u64 == 0,
+        "{name} is cut: {length} bytes are no whole number of frames"
+    );
     match u32::try_from(frames) {
         Ok(frames) if frames <= MOST_FRAMES => Ok(Some(frames)),
         _ => bail!("{name} has more than {MOST_FRAMES} frames: a run has no more"),
@@ -175,8 +189,13 @@ pub fn write_avi<R: Files + Print + AllocGlobal>(rt: &R, words: &ArgMatches<'_>)
     let told = known.unwrap_or(MOST_FRAMES).min(MOST_FRAMES);
     let frames = write_parts(alloc, &mut making, region, told)?;
     if known != Some(frames) && frames <= MOST_FRAMES {
-        write_heads(alloc, &mut making.out, Layout::new(region, frames)).context(format_args!("cannot go back in {name}"))?;
+        write_heads(alloc, &mut making.out, Layout::new(region, frames)).context(format_args!(
+            "cannot go back in {name}"
+        ))?;
     }
-    making.out.flush().context(format_args!("cannot write {name}"))?;
+    making
+        .out
+        .flush()
+        .context(format_args!("cannot write {name}"))?;
     Ok(0)
 }

@@ -2,8 +2,8 @@
 
 ghost use Rattle.std.specs.Prelude.{◌≡◌, length};
 
-use crate::films::{self, Frames};
 use crate::DIFFERENT;
+use crate::films::{self, Frames};
 use anyhow::Result;
 use clap::ArgMatches;
 use film_formats::{Colour, FRAME_BYTES, ROW_BYTES, first_apart, marked_png};
@@ -19,7 +19,11 @@ impl fmt::Display for Dot {
     fn fmt<W: fmt::Write>(&self, f: &mut fmt::Formatter<W>) -> fmt::Result {
         let dot = self.0;
         let colour = Colour::of_dot(dot);
-        write!(f, "{dot:04x} ({} {} {})", colour.red, colour.green, colour.blue)
+        write!(
+            f,
+            "{dot:04x} ({} {} {})",
+            colour.red, colour.green, colour.blue
+        )
     }
 }
 
@@ -72,7 +76,12 @@ fn count_rest<F: Read + Drop>(frames: &mut Frames<'_, F>) -> Result<u64> {
 }
 
 /// Compares two films, frame by frame; a picture of the first frame that differs is written where one is wanted.
-fn compare_films<R: Files + AllocGlobal>(rt: &R, a: &mut Frames<'_, R::File>, b: &mut Frames<'_, R::File>, png: Option<&str>) -> Result<Found> {
+fn compare_films<R: Files + AllocGlobal>(
+    rt: &R,
+    a: &mut Frames<'_, R::File>,
+    b: &mut Frames<'_, R::File>,
+    png: Option<&str>,
+) -> Result<Found> {
     let mut found = Found {
         both: 0,
         only_first: 0,
@@ -143,7 +152,10 @@ fn tell<R: Print>(rt: &R, found: &Found) -> Result<u8> {
 }
 
 /// `look diff A B`.
-pub fn say_difference<R: Files + Print + AllocGlobal>(rt: &R, words: &ArgMatches<'_>) -> Result<u8> {
+pub fn say_difference<R: Files + Print + AllocGlobal>(
+    rt: &R,
+    words: &ArgMatches<'_>,
+) -> Result<u8> {
     let first = words.get_str("A").unwrap_or("-");
     let second = words.get_str("B").unwrap_or("-");
     if words.get_flag("audio") {

@@ -60,14 +60,21 @@ impl<'a, F: Read + Drop> Frames<'a, F> {
 
     /// Reads the next frame; false where there is none. A cut frame is an error that tells its number.
     pub fn next(&mut self) -> Result<bool> {
-        let piece = read_piece(&mut self.file, self.bytes.as_mut_slice()).context(format_args!("cannot read {}", self.name))?;
+        let piece = read_piece(&mut self.file, self.bytes.as_mut_slice()).context(format_args!(
+            "cannot read {}",
+            self.name
+        ))?;
         match piece {
             Piece::Whole => {
                 self.read = self.read.saturating_add(1);
                 Ok(true)
             }
             Piece::End => Ok(false),
-            Piece::Cut(count) => bail!("{} is cut: frame {} has {count} of its {FRAME_BYTES} bytes", self.name, self.read),
+            Piece::Cut(count) => bail!(
+                "{} is cut: frame {} has {count} of its {FRAME_BYTES} bytes",
+                self.name,
+                self.read
+            ),
         }
     }
 

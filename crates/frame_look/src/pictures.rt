@@ -15,7 +15,10 @@ pub fn write_png<R: Files + Print + AllocGlobal>(rt: &R, words: &ArgMatches<'_>)
     let mut frames = Frames::new(rt.alloc(), name, films::open(rt, name)?)?;
     for _ in 0..wanted.saturating_add(1) {
         if !frames.next()? {
-            bail!("{name} has no frame {wanted}: it has {} frames", frames.read());
+            bail!(
+                "{name} has no frame {wanted}: it has {} frames",
+                frames.read()
+            );
         }
     }
     let file = frame_png(rt.alloc(), frames.frame(), times)?;

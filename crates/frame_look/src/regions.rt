@@ -30,7 +30,8 @@ pub fn name_of(region: Region) -> &'static str {
 /// Whether files of these lengths are frames and samples of a region.
 fn fits(region: Region, video: u64, audio: u64) -> bool {
     match u32::try_from(video / FRAME_BYTES as u64) {
-        Ok(frames) => samples_upto(region, frames).is_ok_and(|samples| samples == audio / SAMPLE_BYTES as u64),
+        Ok(frames) => samples_upto(region, frames).is_ok_and(|samples| samples
+            == audio / SAMPLE_BYTES as u64),
         Err(_) => false,
     }
 }
@@ -41,7 +42,9 @@ pub fn region_of<R: Files>(rt: &R, words: &ArgMatches<'_>, video: &str, audio: &
         Some("pal") => Region::Pal,
         Some(_) => Region::Ntsc,
         None => match (films::length(rt, video), films::length(rt, audio)) {
-            (Some(video), Some(audio)) if fits(Region::Pal, video, audio) && !fits(Region::Ntsc, video, audio) => Region::Pal,
+            (Some(video), Some(audio))
+                if fits(Region::Pal, video, audio) && !fits(Region::Ntsc, video, audio) =>
+                Region::Pal,
             _ => Region::Ntsc,
         },
     }

@@ -1,7 +1,6 @@
 //! Whether two sounds are alike.
 
-use crate::DIFFERENT;
-use crate::films;
+use crate::{DIFFERENT, films};
 use anyhow::{Context, Result, bail};
 use film_formats::{Piece, SAMPLE_BYTES, read_piece};
 use std::alloc::Global;
@@ -36,7 +35,10 @@ impl<'a, F: Read + Drop> Samples<'a, F> {
     /// The next sample, or nothing behind the last one.
     fn next(&mut self) -> Result<Option<Sample>> {
         let mut bytes = [0u8; SAMPLE_BYTES];
-        match read_piece(&mut self.file, &mut bytes).context(format_args!("cannot read {}", self.name))? {
+        match read_piece(&mut self.file, &mut bytes).context(format_args!(
+            "cannot read {}",
+            self.name
+        ))? {
             Piece::Whole => {
                 self.read = self.read.saturating_add(1);
                 let [a, b, c, d] = bytes;
@@ -46,7 +48,11 @@ impl<'a, F: Read + Drop> Samples<'a, F> {
                 }))
             }
             Piece::End => Ok(None),
-            Piece::Cut(count) => bail!("{} is cut: sample {} has {count} of its 4 bytes", self.name, self.read),
+            Piece::Cut(count) => bail!(
+                "{} is cut: sample {} has {count} of its 4 bytes",
+                self.name,
+                self.read
+            ),
         }
     }
 
@@ -108,7 +114,11 @@ fn compare<F: Read + Drop>(a: &mut Samples<'_, F>, b: &mut Samples<'_, F>) -> Re
 }
 
 /// `look diff --audio A B`.
-pub fn say_difference<R: Files + Print + AllocGlobal>(rt: &R, first: &str, second: &str) -> Result<u8> {
+pub fn say_difference<R: Files + Print + AllocGlobal>(
+    rt: &R,
+    first: &str,
+    second: &str,
+) -> Result<u8> {
     let mut a = Samples::new(rt.alloc(), first, films::open(rt, first)?)?;
     let mut b = Samples::new(rt.alloc(), second, films::open(rt, second)?)?;
     let Found {
@@ -126,10 +136,7 @@ pub fn say_difference<R: Files + Print + AllocGlobal>(rt: &R, first: &str, secon
     if let Some((number, first, second)) = place {
         println!(rt;
             "first: sample {number}: {} {} and {} {}",
-            first.left,
-            first.right,
-            second.left,
-            second.right
+            first.left, first.right, second.left, second.right
         )?;
     }
     if only_first > 0 {

@@ -81,9 +81,16 @@ impl Sheet {
             for (k, bits) in rows.iter().enumerate() {
                 for dot in 0..3usize {
                     if *bits & (4u8 >> dot) != 0 {
-                        let row = SMALL_ROWS.saturating_add(2).saturating_add(k.saturating_mul(2));
-                        let column = i.saturating_mul(8).saturating_add(2 * dot).saturating_add(2);
-                        let place = at.saturating_add(row.saturating_mul(SHEET_ROW)).saturating_add(column.saturating_mul(3));
+                        let row = SMALL_ROWS
+                            .saturating_add(2)
+                            .saturating_add(k.saturating_mul(2));
+                        let column = i
+                            .saturating_mul(8)
+                            .saturating_add(2 * dot)
+                            .saturating_add(2);
+                        let place = at
+                            .saturating_add(row.saturating_mul(SHEET_ROW))
+                            .saturating_add(column.saturating_mul(3));
                         self.put(place, &[255; 6]);
                         self.put(place.saturating_add(SHEET_ROW), &[255; 6]);
                     }
@@ -114,7 +121,11 @@ impl Sheet {
         for k in 0..SMALL_ROWS {
             let mut row = Vec::new(alloc);
             let from = 2 * k * ROW_BYTES;
-            push_small_row(&mut row, &frame[from..from + ROW_BYTES], &frame[from + ROW_BYTES..from + 2 * ROW_BYTES])?;
+            push_small_row(
+                &mut row,
+                &frame[from..from + ROW_BYTES],
+                &frame[from + ROW_BYTES..from + 2 * ROW_BYTES],
+            )?;
             self.put(at.saturating_add(k * SHEET_ROW), row.as_slice());
         }
         self.put_number(at, format!(in alloc; "{number}")?.as_str());
@@ -129,7 +140,12 @@ impl Sheet {
 }
 
 /// Adds each picture that belongs on the sheet.
-fn fill<F: Read + Drop>(alloc: Global, frames: &mut Frames<'_, F>, every: u64, sheet: &mut Sheet) -> Result<()> {
+fn fill<F: Read + Drop>(
+    alloc: Global,
+    frames: &mut Frames<'_, F>,
+    every: u64,
+    sheet: &mut Sheet,
+) -> Result<()> {
     let mut until = 0u64;
     for number in 0..u64::MAX {
         if !frames.next()? {

@@ -42,9 +42,16 @@ impl<'a, F: Read + Drop> Sounds<'a, F> {
         self.bytes.clear();
         self.bytes.resize(count.saturating_mul(SAMPLE_BYTES), 0)?;
         if count > 0 {
-            match read_piece(&mut self.file, self.bytes.as_mut_slice()).context(format_args!("cannot read {}", self.name))? {
+            match read_piece(&mut self.file, self.bytes.as_mut_slice()).context(format_args!(
+                "cannot read {}",
+                self.name
+            ))? {
                 Piece::Whole => {}
-                _ => bail!("{} is cut: it ends in frame {}; is the region right?", self.name, self.frames),
+                _ => bail!(
+                    "{} is cut: it ends in frame {}; is the region right?",
+                    self.name,
+                    self.frames
+                ),
             }
         }
         self.frames = self.frames.saturating_add(1);
@@ -54,9 +61,16 @@ impl<'a, F: Read + Drop> Sounds<'a, F> {
     /// Nothing may be left behind the last frame.
     pub fn end(&mut self) -> Result<()> {
         let mut byte = [0u8; 1];
-        match read_piece(&mut self.file, &mut byte).context(format_args!("cannot read {}", self.name))? {
+        match read_piece(&mut self.file, &mut byte).context(format_args!(
+            "cannot read {}",
+            self.name
+        ))? {
             Piece::End => Ok(()),
-            _ => bail!("{} goes on behind the last of {} frames; is the region right?", self.name, self.frames),
+            _ => bail!(
+                "{} goes on behind the last of {} frames; is the region right?",
+                self.name,
+                self.frames
+            ),
         }
     }
 }
@@ -72,11 +86,18 @@ fn part_of_copy(alloc: Global) -> Result<Vec<u8>, AllocError>
 }
 
 /// Copies all samples, and says how many bytes they have.
-fn copy_samples<F: Read, W: Write>(alloc: Global, name: &str, from: &mut F, to: &mut W) -> Result<u64> {
+fn copy_samples<F: Read, W: Write>(
+    alloc: Global,
+    name: &str,
+    from: &mut F,
+    to: &mut W,
+) -> Result<u64> {
     let mut part = part_of_copy(alloc)?;
     let mut copied = 0u64;
     for _ in 0..u64::MAX {
-        let count = match read_piece(from, part.as_mut_slice()).context(format_args!("cannot read {name}"))? {
+        let count = match read_piece(from, part.as_mut_slice()).context(format_args!(
+            "cannot read {name}"
+        ))? {
             Piece::Whole => COPIED,
             Piece::End => break,
             Piece::Cut(count) => count,
@@ -94,7 +115,10 @@ fn copy_samples<F: Read, W: Write>(alloc: Global, name: &str, from: &mut F, to: 
 
 /// What stands before so many bytes of samples.
 fn header_of(alloc: Global, name: &str, bytes: u64) -> Result<Vec<u8>> {
-    ensure!(bytes % SAMPLE_BYTES as u64 == 0, "{name} is cut: {bytes} bytes are no whole number of samples");
+    ensure!(
+        bytes % SAMPLE_BYTES as u64 == 0,
+        "{name} is cut: {bytes} bytes are no whole number of samples"
+    );
     match u32::try_from(bytes) {
         Ok(bytes) if bytes <= u32::MAX - 36 => Ok(wav_header(alloc, bytes)?),
         _ => bail!("{name} is too long for a WAV file: {bytes} bytes"),
@@ -112,12 +136,17 @@ pub fn write_wav<R: Files + Print + AllocGlobal>(rt: &R, words: &ArgMatches<'_>)
     let header = header_of(alloc, name, known.unwrap_or(0))?;
     let file = films::create(rt, out)?;
     let mut to = BufWriter::new(alloc, file)?;
-    to.write_all(header.as_slice()).context(format_args!("cannot write {out}"))?;
-    let copied = copy_samples(alloc, name, &mut from, &mut to).context(format_args!("cannot write {out}"))?;
+    to.write_all(header.as_slice())
+        .context(format_args!("cannot write {out}"))?;
+    let copied = copy_samples(alloc, name, &mut from, &mut to).context(format_args!(
+        "cannot write {out}"
+    ))?;
     if known != Some(copied) {
         let header = header_of(alloc, name, copied)?;
-        to.seek(SeekFrom::Start(0)).context(format_args!("cannot go back in {out}"))?;
-        to.write_all(header.as_slice()).context(format_args!("cannot write {out}"))?;
+        to.seek(SeekFrom::Start(0))
+            .context(format_args!("cannot go back in {out}"))?;
+        to.write_all(header.as_slice())
+            .context(format_args!("cannot write {out}"))?;
     }
     to.flush().context(format_args!("cannot write {out}"))?;
     Ok(0)

@@ -100,32 +100,61 @@ fn write_head<W: Write>(out: &mut W, form: Form, with_sound: bool) -> io::Result
 }
 
 /// Writes the line of a frame.
-fn write_frame<W: Write>(out: &mut W, form: Form, frame: u32, picture: Sum, sound: Option<Sum>) -> io::Result<()> {
+fn write_frame<W: Write>(
+    out: &mut W,
+    form: Form,
+    frame: u32,
+    picture: Sum,
+    sound: Option<Sum>,
+) -> io::Result<()> {
     let comma = if frame == 0 { "" } else { "," };
     match (form, sound) {
         (Form::Csv, Some(sound)) => writeln!(out, "{frame},{picture},{sound}"),
         (Form::Csv, None) => writeln!(out, "{frame},{picture}"),
         (Form::Json, Some(sound)) => {
-            write!(out, "{comma}\n{{\"frame\": {frame}, \"picture\": \"{picture}\", \"sound\": \"{sound}\"}}")
+            write!(
+                out,
+                "{comma}\n{{\"frame\": {frame}, \"picture\": \"{picture}\", \"sound\": \"{sound}\"}}"
+            )
         }
-        (Form::Json, None) => write!(out, "{comma}\n{{\"frame\": {frame}, \"picture\": \"{picture}\"}}"),
+        (Form::Json, None) => write!(
+            out,
+            "{comma}\n{{\"frame\": {frame}, \"picture\": \"{picture}\"}}"
+        ),
     }
 }
 
 /// Writes the sums of both files.
-fn write_all<W: Write>(out: &mut W, form: Form, frames: u32, picture: Sum, sound: Option<Sum>) -> io::Result<()> {
+fn write_all<W: Write>(
+    out: &mut W,
+    form: Form,
+    frames: u32,
+    picture: Sum,
+    sound: Option<Sum>,
+) -> io::Result<()> {
     match (form, sound) {
         (Form::Csv, Some(sound)) => writeln!(out, "all,{picture},{sound}"),
         (Form::Csv, None) => writeln!(out, "all,{picture}"),
         (Form::Json, Some(sound)) => {
-            writeln!(out, "\n],\n\"frames\": {frames}, \"picture\": \"{picture}\", \"sound\": \"{sound}\"}}")
+            writeln!(
+                out,
+                "\n],\n\"frames\": {frames}, \"picture\": \"{picture}\", \"sound\": \"{sound}\"}}"
+            )
         }
-        (Form::Json, None) => writeln!(out, "\n],\n\"frames\": {frames}, \"picture\": \"{picture}\"}}"),
+        (Form::Json, None) => writeln!(
+            out,
+            "\n],\n\"frames\": {frames}, \"picture\": \"{picture}\"}}"
+        ),
     }
 }
 
 /// Writes the sums of a film.
-fn write_sums<F: Read + Drop, W: Write>(mut pictures: Pictures<'_, F>, mut heard: Heard<'_, F>, out: &mut W, form: Form) -> Result<()> {
+fn write_sums<F: Read + Drop, W: Write>(
+    mut pictures: Pictures<'_, F>,
+    mut heard: Heard<'_, F>,
+    out: &mut W,
+    form: Form,
+) -> Result<()> {
     let with_sound = heard.sounds.is_some();
     write_head(out, form, with_sound)?;
     let mut frames = 0u32;
@@ -141,7 +170,11 @@ fn write_sums<F: Read + Drop, W: Write>(mut pictures: Pictures<'_, F>, mut heard
         bail!("more than {MOST_FRAMES} frames: a run has no more");
     }
     heard.end()?;
-    let sound = if with_sound { Some(Sum(heard.all.finalize())) } else { None };
+    let sound = if with_sound {
+        Some(Sum(heard.all.finalize()))
+    } else {
+        None
+    };
     write_all(out, form, frames, Sum(pictures.all.finalize()), sound)?;
     out.flush()?;
     Ok(())
@@ -169,7 +202,11 @@ pub fn say_sums<R: Files + Print + AllocGlobal>(rt: &R, words: &ArgMatches<'_>) 
         sounds,
         all: Sha256::new(),
     };
-    let form = if words.get_flag("json") { Form::Json } else { Form::Csv };
+    let form = if words.get_flag("json") {
+        Form::Json
+    } else {
+        Form::Csv
+    };
     let mut out = BufWriter::new(alloc, io::writer(rt))?;
     write_sums(pictures, heard, &mut out, form)?;
     Ok(0)

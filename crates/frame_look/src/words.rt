@@ -32,8 +32,13 @@ static REGIONS: [&str; 2] = ["ntsc", "pal"];
 
 /// The region of a film, where it has to be told.
 fn region<'a>(alloc: Global) -> Arg<'a> {
-    option(alloc, "region", "REGION", "ntsc or pal; else as the lengths of the two files say, and ntsc of pipes")
-        .value_parser(REGIONS.as_slice())
+    option(
+        alloc,
+        "region",
+        "REGION",
+        "ntsc or pal; else as the lengths of the two files say, and ntsc of pipes",
+    )
+    .value_parser(REGIONS.as_slice())
 }
 
 fn png<'a>(alloc: Global) -> Result<Command<'a>, AllocError> {
@@ -67,17 +72,29 @@ fn sums<'a>(alloc: Global) -> Result<Command<'a>, AllocError> {
 
 fn diff<'a>(alloc: Global) -> Result<Command<'a>, AllocError> {
     Command::new(alloc, "diff")
-        .about("Whether two films are alike, and where they first differ. Status 0: alike; 1: different; 2: not to be read")
+        .about(
+            "Whether two films are alike, and where they first differ. Status 0: alike; 1: different; 2: not to be read",
+        )
         .arg(placed(alloc, "A", "raw frames, or samples with --audio"))?
         .arg(placed(alloc, "B", "the same"))?
-        .arg(option(alloc, "png", "OUT", "a picture of the first frame that differs: red where it does"))?
+        .arg(option(
+            alloc,
+            "png",
+            "OUT",
+            "a picture of the first frame that differs: red where it does",
+        ))?
         .arg(flag(alloc, "audio", "A and B are raw samples"))
 }
 
 fn sheet<'a>(alloc: Global) -> Result<Command<'a>, AllocError> {
-    let every = option(alloc, "every", "FRAMES", "a picture each so many frames, from frame 0 on")
-        .value_parser(value_parser!(u32).range(1..))
-        .default_value("60");
+    let every = option(
+        alloc,
+        "every",
+        "FRAMES",
+        "a picture each so many frames, from frame 0 on",
+    )
+    .value_parser(value_parser!(u32).range(1..))
+    .default_value("60");
     Command::new(alloc, "sheet")
         .about("A sheet of small pictures with their numbers, as PNG")
         .arg(placed(alloc, "VIDEO", "raw frames; - is standard input"))?
@@ -100,6 +117,7 @@ pub fn command<'a>(alloc: Global) -> Result<Command<'a>, AllocError> {
         .about("Looks at the raw frames and samples that snes wrote")
         .subcommand_required(true)
         .arg_required_else_help(true)
+        .bin_name("look")?
         .subcommand(png(alloc)?)?
         .subcommand(wav(alloc)?)?
         .subcommand(sums(alloc)?)?

@@ -9,5 +9,5 @@ loop-column-init c = record { items = begun _ _ (marked_row-none _ _); len = sea
 pub loop-column-preserved : goal.loop-column-preserved
 loop-column-preserved c = record {
   items = grown _ _ _ _ _ _ c.loop-column.invariant.items (search rules) (marked_row-more c.args.first.now c.args.second.now c.loop-column.column);
-  len = search rules
+  len = search rules;
 }

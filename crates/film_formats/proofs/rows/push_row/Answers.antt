@@ -8,5 +8,5 @@ loop-column-init c = record { items = begun _ _ (shown-none _); len = search rul
 pub loop-column-preserved : goal.loop-column-preserved
 loop-column-preserved c = record {
   items = grown _ _ _ _ _ _ c.loop-column.invariant.items (search rules) (shown-more c.args.row.now c.loop-column.column);
-  len = search rules
+  len = search rules;
 }
