@@ -24,7 +24,11 @@ fn load<H: Shelf>(alloc: Global, shelf: &mut H, name: &str) -> Result<Vec<u8>, L
 }
 
 /// The sound file of that name, or why there is none.
-fn sound_file<H: Shelf>(alloc: Global, shelf: &mut H, name: &str) -> Result<SpcImage, &'static str> {
+fn sound_file<H: Shelf>(
+    alloc: Global,
+    shelf: &mut H,
+    name: &str,
+) -> Result<SpcImage, &'static str> {
     let bytes = match load(alloc, shelf, name) {
         Ok(bytes) => bytes,
         Err(LoadEnd::TooLong) => return Err("spc refused: too long"),
@@ -79,9 +83,12 @@ fn play<H: Shelf>(
 
 fn main(rt: HostRuntime) -> io::Result<()> {
     let mut words = env::args(&rt)?.skip(1);
-    let (Some(file), Some(table), Some(samples), Some(out)) =
-        (words.next(), words.next(), words.next(), words.next())
-    else {
+    let (Some(file), Some(table), Some(samples), Some(out)) = (
+        words.next(),
+        words.next(),
+        words.next(),
+        words.next(),
+    ) else {
         return Ok(());
     };
     let samples = samples.as_str().parse::<u32>().unwrap_or(0);
