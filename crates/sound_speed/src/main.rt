@@ -1,10 +1,12 @@
 //! The sound unit at work, to measure the time of a sample and of a cycle.
 //!
-//! The arguments are what to run and how often: `play` makes samples with eight voices and echo on,
+//! The arguments are what to run and how often, as many such pairs as are wanted: `play` makes samples with eight voices and echo on,
 //! `rest` with none as after power on, `quiet` with eight voices that were released and still have a
 //! pitch, and `cycles` steps of the whole sound machine over a loop that reads a timer and writes a
-//! port. Without arguments nothing is done. What it prints is a sum over what came out, so
-//! that two builds can be compared.
+//! port. What it prints is a sum over what came out, so that two builds can be compared. In the stored run that sum
+//! is 0 at rest, and 1 of 160 cycles: the loop takes 25, begins at cycle 10, and reads the counter in its third
+//! cycle, so its sixth round, from cycle 135 on, is the first behind the tick of cycle 127 and writes a 1; the five
+//! before it write 0, and the seventh comes too late.
 #![tactic(auto)]
 
 ghost use Rattle.std.specs.Prelude.{◌≡◌, length};
@@ -182,27 +184,36 @@ fn zeros(alloc: Global, size: usize) -> io::Result<Vec<u8>> {
     Ok(vec![in alloc; 0u8; size]?)
 }
 
+/// More runs than a command line asks for.
+const MOST_RUNS: u32 = 100;
+
+/// The sum of a run, or nothing where there is no run of that name.
+fn measured(alloc: Global, what: &str, count: u64) -> io::Result<Option<u64>> {
+    let scene = match what {
+        "cycles" => {
+            let job = job(alloc)?;
+            return Ok(Some(cycles(alloc, &job, count)));
+        }
+        "play" => Scene::Play,
+        "quiet" => Scene::Quiet,
+        "rest" => Scene::Rest,
+        _ => return Ok(None),
+    };
+    let mut ram = zeros(alloc, 65536)?;
+    Ok(Some(samples(ram.as_mut_slice(), scene, count)))
+}
+
 fn main(rt: HostRuntime) -> io::Result<()> {
-    let alloc = rt.alloc();
     let mut words = env::args(&rt)?.skip(1);
-    let Some(what) = words.next() else {
-        return Ok(());
-    };
-    let Some(count) = words.next() else {
-        return Ok(());
-    };
-    let count = count.as_str().parse::<u64>().unwrap_or(0);
-    let sum = if what.as_str() == "cycles" {
-        let job = job(alloc)?;
-        cycles(alloc, &job, count)
-    } else {
-        let scene = match what.as_str() {
-            "play" => Scene::Play,
-            "quiet" => Scene::Quiet,
-            _ => Scene::Rest,
+    for _ in 0..MOST_RUNS {
+        let (Some(what), Some(count)) = (words.next(), words.next()) else {
+            break;
         };
-        let mut ram = zeros(alloc, 65536)?;
-        samples(ram.as_mut_slice(), scene, count)
-    };
-    println!(rt; "{sum}")
+        let count = count.as_str().parse::<u64>().unwrap_or(0);
+        match measured(rt.alloc(), what.as_str(), count)? {
+            Some(sum) => println!(rt; "{what} {count}: sum {sum}")?,
+            None => println!(rt; "nothing to run: {what}")?,
+        }
+    }
+    Ok(())
 }
