@@ -62,7 +62,14 @@ fn transfer_act(bus: &Bus, due: Move) -> Act
     ensures at_ports { IsAtPorts result }
 {
     match due {
-        Move::ToB { from, port } => write_act(Place::BBus(port), bus.take(from)),
+        Move::ToB { from, port } => {
+            // The byte is looked up only where it goes to one of the ports.
+            if port >= 0x40 && port < 0x80 {
+                write_act(Place::BBus(port), bus.take(from))
+            } else {
+                Act::Quiet
+            }
+        }
         Move::ToA { port, .. } => read_act(Place::BBus(port)),
         Move::Load { .. } => Act::Quiet,
     }

@@ -113,8 +113,9 @@ impl Parts {
         }
     }
 
-    /// Makes the steps, each begun before a stamp, that are seen at once to be quiet and to emit nothing.
-    #[inline(always)]
+    /// Makes the steps, each begun before a stamp, that are seen at once to be quiet and to emit nothing. Out of line:
+    /// with two copies of it in one function the processor's transitions would not be built into the loop.
+    #[inline(never)]
     fn hurry(&mut self, before: u64)
         requires early { before ≤ 2 ^ 62 }
         ensures gone { (w : World) → StandsAt (value_of self.old) w → IsSilent console_moves before (StandsAt (value_of self.new)) self.old.waiting.items w self.new.waiting.items }

@@ -3,12 +3,10 @@ use Rattle.std.proofs.Common.{◌≡◌, ℕ, zero, suc, ◌+◌, ◌<◌, ◌�
 use Rattle.std.proofs.lemmas.List.{append-nil}
 use Rattle.snes_defs.specs.declared.region.Region.{Region}
 use Rattle.snes_defs.specs.declared.ports.Act.TheVariants.{Quiet}
-use Rattle.clock_ratio.specs.Stamp.{least_of}
 use Rattle.side_law.specs.Moves.{Moves, IsLawful}
 use Rattle.side_law.specs.Quiet.{SilentSteps, LastStep, silent, emits, HasGoneQuietly}
 use Rattle.side_law.specs.Serial.{SerialState, got_of, incoming_after, outgoing_after, console_step, sound_step}
-use Rattle.serial_console.specs.declared.serial.Serial.{Serial}
-use Rattle.serial_console.specs.Lead.{IsLead, IsLed, SideState, side_step, side_bytes, MayStep, SideSteps, HasLed}
+use Rattle.serial_console.specs.Lead.{IsLead, SideState, side_step, side_bytes, MayStep, SideSteps, HasLed}
 use Rattle.serial_console.proofs.Lead.{lead_console_quiet, lead_console_turn, lead_sound_quiet, lead_sound_turn, quiet_console_step, quiet_sound_step}
 
 module _ {State : Type 0} (moves : Moves State) (first end : ℕ) where

@@ -3,7 +3,7 @@ use Rattle.std.proofs.Common.{◌≡◌, ℕ, zero, suc, ◌+◌, ◌<◌, ◌�
 use Rattle.std.proofs.lemmas.List.{append-nil}
 use Rattle.snes_defs.specs.declared.ports.Act.TheVariants.{Quiet}
 use Rattle.side_law.specs.Moves.{Moves}
-use Rattle.side_law.specs.Quiet.{SilentSteps, LastStep, silent, emits, QuietRun, HasGoneQuietly}
+use Rattle.side_law.specs.Quiet.{SilentSteps, silent, emits, HasGoneQuietly}
 
 -- a list of no length
 empty_is : (l : List ℕ) → length l ≡ 0 → l ≡ []

@@ -1,7 +1,6 @@
-use Rattle.std.proofs.Common.{◌≡◌, ◌<◌, refl, rules, arith}
+use Rattle.std.proofs.Common.{rules, arith}
 use Rattle.std.proofs.lemmas.Grind.{common_steps}
 use Rattle.clock_ratio.specs.Stamp.{window_of}
-use Rattle.pair_run.specs.Leg.{HasRun}
 use Rattle.pair_run.proofs.LegGoesOn.{leg_begins}
 use Rattle.pair_run.proofs.QuietLegs.{leg_quietly}
 use Rattle.pair_run.proofs.lone.run_alone.Goals as goal

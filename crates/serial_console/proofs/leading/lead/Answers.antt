@@ -1,4 +1,4 @@
-use Rattle.std.proofs.Common.{◌≡◌, ◌<◌, length, rules, arith}
+use Rattle.std.proofs.Common.{◌≡◌, length, rules, arith}
 use Rattle.std.proofs.lemmas.Grind.{common_steps}
 use Rattle.serial_console.proofs.SideRuns.{led_quietly, led_step}
 use Rattle.serial_console.proofs.leading.lead.Goals as goal

@@ -1,10 +1,9 @@
-use Rattle.std.proofs.Common.{rules, ◌≡◌, ◌<◌, refl, sym, ◌∙◌, ap, subst, length, arith}
+use Rattle.std.proofs.Common.{rules, ◌≡◌, refl, sym, ◌∙◌, ap, subst, length, arith}
 use Rattle.std.proofs.lemmas.Grind.{common_steps}
 use Rattle.side_law.specs.Quiet.{HasGoneQuietly}
 use Rattle.side_law.proofs.QuietRuns.{gone_silently, goes_on_silently}
-use Rattle.audio_side.specs.Clock.{stamp_now}
 use Rattle.audio_side.specs.Parts.{value_of}
-use Rattle.audio_side.specs.Sound.{AudioValue, IsRunning, StandsAt, sound_moves}
+use Rattle.audio_side.specs.Sound.{AudioValue, StandsAt, sound_moves}
 use Rattle.audio_side.specs.SoundLaws.{stamp_stands}
 use Rattle.audio_side.proofs.parts.Parts.quiet.Goals as goal
 

@@ -1,4 +1,4 @@
-use Rattle.std.proofs.Common.{◌≤◌, ◌+◌, arith}
+use Rattle.std.proofs.Common.{arith}
 use Rattle.serial_console.specs.Serial.{console_of}
 use Rattle.serial_console.proofs.Led.{led_console}
 use Rattle.serial_console.proofs.serial.Serial.console_leads.Goals as goal

@@ -1,4 +1,4 @@
-use Rattle.std.proofs.Common.{◌≤◌, ◌+◌, arith}
+use Rattle.std.proofs.Common.{arith}
 use Rattle.serial_console.specs.Serial.{sound_of}
 use Rattle.serial_console.proofs.Led.{led_sound}
 use Rattle.serial_console.proofs.serial.Serial.sound_leads.Goals as goal

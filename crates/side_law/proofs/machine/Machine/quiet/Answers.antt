@@ -1,4 +1,4 @@
-use Rattle.std.proofs.Common.{◌≡◌, ◌<◌, refl, sym, subst, arith}
+use Rattle.std.proofs.Common.{refl, sym, subst, arith}
 use Rattle.side_law.specs.Quiet.{HasGoneQuietly}
 use Rattle.side_law.proofs.QuietRuns.{none_made, gone_silently, goes_on_silently}
 use Rattle.side_law.proofs.machine.Machine.quiet.Goals as goal
