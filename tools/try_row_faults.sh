@@ -38,7 +38,11 @@ for line in open(sys.argv[1], encoding="utf-8").read().split("\n"):
 P
 }
 
-if ! shown || ! cmp -s "$work/rows" "$rows/stdout"; then
+if ! shown; then
+  echo "the rows don't run before any fault is planted"
+  tail -n 4 "$work/said" "$work/errors"
+  exit 1
+elif ! cmp -s "$work/rows" "$rows/stdout"; then
   echo "the rows are not as they should be before any fault is planted"
   diff "$work/rows" "$rows/stdout" | head -n 4
   exit 1
