@@ -71,7 +71,6 @@ impl<P: Player> Performs for Demo<P> {
         }
     }
 
-    #[tactic(auto, using(crate::proofs::DemoLemmas::few))]
     fn ready(&self, alloc: Global, asked: &Asked<'_>, _inputs: ()) -> Result<P, NoMemory> {
         let job = demo_job(alloc, asked.number, asked.count)?;
         let player = P::ready(alloc, &job)?;
@@ -79,7 +78,6 @@ impl<P: Player> Performs for Demo<P> {
     }
 
     /// Nothing is put: the line has the sums of what the run emits.
-    #[tactic(auto, using(crate::proofs::DemoLemmas::few))]
     fn fill<R: Threads, H: Shelf>(
         &self,
         rt: &R,

@@ -99,7 +99,6 @@ impl<P: Player> Performs for Run<P> {
         }
     }
 
-    #[tactic(auto, using(crate::proofs::RunLemmas::few))]
     fn ready(
         &self,
         alloc: Global,

@@ -17,7 +17,8 @@ returns-in-Ok-clause-created g t c =
     let apart : are_apart (c.in-Some.out.now ∷ c.in-Some.rest.now) ≡ true = subst (λ (o : List Out). are_apart o ≡ true) outs c.requires.apart in
     let fresh : IsFresh order (shows c.create.new.self) c.in-Some.out.now = search rules in
     subst (λ (o : List Out). OnOk c.create_all.result (AllOf (IsFresh order (shows c.create_all.new.shelf)) o)) (sym outs)
-    (on_ok c.create_all.result _ _ (λ h. (still_fresh c.in-Some.out.now c.in-Some.rest.now (shows c.create.new.self) (shows c.create_all.new.shelf) order apart fresh c.create_all.ensures.only, h)) c.create_all.ensures.created)
+    (on_ok c.create_all.result (AllOf (IsFresh order (shows c.create_all.new.shelf)) c.in-Some.rest.now) (AllOf (IsFresh order (shows c.create_all.new.shelf)) (c.in-Some.out.now ∷ c.in-Some.rest.now))
+    (λ h. (still_fresh c.in-Some.out.now c.in-Some.rest.now (shows c.create.new.self) (shows c.create_all.new.shelf) order apart fresh c.create_all.ensures.only, h)) c.create_all.ensures.created)
 
 pub returns-in-Ok-clause-place : goal.returns-in-Ok-clause-place
 returns-in-Ok-clause-place g t c =
@@ -27,7 +28,9 @@ returns-in-Ok-clause-place g t c =
     let apart : are_apart (c.in-Some.out.now ∷ c.in-Some.rest.now) ≡ true = subst (λ (o : List Out). are_apart o ≡ true) outs c.requires.apart in
     let fresh : IsFresh order (shows c.create.new.self) c.in-Some.out.now = search rules in
     subst (λ (o : List Out). IfErr c.create_all.result (λ failed. FirstThat (IsFresh order (shows c.create_all.new.shelf)) (λ x. x ≡ failed) o)) (sym outs)
-    (if_err c.create_all.result _ _ (λ e h. inr (still_fresh c.in-Some.out.now c.in-Some.rest.now (shows c.create.new.self) (shows c.create_all.new.shelf) order apart fresh c.create_all.ensures.only, h)) c.create_all.ensures.place)
+    (if_err c.create_all.result (λ failed. FirstThat (IsFresh order (shows c.create_all.new.shelf)) (λ x. x ≡ failed) c.in-Some.rest.now)
+    (λ failed. FirstThat (IsFresh order (shows c.create_all.new.shelf)) (λ x. x ≡ failed) (c.in-Some.out.now ∷ c.in-Some.rest.now))
+    (λ e h. inr (still_fresh c.in-Some.out.now c.in-Some.rest.now (shows c.create.new.self) (shows c.create_all.new.shelf) order apart fresh c.create_all.ensures.only, h)) c.create_all.ensures.place)
 
 pub returns-in-Ok-clause-left : goal.returns-in-Ok-clause-left
 returns-in-Ok-clause-left g t c =
