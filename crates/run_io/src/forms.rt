@@ -75,7 +75,11 @@ fn count_of(count: Option<Count>, pairs: &[Word]) -> Option<u32>
     let Some(count) = count else {
         return Some(0);
     };
-    number_in(word_behind(pairs, count.option()), count.digits(), count.most())
+    number_in(
+        word_behind(pairs, count.option()),
+        count.digits(),
+        count.most(),
+    )
 }
 
 /// Whether there are as many pairs as the form has options, with a value behind each.
@@ -112,9 +116,7 @@ fn are_outputs_named(pairs: &[Word], outputs: &[Out]) -> bool
     ensures test { result ≡ list_all (λ out. is_value (output_name pairs.now out)) outputs.now }
     ensures names { result ≡ true → AllOf (λ out. IsName (output_name pairs.now out)) outputs.now }
 {
-    outputs
-        .iter()
-        .all(|out| is_value(output_name(pairs, *out)))
+    outputs.iter().all(|out| is_value(output_name(pairs, *out)))
 }
 
 /// Whether no two outputs have one name.
@@ -131,7 +133,5 @@ fn differ(pairs: &[Word], outputs: &[Out]) -> bool
 fn is_other_name(pairs: &[Word], name: &str, outputs: &[Out]) -> bool
     ensures { result ≡ list_all (λ out. not (bytes_eq name.now (output_name pairs.now out))) outputs.now }
 {
-    outputs
-        .iter()
-        .all(|out| name != output_name(pairs, *out))
+    outputs.iter().all(|out| name != output_name(pairs, *out))
 }

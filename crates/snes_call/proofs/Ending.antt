@@ -1,5 +1,5 @@
 -- How a call ends, from how its loads, creations and fills ended and what was said.
-use Rattle.std.proofs.Common.{◌≡◌, ◌≢◌, ℕ, ◌≤◌, true, List, [], take, Option, None, Some, IfSome, Result, Ok as good, Err, IfOk, IfErr, refl, sym, ap, ◌∙◌, subst, inl, inr, ⊎_elim, arith}
+use Rattle.std.proofs.Common.{◌≡◌, ◌≢◌, ℕ, true, List, [], take, Option, None, Some, IfSome, Result, Ok as good, Err, IfOk, IfErr, refl, sym, ap, ◌∙◌, subst, inl, inr, ⊎_elim, arith}
 use Rattle.std.specs.Prelude.{◌⊎◌}
 use Rattle.file_shelf.specs.declared.shelves.Input.{Input}
 use Rattle.file_shelf.specs.declared.shelves.Out.{Out}
@@ -12,7 +12,7 @@ use Rattle.run_io.specs.Form.{Order, order_in}
 use Rattle.run_io.specs.Lists.{AllOf, FirstThat, IsOneOf}
 use Rattle.snes_call.specs.declared.status.Status.{Status}
 use Rattle.snes_call.specs.declared.status.Status.TheVariants.{Ok, Usage, LoadFault, Refused, WriteFault, NoMemory}
-use Rattle.snes_call.specs.Command.{Command, CanMake, HoldsWhole, HoldsFirst}
+use Rattle.snes_call.specs.Command.{Command, HoldsWhole, HoldsFirst}
 use Rattle.snes_call.specs.Commands.{ordered, asks}
 use Rattle.snes_call.specs.Loads.{told_in, ShowsAccepted, EndsInput, EndsInputs}
 use Rattle.snes_call.specs.Said.{IsSaid, Says}
@@ -136,11 +136,13 @@ module _ (command : Command) (order : Order) (before mid after : Shown) (apart :
   says_after h any differ = over_then before mid after any (h any differ) (puts.others any differ)
 
   short_after : (status : Status) → EndsShort command order before mid status → EndsShort command order before after status
-  short_after (LoadFault failed) h =
-      (first_map (ShowsAccepted (told_in before order.pairs)) (ShowsAccepted (told_in before order.pairs)) (EndsInput order.pairs before mid (LoadFault failed)) (EndsInput order.pairs before after (LoadFault failed))
-      (λ input k. k)
-      (λ input k. (k.0, subst (λ (f : List ℕ → ℕ). HasRisen (before.load_faults (input_name order.pairs input)) (f (input_name order.pairs input))) (sym puts.load_faults) k.1))
-      command.form.inputs h.0, says_after h.1)
+  short_after (LoadFault failed) h = (
+    first_map (ShowsAccepted (told_in before order.pairs)) (ShowsAccepted (told_in before order.pairs)) (EndsInput order.pairs before mid (LoadFault failed)) (EndsInput order.pairs before after (LoadFault failed))
+        (λ input k. k)
+        (λ input k. (k.0, subst (λ (f : List ℕ → ℕ). HasRisen (before.load_faults (input_name order.pairs input)) (f (input_name order.pairs input))) (sym puts.load_faults) k.1))
+        command.form.inputs h.0,
+    says_after h.1,
+  )
   short_after (Refused cause) h = (h.0, says_after h.1)
   short_after (WriteFault failed) h =
       let differ = all_at (λ o. o ≢ out.Say) (IsBegun command order before mid) (λ o. o ≡ failed) (failed ≢ out.Say)

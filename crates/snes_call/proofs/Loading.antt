@@ -1,17 +1,17 @@
 -- Loads one after another.
-use Rattle.std.proofs.Common.{◌≡◌, ℕ, ◌<◌, ◌≤◌, List, [], ◌∷◌, ◌++◌, length, Option, IfSome, Some, None, refl, sym, ap, subst, ◌∙◌, inl, arith}
+use Rattle.std.proofs.Common.{◌≡◌, ℕ, ◌<◌, List, ◌++◌, length, Option, IfSome, Some, None, refl, sym, ap, subst, ◌∙◌, arith}
 use Rattle.file_shelf.specs.declared.shelves.Input.{Input}
-use Rattle.file_shelf.specs.Told.{Holds, HasRisen}
+use Rattle.file_shelf.specs.Told.{Holds}
 use Rattle.file_shelf.specs.Shown.{Shown, OnlyLoads}
 use Rattle.run_drive.specs.OutputLaws.{risen_since}
-use Rattle.run_io.specs.Lists.{AllOf, FirstThat}
+use Rattle.run_io.specs.Lists.{AllOf}
 use Rattle.run_io.specs.Words.{input_name}
 use Rattle.snes_call.specs.declared.status.Why.{Why}
 use Rattle.snes_call.specs.declared.status.Status.{Status}
 use Rattle.snes_call.specs.declared.status.Status.TheVariants.{Ok, Usage, LoadFault, Refused, WriteFault, NoMemory}
-use Rattle.snes_call.specs.Kinds.{input_of, AreRefused, AreAccepted}
+use Rattle.snes_call.specs.Kinds.{input_of, AreRefused}
 use Rattle.snes_call.specs.Loads.{told_in, ShowsAccepted, EndsInput, EndsInputs}
-use Rattle.snes_call.proofs.Lists.{all_then, first_front, first_behind, first_map, empty_front, empty_behind}
+use Rattle.snes_call.proofs.Lists.{all_then, first_front, first_behind, first_map}
 
 -- what is told to be longer is told to be refused
 pub longer_is_refused : (told : Option (List ℕ)) (limit : ℕ) (cause : Why) → ((bytes : List ℕ) → limit < length bytes → AreRefused bytes cause)

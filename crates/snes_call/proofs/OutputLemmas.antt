@@ -1,12 +1,12 @@
 -- Creations, fills and flushes of outputs, one after another, and a put to the lines behind them.
-use Rattle.std.proofs.Common.{◌≡◌, ◌≢◌, ℕ, ◌≤◌, Bool, true, false, not, ◌&&◌, ◌||◌, List, [], ◌∷◌, Option, refl, sym, ap, ◌∙◌, subst, inl, inr, ⊎_elim, arith}
+use Rattle.std.proofs.Common.{◌≡◌, ◌≢◌, ℕ, Bool, true, false, not, ◌&&◌, ◌||◌, List, [], ◌∷◌, Option, refl, sym, ◌∙◌, subst, inl, inr, ⊎_elim, arith}
 use Rattle.std.specs.Prelude.{◌⊎◌}
 use Rattle.std.specs.List.{list_any}
 use Rattle.file_shelf.specs.declared.shelves.Out.{Out}
 use Rattle.file_shelf.specs.declared.shelves.Out.TheVariants as out
 use Rattle.file_shelf.specs.Plan.{same_out}
-use Rattle.file_shelf.specs.Told.{Holds, HasRisen}
-use Rattle.file_shelf.specs.Shown.{Shown, IsUntouched, IsPassedOver, IsCreated, OnlyCreates, OnlyPuts}
+use Rattle.file_shelf.specs.Told.{Holds}
+use Rattle.file_shelf.specs.Shown.{Shown, IsUntouched, IsPassedOver, OnlyCreates, OnlyPuts}
 use Rattle.run_io.specs.Words.{output_name}
 use Rattle.run_io.specs.Form.{Order}
 use Rattle.run_io.specs.Lists.{AllOf}
@@ -92,12 +92,18 @@ module _ (one : Out) (rest : List Out) (a b : Shown) where
 
     -- it was not created, so no other was tried
     pub none_left : IsUntouched a b one → OnlyCreates a b one → AllOf (λ o. IsUntouched a b o ⊎ IsFresh order b o) (one ∷ rest)
-    none_left h only = (inl h, all_map (λ o. o ≢ one) (λ o. IsUntouched a b o ⊎ IsFresh order b o)
-        (λ o differ. let over = only.others o differ in inl (record { written = over.written; named = over.named })) rest (split one rest apart).1)
+    none_left h only = (
+      inl h,
+      all_map (λ o. o ≢ one) (λ o. IsUntouched a b o ⊎ IsFresh order b o)
+          (λ o differ. let over = only.others o differ in inl (record { written = over.written; named = over.named })) rest (split one rest apart).1,
+    )
 
     -- it was created, and the others are left so
     pub all_left : (c : Shown) → OnlyCreates a b one → IsFresh order c one → AllOf (λ o. IsUntouched b c o ⊎ IsFresh order c o) rest
         → AllOf (λ o. IsUntouched a c o ⊎ IsFresh order c o) (one ∷ rest)
-    all_left c only h left = (inr h, all_both (λ o. o ≢ one) (λ o. IsUntouched b c o ⊎ IsFresh order c o) (λ o. IsUntouched a c o ⊎ IsFresh order c o)
-        (λ o differ k. let over = only.others o differ in ⊎_elim (λ u. inl (record { written = u.written ∙ over.written; named = u.named ∙ over.named })) (λ n. inr n) k)
-        rest (split one rest apart).1 left)
+    all_left c only h left = (
+      inr h,
+      all_both (λ o. o ≢ one) (λ o. IsUntouched b c o ⊎ IsFresh order c o) (λ o. IsUntouched a c o ⊎ IsFresh order c o)
+          (λ o differ k. let over = only.others o differ in ⊎_elim (λ u. inl (record { written = u.written ∙ over.written; named = u.named ∙ over.named })) (λ n. inr n) k)
+          rest (split one rest apart).1 left,
+    )

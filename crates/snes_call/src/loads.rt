@@ -25,11 +25,7 @@ pub(crate) trait Loads {
     ghost reads: { (Input → Option (List ℕ)) → Self.Value → Type 0 };
 
     /// Loads them under the names that the words give them.
-    fn load<H: Shelf>(
-        alloc: Global,
-        pairs: &[Word],
-        shelf: &mut H,
-    ) -> Result<Self::Value, Status>
+    fn load<H: Shelf>(alloc: Global, pairs: &[Word], shelf: &mut H) -> Result<Self::Value, Status>
         ensures read { IfOk result (reads (told_in (H.shown shelf.old) pairs.now)) }
         ensures accepted { OnOk result (AllOf (ShowsAccepted (told_in (H.shown shelf.old) pairs.now)) inputs) }
         ensures ends { IfErr result (EndsInputs pairs.now (H.shown shelf.old) (H.shown shelf.new) inputs) }

@@ -22,7 +22,14 @@ impl Loads for ScriptFile {
 
     #[tactic(auto, using(crate::proofs::Loading::told, crate::proofs::KindLemmas::script))]
     fn load<H: Shelf>(alloc: Global, pairs: &[Word], shelf: &mut H) -> Result<Spans, Status> {
-        let file = fetch(alloc, shelf, pairs, Input::Script, 1_048_576, Why::Script(0))?;
+        let file = fetch(
+            alloc,
+            shelf,
+            pairs,
+            Input::Script,
+            1_048_576,
+            Why::Script(0),
+        )?;
         match read_script(alloc, file.as_slice()) {
             Ok(script) => Ok(script),
             Err(ScriptEnd::Line(line)) => Err(Status::Refused(Why::Script(line))),

@@ -107,4 +107,4 @@ returns-in-Err-flush_all-clause-ends g c =
     fill_fails command order z a c.load.ensures.only made b opens created d fills (c.flush_all.ensures.named ∙ c.fill.ensures.named) c.in-Err-flush_all.out
     (subst (λ (w : Out → Option (List ℕ)). AllOf (HoldsFirst command order (told_in b order.pairs) w) command.form.outputs) (sym c.flush_all.ensures.written) c.fill.ensures.first)
     (subst (λ (o : List Out). IsOneOf o c.in-Err-flush_all.out) are c.in-Err-flush_all.ensures.failed.0)
-    (risen_since _ _ _ (c.fill.ensures.only.write_faults c.in-Err-flush_all.out) c.in-Err-flush_all.ensures.failed.1)
+    (risen_since (b.write_faults c.in-Err-flush_all.out) ((shows c.fill.new.shelf).write_faults c.in-Err-flush_all.out) (d.write_faults c.in-Err-flush_all.out) (c.fill.ensures.only.write_faults c.in-Err-flush_all.out) c.in-Err-flush_all.ensures.failed.1)

@@ -16,7 +16,7 @@ pub returns-in_err-then-clause-ends : goal.returns-in_err-then-clause-ends
 returns-in_err-then-clause-ends g c =
     let shows = g.H.Shelf.shown in
     let ends = then_ends c.args.pairs.now (shows c.args.shelf.now) (shows c.load.new.shelf) (shows c.load-2.new.shelf) g.A.Loads.inputs g.B.Loads.inputs _
-        c.load.ensures.only c.in_ok-first.ensures.accepted c.in_err-then.ensures.ends in
+    c.load.ensures.only c.in_ok-first.ensures.accepted c.in_err-then.ensures.ends in
     search rules
 
 pub returns-in_err-then-clause-none : goal.returns-in_err-then-clause-none
