@@ -1,1 +1,1 @@
-pub mod CommandLemmas
+pub mod PairLemmas

@@ -1,5 +1,7 @@
 pub use Rattle.file_shelf.specs.Told
-pub mod Asked
-pub mod Command
+pub mod Form
 pub mod Line
+pub mod Lists
 pub mod Number
+pub mod Options
+pub mod Words

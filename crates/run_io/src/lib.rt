@@ -1,29 +1,28 @@
 // What a run reads and writes: the words of the command line, the shelf of files, and the lines for
 // the user.
 //
-// Stands on the shelf, whose items it hands on. `read_command` reads a command line exactly by the
-// forms of `specs/Command.antt`, and refuses every other. Each line is made without memory, so that
-// the want of memory can be told too.
+// Stands on the shelf, whose items it hands on. `read_form` reads the words behind a command's name exactly by the form
+// that it is given (`specs/Form.antt`), and refuses every other; which commands there are, it does not know. Each line
+// is made without memory, so that the want of memory can be told too.
 #![tactic(auto)]
 
-mod asked;
-mod command_words;
-mod commands;
+mod forms;
 mod lines;
-mod names;
+mod options;
+mod pairs;
 mod words;
 
-pub use command_words::read_command;
-pub use commands::Command;
 pub use file_shelf::{
     Failed, FileShelf, Input, LoadEnd, MemShelf, Out, Shelf, ShelfCall, SureShelf,
 };
+pub use forms::{Asked, Form, read_form};
 pub use lines::{
     Line, boot_refused_line, cannot_read_line, cannot_write_line, cart_refused_line, demo_line,
     frames_line, image_line, no_memory_line, script_refused_line, table_refused_line, usage_line,
 };
-pub use names::{Files, Name, WordsEnd};
-pub use words::Argv;
+pub use options::Count;
+pub use pairs::{input_name, output_name};
+pub use words::{Argv, Word};
 
 #[cfg(test)]
 mod tests;

@@ -6,7 +6,7 @@ use std::marker::Model;
 
 /// One word, as bytes.
 #[derive(Drop)]
-pub(crate) struct Word {
+pub struct Word {
     text: String,
 }
 
@@ -19,7 +19,8 @@ impl Model for Word {
 }
 
 impl Word {
-    pub(crate) fn text(&self) -> &str
+    /// The word as text.
+    pub fn text(&self) -> &str
         ensures { result.now ≡ self.now }
     {
         self.text.as_str()
@@ -67,7 +68,7 @@ impl Argv {
     }
 
     /// The words themselves.
-    pub(crate) fn all(&self) -> &[Word]
+    pub fn all(&self) -> &[Word]
         ensures all { result.now ≡ self.now }
     {
         self.words.as_slice()

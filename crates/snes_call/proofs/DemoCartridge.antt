@@ -5,8 +5,8 @@ use Rattle.snes_defs.specs.declared.cart.Cart.{Cart}
 use Rattle.snes_defs.specs.declared.cart.MapKind.TheVariants.{LoRom, HiRom}
 use Rattle.cart_map.specs.Accept.{image_of, missing, rom_of, is_map_byte, sums_add, stands, chosen, judged, verdict}
 use Rattle.demo_files.specs.Image.{head_of, header}
-use Rattle.snes_call.specs.Readers.{IsCartIn}
-use Rattle.snes_call.specs.Made.{IsImage}
+use Rattle.snes_call.specs.Kinds.{IsCartIn}
+use Rattle.snes_call.specs.Make.{IsImage}
 
 -- where LoROM's header stands and its sums add, LoROM is chosen, whatever stands at HiROM's place
 choice : (hi sums : Bool) → (if hi then (if true && not (sums && not true) then Some LoRom else Some HiRom) else (if true then Some LoRom else None)) ≡ Some LoRom

@@ -1,78 +1,50 @@
--- What any command has done, by its answer, and what it changes of a shelf.
-use Rattle.std.specs.Prelude.{◌≡◌, ℕ, ◌≤◌, Bool, true, false, List, Option, Some, None}
+-- THE COMMANDS by their names, and what words ask for.
+use Rattle.std.specs.Prelude.{ℕ, Bool, true, false, List, [], ◌∷◌, codes, Option, None, Some}
+use Rattle.std.specs.Str.{bytes_eq}
 use Rattle.snes_defs.specs.declared.cart.Job.{Job}
-use Rattle.file_shelf.specs.declared.shelves.Out.{Out}
-use Rattle.file_shelf.specs.declared.shelves.Out.TheVariants.{Video, Sound, Image, Say}
-use Rattle.file_shelf.specs.Shown.{Shown, IsPassedOver, IsKept}
-use Rattle.run_io.specs.declared.names.Files.{Files}
-use Rattle.run_io.specs.declared.commands.Command.{Command}
-use Rattle.run_io.specs.declared.commands.Command.TheVariants.{Run, Serial, Make, Demo}
-use Rattle.snes_call.specs.declared.run_files.CommandEnd.{CommandEnd}
-use Rattle.snes_call.specs.declared.run_files.CommandEnd.TheVariants.{NoMemory}
-use Rattle.snes_call.specs.Outputs.{IsVideoBegun, IsSoundBegun}
-use Rattle.snes_call.specs.RunFiles.{OnlySays, MakesJob, IsRun, EndsFiles}
-use Rattle.snes_call.specs.Made.{IsMade, IsImageBegun, EndsMake, IsDemo}
+use Rattle.run_io.specs.Form.{Order, order_in}
+use Rattle.snes_call.specs.Command.{Command}
+use Rattle.snes_call.specs.Run.{run}
+use Rattle.snes_call.specs.Make.{make}
+use Rattle.snes_call.specs.Demo.{demo}
 
--- the files of a command that runs them, by whichever command
-abbrev pub files_of : Command → Option Files
-files_of (Run files) = Some files
-files_of (Serial files) = Some files
-files_of (Make number out) = None
-files_of (Demo number frames) = None
+-- what words ask for: a command and what they give it, or nothing where they are in no form
+pub data Wish : Type 1 where
+  Nothing : Wish
+  Asks : Command → Order → Wish
 
--- a command runs at most 36,000 frames
-abbrev pub HasFewFrames : Command → Type 0
-HasFewFrames (Run files) = files.frames ≤ 36000
-HasFewFrames (Serial files) = files.frames ≤ 36000
-HasFewFrames (Make number out) = Unit {0}
-HasFewFrames (Demo number frames) = frames ≤ 36000
+-- words that are read by the form of a command
+abbrev pub ordered : Command → Option Order → Wish
+ordered command None = Nothing
+ordered command (Some order) = Asks command order
 
--- whether a command creates an output
-abbrev pub creates : Command → Out → Bool
-creates (Run files) Video = true
-creates (Run files) Sound = true
-creates (Serial files) Video = true
-creates (Serial files) Sound = true
-creates (Make number out) Image = true
-creates _ _ = false
+abbrev pub asks : Command → List (List ℕ) → Wish
+asks command words = ordered command (order_in command.form words)
 
--- the files make a job, and this output of it was begun
-abbrev pub IsRunBegun : (Job → List ℕ → List ℕ → Type 0) → Files → Shown → Shown → Out → Type 0
-IsRunBegun emits files before after Video = MakesJob emits files before after (λ job. IsVideoBegun emits job files after)
-IsRunBegun emits files before after Sound = MakesJob emits files before after (λ job. IsSoundBegun emits job files after)
-IsRunBegun emits files before after Image = ⊥
-IsRunBegun emits files before after Say = ⊥
+abbrev pub where_true : Bool → Wish → Wish → Wish
+where_true true one other = one
+where_true false one other = other
 
--- the image was begun
-abbrev pub IsMakeBegun : ℕ → List ℕ → Shown → Shown → Out → Type 0
-IsMakeBegun number out before after Image = IsImageBegun number out before after
-IsMakeBegun number out before after Video = ⊥
-IsMakeBegun number out before after Sound = ⊥
-IsMakeBegun number out before after Say = ⊥
+-- each command under its name, by the words behind it; `serial` has the words of `run`, and makes the same
+unfoldable pub asked_by : (Job → List ℕ → List ℕ → Type 0) → List ℕ → List (List ℕ) → Wish
+asked_by emits name words =
+    where_true (bytes_eq name (codes "run")) (asks (run emits) words) (
+    where_true (bytes_eq name (codes "serial")) (asks (run emits) words) (
+    where_true (bytes_eq name (codes "make")) (asks make words) (
+    where_true (bytes_eq name (codes "demo")) (asks (demo emits) words)
+    Nothing)))
 
--- an output that a command creates has its name, and holds first bytes of what it is to hold
-abbrev pub IsBegun : (Job → List ℕ → List ℕ → Type 0) → Command → Shown → Shown → Out → Type 0
-IsBegun emits (Run files) before after out = IsRunBegun emits files before after out
-IsBegun emits (Serial files) before after out = IsRunBegun emits files before after out
-IsBegun emits (Make number name) before after out = IsMakeBegun number name before after out
-IsBegun emits (Demo number frames) before after out = ⊥
+-- the first word is the name
+abbrev pub asked : (Job → List ℕ → List ℕ → Type 0) → List (List ℕ) → Wish
+asked emits [] = Nothing
+asked emits (name ∷ words) = asked_by emits name words
 
--- a command was done, and this is the line to say: the files were run, the image was made, the demo played
-abbrev pub IsDone : (Job → List ℕ → List ℕ → Type 0) → Command → Shown → Shown → List ℕ → Type 0
-IsDone emits (Run files) before after line = IsRun emits files before after line
-IsDone emits (Serial files) before after line = IsRun emits files before after line
-IsDone emits (Make number out) before after line = IsMade number out before after line
-IsDone emits (Demo number frames) before after line = IsDemo emits number frames line
+-- where there is a command, this holds of it and of what the words give it
+abbrev pub IfAsks : Wish → (Command → Order → Type 0) → Type 0
+IfAsks Nothing Holds = Unit {0}
+IfAsks (Asks command order) Holds = Holds command order
 
--- why a command was not done
-abbrev pub EndsCommand : (Job → List ℕ → List ℕ → Type 0) → Command → Shown → Shown → CommandEnd → Type 0
-EndsCommand emits (Run files) before after end = EndsFiles emits files before after end
-EndsCommand emits (Serial files) before after end = EndsFiles emits files before after end
-EndsCommand emits (Make number out) before after end = EndsMake number out before after end
-EndsCommand emits (Demo number frames) before after end = (end ≡ NoMemory) × OnlySays before after
-
--- a command changes no output but those that it creates, nor what is held, and no count falls; one that has no files loads none
-pub record OnlyCommanded (command : Command) (before after : Shown) : Type 0 where
-  pub kept : IsKept before after
-  pub loads : files_of command ≡ None → after.load_faults ≡ before.load_faults
-  pub others : (other : Out) → creates command other ≡ false → IsPassedOver before after other
+-- the words are in no form
+abbrev pub IsNothing : Wish → Type 0
+IsNothing Nothing = Unit {0}
+IsNothing (Asks command order) = ⊥

@@ -6,8 +6,6 @@ use Rattle.snes_call.specs.declared.status.Why.{Why}
 use Rattle.snes_call.specs.declared.status.Why.TheVariants as why
 use Rattle.snes_call.specs.declared.status.Status.{Status}
 use Rattle.snes_call.specs.declared.status.Status.TheVariants.{Ok, Usage, LoadFault, Refused, WriteFault, NoMemory}
-use Rattle.snes_call.specs.declared.run_files.CommandEnd.{CommandEnd}
-use Rattle.snes_call.specs.declared.run_files.CommandEnd.TheVariants as end
 
 abbrev pub exit_of : Status → ℕ
 exit_of Ok = 0
@@ -32,10 +30,3 @@ refusal_of (LoadFault input) = Some (line_of (cannot_read_text input))
 refusal_of (Refused cause) = Some (line_of (refused_text cause))
 refusal_of (WriteFault out) = option_map line_of (cannot_write_text out)
 refusal_of NoMemory = Some (line_of no_memory_text)
-
--- the answer where a command was not done
-abbrev pub status_of : CommandEnd → Status
-status_of (end.LoadFault input) = LoadFault input
-status_of (end.Refused cause) = Refused cause
-status_of (end.WriteFault out) = WriteFault out
-status_of end.NoMemory = NoMemory

@@ -3,7 +3,7 @@ use Rattle.std.specs.Prelude.{◌≡◌, ℕ, List}
 use Rattle.snes_defs.specs.declared.ports.Side.{Side}
 use Rattle.snes_defs.specs.declared.ports.Side.TheVariants.{Console, Sound}
 use Rattle.snes_call.specs.declared.sums.Sums.{Sums}
-use Rattle.snes_call.specs.Made.{sum_in}
+use Rattle.snes_call.specs.Demo.{sum_in}
 
 -- the sum of a side
 abbrev pub sum_of : Sums → Side → ℕ

@@ -1,14 +1,31 @@
-ghost use Rattle.std.specs.Prelude.{◌≡◌, ◌≤◌, IfOk, IfErr};
-ghost use Rattle.snes_call.specs.Made.{IsDemoJob, IsDemo};
+ghost use Rattle.std.specs.Prelude.{IfOk};
+ghost use Rattle.snes_call.specs.Demo.{IsDemoJob};
 
+use crate::command::Performs;
 use crate::sums::Sums;
 use clock_ratio::{end_stamp, samples_before};
 use demo_files::{demo_boot_rom, demo_table, image};
+use file_shelf::{Out, Shelf};
 use run_drive::Player;
-use run_io::{Line, demo_line};
+use run_io::{Asked, Count, Form, Line, demo_line};
 use snes_defs::{Bytes, Cart, Job, MapKind, NoMemory, Region, Spans};
 use std::alloc::Global;
+use std::marker::PhantomData;
 use std::thread::Threads;
+
+/// The command `demo`: the image of a number is run in memory by two workers.
+#[derive(Drop)]
+pub(crate) struct Demo<P> {
+    player: PhantomData<P>,
+}
+
+impl<P: Player> Demo<P> {
+    pub(crate) fn new() -> Demo<P> {
+        Demo {
+            player: PhantomData,
+        }
+    }
+}
 
 /// The job of a demo. Its image is a LoROM cartridge without RAM, and taken as it is.
 fn demo_job(alloc: Global, number: u32, frames: u32) -> Result<Job, NoMemory>
@@ -31,28 +48,54 @@ fn demo_job(alloc: Global, number: u32, frames: u32) -> Result<Job, NoMemory>
     })
 }
 
-/// Plays the job of a demo in memory by two workers, and gives the line to say. It touches no shelf.
-pub(crate) fn play_demo<P: Player, R: AllocGlobal + Threads>(
-    rt: &R,
-    number: u32,
-    frames: u32,
-) -> Result<Line, NoMemory>
-    requires { frames ≤ 36000 }
-    ensures { IfOk result (IsDemo P.emits number frames) }
-{
-    let alloc = rt.alloc();
-    let Ok(job) = demo_job(alloc, number, frames) else {
-        return Err(NoMemory);
-    };
-    let Ok(player) = P::ready(alloc, &job) else {
-        return Err(NoMemory);
-    };
-    let mut sums = Sums::new();
-    match player.play_turns(rt, &mut sums) {
-        Ok(()) => {
-            let samples = samples_before(end_stamp(frames));
-            Ok(demo_line(frames, samples, sums.video, sums.audio))
+impl<P: Player> Performs for Demo<P> {
+    ghost use Rattle.std.specs.Prelude.{refl};
+    ghost use Rattle.snes_defs.specs.declared.cart.Job.{Job};
+    ghost use Rattle.run_drive.specs.Played.{IsPlayable};
+    ghost use Rattle.snes_call.specs.Demo.{demo, IsDemoJob};
+
+    type Inputs = ();
+
+    type Ready = P;
+
+    ghost command = { demo P.emits };
+
+    ghost is_ready = { λ order told ready. (job : Job) × IsDemoJob order.number order.count job × P.plays ready job × IsPlayable (P.emits job) };
+
+    fn form() -> Form {
+        Form {
+            numbered: true,
+            inputs: &[],
+            count: Some(Count::Frames),
+            outputs: &[],
         }
-        Err(_) => unreachable!(),
     }
+
+    fn ready(&self, alloc: Global, asked: &Asked<'_>, _inputs: ()) -> Result<P, NoMemory> {
+        let job = demo_job(alloc, asked.number, asked.count)?;
+        let player = P::ready(alloc, &job)?;
+        Ok(player)
+    }
+
+    /// Nothing is put: the line has the sums of what the run emits.
+    fn fill<R: Threads, H: Shelf>(
+        &self,
+        rt: &R,
+        asked: &Asked<'_>,
+        ready: P,
+        _shelf: &mut H,
+    ) -> Result<Line, Out> {
+        let mut sums = Sums::new();
+        match ready.play_turns(rt, &mut sums) {
+            Ok(()) => {
+                let samples = samples_before(end_stamp(asked.count));
+                Ok(demo_line(asked.count, samples, sums.video, sums.audio))
+            }
+            Err(_) => unreachable!(),
+        }
+    }
+
+    ghost inputs_are = { refl };
+
+    ghost outputs_apart = { refl };
 }

@@ -1,10 +1,9 @@
 ghost use Rattle.std.specs.Prelude.{◌≡◌, IfOk, IfErr, IfSome};
 ghost use Rattle.file_shelf.specs.Shown.{OnlyPuts};
-ghost use Rattle.snes_call.specs.Status.{refusal_of, refused_text, status_of};
-ghost use Rattle.snes_call.specs.Said.{IsSaid, Says};
 ghost use Rattle.run_io.specs.Line.{line_of};
+ghost use Rattle.snes_call.specs.Status.{refusal_of, refused_text};
+ghost use Rattle.snes_call.specs.Said.{IsSaid, Says};
 
-use crate::run_files::CommandEnd;
 use crate::status::{Status, Why};
 use file_shelf::{Out, Shelf};
 use run_io::{
@@ -38,18 +37,6 @@ fn refusal(status: Status) -> Option<Line>
     }
 }
 
-/// The answer where a command was not done.
-fn answer(end: CommandEnd) -> Status
-    ensures { result ≡ status_of end }
-{
-    match end {
-        CommandEnd::LoadFault(input) => Status::LoadFault(input),
-        CommandEnd::Refused(cause) => Status::Refused(cause),
-        CommandEnd::WriteFault(out) => Status::WriteFault(out),
-        CommandEnd::NoMemory => Status::NoMemory,
-    }
-}
-
 /// Says the line of an answer that tells why nothing was done, and gives the answer. A put that fails
 /// is passed over.
 pub(crate) fn refuse<H: Shelf>(shelf: &mut H, status: Status) -> Status
@@ -64,10 +51,10 @@ pub(crate) fn refuse<H: Shelf>(shelf: &mut H, status: Status) -> Status
 }
 
 /// Says how a command ended, and gives the answer.
-pub(crate) fn say<H: Shelf>(shelf: &mut H, outcome: Result<Line, CommandEnd>) -> Status
+pub(crate) fn say<H: Shelf>(shelf: &mut H, outcome: Result<Line, Status>) -> Status
     ensures done { IfOk outcome (λ line. Says (H.shown shelf.old) (H.shown shelf.new) line result) }
-    ensures not_done { IfErr outcome (λ end. result ≡ status_of end) }
-    ensures said { IfErr outcome (λ end. IfSome (refusal_of (status_of end)) (IsSaid (H.shown shelf.old) (H.shown shelf.new))) }
+    ensures not_done { IfErr outcome (λ status. result ≡ status) }
+    ensures said { IfErr outcome (λ status. IfSome (refusal_of status) (IsSaid (H.shown shelf.old) (H.shown shelf.new))) }
     ensures only { OnlyPuts (H.shown shelf.old) (H.shown shelf.new) Out.Say }
 {
     match outcome {
@@ -75,6 +62,6 @@ pub(crate) fn say<H: Shelf>(shelf: &mut H, outcome: Result<Line, CommandEnd>) ->
             Ok(()) => Status::Ok,
             Err(_) => Status::WriteFault(Out::Say),
         },
-        Err(end) => refuse(shelf, answer(end)),
+        Err(status) => refuse(shelf, status),
     }
 }

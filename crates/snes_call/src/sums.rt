@@ -1,7 +1,7 @@
 ghost use Rattle.std.specs.Prelude.{◌≡◌, ◌≢◌, ◌+◌, ◌%◌, ◌^◌, ℕ, List, [], sum, OnOk, OnErr};
 ghost use Rattle.snes_defs.specs.declared.ports.Side.{Side};
 ghost use Rattle.run_drive.specs.Run.{Adds, AddsSome};
-ghost use Rattle.snes_call.specs.Made.{sum_in};
+ghost use Rattle.snes_call.specs.Demo.{sum_in};
 
 use file_shelf::Failed;
 use run_drive::Sink;

@@ -1,33 +1,28 @@
-ghost use Rattle.std.specs.Prelude.{◌≡◌, ◌<◌, ◌⊎◌, ℕ, true, false, Some, None, IfSome, IsSomeAnd};
-ghost use Rattle.snes_defs.specs.declared.cart.Job.{Job};
+ghost use Rattle.std.specs.Prelude.{◌≡◌, ◌≢◌, ◌⊎◌, [], IfSome};
 ghost use Rattle.file_shelf.specs.declared.shelves.Input.{Input};
 ghost use Rattle.file_shelf.specs.declared.shelves.Out.{Out};
 ghost use Rattle.file_shelf.specs.Told.{HasRisen};
 ghost use Rattle.file_shelf.specs.Shown.{IsPassedOver, IsKept, OnlyPuts};
-ghost use Rattle.run_io.specs.declared.names.Files.{Files};
-ghost use Rattle.run_io.specs.declared.commands.Command.{Command};
-ghost use Rattle.run_io.specs.Command.{command_of};
+ghost use Rattle.run_io.specs.Lists.{AllOf, IsOneOf};
 ghost use Rattle.snes_call.specs.declared.status.Why.{Why};
-ghost use Rattle.snes_call.specs.Stage.{Accept, Create, Running, place_of, stage_of, input_of, Passed};
-ghost use Rattle.snes_call.specs.Status.{refusal_of};
+ghost use Rattle.snes_call.specs.Loads.{EndsInputs};
+ghost use Rattle.snes_call.specs.Ends.{OnlySays, IsMade, IsLeft, IsAnswered};
 ghost use Rattle.snes_call.specs.Said.{IsSaid};
-ghost use Rattle.snes_call.specs.RunFiles.{OnlySays};
-ghost use Rattle.snes_call.specs.Inputs.{ShowsJob, TellsRefused, IsLoadFault, IsRefused};
-ghost use Rattle.snes_call.specs.Commands.{files_of, creates, IsBegun};
-ghost use Rattle.snes_call.specs.Call.{IsAnswered};
-ghost use Rattle.snes_call.specs.Snes.{OrNoMemory, IsLoadFaultUpTo, IsLeft, IsClean};
+ghost use Rattle.snes_call.specs.Status.{refusal_of};
+ghost use Rattle.snes_call.specs.Commands.{asked, IfAsks, IsNothing};
+ghost use Rattle.snes_call.specs.Snes.{OrNoMemory, IsEarly, IsLate, IsOver, IsDue, IsFaultBefore, AreBegun, IsClean};
 
-use crate::called::called;
+use crate::call::called;
 use crate::status::Status;
 use file_shelf::Shelf;
 use run_drive::Player;
-use run_io::{Argv, read_command};
+use run_io::Argv;
 use std::thread::Threads;
 
-/// Does all that the program does: reads the words; for `run` and `serial` loads and accepts the inputs
-/// in their order, takes the memory of the run, creates video and then sound, runs the job while what is
-/// emitted is put; for `make` and `demo` makes or plays the cartridge of a number; and says the line of
-/// its answer.
+/// Does all that the program does: reads the words; loads and accepts the inputs of their command in
+/// their order, takes all memory, creates its outputs in their order, fills and flushes them; and says
+/// the line of its answer. Which commands there are, and what each makes, is said in
+/// `specs/Commands.antt`.
 ///
 /// Each clause speaks of what the shelf tells; of a shelf that tells nothing, of the words and of counts
 /// alone. `NoMemory` is the one answer that no input and no count causes.
@@ -36,40 +31,39 @@ pub fn snes<P: Player, R: AllocGlobal + Threads, H: Shelf>(
     words: &Argv,
     shelf: &mut H,
 ) -> Status
-    // The headline: once a run is over, the files made a job, and its video and audio stand whole under their names.
-    ensures headline { (command : Command) → command_of words.now ≡ Some command → Passed Running result → IsAnswered P.emits command (H.shown shelf.old) (H.shown shelf.new) result }
+    // The headline: once a command is over, its inputs are accepted, and its outputs stand whole under their names.
+    ensures headline { IfAsks (asked P.emits words.now) (λ command order. IsOver result → IsAnswered command order (H.shown shelf.old) (H.shown shelf.new) result) }
 
     // Completeness: with all inputs accepted and no fault counted it answers Ok, unless there is no memory.
-    ensures complete { (command : Command) → command_of words.now ≡ Some command → IsClean command (H.shown shelf.old) (H.shown shelf.new) → OrNoMemory result Status.Ok }
+    ensures complete { IfAsks (asked P.emits words.now) (λ command order. IsClean command order (H.shown shelf.old) (H.shown shelf.new) → OrNoMemory result Status.Ok) }
 
     // Usage: exactly where the words are in no form.
-    ensures usage { result ≡ Status.Usage → command_of words.now ≡ None }
-    ensures usage_always { command_of words.now ≡ None → OrNoMemory result Status.Usage }
-    ensures formless { command_of words.now ≡ None → OnlyPuts (H.shown shelf.old) (H.shown shelf.new) Out.Say }
+    ensures usage { result ≡ Status.Usage → IsNothing (asked P.emits words.now) }
+    ensures usage_always { IsNothing (asked P.emits words.now) → result ≡ Status.Usage }
+    ensures formless { IsNothing (asked P.emits words.now) → OnlyPuts (H.shown shelf.old) (H.shown shelf.new) Out.Say }
 
     // Faults: only where a count of that input's name, or of that output, rose in this call.
-    ensures load_fault { (command : Command) (input : Input) → command_of words.now ≡ Some command → result ≡ Status.LoadFault input → IsSomeAnd (files_of command) (λ files. IsLoadFault files (H.shown shelf.old) (H.shown shelf.new) input) }
-    ensures write_fault { (command : Command) (out : Out) → command_of words.now ≡ Some command → result ≡ Status.WriteFault out → HasRisen ((H.shown shelf.old).write_faults out) ((H.shown shelf.new).write_faults out) × ((creates command out ≡ true) ⊎ (out ≡ Out.Say)) }
+    ensures load_fault { IfAsks (asked P.emits words.now) (λ command order. (input : Input) → result ≡ Status.LoadFault input → EndsInputs order.pairs (H.shown shelf.old) (H.shown shelf.new) command.form.inputs (Status.LoadFault input)) }
+    ensures write_fault { IfAsks (asked P.emits words.now) (λ command order. (out : Out) → result ≡ Status.WriteFault out → HasRisen ((H.shown shelf.old).write_faults out) ((H.shown shelf.new).write_faults out) × (IsOneOf command.form.outputs out ⊎ (out ≡ Out.Say))) }
 
     // Refused: exactly where the first input that isn't accepted is refused so.
-    ensures refused { (command : Command) (cause : Why) → command_of words.now ≡ Some command → result ≡ Status.Refused cause → IsSomeAnd (files_of command) (λ files. IsRefused files (H.shown shelf.old) cause) }
-    ensures refused_always { (command : Command) (files : Files) (cause : Why) → command_of words.now ≡ Some command → files_of command ≡ Some files → TellsRefused (H.shown shelf.old) files cause → (result ≡ Status.Refused cause) ⊎ IsLoadFaultUpTo (input_of cause) result }
+    ensures refused { IfAsks (asked P.emits words.now) (λ command order. (cause : Why) → result ≡ Status.Refused cause → EndsInputs order.pairs (H.shown shelf.old) (H.shown shelf.new) command.form.inputs (Status.Refused cause)) }
+    ensures refused_always { IfAsks (asked P.emits words.now) (λ command order. (cause : Why) → IsDue command order (H.shown shelf.old) cause → (result ≡ Status.Refused cause) ⊎ IsFaultBefore command order (H.shown shelf.old) result) }
 
-    // Accepted: once an answer is later than the inputs, they make a job.
-    ensures accepted { (command : Command) (files : Files) → command_of words.now ≡ Some command → files_of command ≡ Some files → Passed (Accept Input.Script) result → (job : Job) × ShowsJob (H.shown shelf.old) files job }
+    // Accepted: once an answer is later than the inputs, they are accepted, and the command makes something of them.
+    ensures accepted { IfAsks (asked P.emits words.now) (λ command order. IsLate result → IsMade command order (H.shown shelf.old)) }
 
     // What is left in the outputs that the command creates, after any answer.
-    ensures untouched { (command : Command) → command_of words.now ≡ Some command → place_of (stage_of result) < place_of (Create Out.Video) → OnlySays (H.shown shelf.old) (H.shown shelf.new) }
-    ensures left { (command : Command) (out : Out) → command_of words.now ≡ Some command → creates command out ≡ true → IsLeft P.emits command (H.shown shelf.old) (H.shown shelf.new) out }
-    ensures begun { (command : Command) (out : Out) → command_of words.now ≡ Some command → creates command out ≡ true → Passed (Create out) result → IsBegun P.emits command (H.shown shelf.old) (H.shown shelf.new) out }
+    ensures untouched { IfAsks (asked P.emits words.now) (λ command order. IsEarly result → OnlySays (H.shown shelf.old) (H.shown shelf.new)) }
+    ensures left { IfAsks (asked P.emits words.now) (λ command order. AllOf (IsLeft command order (H.shown shelf.old) (H.shown shelf.new)) command.form.outputs) }
+    ensures begun { IfAsks (asked P.emits words.now) (λ command order. AreBegun command order (H.shown shelf.old) (H.shown shelf.new) result) }
 
     // What stays, and what is said.
     ensures kept { IsKept (H.shown shelf.old) (H.shown shelf.new) }
-    ensures others { (command : Command) (out : Out) → command_of words.now ≡ Some command → creates command out ≡ false → (out ≡ Out.Say) ⊎ IsPassedOver (H.shown shelf.old) (H.shown shelf.new) out }
-    ensures loads_none { (command : Command) → command_of words.now ≡ Some command → files_of command ≡ None → (H.shown shelf.new).load_faults ≡ (H.shown shelf.old).load_faults }
+    ensures others { IfAsks (asked P.emits words.now) (λ command order. (out : Out) → AllOf (λ one. one ≢ out) command.form.outputs → (out ≡ Out.Say) ⊎ IsPassedOver (H.shown shelf.old) (H.shown shelf.new) out) }
+    ensures loads_none { IfAsks (asked P.emits words.now) (λ command order. command.form.inputs ≡ [] → (H.shown shelf.new).load_faults ≡ (H.shown shelf.old).load_faults) }
     ensures unnamed { (H.shown shelf.new).named Out.Say ≡ (H.shown shelf.old).named Out.Say }
     ensures refusal { IfSome (refusal_of result) (IsSaid (H.shown shelf.old) (H.shown shelf.new)) }
 {
-    let read = read_command(rt.alloc(), words);
-    called::<P, R, H>(rt, &read, shelf)
+    called::<P, R, H>(rt, words, shelf)
 }

@@ -1,5 +1,5 @@
 use Rattle.std.proofs.Common.{rules, refl}
-use Rattle.snes_call.specs.Made.{IsImage}
+use Rattle.snes_call.specs.Make.{IsImage}
 use Rattle.snes_call.proofs.DemoCartridge.{image_is_cartridge}
 use Rattle.snes_call.proofs.demo.demo_job.Goals as goal
 

@@ -1,47 +1,57 @@
-use Rattle.std.proofs.Common.{rules}
-use Rattle.snes_call.proofs.Words.{read_few, ended, passed, unloaded}
+use Rattle.snes_call.specs.Commands.{asked}
 use Rattle.snes_call.proofs.Clauses as clause
 use Rattle.snes_call.proofs.top.snes.Goals as goal
 
-pub called-requires : goal.called-requires
-called-requires g c = let few = read_few c.args.words.now _ c.read_command-read.ensures.command in search rules
+pub returns-clause-headline : goal.returns-clause-headline
+returns-clause-headline g c = clause.wish_asks (g.H.Shelf.shown c.args.shelf.now) (g.H.Shelf.shown c.called.new.shelf) c.called.result _ (λ k o h. clause.headline k o _ _ h.not_lines _ h.ends) (asked g.P.Player.emits c.args.words.now) c.called.ensures
+
+pub returns-clause-complete : goal.returns-clause-complete
+returns-clause-complete g c = clause.wish_asks (g.H.Shelf.shown c.args.shelf.now) (g.H.Shelf.shown c.called.new.shelf) c.called.result _ (λ k o h. clause.complete k o _ _ h.not_lines _ h.ends) (asked g.P.Player.emits c.args.words.now) c.called.ensures
+
+pub returns-clause-load_fault : goal.returns-clause-load_fault
+returns-clause-load_fault g c = clause.wish_asks (g.H.Shelf.shown c.args.shelf.now) (g.H.Shelf.shown c.called.new.shelf) c.called.result _ (λ k o h. clause.load_fault k o _ _ h.not_lines _ h.ends) (asked g.P.Player.emits c.args.words.now) c.called.ensures
+
+pub returns-clause-write_fault : goal.returns-clause-write_fault
+returns-clause-write_fault g c = clause.wish_asks (g.H.Shelf.shown c.args.shelf.now) (g.H.Shelf.shown c.called.new.shelf) c.called.result _ (λ k o h. clause.write_fault k o _ _ h.not_lines _ h.ends) (asked g.P.Player.emits c.args.words.now) c.called.ensures
+
+pub returns-clause-refused : goal.returns-clause-refused
+returns-clause-refused g c = clause.wish_asks (g.H.Shelf.shown c.args.shelf.now) (g.H.Shelf.shown c.called.new.shelf) c.called.result _ (λ k o h. clause.refused k o _ _ h.not_lines _ h.ends) (asked g.P.Player.emits c.args.words.now) c.called.ensures
 
 pub returns-clause-refused_always : goal.returns-clause-refused_always
-returns-clause-refused_always g c = λ command files cause asked own told.
-    let shows = g.H.Shelf.shown in
-    let h = ended g.P.Player.emits c.args.words.now (shows c.args.shelf.now) (shows c.called.new.shelf) c.called.result c.read_command-read.result command
-    c.read_command-read.ensures.command c.read_command-read.ensures.usage c.called.ensures.ends c.called.ensures.no_memory c.called.ensures.unread asked in
-    clause.refused_always g.P.Player.emits (shows c.args.shelf.now) (shows c.called.new.shelf) files cause told command own c.called.result h
+returns-clause-refused_always g c = clause.wish_asks (g.H.Shelf.shown c.args.shelf.now) (g.H.Shelf.shown c.called.new.shelf) c.called.result _ (λ k o h. clause.refused_always k o _ _ h.not_lines _ h.ends) (asked g.P.Player.emits c.args.words.now) c.called.ensures
 
 pub returns-clause-accepted : goal.returns-clause-accepted
-returns-clause-accepted g c = λ command files asked own late.
-    let shows = g.H.Shelf.shown in
-    let h = ended g.P.Player.emits c.args.words.now (shows c.args.shelf.now) (shows c.called.new.shelf) c.called.result c.read_command-read.result command
-    c.read_command-read.ensures.command c.read_command-read.ensures.usage c.called.ensures.ends c.called.ensures.no_memory c.called.ensures.unread asked in
-    clause.accepted g.P.Player.emits (shows c.args.shelf.now) (shows c.called.new.shelf) command c.called.result h files own late
+returns-clause-accepted g c = clause.wish_asks (g.H.Shelf.shown c.args.shelf.now) (g.H.Shelf.shown c.called.new.shelf) c.called.result _ (λ k o h. clause.accepted k o _ _ h.not_lines _ h.ends) (asked g.P.Player.emits c.args.words.now) c.called.ensures
+
+pub returns-clause-untouched : goal.returns-clause-untouched
+returns-clause-untouched g c = clause.wish_asks (g.H.Shelf.shown c.args.shelf.now) (g.H.Shelf.shown c.called.new.shelf) c.called.result _ (λ k o h. clause.untouched k o _ _ h.not_lines _ h.ends) (asked g.P.Player.emits c.args.words.now) c.called.ensures
 
 pub returns-clause-left : goal.returns-clause-left
-returns-clause-left g c = λ command out asked made.
-    let shows = g.H.Shelf.shown in
-    let h = ended g.P.Player.emits c.args.words.now (shows c.args.shelf.now) (shows c.called.new.shelf) c.called.result c.read_command-read.result command
-    c.read_command-read.ensures.command c.read_command-read.ensures.usage c.called.ensures.ends c.called.ensures.no_memory c.called.ensures.unread asked in
-    clause.left g.P.Player.emits (shows c.args.shelf.now) (shows c.called.new.shelf) command c.called.result h out made
+returns-clause-left g c = clause.wish_asks (g.H.Shelf.shown c.args.shelf.now) (g.H.Shelf.shown c.called.new.shelf) c.called.result _ (λ k o h. clause.left k o _ _ h.not_lines _ h.ends) (asked g.P.Player.emits c.args.words.now) c.called.ensures
 
 pub returns-clause-begun : goal.returns-clause-begun
-returns-clause-begun g c = λ command out asked made late.
-    let shows = g.H.Shelf.shown in
-    let h = ended g.P.Player.emits c.args.words.now (shows c.args.shelf.now) (shows c.called.new.shelf) c.called.result c.read_command-read.result command
-    c.read_command-read.ensures.command c.read_command-read.ensures.usage c.called.ensures.ends c.called.ensures.no_memory c.called.ensures.unread asked in
-    clause.begun g.P.Player.emits (shows c.args.shelf.now) (shows c.called.new.shelf) command c.called.result h out made late
+returns-clause-begun g c = clause.wish_asks (g.H.Shelf.shown c.args.shelf.now) (g.H.Shelf.shown c.called.new.shelf) c.called.result _ (λ k o h. clause.begun k o _ _ h.not_lines _ h.ends) (asked g.P.Player.emits c.args.words.now) c.called.ensures
 
 pub returns-clause-others : goal.returns-clause-others
-returns-clause-others g c = λ command out asked none.
-    let shows = g.H.Shelf.shown in
-    passed c.args.words.now (shows c.args.shelf.now) (shows c.called.new.shelf) c.read_command-read.result command out
-    c.read_command-read.ensures.command c.read_command-read.ensures.usage c.called.ensures.others c.called.ensures.unread asked none
+returns-clause-others g c = clause.wish_asks (g.H.Shelf.shown c.args.shelf.now) (g.H.Shelf.shown c.called.new.shelf) c.called.result _ (λ k o h. h.others) (asked g.P.Player.emits c.args.words.now) c.called.ensures
 
 pub returns-clause-loads_none : goal.returns-clause-loads_none
-returns-clause-loads_none g c = λ command asked none.
-    let shows = g.H.Shelf.shown in
-    unloaded c.args.words.now (shows c.args.shelf.now) (shows c.called.new.shelf) c.read_command-read.result command
-    c.read_command-read.ensures.command c.called.ensures.loads c.called.ensures.unread asked none
+returns-clause-loads_none g c = clause.wish_asks (g.H.Shelf.shown c.args.shelf.now) (g.H.Shelf.shown c.called.new.shelf) c.called.result _ (λ k o h. h.loads) (asked g.P.Player.emits c.args.words.now) c.called.ensures
+
+pub returns-clause-usage : goal.returns-clause-usage
+returns-clause-usage g c = clause.wish_usage (g.H.Shelf.shown c.args.shelf.now) (g.H.Shelf.shown c.called.new.shelf) c.called.result (asked g.P.Player.emits c.args.words.now) c.called.ensures
+
+pub returns-clause-usage_always : goal.returns-clause-usage_always
+returns-clause-usage_always g c = clause.wish_usage_always (g.H.Shelf.shown c.args.shelf.now) (g.H.Shelf.shown c.called.new.shelf) c.called.result (asked g.P.Player.emits c.args.words.now) c.called.ensures
+
+pub returns-clause-formless : goal.returns-clause-formless
+returns-clause-formless g c = clause.wish_formless (g.H.Shelf.shown c.args.shelf.now) (g.H.Shelf.shown c.called.new.shelf) c.called.result (asked g.P.Player.emits c.args.words.now) c.called.ensures
+
+pub returns-clause-kept : goal.returns-clause-kept
+returns-clause-kept g c = clause.wish_kept (g.H.Shelf.shown c.args.shelf.now) (g.H.Shelf.shown c.called.new.shelf) c.called.result (asked g.P.Player.emits c.args.words.now) c.called.ensures
+
+pub returns-clause-unnamed : goal.returns-clause-unnamed
+returns-clause-unnamed g c = clause.wish_unnamed (g.H.Shelf.shown c.args.shelf.now) (g.H.Shelf.shown c.called.new.shelf) c.called.result (asked g.P.Player.emits c.args.words.now) c.called.ensures
+
+pub returns-clause-refusal : goal.returns-clause-refusal
+returns-clause-refusal g c = clause.wish_said (g.H.Shelf.shown c.args.shelf.now) (g.H.Shelf.shown c.called.new.shelf) c.called.result (asked g.P.Player.emits c.args.words.now) c.called.ensures

@@ -1,0 +1,32 @@
+-- The options of the command line: those of inputs, of outputs, and of numbers.
+use Rattle.std.specs.Prelude.{ℕ, List, [], codes}
+use Rattle.file_shelf.specs.declared.shelves.Input.{Input}
+use Rattle.file_shelf.specs.declared.shelves.Input.TheVariants as input
+use Rattle.file_shelf.specs.declared.shelves.Out.{Out}
+use Rattle.file_shelf.specs.declared.shelves.Out.TheVariants as out
+use Rattle.run_io.specs.declared.options.Count.{Count}
+use Rattle.run_io.specs.declared.options.Count.TheVariants as count
+
+-- the option of an input
+abbrev pub input_option : Input → List ℕ
+input_option input.Cart = codes "--cart"
+input_option input.Boot = codes "--boot"
+input_option input.Table = codes "--table"
+input_option input.Script = codes "--script"
+
+-- the option of an output; the lines have none
+abbrev pub output_option : Out → List ℕ
+output_option out.Video = codes "--video"
+output_option out.Sound = codes "--audio"
+output_option out.Image = codes "--out"
+output_option out.Say = []
+
+-- the option of a number, the most decimal digits that it has, and its greatest value
+abbrev pub count_option : Count → List ℕ
+count_option count.Frames = codes "--frames"
+
+abbrev pub digits_of : Count → ℕ
+digits_of count.Frames = 5
+
+abbrev pub most_of : Count → ℕ
+most_of count.Frames = 36000

@@ -1,0 +1,137 @@
+ghost use Rattle.std.specs.Prelude.{◌≡◌, ◌≤◌, ◌+◌, ◌*◌, ℕ, Bool, true, not, List, Some, None, IfSome, MatchOption, length};
+ghost use Rattle.std.specs.List.{list_all};
+ghost use Rattle.std.specs.Str.{bytes_eq};
+ghost use Rattle.run_io.specs.Options.{most_of};
+ghost use Rattle.run_io.specs.Words.{is_value, input_name, output_name};
+ghost use Rattle.run_io.specs.Lists.{AllOf};
+ghost use Rattle.run_io.specs.Form.{number_first, count_in, count_options, has_pairs, differ, has_values, order_in, form_by, order_by, IsName, Fits};
+
+use crate::options::Count;
+use crate::pairs::{input_name, is_value, number_in, output_name, word_behind};
+use crate::words::Word;
+use file_shelf::{Input, Out};
+
+/// The form of a command's words behind its name.
+#[derive(Clone, Copy)]
+pub struct Form {
+    /// Whether a number of 1 to 10 decimal digits, at most 4,294,967,295, comes first.
+    pub numbered: bool,
+    /// The inputs, each with its option, in the order in which they are loaded.
+    pub inputs: &'static [Input],
+    /// The number behind an option, where there is one.
+    pub count: Option<Count>,
+    /// The outputs, each with its option, in the order in which they are created.
+    pub outputs: &'static [Out],
+}
+
+/// What words in a form give.
+#[derive(Clone, Copy)]
+pub struct Asked<'a> {
+    /// The number that comes first, 0 where the form has none.
+    pub number: u32,
+    /// The number behind its option, 0 where the form has none.
+    pub count: u32,
+    /// The pairs of an option and its value.
+    pub pairs: &'a [Word],
+}
+
+/// Reads the words behind a command's name, if they are in its form: a number where it has one, and then pairs of an
+/// option and its value, each option of the form once, in any order. A value has 1 to 4,096 bytes and begins with no
+/// dash. No two outputs have one name.
+#[tactic(auto, unfolding(crate::specs::Form::order_in))]
+pub fn read_form<'a>(form: &Form, words: &'a [Word]) -> Option<Asked<'a>>
+    ensures order { MatchOption result (order_in (form_by form.now) words.now ≡ None) (λ asked. order_in (form_by form.now) words.now ≡ Some (order_by asked)) }
+    ensures fits { IfSome result (λ asked. Fits (form_by form.now) (order_by asked)) }
+{
+    let (number, pairs) = first_number(form.numbered, words)?;
+    if !has_values(form, pairs) {
+        return None;
+    }
+    let count = count_of(form.count, pairs)?;
+    Some(Asked {
+        number,
+        count,
+        pairs,
+    })
+}
+
+/// The number that comes first, and the words behind it.
+fn first_number(numbered: bool, words: &[Word]) -> Option<(u32, &[Word])>
+    ensures { MatchOption result (number_first numbered words.now ≡ None) (λ first. number_first numbered words.now ≡ Some (first.0, first.1.now)) }
+{
+    if !numbered {
+        return Some((0, words));
+    }
+    let (word, words) = words.split_first()?;
+    let number = number_in(word.text(), 10, u32::MAX)?;
+    Some((number, words))
+}
+
+/// The number behind its option.
+fn count_of(count: Option<Count>, pairs: &[Word]) -> Option<u32>
+    ensures number { result ≡ count_in count pairs.now }
+    ensures within { IfSome result (λ number. (some : Count) → count ≡ Some some → number ≤ most_of some) }
+{
+    let Some(count) = count else {
+        return Some(0);
+    };
+    number_in(
+        word_behind(pairs, count.option()),
+        count.digits(),
+        count.most(),
+    )
+}
+
+/// Whether there are as many pairs as the form has options, with a value behind each.
+fn has_values(form: &Form, pairs: &[Word]) -> bool
+    ensures test { result ≡ has_values (form_by form.now) pairs.now }
+    ensures names { result ≡ true → AllOf (λ out. IsName (output_name pairs.now out)) form.now.outputs.now }
+{
+    has_pairs(form, pairs)
+        && are_inputs_named(pairs, form.inputs)
+        && are_outputs_named(pairs, form.outputs)
+        && differ(pairs, form.outputs)
+}
+
+/// Whether there are as many pairs as the form has options.
+fn has_pairs(form: &Form, pairs: &[Word]) -> bool
+    ensures { result ≡ has_pairs (form_by form.now) pairs.now }
+{
+    let counts = if form.count.is_some() { 1 } else { 0 };
+    pairs.len() % 2 == 0 && pairs.len() / 2 == form.inputs.len() + form.outputs.len() + counts
+}
+
+/// Whether a value stands behind the option of each of these inputs.
+fn are_inputs_named(pairs: &[Word], inputs: &[Input]) -> bool
+    ensures { result ≡ list_all (λ input. is_value (input_name pairs.now input)) inputs.now }
+{
+    inputs
+        .iter()
+        .all(|input| is_value(input_name(pairs, *input)))
+}
+
+/// Whether a value stands behind the option of each of these outputs.
+#[tactic(auto, using(crate::proofs::PairLemmas::are_names))]
+fn are_outputs_named(pairs: &[Word], outputs: &[Out]) -> bool
+    ensures test { result ≡ list_all (λ out. is_value (output_name pairs.now out)) outputs.now }
+    ensures names { result ≡ true → AllOf (λ out. IsName (output_name pairs.now out)) outputs.now }
+{
+    outputs.iter().all(|out| is_value(output_name(pairs, *out)))
+}
+
+/// Whether no two outputs have one name.
+fn differ(pairs: &[Word], outputs: &[Out]) -> bool
+    ensures { result ≡ differ pairs.now outputs.now }
+{
+    let Some((out, rest)) = outputs.split_first() else {
+        return true;
+    };
+    is_other_name(pairs, output_name(pairs, *out), rest) && differ(pairs, rest)
+}
+
+/// Whether none of these outputs has this name.
+fn is_other_name(pairs: &[Word], name: &str, outputs: &[Out]) -> bool
+    ensures { result ≡ list_all (λ out. not (bytes_eq name.now (output_name pairs.now out))) outputs.now }
+{
+    outputs.iter().all(|out| name != output_name(pairs, *out))
+}

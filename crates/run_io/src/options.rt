@@ -1,0 +1,64 @@
+ghost use Rattle.std.specs.Prelude.{◌≡◌};
+ghost use Rattle.run_io.specs.Options.{input_option, output_option, count_option, digits_of, most_of};
+
+use file_shelf::{Input, Out};
+
+/// The numbers that stand behind an option.
+#[derive(Clone, Copy, Debug, PartialEq, Eq)]
+pub enum Count {
+    /// Frames of a run: 1 to 5 decimal digits, at most 36,000.
+    Frames,
+}
+
+/// The option of an input.
+pub(crate) fn option_of_input(input: Input) -> &'static str
+    ensures { result.now ≡ input_option input }
+{
+    match input {
+        Input::Cart => "--cart",
+        Input::Boot => "--boot",
+        Input::Table => "--table",
+        Input::Script => "--script",
+    }
+}
+
+/// The option of an output. The lines have none.
+pub(crate) fn option_of_output(out: Out) -> &'static str
+    ensures { result.now ≡ output_option out }
+{
+    match out {
+        Out::Video => "--video",
+        Out::Sound => "--audio",
+        Out::Image => "--out",
+        Out::Say => "",
+    }
+}
+
+impl Count {
+    /// Its option.
+    pub(crate) fn option(self) -> &'static str
+        ensures { result.now ≡ count_option self }
+    {
+        match self {
+            Count::Frames => "--frames",
+        }
+    }
+
+    /// The most decimal digits that it has.
+    pub(crate) fn digits(self) -> usize
+        ensures { result ≡ digits_of self }
+    {
+        match self {
+            Count::Frames => 5,
+        }
+    }
+
+    /// Its greatest value.
+    pub(crate) fn most(self) -> u32
+        ensures { result ≡ most_of self }
+    {
+        match self {
+            Count::Frames => 36_000,
+        }
+    }
+}

@@ -1,0 +1,81 @@
+ghost use Rattle.std.specs.Prelude.{◌≡◌, ◌<◌, ◌≤◌, ◌^◌, ℕ, List, length, true, IfSome};
+ghost use Rattle.file_shelf.specs.declared.shelves.Out.{Out};
+ghost use Rattle.run_io.specs.Number.{number_of};
+ghost use Rattle.run_io.specs.Words.{word_behind, is_value, input_name, output_name, number_in};
+ghost use Rattle.run_io.specs.Form.{IsName};
+
+use crate::options::{option_of_input, option_of_output};
+use crate::words::Word;
+use file_shelf::{Input, Out};
+
+/// The word behind an option, in pairs. No text where the option is missing.
+pub(crate) fn word_behind<'a>(pairs: &'a [Word], option: &str) -> &'a str
+    ensures { result.now ≡ word_behind pairs.now option.now }
+{
+    let Some((name, rest)) = pairs.split_first() else {
+        return "";
+    };
+    let Some((value, rest)) = rest.split_first() else {
+        return "";
+    };
+    if name.text() == option {
+        return value.text();
+    }
+    word_behind(rest, option)
+}
+
+/// Whether a word is a value: 1 to 4,096 bytes, of which the first is no dash.
+pub(crate) fn is_value(word: &str) -> bool
+    ensures test { result ≡ is_value word.now }
+{
+    !word.is_empty() && word.len() <= 4096 && word.as_bytes()[0] != b'-'
+}
+
+/// The name that pairs give an input.
+#[tactic(auto, unfolding(crate::specs::Words::input_name))]
+pub fn input_name(pairs: &[Word], input: Input) -> &str
+    ensures { result.now ≡ input_name pairs.now input }
+{
+    word_behind(pairs, option_of_input(input))
+}
+
+/// The name that pairs give an output.
+#[tactic(auto, unfolding(crate::specs::Words::output_name))]
+pub fn output_name(pairs: &[Word], out: Out) -> &str
+    ensures { result.now ≡ output_name pairs.now out }
+{
+    word_behind(pairs, option_of_output(out))
+}
+
+/// A number of so many decimal digits at most, and at most so large.
+#[tactic(auto, unfolding(crate::specs::Words::number_in))]
+pub(crate) fn number_in(word: &str, digits: usize, most: u32) -> Option<u32>
+    requires { digits ≤ 10 }
+    ensures number { result ≡ number_in digits most word.now }
+    ensures within { IfSome result (λ number. number ≤ most) }
+{
+    let word = word.as_bytes();
+    if word.is_empty() || word.len() > digits {
+        return None;
+    }
+    let number = number_of(word)?;
+    if number > u64::from(most) {
+        return None;
+    }
+    Some(number as u32)
+}
+
+/// The number that at most ten decimal digits spell.
+fn number_of(digits: &[u8]) -> Option<u64>
+    requires { length digits.now ≤ 10 }
+    ensures number { result ≡ number_of digits.now }
+{
+    let mut number = 0u64;
+    for digit in digits {
+        if !digit.is_ascii_digit() {
+            return None;
+        }
+        number = 10 * number + u64::from(*digit - b'0');
+    }
+    Some(number)
+}
