@@ -54,7 +54,7 @@ module _ (emits : Job → List ℕ → List ℕ → Type 0) (command : Command) 
   since : (line : List ℕ) (status : Status) → Says mid after line status → Says before after line status
   since line status says =
       ⊎_elim
-      (λ h. inl (record { answer = h.answer; whole = subst (λ (w : Option (List ℕ)). Appends w (after.written out.Say) line) over.written h.whole }))
+      (λ h. inl (record { answer = h.answer; whole = subst (λ (w : Option (List ℕ)). Appends w (after.written out.Say) line) over.written h.whole; none_left = h.none_left }))
       (λ h. inr (record {
         answer = h.answer;
         some = subst (λ (w : Option (List ℕ)). AppendsSome w (after.written out.Say) line) over.written h.some;
@@ -110,6 +110,7 @@ module _ (emits : Job → List ℕ → List ℕ → Type 0) (command : Command) 
   passes any differ h = record {
     written = (puts.others any differ).written ∙ h.written;
     named = (puts.others any differ).named ∙ h.named;
+    unwritten = (puts.others any differ).unwritten ∙ h.unwritten;
     write_faults = (puts.others any differ).write_faults ∙ h.write_faults;
   }
 
@@ -119,6 +120,7 @@ module _ (emits : Job → List ℕ → List ℕ → Type 0) (command : Command) 
     some = subst (λ (w : Option (List ℕ)). AppendsSome w (after.written out.Say) line) over.written h.some;
     whole = λ quiet. subst (λ (w : Option (List ℕ)). Appends w (after.written out.Say) line) over.written
         (h.whole (λ risen. quiet (subst (λ (n : ℕ). HasRisen n (after.write_faults out.Say)) over.write_faults risen)));
+    none_left = λ quiet. h.none_left (λ risen. quiet (subst (λ (n : ℕ). HasRisen n (after.write_faults out.Say)) over.write_faults risen));
   }
 
   pub refusal_since : (line : Option (List ℕ)) → IfSome line (IsSaid mid after) → IfSome line (IsSaid before after)

@@ -51,11 +51,11 @@ pub changes_demo : (number frames : ℕ) (a : Shown) → OnlyCommanded (Demo num
 changes_demo number frames a = record {
   kept = record { held = refl; load_faults = λ name. omega arith; write_faults = λ any. omega arith };
   loads = λ none. refl;
-  others = λ other is. record { written = refl; named = refl; write_faults = refl };
+  others = λ other is. record { written = refl; named = refl; unwritten = refl; write_faults = refl };
 }
 
 -- a demo changes no output
 pub says_none : (a : Shown) → OnlySays a a
-says_none a any differ = record { written = refl; named = refl; write_faults = refl }
+says_none a any differ = record { written = refl; named = refl; unwritten = refl; write_faults = refl }
 
 pub ruleset changing = (says_none, changes_run, changes_serial, changes_make, changes_demo)

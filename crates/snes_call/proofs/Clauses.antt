@@ -58,7 +58,7 @@ whole_filled after any name bytes h = subst (IsFilled after any name) (sym (take
 module _ (emits : Job → List ℕ → List ℕ → Type 0) (before after : Shown) where
   -- what was passed over is as it was
   as_it_was : (any : Out) → IsPassedOver before after any → IsUntouched before after any
-  as_it_was any h = record { written = h.written; named = h.named }
+  as_it_was any h = record { written = h.written; named = h.named; unwritten = h.unwritten }
 
   -- an output that was filled was begun
   run_begun : (files : Files) (line : List ℕ) (any : Out) → IsRun emits files before after line → (any ≡ out.Video) ⊎ (any ≡ out.Sound) → IsRunBegun emits files before after any

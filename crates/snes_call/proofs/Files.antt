@@ -21,6 +21,7 @@ pub loads_say : (a b : Shown) → OnlyLoads a b → OnlySays a b
 loads_say a b h any not_say = record {
   written = ap (λ (w : Out → Option (List ℕ)). w any) h.written;
   named = ap (λ (w : Out → Option (List ℕ)). w any) h.named;
+  unwritten = ap (λ (w : Out → ℕ). w any) h.unwritten;
   write_faults = ap (λ (f : Out → ℕ). f any) h.write_faults;
 }
 
@@ -32,6 +33,7 @@ loads_only a b h = record {
   others = λ any v s. record {
     written = ap (λ (w : Out → Option (List ℕ)). w any) h.written;
     named = ap (λ (w : Out → Option (List ℕ)). w any) h.named;
+    unwritten = ap (λ (w : Out → ℕ). w any) h.unwritten;
     write_faults = ap (λ (f : Out → ℕ). f any) h.write_faults;
   };
 }
@@ -44,6 +46,7 @@ loads_then_runs a b c first then = record {
   others = λ any v s. record {
     written = (then.others any v s).written ∙ ap (λ (w : Out → Option (List ℕ)). w any) first.written;
     named = (then.others any v s).named ∙ ap (λ (w : Out → Option (List ℕ)). w any) first.named;
+    unwritten = (then.others any v s).unwritten ∙ ap (λ (w : Out → ℕ). w any) first.unwritten;
     write_faults = (then.others any v s).write_faults ∙ ap (λ (f : Out → ℕ). f any) first.write_faults;
   };
 }
@@ -59,6 +62,7 @@ module _ (emits : Job → List ℕ → List ℕ → Type 0) (files : Files) (bef
     untouched any h = record {
       written = h.written ∙ ap (λ (w : Out → Option (List ℕ)). w any) first.written;
       named = h.named ∙ ap (λ (w : Out → Option (List ℕ)). w any) first.named;
+      unwritten = h.unwritten ∙ ap (λ (w : Out → ℕ). w any) first.unwritten;
     }
 
     risen : (out : Out) → HasRisen (loaded.write_faults out) (after.write_faults out) → HasRisen (before.write_faults out) (after.write_faults out)
@@ -68,6 +72,7 @@ module _ (emits : Job → List ℕ → List ℕ → Type 0) (files : Files) (bef
     passed_over any h = record {
       written = h.written ∙ ap (λ (w : Out → Option (List ℕ)). w any) first.written;
       named = h.named ∙ ap (λ (w : Out → Option (List ℕ)). w any) first.named;
+      unwritten = h.unwritten ∙ ap (λ (w : Out → ℕ). w any) first.unwritten;
       write_faults = h.write_faults ∙ ap (λ (f : Out → ℕ). f any) first.write_faults;
     }
 

@@ -106,10 +106,11 @@ pub loads_then : (a b c : Shown) → OnlyLoads a b → OnlyLoads b c → OnlyLoa
 loads_then a b c first next = record {
   held = next.held ∙ first.held;
   written = next.written ∙ first.written;
+  unwritten = next.unwritten ∙ first.unwritten;
   named = next.named ∙ first.named;
   write_faults = next.write_faults ∙ first.write_faults;
   load_faults = λ name. omega (arith, first.load_faults name, next.load_faults name);
 }
 
 pub loads_none : (a : Shown) → OnlyLoads a a
-loads_none a = record { held = refl; written = refl; named = refl; write_faults = refl; load_faults = λ name. omega arith }
+loads_none a = record { held = refl; written = refl; named = refl; unwritten = refl; write_faults = refl; load_faults = λ name. omega arith }

@@ -8,6 +8,7 @@ pub mod Files
 pub mod Flushing
 pub mod InputLemmas
 pub mod Making
+pub mod Putting
 pub mod Reading
 pub mod Saying
 pub mod Words

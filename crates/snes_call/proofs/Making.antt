@@ -24,6 +24,7 @@ creates_then_puts a b c out first then = record {
   others = λ other differ. record {
     written = (then.others other differ).written ∙ (first.others other differ).written;
     named = (then.others other differ).named ∙ (first.others other differ).named;
+    unwritten = (then.others other differ).unwritten ∙ (first.others other differ).unwritten;
     write_faults = (then.others other differ).write_faults ∙ (first.others other differ).write_faults;
   };
 }

@@ -21,12 +21,14 @@ module _ (before mid after : Shown) (puts : OnlyPuts mid after out.Say) where
   untouched_after any differ h = record {
     written = (puts.others any differ).written ∙ h.written;
     named = (puts.others any differ).named ∙ h.named;
+    unwritten = (puts.others any differ).unwritten ∙ h.unwritten;
   }
 
   pub says_after : OnlySays before mid → OnlySays before after
   says_after h any differ = record {
     written = (puts.others any differ).written ∙ (h any differ).written;
     named = (puts.others any differ).named ∙ (h any differ).named;
+    unwritten = (puts.others any differ).unwritten ∙ (h any differ).unwritten;
     write_faults = (puts.others any differ).write_faults ∙ (h any differ).write_faults;
   }
 
@@ -50,6 +52,8 @@ module _ (before mid after : Shown) (puts : OnlyPuts mid after out.Say) where
       emitted = h.emitted;
       video_filled = filled_after out.Video files.video h.video (λ e. cc) h.video_filled;
       audio_filled = filled_after out.Sound files.audio h.audio (λ e. cc) h.audio_filled;
+      video_whole = (puts.others out.Video (λ e. cc)).unwritten ∙ h.video_whole;
+      audio_whole = (puts.others out.Sound (λ e. cc)).unwritten ∙ h.audio_whole;
     }
 
     run_after : (files : Files) (line : List ℕ) → IsRun emits files before mid line → IsRun emits files before after line
@@ -104,7 +108,7 @@ module _ (before mid after : Shown) (puts : OnlyPuts mid after out.Say) where
     pub done_after : (command : Command) (line : List ℕ) → IsDone emits command before mid line → IsDone emits command before after line
     done_after (Run files) line h = run_after files line h
     done_after (Serial files) line h = run_after files line h
-    done_after (Make number name) line h = record { bytes = h.bytes; image = h.image; filled = filled_after out.Image name h.bytes (λ e. cc) h.filled; says = h.says }
+    done_after (Make number name) line h = record { bytes = h.bytes; image = h.image; filled = filled_after out.Image name h.bytes (λ e. cc) h.filled; whole = (puts.others out.Image (λ e. cc)).unwritten ∙ h.whole; says = h.says }
     done_after (Demo number frames) line h = h
 
     pub ends_after : (command : Command) (end : CommandEnd) → EndsCommand emits command before mid end → EndsCommand emits command before after end

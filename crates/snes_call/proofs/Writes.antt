@@ -21,16 +21,17 @@ pub creates_sound : (a b : Shown) → OnlyCreates a b Sound → OnlyRuns a b
 creates_sound a b h = record { held = h.held; load_faults = h.load_faults; write_faults = h.write_faults; others = λ other v s. h.others other s }
 
 pub passed_untouched : (a b : Shown) (any : Out) → IsPassedOver a b any → IsUntouched a b any
-passed_untouched a b any over = record { written = over.written; named = over.named }
+passed_untouched a b any over = record { written = over.written; named = over.named; unwritten = over.unwritten }
 
 pub untouched_then : (a b c : Shown) (any : Out) → IsUntouched a b any → IsUntouched b c any → IsUntouched a c any
-untouched_then a b c any first then = record { written = then.written ∙ first.written; named = then.named ∙ first.named }
+untouched_then a b c any first then = record { written = then.written ∙ first.written; named = then.named ∙ first.named; unwritten = then.unwritten ∙ first.unwritten }
 
 -- an output that was passed over is still as it was created
 pub still_created : (a b : Shown) (out : Out) (name : List ℕ) → IsPassedOver a b out → IsCreated a out name → IsCreated b out name
 still_created a b out name over h = record {
   named = subst (λ (n : Option (List ℕ)). Holds n name) (sym over.named) h.named;
   empty = subst (λ (n : Option (List ℕ)). Holds n []) (sym over.written) h.empty;
+  unwritten = over.unwritten ∙ h.unwritten;
 }
 
 module _ (emits : Job → List ℕ → List ℕ → Type 0) (job : Job) (files : Files) where
@@ -61,13 +62,15 @@ module _ (emits : Job → List ℕ → List ℕ → Type 0) (job : Job) (files :
     filled out name bytes named written = record { named = subst (λ (n : Out → Option (List ℕ)). Holds (n out) name) (sym fills.named) named; written = written }
 
     -- both outputs hold the run whole
-    pub run_written : PlayedWhole (emits job) (taken_by after) → HoldsRun emits job files after
-    run_written h = record {
+    pub run_written : PlayedWhole (emits job) (taken_by after) → after.unwritten Video ≡ 0 → after.unwritten Sound ≡ 0 → HoldsRun emits job files after
+    run_written h no_video no_sound = record {
       video = h.video;
       audio = h.audio;
       emitted = h.emitted;
       video_filled = filled Video files.video h.video video.named h.video_taken;
       audio_filled = filled Sound files.audio h.audio sound.named h.audio_taken;
+      video_whole = no_video;
+      audio_whole = no_sound;
     }
 
     video_begins : PlayedFirst (emits job) (taken_by after) → IsVideoBegun emits job files after

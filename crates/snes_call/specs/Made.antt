@@ -21,11 +21,12 @@ pub record IsImage (number : ℕ) (bytes : List ℕ) : Type 0 where
   pub bytes_are : (offset : ℕ) → offset < 524288 → slice_index bytes offset ≡ byte_of number offset
 
 module _ (number : ℕ) (name : List ℕ) (before after : Shown) where
-  -- the image stands whole under its name
+  -- the image stands whole under its name, and nothing is held back of it
   pub record IsMade (line : List ℕ) : Type 0 where
     pub bytes : List ℕ
     pub image : IsImage number bytes
     pub filled : IsFilled after Image name bytes
+    pub whole : after.unwritten Image ≡ 0
     pub says : line ≡ line_of image_text
 
   -- the image has its name and holds first bytes

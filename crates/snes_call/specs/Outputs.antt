@@ -1,5 +1,5 @@
 -- What is in the two outputs of a run, by the video and the audio that a run of its job emits.
-use Rattle.std.specs.Prelude.{ℕ, ◌⊎◌, List, take}
+use Rattle.std.specs.Prelude.{◌≡◌, ℕ, ◌⊎◌, List, take}
 use Rattle.snes_defs.specs.declared.cart.Job.{Job}
 use Rattle.snes_defs.specs.declared.ports.Side.{Side}
 use Rattle.file_shelf.specs.declared.shelves.Out.{Out}
@@ -22,13 +22,15 @@ pub record IsFilled (after : Shown) (out : Out) (name bytes : List ℕ) : Type 0
 
 module _ (emits : Job → List ℕ → List ℕ → Type 0) (job : Job) where
   module _ (files : Files) (after : Shown) where
-    -- video and sound have their names, and hold the run of the job whole
+    -- video and sound have their names, and hold the run of the job whole, of which nothing is held back
     pub record HoldsRun : Type 0 where
       pub video : List ℕ
       pub audio : List ℕ
       pub emitted : emits job video audio
       pub video_filled : IsFilled after Video files.video video
       pub audio_filled : IsFilled after Sound files.audio audio
+      pub video_whole : after.unwritten Video ≡ 0
+      pub audio_whole : after.unwritten Sound ≡ 0
 
     -- video has its name and holds the first bytes of the run
     pub record IsVideoBegun : Type 0 where

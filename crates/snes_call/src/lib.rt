@@ -10,6 +10,7 @@ mod commands;
 mod demo;
 mod inputs;
 mod make_image;
+mod put_whole;
 mod readers;
 mod run_files;
 mod say;

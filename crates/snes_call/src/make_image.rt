@@ -2,6 +2,7 @@ ghost use Rattle.std.specs.Prelude.{◌≡◌, IfOk, IfErr};
 ghost use Rattle.file_shelf.specs.Shown.{OnlyCreates};
 ghost use Rattle.snes_call.specs.Made.{IsMade, EndsMake};
 
+use crate::put_whole::put_whole;
 use crate::run_files::CommandEnd;
 use crate::writing::create;
 use demo_files::image;
@@ -26,7 +27,7 @@ pub(crate) fn make_image<H: Shelf>(
     let Ok(()) = create(shelf, Out::Image, out) else {
         return Err(CommandEnd::WriteFault(Out::Image));
     };
-    match shelf.put(Out::Image, bytes.as_slice()) {
+    match put_whole(shelf, Out::Image, bytes.as_slice()) {
         Ok(()) => Ok(image_line()),
         Err(_) => Err(CommandEnd::WriteFault(Out::Image)),
     }

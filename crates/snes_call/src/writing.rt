@@ -65,6 +65,8 @@ fn play_by<P: Player, R: Threads, H: Shelf>(
 #[tactic(auto, using(crate::proofs::Flushing::flushes))]
 fn flush<H: Shelf>(shelf: &mut H) -> Result<(), Out>
     ensures written { (H.shown shelf.new).written ≡ (H.shown shelf.old).written }
+    ensures no_video { OnOk result ((H.shown shelf.new).unwritten Out.Video ≡ 0) }
+    ensures no_sound { OnOk result ((H.shown shelf.new).unwritten Out.Sound ≡ 0) }
     ensures of_run { IfErr result (λ out. (out ≡ Out.Video) ⊎ (out ≡ Out.Sound)) }
     ensures failed { IfErr result (λ out. HasRisen ((H.shown shelf.old).write_faults out) ((H.shown shelf.new).write_faults out)) }
     ensures only { OnlyFills (H.shown shelf.old) (H.shown shelf.new) }
@@ -91,6 +93,8 @@ fn play<P: Player, R: Threads, H: Shelf>(
     requires sound_created { Holds ((H.shown shelf.old).written Out.Sound) [] }
     ensures whole { OnOk result ((job : Job) → P.plays player job → PlayedWhole (P.emits job) (taken_by (H.shown shelf.new))) }
     ensures first { (job : Job) → P.plays player job → PlayedFirst (P.emits job) (taken_by (H.shown shelf.new)) }
+    ensures no_video { OnOk result ((H.shown shelf.new).unwritten Out.Video ≡ 0) }
+    ensures no_sound { OnOk result ((H.shown shelf.new).unwritten Out.Sound ≡ 0) }
     ensures of_run { IfErr result (λ out. (out ≡ Out.Video) ⊎ (out ≡ Out.Sound)) }
     ensures failed { IfErr result (λ out. HasRisen ((H.shown shelf.old).write_faults out) ((H.shown shelf.new).write_faults out)) }
     ensures only { OnlyFills (H.shown shelf.old) (H.shown shelf.new) }

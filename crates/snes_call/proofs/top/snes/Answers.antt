@@ -20,6 +20,13 @@ returns-clause-accepted g c = λ command files asked own late.
     c.read_command-read.ensures.command c.read_command-read.ensures.usage c.called.ensures.ends c.called.ensures.no_memory c.called.ensures.unread asked in
     clause.accepted g.P.Player.emits (shows c.args.shelf.now) (shows c.called.new.shelf) command c.called.result h files own late
 
+pub returns-clause-untouched : goal.returns-clause-untouched
+returns-clause-untouched g c = λ command asked early.
+    let shows = g.H.Shelf.shown in
+    let h = ended g.P.Player.emits c.args.words.now (shows c.args.shelf.now) (shows c.called.new.shelf) c.called.result c.read_command-read.result command
+    c.read_command-read.ensures.command c.read_command-read.ensures.usage c.called.ensures.ends c.called.ensures.no_memory c.called.ensures.unread asked in
+    clause.untouched g.P.Player.emits (shows c.args.shelf.now) (shows c.called.new.shelf) command c.called.result h early
+
 pub returns-clause-left : goal.returns-clause-left
 returns-clause-left g c = λ command out asked made.
     let shows = g.H.Shelf.shown in

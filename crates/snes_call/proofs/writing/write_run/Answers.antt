@@ -24,7 +24,7 @@ returns-in-Ok-play-clause-whole g c =
     run_written g.P.Player.emits c.args.job.now c.args.files.now (g.H.Shelf.shown c.args.shelf.now) (g.H.Shelf.shown c.create-2.new.shelf) (g.H.Shelf.shown c.play.new.shelf)
     (still_created _ _ _ _ (c.create-2.ensures.only.others Video (λ e. cc)) c.in-Ok-create.ensures.created)
     c.in-Ok-create-2.ensures.created first c.play.ensures.only
-    (c.in-Ok-play.ensures.whole c.args.job.now c.in-Ok.ensures.starts)
+    (c.in-Ok-play.ensures.whole c.args.job.now c.in-Ok.ensures.starts) c.in-Ok-play.ensures.no_video c.in-Ok-play.ensures.no_sound
 
 pub returns-in-Err-clause-ends : goal.returns-in-Err-clause-ends
 returns-in-Err-clause-ends g c =
