@@ -1,5 +1,5 @@
 pub mod Counts
-pub mod Faults
+pub mod Edge
 pub mod Given
 pub mod Memory
 pub mod Plan

@@ -1,8 +1,11 @@
-ghost use Rattle.std.specs.Prelude.{◌≡◌, ℕ, ◌<◌, ◌≤◌, [], length, vec_len, OnOk, OnErr, IfSome, IsSome, IsNone, IsErrOf};
+ghost use Rattle.std.specs.Prelude.{◌≡◌, ◌≢◌, ◌<◌, ◌≤◌, ◌+◌, [], length, vec_len, OnOk, OnErr, IfSome, IsErrOf};
 ghost use Rattle.std.specs.Io.KnownBytes.{Appends as AppendsKnown, Keeps};
-ghost use Rattle.file_shelf.specs.Given.{given_to, written_to};
+ghost use Rattle.file_shelf.specs.Given.{held_after};
 ghost use Rattle.file_shelf.specs.Shelves.{shown_by_files};
-ghost use Rattle.file_shelf.specs.Faults.{no_faults};
+ghost use Rattle.file_shelf.specs.Shown.{IsUntouched, IsCreated, OnlyCreates, OnlyLoads, OnlyPuts};
+ghost use Rattle.file_shelf.specs.Told.{Holds, Appends, AppendsSome, HasRisen};
+ghost use Rattle.file_shelf.specs.Counts.{count_of};
+ghost use Rattle.file_shelf.specs.Edge.{new_edge, kept_of, kept_in, faulted, IsNew, Took, TookSome, Wrote, WroteSome};
 
 use crate::buffered::{Buffered, write_whole};
 use crate::counts::Counts;
@@ -19,30 +22,30 @@ const READ: usize = 8192;
 ///
 /// It tells nothing of what it holds or has written. It counts the faults of all names together, and
 /// those of each output; every error of the system is a fault, and so is a write that takes nothing.
-/// Video and sound come in many small puts, so their bytes are gathered before they are written. After a fault
+/// A run comes in many small puts, so the bytes of a file are gathered before they are written. After a fault
 /// an output takes nothing until it is created again.
 #[derive(Drop)]
 pub struct FileShelf<'a, R: Files + Print> {
     rt: &'a R,
     video: Option<Buffered<R::File>>,
     sound: Option<Buffered<R::File>>,
-    image: Option<R::File>,
+    image: Option<Buffered<R::File>>,
     load_faults: u64,
     write_faults: Counts,
 }
 
 impl<'a, R: Files + Print> Model for FileShelf<'a, R> {
-    ghost use Rattle.file_shelf.specs.Faults.{Faults};
+    ghost use Rattle.file_shelf.specs.Edge.{Edge, kept_of};
 
-    ghost Value = { Faults };
+    ghost Value = { Edge };
 
-    ghost view = { λ s. record { loads = s.load_faults; writes = s.write_faults } };
+    ghost view = { λ s. record { loads = s.load_faults; writes = s.write_faults; video = kept_of R.File.contents s.video; sound = kept_of R.File.contents s.sound; image = kept_of R.File.contents s.image } };
 }
 
 impl<'a, R: Files + Print> FileShelf<'a, R> {
     /// A shelf over the files of this runtime, with all counts 0.
     pub fn new(rt: &'a R) -> FileShelf<'a, R>
-        ensures no_faults { result ≡ no_faults }
+        ensures new { result ≡ new_edge }
     {
         FileShelf {
             rt,
@@ -58,7 +61,15 @@ impl<'a, R: Files + Print> FileShelf<'a, R> {
 impl<R: Files + Print> Shelf for FileShelf<'_, R> {
     ghost shown = { shown_by_files };
 
-    fn load(&mut self, name: &str, limit: usize, into: &mut Vec<u8>) -> Result<(), LoadEnd> {
+    fn load(&mut self, name: &str, limit: usize, into: &mut Vec<u8>) -> Result<(), LoadEnd>
+        requires { into.old.items ≡ [] }
+        ensures within { OnOk result (vec_len into.new ≤ limit) }
+        ensures failed { IsErrOf result LoadEnd.Failed → HasRisen self.old.loads self.new.loads }
+        ensures no_count_falls { self.old.loads ≤ self.new.loads }
+        ensures outputs { self.new ≡ record self.old { loads = self.new.loads } }
+        ensures whole { OnOk result (Holds ((shown_by_files self.old).held name.now) into.new.items) }
+        ensures only { OnlyLoads (shown_by_files self.old) (shown_by_files self.new) }
+    {
         let end = match fs::open(self.rt, name) {
             Ok(mut file) => read_whole(&mut file, limit, into),
             Err(_) => Err(LoadEnd::Failed),
@@ -69,7 +80,19 @@ impl<R: Files + Print> Shelf for FileShelf<'_, R> {
         end
     }
 
-    fn create(&mut self, out: Out, name: &str) -> Result<(), Failed> {
+    fn create(&mut self, out: Out, name: &str) -> Result<(), Failed>
+        requires not_empty { 0 < length name.now }
+        requires fits { length name.now ≤ 4096 }
+        ensures created { OnOk result (IsNew (kept_in self.new out)) }
+        ensures no_fault { OnOk result (self.new.writes ≡ self.old.writes) }
+        ensures faulted { OnErr result (self.new ≡ faulted self.old out) }
+        ensures loads { self.new.loads ≡ self.old.loads }
+        ensures others { (other : Out) → other ≢ out → kept_in self.new other ≡ kept_in self.old other }
+        ensures is_created { OnOk result (IsCreated (shown_by_files self.new) out name.now) }
+        ensures risen { OnErr result (HasRisen (count_of self.old.writes out) (count_of self.new.writes out)) }
+        ensures untouched { OnErr result (IsUntouched (shown_by_files self.old) (shown_by_files self.new) out) }
+        ensures only { OnlyCreates (shown_by_files self.old) (shown_by_files self.new) out }
+    {
         let Ok(file) = fs::create(self.rt, name) else {
             self.write_faults.raise(out);
             return Err(Failed);
@@ -77,18 +100,32 @@ impl<R: Files + Print> Shelf for FileShelf<'_, R> {
         match out {
             Out::Video => self.video = Some(Buffered::new(file)),
             Out::Sound => self.sound = Some(Buffered::new(file)),
-            Out::Image => self.image = Some(file),
+            Out::Image => self.image = Some(Buffered::new(file)),
             Out::Say => {}
         }
         Ok(())
     }
 
-    fn put(&mut self, out: Out, bytes: &[u8]) -> Result<(), Failed> {
+    fn put(&mut self, out: Out, bytes: &[u8]) -> Result<(), Failed>
+        ensures took { OnOk result (Took (kept_in self.old out) (kept_in self.new out) bytes.now) }
+        ensures unwritten { OnOk result (out ≢ Out.Say → (kept_in self.new out).unwritten ≡ held_after (kept_in self.old out).unwritten (length bytes.now)) }
+        ensures some { OnErr result (out ≢ Out.Say → TookSome (kept_in self.old out) (kept_in self.new out) bytes.now) }
+        ensures no_fault { OnOk result (self.new.writes ≡ self.old.writes) }
+        ensures fault { OnErr result (self.new.writes ≡ (faulted self.old out).writes) }
+        ensures loads { self.new.loads ≡ self.old.loads }
+        ensures others { (other : Out) → other ≢ out → kept_in self.new other ≡ kept_in self.old other }
+        ensures risen { OnErr result (HasRisen (count_of self.old.writes out) (count_of self.new.writes out)) }
+        ensures appended { OnOk result (Appends ((shown_by_files self.old).written out) ((shown_by_files self.new).written out) bytes.now) }
+        ensures prefix { OnErr result (AppendsSome ((shown_by_files self.old).written out) ((shown_by_files self.new).written out) bytes.now) }
+        ensures held_back { OnOk result ((kept_in self.new out).unwritten ≤ (kept_in self.old out).unwritten + length bytes.now) }
+        ensures no_more_held_back { OnErr result ((kept_in self.new out).unwritten ≤ (kept_in self.old out).unwritten) }
+        ensures only { OnlyPuts (shown_by_files self.old) (shown_by_files self.new) out }
+    {
         let end = match out {
             Out::Video => put_created(&mut self.video, bytes),
             Out::Sound => put_created(&mut self.sound, bytes),
-            Out::Image => write_created(&mut self.image, bytes),
-            Out::Say => write_whole(&mut io::writer(self.rt), bytes),
+            Out::Image => put_created(&mut self.image, bytes),
+            Out::Say => say(self.rt, bytes),
         };
         if end.is_err() {
             self.write_faults.raise(out);
@@ -96,11 +133,22 @@ impl<R: Files + Print> Shelf for FileShelf<'_, R> {
         end
     }
 
-    fn flush(&mut self, out: Out) -> Result<(), Failed> {
+    fn flush(&mut self, out: Out) -> Result<(), Failed>
+        ensures wrote { OnOk result (Wrote (kept_in self.old out) (kept_in self.new out)) }
+        ensures some { OnErr result (WroteSome (kept_in self.old out) (kept_in self.new out)) }
+        ensures whole { OnOk result ((kept_in self.new out).unwritten ≡ 0) }
+        ensures no_more_held_back { OnErr result ((kept_in self.new out).unwritten ≤ (kept_in self.old out).unwritten) }
+        ensures no_fault { OnOk result (self.new.writes ≡ self.old.writes) }
+        ensures fault { OnErr result (self.new.writes ≡ (faulted self.old out).writes) }
+        ensures loads { self.new.loads ≡ self.old.loads }
+        ensures others { (other : Out) → other ≢ out → kept_in self.new other ≡ kept_in self.old other }
+        ensures risen { OnErr result (HasRisen (count_of self.old.writes out) (count_of self.new.writes out)) }
+        ensures only { OnlyPuts (shown_by_files self.old) (shown_by_files self.new) out }
+    {
         let end = match out {
             Out::Video => flush_created(&mut self.video),
             Out::Sound => flush_created(&mut self.sound),
-            Out::Image => Ok(()),
+            Out::Image => flush_created(&mut self.image),
             Out::Say => Ok(()),
         };
         if end.is_err() {
@@ -134,46 +182,33 @@ fn read_whole<F: Read>(file: &mut F, limit: usize, into: &mut Vec<u8>) -> Result
     }
 }
 
-/// Writes to an output that was created.
-fn write_created<F: Write>(file: &mut Option<F>, bytes: &[u8]) -> Result<(), Failed>
-    ensures created { OnOk result (IsSome file.old) }
-    ensures whole { OnOk result (AppendsKnown (written_to F.contents file.old) (written_to F.contents file.new) bytes.now) }
+/// Writes to standard output, at once.
+fn say<R: Print>(rt: &R, bytes: &[u8]) -> Result<(), Failed> {
+    match write_whole(&mut io::writer(rt), bytes) {
+        Ok(()) => Ok(()),
+        Err(_) => Err(Failed),
+    }
+}
+
+/// Puts to an output, which takes bytes from its creation to a fault.
+fn put_created<F: Write + Drop>(file: &mut Option<Buffered<F>>, bytes: &[u8]) -> Result<(), Failed>
+    ensures took { OnOk result (Took (kept_of F.contents file.old) (kept_of F.contents file.new) bytes.now) }
+    ensures unwritten { OnOk result ((kept_of F.contents file.new).unwritten ≡ held_after (kept_of F.contents file.old).unwritten (length bytes.now)) }
+    ensures some { OnErr result (TookSome (kept_of F.contents file.old) (kept_of F.contents file.new) bytes.now) }
 {
     match file {
-        Some(file) => write_whole(file, bytes),
-        None => Err(Failed),
-    }
-}
-
-/// Puts to an output that was created. One that fails is closed.
-fn put_created<F: Write + Drop>(file: &mut Option<Buffered<F>>, bytes: &[u8]) -> Result<(), Failed>
-    ensures created { OnOk result (IsSome file.old) }
-    ensures whole { OnOk result (AppendsKnown (written_to (given_to F.contents) file.old) (written_to (given_to F.contents) file.new) bytes.now) }
-    ensures closed { OnErr result (IsNone file.new) }
-{
-    let end = match file {
         Some(file) => file.put(bytes),
         None => Err(Failed),
-    };
-    if end.is_err() {
-        *file = None;
     }
-    end
 }
 
-/// Writes what an output that was created holds back. One that fails is closed.
+/// Writes what an output that was created holds back.
 fn flush_created<F: Write + Drop>(file: &mut Option<Buffered<F>>) -> Result<(), Failed>
-    ensures created { OnOk result (IsSome file.old) }
-    ensures empty { OnOk result (IfSome file.new (λ one. one.gathered.items ≡ [])) }
-    ensures kept { OnOk result (Keeps (written_to (given_to F.contents) file.old) (written_to (given_to F.contents) file.new)) }
-    ensures closed { OnErr result (IsNone file.new) }
+    ensures wrote { OnOk result (Wrote (kept_of F.contents file.old) (kept_of F.contents file.new)) }
+    ensures some { OnErr result (WroteSome (kept_of F.contents file.old) (kept_of F.contents file.new)) }
 {
-    let end = match file {
+    match file {
         Some(file) => file.flush(),
         None => Err(Failed),
-    };
-    if end.is_err() {
-        *file = None;
     }
-    end
 }

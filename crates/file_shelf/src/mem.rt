@@ -1,4 +1,4 @@
-ghost use Rattle.std.specs.Prelude.{◌≡◌, ℕ, ◌<◌, ◌≤◌, ◌↔◌, List, [], ◌∷◌, false, length, drop, Some, None, OnOk, OnErr, IfOk, IsErr, IsErrOf, IsSomeAnd, IsTrue, vec_len};
+ghost use Rattle.std.specs.Prelude.{◌≡◌, ℕ, ◌<◌, ◌≤◌, ◌↔◌, List, [], ◌∷◌, false, length, drop, Some, None, OnOk, OnErr, IfOk, IsOk, IsErr, IsErrOf, IsSomeAnd, IsTrue, vec_len};
 ghost use Rattle.std.specs.Option.{ForSome};
 ghost use Rattle.file_shelf.specs.Memory.{fault_count, raised, faults_of, load_failing, loaded, created, filled, given, planned, empty_memory};
 ghost use Rattle.file_shelf.specs.Plan.{create_fails, put_fails};
@@ -218,6 +218,13 @@ impl Shelf for MemShelf {
             return Err(Failed);
         }
         self.store.put(out, bytes);
+        Ok(())
+    }
+
+    fn flush(&mut self, _out: Out) -> Result<(), Failed>
+        ensures ok { IsOk result }
+        ensures same { self.new ≡ self.old }
+    {
         Ok(())
     }
 }

@@ -1,4 +1,4 @@
-ghost use Rattle.std.specs.Prelude.{◌≡◌, ◌<◌, ◌≤◌, [], length, vec_len, OnOk, OnErr, IfSome, IsErrOf};
+ghost use Rattle.std.specs.Prelude.{◌≡◌, ◌+◌, ◌<◌, ◌≤◌, [], length, vec_len, OnOk, OnErr, IfSome, IsErrOf};
 ghost use Rattle.file_shelf.specs.Told.{Holds, Appends, AppendsSome, HasRisen};
 ghost use Rattle.file_shelf.specs.Shown.{Shown, IsUntouched, IsCreated, OnlyLoads, OnlyCreates, OnlyPuts};
 
@@ -46,8 +46,10 @@ pub struct Failed;
 /// A shelf of files: named files that can be loaded, and four outputs that can be written.
 ///
 /// Contracts see what a shelf holds and what was written as far as the shelf tells it: one in memory
-/// does, one over real files tells nothing. Each shelf counts its faults, so that every failure that
-/// it answers has a cause which the program cannot make up. A count of 2^64 - 1 stays there.
+/// does, one over real files tells nothing. Each shelf tells how many of the bytes that were put to an output are
+/// not yet written: the last so many; the output has all before them, and never loses one. Each shelf counts its
+/// faults, so that every failure that it answers has a cause which the program cannot make up. A count of
+/// 2^64 - 1 stays there.
 pub trait Shelf {
     // All that it shows.
     ghost shown: { Self → Shown };
@@ -70,21 +72,20 @@ pub trait Shelf {
         ensures untouched { OnErr result (IsUntouched (shown self.old) (shown self.new) out) }
         ensures only { OnlyCreates (shown self.old) (shown self.new) out };
 
-    /// Appends these bytes to an output.
+    /// Appends these bytes to what was put to an output. Some of it may be held back, and be written later.
     fn put(&mut self, out: Out, bytes: &[u8]) -> Result<(), Failed>
         ensures appended { OnOk result (Appends ((shown self.old).written out) ((shown self.new).written out) bytes.now) }
         ensures failed { OnErr result (HasRisen ((shown self.old).write_faults out) ((shown self.new).write_faults out)) }
         ensures prefix { OnErr result (AppendsSome ((shown self.old).written out) ((shown self.new).written out) bytes.now) }
+        ensures held_back { OnOk result ((shown self.new).unwritten out ≤ (shown self.old).unwritten out + length bytes.now) }
+        ensures no_more_held_back { OnErr result ((shown self.new).unwritten out ≤ (shown self.old).unwritten out) }
         ensures only { OnlyPuts (shown self.old) (shown self.new) out };
 
-    /// Writes the bytes of an output that the shelf still holds back, after the last put to it. A shelf that
-    /// writes at each put holds none back.
+    /// Writes the bytes of an output that the shelf still holds back, after the last put to it.
     fn flush(&mut self, out: Out) -> Result<(), Failed>
         ensures written { (shown self.new).written ≡ (shown self.old).written }
+        ensures whole { OnOk result ((shown self.new).unwritten out ≡ 0) }
+        ensures no_more_held_back { OnErr result ((shown self.new).unwritten out ≤ (shown self.old).unwritten out) }
         ensures failed { OnErr result (HasRisen ((shown self.old).write_faults out) ((shown self.new).write_faults out)) }
-        ensures only { OnlyPuts (shown self.old) (shown self.new) out }
-    {
-        let _ = out;
-        Ok(())
-    }
+        ensures only { OnlyPuts (shown self.old) (shown self.new) out };
 }

@@ -102,4 +102,11 @@ impl Shelf for SureShelf {
         self.store.put(out, bytes);
         Ok(())
     }
+
+    fn flush(&mut self, _out: Out) -> Result<(), Failed>
+        ensures sure { IsOk result }
+        ensures same { self.new ≡ self.old }
+    {
+        Ok(())
+    }
 }

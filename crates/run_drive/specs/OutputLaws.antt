@@ -11,7 +11,7 @@ only_runs_none a = record {
   held = refl;
   load_faults = refl;
   write_faults = λ any. omega arith;
-  others = λ other v s. record { written = refl; named = refl; write_faults = refl };
+  others = λ other v s. record { written = refl; named = refl; unwritten = refl; write_faults = refl };
 }
 
 pub only_runs_then : (a b c : Shown) → OnlyRuns a b → OnlyRuns b c → OnlyRuns a c
@@ -22,6 +22,7 @@ only_runs_then a b c first then = record {
   others = λ other v s. record {
     written = (then.others other v s).written ∙ (first.others other v s).written;
     named = (then.others other v s).named ∙ (first.others other v s).named;
+    unwritten = (then.others other v s).unwritten ∙ (first.others other v s).unwritten;
     write_faults = (then.others other v s).write_faults ∙ (first.others other v s).write_faults;
   };
 }

@@ -197,7 +197,7 @@ module _ (command : Command) (order : Order) (before after : Shown) where
         done a = all_map (IsBegun command order before after) (IsLeft command order before after) (λ o b. inr b) command.form.outputs (done_begun a.line a.done)
 
         over : OnlySays before after → AllLeft
-        over h = all_map (λ o. o ≢ out.Say) (IsLeft command order before after) (λ o d. inl (record { written = (h o d).written; named = (h o d).named })) command.form.outputs others
+        over h = all_map (λ o. o ≢ out.Say) (IsLeft command order before after) (λ o d. inl (record { written = (h o d).written; named = (h o d).named; unwritten = (h o d).unwritten })) command.form.outputs others
 
     pub begun : (status : Status) → Answered status ⊎ Short status → AreBegun command order before after status
     begun = by (AreBegun command order before after) (λ a. done_begun a.line a.done) (λ a risen. done_begun a.line a.done) (λ i k. tt) (λ i k. tt) write (λ k. tt)

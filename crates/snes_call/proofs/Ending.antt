@@ -25,6 +25,7 @@ loads_over : (z a : Shown) → OnlyLoads z a → (any : Out) → IsPassedOver z 
 loads_over z a loads any = record {
   written = ap (λ (w : Out → Option (List ℕ)). w any) loads.written;
   named = ap (λ (w : Out → Option (List ℕ)). w any) loads.named;
+  unwritten = ap (λ (n : Out → ℕ). n any) loads.unwritten;
   write_faults = ap (λ (f : Out → ℕ). f any) loads.write_faults;
 }
 
@@ -67,7 +68,7 @@ module _ (command : Command) (order : Order) (z a : Shown) (loads : OnlyLoads z 
           risen = risen_all b failed risen;
           earlier = first_map (IsFresh order b) (IsBegun command order z b) (λ o. o ≡ failed) (λ o. o ≡ failed) begun (λ o e. e) command.form.outputs place;
           left = all_map (λ o. IsUntouched a b o ⊎ IsFresh order b o) (IsLeft command order z b)
-              (λ o k. ⊎_elim (λ u. let over = loads_over z a loads o in inl (record { written = u.written ∙ over.written; named = u.named ∙ over.named })) (λ n. inr (begun o n)) k)
+              (λ o k. ⊎_elim (λ u. let over = loads_over z a loads o in inl (record { written = u.written ∙ over.written; named = u.named ∙ over.named; unwritten = u.unwritten ∙ over.unwritten })) (λ n. inr (begun o n)) k)
               command.form.outputs left;
         }
 
@@ -79,11 +80,13 @@ module _ (command : Command) (order : Order) (z a : Shown) (loads : OnlyLoads z 
       still o h = subst (λ (n : Out → Option (List ℕ)). IsNamed order n o) (sym same) h.named
 
       -- all outputs were filled
-      pub all_done : (line : List ℕ) → HoldsWhole command order (told_in b order.pairs) c.written line → IsDone command order z c line
-      all_done line h = record {
+      pub all_done : (line : List ℕ) → HoldsWhole command order (told_in b order.pairs) c.written line → AllOf (λ o. c.unwritten o ≡ 0) command.form.outputs
+          → IsDone command order z c line
+      all_done line h flushed = record {
         accepted = made.accepted;
         whole = subst (λ (told : Input → Option (List ℕ)). HoldsWhole command order told c.written line) told_same h;
         named = all_map (IsFresh order b) (IsNamed order c.named) still command.form.outputs created;
+        flushed = flushed;
       }
 
       -- an output was not filled
@@ -130,6 +133,7 @@ module _ (command : Command) (order : Order) (before mid after : Shown) (apart :
       holds = all_both (λ o. o ≢ out.Say) (λ o. Holds (mid.written o) (h.whole.contents o)) (λ o. Holds (after.written o) (h.whole.contents o)) (λ o. written_after o (h.whole.contents o)) command.form.outputs others h.whole.holds;
     };
     named = all_both (λ o. o ≢ out.Say) (IsNamed order mid.named) (IsNamed order after.named) named_after command.form.outputs others h.named;
+    flushed = all_both (λ o. o ≢ out.Say) (λ o. mid.unwritten o ≡ 0) (λ o. after.unwritten o ≡ 0) (λ o differ is. (puts.others o differ).unwritten ∙ is) command.form.outputs others h.flushed;
   }
 
   says_after : OnlySays before mid → OnlySays before after
@@ -152,7 +156,7 @@ module _ (command : Command) (order : Order) (before mid after : Shown) (apart :
         risen = subst (λ (n : ℕ). HasRisen (before.write_faults failed) n) (sym (puts.others failed differ).write_faults) h.risen;
         earlier = first_both (λ o. o ≢ out.Say) (IsBegun command order before mid) (IsBegun command order before after) (λ o. o ≡ failed) begun_after command.form.outputs others h.earlier;
         left = all_both (λ o. o ≢ out.Say) (IsLeft command order before mid) (IsLeft command order before after)
-            (λ o d k. ⊎_elim (λ u. inl (record { written = (puts.others o d).written ∙ u.written; named = (puts.others o d).named ∙ u.named })) (λ b. inr (begun_after o d b)) k)
+            (λ o d k. ⊎_elim (λ u. inl (record { written = (puts.others o d).written ∙ u.written; named = (puts.others o d).named ∙ u.named; unwritten = (puts.others o d).unwritten ∙ u.unwritten })) (λ b. inr (begun_after o d b)) k)
             command.form.outputs others h.left;
       }
   short_after NoMemory h = says_after h
@@ -163,7 +167,7 @@ module _ (command : Command) (order : Order) (before mid after : Shown) (apart :
   since : (line : List ℕ) (status : Status) → Says mid after line status → Says before after line status
   since line status says =
       ⊎_elim
-      (λ h. inl (record { answer = h.answer; whole = subst (λ (w : Option (List ℕ)). Appends w (after.written out.Say) line) over.written h.whole }))
+      (λ h. inl (record { answer = h.answer; whole = subst (λ (w : Option (List ℕ)). Appends w (after.written out.Say) line) over.written h.whole; none_left = h.none_left }))
       (λ h. inr (record {
         answer = h.answer;
         some = subst (λ (w : Option (List ℕ)). AppendsSome w (after.written out.Say) line) over.written h.some;
@@ -177,6 +181,7 @@ module _ (command : Command) (order : Order) (before mid after : Shown) (apart :
     some = subst (λ (w : Option (List ℕ)). AppendsSome w (after.written out.Say) line) over.written h.some;
     whole = λ quiet. subst (λ (w : Option (List ℕ)). Appends w (after.written out.Say) line) over.written
         (h.whole (λ risen. quiet (subst (λ (n : ℕ). HasRisen n (after.write_faults out.Say)) over.write_faults risen)));
+    none_left = λ quiet. h.none_left (λ risen. quiet (subst (λ (n : ℕ). HasRisen n (after.write_faults out.Say)) over.write_faults risen));
   }
 
   passed : (any : Out) → AllOf (λ o. o ≢ any) command.form.outputs → (any ≡ out.Say) ⊎ IsPassedOver before after any

@@ -8,4 +8,5 @@ pub mod Lists
 pub mod Loading
 pub mod MakeLemmas
 pub mod OutputLemmas
+pub mod Putting
 pub mod RunLemmas

@@ -60,11 +60,12 @@ loads_then a b c first next = record {
   held = next.held ∙ first.held;
   written = next.written ∙ first.written;
   named = next.named ∙ first.named;
+  unwritten = next.unwritten ∙ first.unwritten;
   write_faults = next.write_faults ∙ first.write_faults;
   load_faults = λ name. omega (arith, first.load_faults name, next.load_faults name);
 }
 
 pub loads_none : (a : Shown) → OnlyLoads a a
-loads_none a = record { held = refl; written = refl; named = refl; write_faults = refl; load_faults = λ name. omega arith }
+loads_none a = record { held = refl; written = refl; named = refl; unwritten = refl; write_faults = refl; load_faults = λ name. omega arith }
 
 pub ruleset told = (loaded_is)

@@ -57,10 +57,10 @@ not_said (o ∷ outs) h = let k = split o outs h in (k.0, not_said outs k.2)
 
 -- an output that is passed over twice
 pub over_then : (a b c : Shown) (any : Out) → IsPassedOver a b any → IsPassedOver b c any → IsPassedOver a c any
-over_then a b c any h k = record { written = k.written ∙ h.written; named = k.named ∙ h.named; write_faults = k.write_faults ∙ h.write_faults }
+over_then a b c any h k = record { written = k.written ∙ h.written; named = k.named ∙ h.named; unwritten = k.unwritten ∙ h.unwritten; write_faults = k.write_faults ∙ h.write_faults }
 
 pub touches_none : (outs : List Out) (a : Shown) → OnlyTouches outs a a
-touches_none outs a = record { held = refl; load_faults = refl; write_faults = λ any. omega arith; others = λ other none. record { written = refl; named = refl; write_faults = refl } }
+touches_none outs a = record { held = refl; load_faults = refl; write_faults = λ any. omega arith; others = λ other none. record { written = refl; named = refl; unwritten = refl; write_faults = refl } }
 
 pub touches_then : (outs : List Out) (a b c : Shown) → OnlyTouches outs a b → OnlyTouches outs b c → OnlyTouches outs a c
 touches_then outs a b c h k = record {
@@ -80,6 +80,11 @@ module _ (one : Out) (rest : List Out) (a b : Shown) where
   pub touches_rest : OnlyTouches rest a b → OnlyTouches (one ∷ rest) a b
   touches_rest h = record { held = h.held; load_faults = h.load_faults; write_faults = h.write_faults; others = λ other none. h.others other none.1 }
 
+  module _ (apart : are_apart (one ∷ rest) ≡ true) where
+    -- it was flushed, and stays so while the others are
+    pub still_flushed : a.unwritten one ≡ 0 → OnlyTouches rest a b → b.unwritten one ≡ 0
+    still_flushed h only = (only.others one (split one rest apart).1).unwritten ∙ h
+
   module _ (order : Order) (apart : are_apart (one ∷ rest) ≡ true) where
     -- it was created, and stays as it was while the others are
     pub still_fresh : IsFresh order a one → OnlyTouches rest a b → IsFresh order b one
@@ -88,6 +93,7 @@ module _ (one : Out) (rest : List Out) (a b : Shown) where
         record {
           named = subst (λ (n : Option (List ℕ)). Holds n (output_name order.pairs one)) (sym over.named) h.named;
           empty = subst (λ (n : Option (List ℕ)). Holds n []) (sym over.written) h.empty;
+          unwritten = over.unwritten ∙ h.unwritten;
         }
 
     -- it was not created, so no other was tried
@@ -95,7 +101,7 @@ module _ (one : Out) (rest : List Out) (a b : Shown) where
     none_left h only = (
       inl h,
       all_map (λ o. o ≢ one) (λ o. IsUntouched a b o ⊎ IsFresh order b o)
-          (λ o differ. let over = only.others o differ in inl (record { written = over.written; named = over.named })) rest (split one rest apart).1,
+          (λ o differ. let over = only.others o differ in inl (record { written = over.written; named = over.named; unwritten = over.unwritten })) rest (split one rest apart).1,
     )
 
     -- it was created, and the others are left so
@@ -104,6 +110,6 @@ module _ (one : Out) (rest : List Out) (a b : Shown) where
     all_left c only h left = (
       inr h,
       all_both (λ o. o ≢ one) (λ o. IsUntouched b c o ⊎ IsFresh order c o) (λ o. IsUntouched a c o ⊎ IsFresh order c o)
-          (λ o differ k. let over = only.others o differ in ⊎_elim (λ u. inl (record { written = u.written ∙ over.written; named = u.named ∙ over.named })) (λ n. inr n) k)
+          (λ o differ k. let over = only.others o differ in ⊎_elim (λ u. inl (record { written = u.written ∙ over.written; named = u.named ∙ over.named; unwritten = u.unwritten ∙ over.unwritten })) (λ n. inr n) k)
           rest (split one rest apart).1 left,
     )

@@ -48,11 +48,13 @@ module _ (command : Command) (order : Order) (before : Shown) where
     pub makes : CanMake command order (told_in before order.pairs)
 
   module _ (after : Shown) where
-    -- the command was done, and this is its line: its inputs are accepted, and its outputs stand whole under their names
+    -- the command was done, and this is its line: its inputs are accepted, and its outputs stand whole under their names,
+    -- with nothing left to be written
     pub record IsDone (line : List ℕ) : Type 0 where
       pub accepted : AllOf (ShowsAccepted (told_in before order.pairs)) command.form.inputs
       pub whole : HoldsWhole command order (told_in before order.pairs) after.written line
       pub named : AllOf (IsNamed order after.named) command.form.outputs
+      pub flushed : AllOf (λ out. after.unwritten out ≡ 0) command.form.outputs
 
     -- an output was begun: it has its name, and holds first bytes of what it is to hold
     pub record IsBegun (out : Out) : Type 0 where

@@ -19,6 +19,7 @@ mod loads;
 mod make;
 mod outputs;
 mod perform;
+mod put_whole;
 mod run;
 mod say;
 mod script;

@@ -35,6 +35,8 @@ pub(crate) fn create_all<H: Shelf>(
 
 /// Writes what the outputs still hold back, in their order. Err names the one that was not written.
 pub(crate) fn flush_all<H: Shelf>(shelf: &mut H, outputs: &[Out]) -> Result<(), Out>
+    requires { are_apart outputs.now ≡ true }
+    ensures whole { OnOk result (AllOf (λ out. (H.shown shelf.new).unwritten out ≡ 0) outputs.now) }
     ensures written { (H.shown shelf.new).written ≡ (H.shown shelf.old).written }
     ensures failed { IfErr result (λ failed. IsOneOf outputs.now failed × HasRisen ((H.shown shelf.old).write_faults failed) ((H.shown shelf.new).write_faults failed)) }
     ensures named { (H.shown shelf.new).named ≡ (H.shown shelf.old).named }

@@ -4,6 +4,7 @@ ghost use Rattle.run_io.specs.Line.{line_of};
 ghost use Rattle.snes_call.specs.Status.{refusal_of, refused_text};
 ghost use Rattle.snes_call.specs.Said.{IsSaid, Says};
 
+use crate::put_whole::put_whole;
 use crate::status::{Status, Why};
 use file_shelf::{Out, Shelf};
 use run_io::{
@@ -37,15 +38,15 @@ fn refusal(status: Status) -> Option<Line>
     }
 }
 
-/// Says the line of an answer that tells why nothing was done, and gives the answer. A put that fails
-/// is passed over.
+/// Says the line of an answer that tells why nothing was done, and gives the answer. That it was not said is
+/// passed over.
 pub(crate) fn refuse<H: Shelf>(shelf: &mut H, status: Status) -> Status
     ensures answer { result ≡ status }
     ensures said { IfSome (refusal_of status) (IsSaid (H.shown shelf.old) (H.shown shelf.new)) }
     ensures only { OnlyPuts (H.shown shelf.old) (H.shown shelf.new) Out.Say }
 {
     if let Some(line) = refusal(status) {
-        let _ = shelf.put(Out::Say, line.bytes());
+        let _ = put_whole(shelf, Out::Say, line.bytes());
     }
     status
 }
@@ -58,7 +59,7 @@ pub(crate) fn say<H: Shelf>(shelf: &mut H, outcome: Result<Line, Status>) -> Sta
     ensures only { OnlyPuts (H.shown shelf.old) (H.shown shelf.new) Out.Say }
 {
     match outcome {
-        Ok(line) => match shelf.put(Out::Say, line.bytes()) {
+        Ok(line) => match put_whole(shelf, Out::Say, line.bytes()) {
             Ok(()) => Status::Ok,
             Err(_) => Status::WriteFault(Out::Say),
         },

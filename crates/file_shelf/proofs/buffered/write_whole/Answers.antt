@@ -1,21 +1,15 @@
-use Rattle.std.proofs.Common.{◌+◌, drop, ap, ◌∙◌}
-use Rattle.std.proofs.lemmas.List.{take_rest, drop-drop}
-use Rattle.std.proofs.KnownBytes.{Appends-kept}
+use Rattle.std.proofs.Common.{arith, take, subst}
+use Rattle.std.proofs.lemmas.List.{take_rest}
+use Rattle.std.specs.Io.KnownBytes.{Appends}
 use Rattle.file_shelf.proofs.EdgeLemmas.{more_written}
 use Rattle.file_shelf.proofs.buffered.write_whole.Goals as goal
 
-pub loop-rest-preserved : goal.loop-rest-preserved
-loop-rest-preserved g c =
-    let (count, at, before) = c.loop-rest.invariant in
-    let n = c.in-Ok.count in
-    (count + n, take_rest c.loop-rest.rest.now n ∙ ap (drop n) at ∙ drop-drop n count _, more_written _ _ _ _ _ count n at before c.in-Ok.ensures.bytes)
-
-pub returns-in_default-clause-prefix : goal.returns-in_default-clause-prefix
-returns-in_default-clause-prefix g c =
-    let (count, at, before) = c.loop-rest.invariant in
-    (count + c.in-Ok.count, more_written _ _ _ _ _ count c.in-Ok.count at before c.in-Ok.ensures.bytes)
-
-pub returns-in_default-2-clause-prefix : goal.returns-in_default-2-clause-prefix
-returns-in_default-2-clause-prefix g c =
-    let (count, at, before) = c.loop-rest.invariant in
-    (count, Appends-kept _ _ _ _ before c.in_default.ensures.bytes)
+pub loop-count-preserved : goal.loop-count-preserved
+loop-count-preserved g c =
+    let before = g.W.Write.contents c.loop-count.file in
+    let after = g.W.Write.contents c.write.new.self in
+    record {
+      within = grind arith;
+      written = more_written _ _ _ c.args.bytes.now c.loop-count.count c.in-Ok.more c.loop-count.invariant.written
+          (subst (λ l. Appends before after (take c.in-Ok.more l)) (take_rest c.args.bytes.now c.loop-count.count) c.in-Ok.ensures.bytes);
+    }

@@ -86,6 +86,7 @@ returns-in-Ok-flush_all-clause-done g c =
     let fills = touches_then command.form.outputs b (shows c.fill.new.shelf) d c.fill.ensures.only (subst (λ (o : List Out). OnlyTouches o (shows c.fill.new.shelf) d) are c.flush_all.ensures.only) in
     all_done command order z a c.load.ensures.only made b opens created d fills (c.flush_all.ensures.named ∙ c.fill.ensures.named) c.in-Ok-fill.line
     (subst (λ (w : Out → Option (List ℕ)). HoldsWhole command order (told_in b order.pairs) w c.in-Ok-fill.line) (sym c.flush_all.ensures.written) c.in-Ok-fill.ensures.whole)
+    (subst (λ (o : List Out). AllOf (λ x. d.unwritten x ≡ 0) o) are c.in-Ok-flush_all.ensures.whole)
 
 pub returns-in-Err-flush_all-clause-ends : goal.returns-in-Err-flush_all-clause-ends
 returns-in-Err-flush_all-clause-ends g c =
