@@ -1,6 +1,7 @@
 ghost use Rattle.std.specs.Prelude.{◌≡◌, ◌+◌, ◌*◌, ◌<◌, IfOk, IfErr, length, slice_index};
 ghost use Rattle.input_files.specs.Table.{entry_of, IsTableFile, IsRefusedAt};
 
+use byteorder::{ByteOrder, LittleEndian};
 use snes_defs::Table;
 
 /// How many entries a table has, and the greatest of them.
@@ -33,5 +34,5 @@ fn entry(file: &[u8], i: usize) -> u16
     requires { 2 * i + 1 < length file.now }
     ensures { result ≡ entry_of file.now i }
 {
-    u16::from(file[2 * i]) + 256 * u16::from(file[2 * i + 1])
+    LittleEndian::read_u16(&file[2 * i..])
 }
