@@ -11,7 +11,7 @@
 # for the whole gate, and what the gate has proved is taken here. It takes minutes once, says on standard error how
 # far it is, and its log is crates/CRATE/out/build.log.
 #
-# Where there is no program to run, the status is 70, which no program here has.
+# Where there is no program to run, the status is 70, which no program here has. With ONLY_BUILD set it is not run.
 top=$(cd "$(dirname "$(readlink -f "${BASH_SOURCE[0]}")")/.." && pwd) || exit 70
 tool=$1
 crate=$2
@@ -111,4 +111,5 @@ if ! is_built; then
   is_built || build
   exec 9>&-
 fi
+[ -z "${ONLY_BUILD-}" ] || exit 0
 exec "$program" "$@"
