@@ -125,8 +125,9 @@ play_stops now before after later w n all le h some =
       bytes = pairs_of w all;
       first = are_first w all;
       taken = λ had held.
-          let p = some (had ++ h.handed) (h.taken had held) in
-          (length (h.handed ++ take p.0 now.side.waiting),
-           first_held (λ (l : List ℕ). later (had ++ l)) h.handed now.side.waiting rest.0 (pairs_of w all) p.0 begins
-           (subst later (append_assoc had h.handed (take p.0 now.side.waiting)) p.1));
+          let p = some (had ++ h.handed) (h.taken had held) in (
+            length (h.handed ++ take p.0 now.side.waiting),
+            first_held (λ (l : List ℕ). later (had ++ l)) h.handed now.side.waiting rest.0 (pairs_of w all) p.0 begins
+                (subst later (append_assoc had h.handed (take p.0 now.side.waiting)) p.1),
+          );
     }

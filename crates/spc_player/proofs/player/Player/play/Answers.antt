@@ -29,26 +29,28 @@ samples-preserved g c = record {
       let k = c.samples.k in
       let before = c.samples.invariant.played w h in
       let now : HasPlayed c.if-pending-gt-MANY.self from (g.K.Sink.holds c.if-pending-gt-MANY.sink Sound) w k =
-          elim c.if-pending-gt-MANY.branch [
-            then-pending-gt-MANY+in-Ok b ↦
-                let lent : PlayerValue = record { side = b.pour.new.machine; ports = c.self.inside.ports } in
-                let adds = subst (λ (p : PlayerValue). Adds (g.K.Sink.holds c.samples.sink Sound) (g.K.Sink.holds b.pour.new.sink Sound) p.side.waiting) c.self.view_is b.in-Ok.ensures.whole in
-                subst (λ (p : PlayerValue). HasPlayed p from (g.K.Sink.holds c.if-pending-gt-MANY.sink Sound) w k) (sym b.self-is)
-                (subst (λ (x : g.row.K.Denot). HasPlayed lent from (g.K.Sink.holds x Sound) w k) (sym b.sink-is)
-                (play_pours c.samples.self lent from (g.K.Sink.holds c.samples.sink Sound) (g.K.Sink.holds b.pour.new.sink Sound) w k before
-                (lent_plays c.self.inside.side b.pour.new.machine c.self.inside.ports c.samples.self c.self.view_is b.pour.ensures.state) b.pour.ensures.empty adds))
-            | else-pending-gt-MANY b ↦
-                subst (λ (p : PlayerValue). HasPlayed p from (g.K.Sink.holds c.if-pending-gt-MANY.sink Sound) w k) (sym b.self-is)
-                (subst (λ (x : g.row.K.Denot). HasPlayed c.samples.self from (g.K.Sink.holds x Sound) w k) (sym b.sink-is) before) ] in
+      elim c.if-pending-gt-MANY.branch [
+        | then-pending-gt-MANY+in-Ok b ↦
+            let lent : PlayerValue = record { side = b.pour.new.machine; ports = c.self.inside.ports } in
+            let adds = subst (λ (p : PlayerValue). Adds (g.K.Sink.holds c.samples.sink Sound) (g.K.Sink.holds b.pour.new.sink Sound) p.side.waiting) c.self.view_is b.in-Ok.ensures.whole in
+            subst (λ (p : PlayerValue). HasPlayed p from (g.K.Sink.holds c.if-pending-gt-MANY.sink Sound) w k) (sym b.self-is)
+            (subst (λ (x : g.row.K.Denot). HasPlayed lent from (g.K.Sink.holds x Sound) w k) (sym b.sink-is)
+            (play_pours c.samples.self lent from (g.K.Sink.holds c.samples.sink Sound) (g.K.Sink.holds b.pour.new.sink Sound) w k before
+            (lent_plays c.self.inside.side b.pour.new.machine c.self.inside.ports c.samples.self c.self.view_is b.pour.ensures.state) b.pour.ensures.empty adds))
+        | else-pending-gt-MANY b ↦
+            subst (λ (p : PlayerValue). HasPlayed p from (g.K.Sink.holds c.if-pending-gt-MANY.sink Sound) w k) (sym b.self-is)
+            (subst (λ (x : g.row.K.Denot). HasPlayed c.samples.self from (g.K.Sink.holds x Sound) w k) (sym b.sink-is) before)
+      ] in
       play_goes_on c.if-pending-gt-MANY.self c.to_next_sample.new.self from (g.K.Sink.holds c.if-pending-gt-MANY.sink Sound) w k now c.to_next_sample.ensures.next c.to_next_sample.ensures.emits;
   few = grind (arith, common_steps);
   early = grind (arith, common_steps);
   room = grind (arith, common_steps);
   other = grind (arith, common_steps);
   only = elim c.if-pending-gt-MANY.branch [
-      then-pending-gt-MANY+in-Ok b ↦
-          subst (λ (x : g.row.K.Denot). g.K.Sink.only_takes c.args.sink.now x) (sym b.sink-is) (g.met.K.Sink.takes_more _ _ _ c.samples.invariant.only b.pour.ensures.only)
-      | else-pending-gt-MANY b ↦ subst (λ (x : g.row.K.Denot). g.K.Sink.only_takes c.args.sink.now x) (sym b.sink-is) c.samples.invariant.only ];
+    | then-pending-gt-MANY+in-Ok b ↦
+        subst (λ (x : g.row.K.Denot). g.K.Sink.only_takes c.args.sink.now x) (sym b.sink-is) (g.met.K.Sink.takes_more _ _ _ c.samples.invariant.only b.pour.ensures.only)
+    | else-pending-gt-MANY b ↦ subst (λ (x : g.row.K.Denot). g.K.Sink.only_takes c.args.sink.now x) (sym b.sink-is) c.samples.invariant.only
+  ];
 }
 
 pub returns-in_default-pour-clause-first : goal.returns-in_default-pour-clause-first
