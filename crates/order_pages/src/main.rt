@@ -3,9 +3,9 @@
 //! A page's table has a row for each order, `| instructions | opcodes | width | cycles |`, as a data sheet has. Each of
 //! its opcodes is run in many states, access by access: every cycle has to be of the kind that the row names, and the
 //! instruction has to end after the last one. Each opcode has to stand in just one row. The files of the program's words
-//! are read one by one; `data/65c816.md` and `data/spc700.md` are the pages themselves. A page says by a line
+//! are read one by one; `65c816.md` and `spc700.md` of its data are the pages themselves. A page says by a line
 //! with `of the SPC700` in front of its table that it is about the sound side's processor. The rows of
-//! `data/differing.md` are wrong in one thing each, and have to differ.
+//! `differing.md` are wrong in one thing each, and have to differ.
 #![tactic(auto)]
 
 mod cpu;
