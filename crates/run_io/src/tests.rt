@@ -147,7 +147,8 @@ fn a_full_device_takes_nothing(rt: HostRuntime) {
     assert_eq!(rt; shelf.flush(Out::Video), Err(Failed));
     assert_eq!(rt; put(&mut shelf, Out::Video, "abc"), Err(Failed));
     assert_eq!(rt; shelf.create(Out::Image, "/dev/full"), Ok(()));
-    assert_eq!(rt; put(&mut shelf, Out::Image, "abc"), Err(Failed));
+    assert_eq!(rt; put(&mut shelf, Out::Image, "abc"), Ok(()));
+    assert_eq!(rt; shelf.flush(Out::Image), Err(Failed));
 }
 
 fn prints(line: &Line, text: &str) -> bool {
