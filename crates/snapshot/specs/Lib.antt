@@ -3,3 +3,4 @@ pub mod Plans
 pub mod Standing
 pub mod Driven
 pub mod Handed
+pub mod Played

@@ -18,6 +18,7 @@ use snes_defs::{Job, NoMemory, Side, Span};
 use std::alloc::Global;
 
 mod going;
+mod playing;
 
 /// A console and a sound side on a path, and the moments that are kept in slots.
 #[derive(Drop)]

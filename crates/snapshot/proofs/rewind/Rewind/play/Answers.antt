@@ -1,0 +1,62 @@
+use Rattle.std.proofs.Common.{◌≡◌, ℕ, ◌+◌, List, [], ◌∷◌, drop, sym, subst, ◌∙◌, rules, arith}
+use Rattle.snes_defs.specs.declared.ports.Side.{Side}
+use Rattle.input_files.specs.declared.plan.PlanStep.{PlanStep}
+use Rattle.input_files.specs.declared.plan.PlanStep.TheVariants.{Go, Keep, Back}
+use Rattle.snapshot.specs.Path.{gone}
+use Rattle.snapshot.specs.Standing.{slot_count}
+use Rattle.snapshot.specs.Driven.{by_side}
+use Rattle.snapshot.specs.Played.{NamesBelow, span_of}
+use Rattle.snapshot.proofs.Steps.{Reached, reached_first, reached_go, reached_keep, reached_back, reached_all}
+use Rattle.snapshot.proofs.rewind.Rewind.play.Goals.{in-Go+in-Ok, in-Keep, in-Back}
+use Rattle.snapshot.proofs.rewind.Rewind.play.Goals as goal
+
+pub loop-step-init : goal.loop-step-init
+loop-step-init g c = record {
+  reached = λ job n base rested video audio.
+      subst (λ s. Reached job n c.args.plan.now s base (g.K.Sink.holds c.args.sink.now) c.args.self.now) (sym c.steps-step-items.ensures.all)
+      (reached_first job n c.args.plan.now base (g.K.Sink.holds c.args.sink.now) c.args.self.now rested video audio);
+  names = subst (NamesBelow (slot_count c.args.self.now)) (sym c.steps-step-items.ensures.all) c.requires.slots;
+  only = search rules;
+}
+
+pub begin-requires : goal.begin-requires
+begin-requires g c =
+    let (job, n, rested, fits) = c.requires.rested in
+    let (base, video, audio) = c.requires.held in
+    let items = c.steps-step-items.result.now in
+    let here : drop c.loop-step.step-index items ≡ Go c.in-Go.count c.in-Go.pad1 c.in-Go.pad2 ∷ drop (c.loop-step.step-index + 1) items = search rules in
+    let r = subst (λ s. Reached job n c.args.plan.now s base (g.K.Sink.holds c.loop-step.sink) c.loop-step.self) here (c.loop-step.invariant.reached job n base rested video audio) in
+    let spans = r.path.spans in
+    let goes = r.goes_left in
+    let lasts = r.path.lasts in
+    let frames = r.frames_left in
+    let few = c.steps-step-items.ensures.few in
+    record { rested = (job, n, r.paths, r.rested, omega arith, omega arith) }
+
+pub go_on-requires-clause-going : goal.go_on-requires-clause-going
+go_on-requires-clause-going g c =
+    let (job, n, rested, fits) = c.requires.rested in
+    let (base, video, audio) = c.requires.held in
+    let r = c.loop-step.invariant.reached job n base rested video audio in
+    (job, n, gone r.paths (span_of c.in-Go.count c.in-Go.pad1 c.in-Go.pad2), r.paths.path, c.begin.ensures.going job n r.paths r.rested)
+
+pub keep-requires-clause-rested : goal.keep-requires-clause-rested
+keep-requires-clause-rested g c =
+    let (job, n, rested, fits) = c.requires.rested in
+    let (base, video, audio) = c.requires.held in
+    let r = c.loop-step.invariant.reached job n base rested video audio in
+    (job, n, r.paths, r.rested)
+
+pub back-requires-clause-rested : goal.back-requires-clause-rested
+back-requires-clause-rested g c =
+    let (job, n, rested, fits) = c.requires.rested in
+    let (base, video, audio) = c.requires.held in
+    let r = c.loop-step.invariant.reached job n base rested video audio in
+    (job, n, r.paths, r.rested)
+
+pub returns-clause-whole : goal.returns-clause-whole
+returns-clause-whole g c = λ job n base rested video audio.
+    let items = c.steps-step-items.result.now in
+    let over : drop c.loop-step.step-index items ≡ [] = search rules in
+    reached_all job n c.args.plan.now base (g.K.Sink.holds c.loop-step.sink) c.loop-step.self
+    (subst (λ s. Reached job n c.args.plan.now s base (g.K.Sink.holds c.loop-step.sink) c.loop-step.self) over (c.loop-step.invariant.reached job n base rested video audio))
