@@ -171,6 +171,23 @@ impl Cpu {
         settle(&mut self.micro, is_between, self.kept, self.irq_level);
     }
 
+    /// The levels of the NMI and IRQ lines, as they were last given.
+    #[inline(always)]
+    pub fn levels(&self) -> (bool, bool)
+        ensures nmi { result.0 ≡ self.now.nmi_level }
+        ensures irq { result.1 ≡ self.now.irq_level }
+    {
+        (self.nmi_level, self.irq_level)
+    }
+
+    /// Whether this is the same processor as another, between the same two accesses.
+    #[inline(never)]
+    pub fn is_same(&self, other: &Cpu) -> bool
+        ensures { IsTrue result → self.now ≡ other.now }
+    {
+        *self == *other
+    }
+
     /// The registers at the start of the instruction in hand.
     #[inline(always)]
     pub fn regs(&self) -> Regs
