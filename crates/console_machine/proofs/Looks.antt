@@ -1,13 +1,14 @@
 -- Steps that only look do the same wherever the beam stands, as long as it passes nothing: so a round of them, which leads
 -- back to the processor and the byte on the data bus that it began with, can be gone again and again.
-use Rattle.std.proofs.Common.{◌≡◌, ℕ, zero, suc, ◌+◌, ◌<◌, Bool, List, [], ◌∷◌, ◌++◌, refl, sym, ap, subst, ◌∙◌, arith, add-zero, append_assoc, slice_index, Some}
+use Rattle.std.proofs.Common.{◌≡◌, ℕ, zero, suc, ◌+◌, ◌-◌, ◌*◌, ◌/◌, ◌<◌, Bool, List, [], ◌∷◌, ◌++◌, refl, sym, ap, subst, ◌∙◌, arith, add-zero, append_assoc, slice_index, Some}
 use Rattle.snes_defs.specs.declared.ports.Act.TheVariants.{Quiet}
 use Rattle.cart_map.specs.declared.places.Place.{Place}
 use Rattle.cpu_tables.specs.declared.access.Access.{Access}
 use Rattle.cpu_tables.specs.declared.access.Access.TheVariants.{Fetch, Read, Write, Inner}
 use Rattle.cpu65816.specs.declared.processor.Cpu.{Cpu}
-use Rattle.cpu65816.specs.Instruction.{next_of, moved_on}
-use Rattle.cpu65816.specs.Stands.{access_of}
+use Rattle.cpu65816.specs.Instruction.{Standing, next_of, moved_on}
+use Rattle.cpu65816.specs.Stands.{Stands, access_of}
+use Rattle.std.proofs.Math.Nat.{suc-mul, div-mul-le_self}
 use Rattle.beam.specs.declared.events.Event.{Event}
 use Rattle.beam.specs.Events.{BeamValue, events_of, happens_next, beam_next, beam_after, passed}
 use Rattle.console_bus.specs.Rest.{Rest}
@@ -22,7 +23,7 @@ use Rattle.console_steps.proofs.Clocks.{drifted, quiet_clocks}
 use Rattle.console_machine.specs.SideLaws.{IsAfter, step_keeps}
 use Rattle.console_machine.proofs.AtOnce.{is_step, same_access}
 use Rattle.console_machine.proofs.Runs.{silent_more}
-use Rattle.console_machine.specs.Runs.{SilentWorlds, HasRun, clocks_next, IsLookStep, LookSteps, LooksTo, rounds_of}
+use Rattle.console_machine.specs.Runs.{SilentWorlds, HasRun, clocks_next, IsLookStep, LookSteps, LooksTo, rounds_of, IsRounds}
 
 -- ---- the beam goes on by some clocks, and by more
 
@@ -249,10 +250,10 @@ looks_joined n (suc m) w mid to j k h then =
 
 -- ---- rounds
 
-module _ (cpu : Cpu) (bus : Rest) (k : ℕ) (round : (w : World) → IsAt cpu bus w → LooksTo cpu (gone_on bus k) w k) where
+module _ (first cpu : Cpu) (bus : Rest) (k : ℕ) (round : (w : World) → IsAt cpu bus w → LooksTo cpu (gone_on bus k) w k) where
   -- one round more
-  one_more : (m : ℕ) → ((w : World) → IsAt cpu bus w → LooksTo cpu (gone_on bus m) w m) → passed_in bus (m + k) ≡ []
-      → (w : World) → IsAt cpu bus w → LooksTo cpu (gone_on bus (m + k)) w (m + k)
+  one_more : (m : ℕ) → ((w : World) → IsAt first bus w → LooksTo cpu (gone_on bus m) w m) → passed_in bus (m + k) ≡ []
+      → (w : World) → IsAt first bus w → LooksTo cpu (gone_on bus (m + k)) w (m + k)
   one_more m so_far none w at =
       let i = so_far w at in
       let end = looks_end i.steps w i.to m i.run in
@@ -276,17 +277,18 @@ module _ (cpu : Cpu) (bus : Rest) (k : ℕ) (round : (w : World) → IsAt cpu bu
         };
       }
 
-  many_rounds : (n : ℕ) → passed_in bus (k + rounds_of n k) ≡ [] → (w : World) → IsAt cpu bus w → LooksTo cpu (gone_on bus (k + rounds_of n k)) w (k + rounds_of n k)
-  many_rounds zero none w at =
+  many_rounds : ((w : World) → IsAt first bus w → LooksTo cpu (gone_on bus k) w k) → (n : ℕ) → passed_in bus (k + rounds_of n k) ≡ []
+      → (w : World) → IsAt first bus w → LooksTo cpu (gone_on bus (k + rounds_of n k)) w (k + rounds_of n k)
+  many_rounds once zero none w at =
       let P : ℕ → Type 0 = λ m. LooksTo cpu (gone_on bus m) w m in
-      subst P (sym (add-zero k)) (round w at)
-  many_rounds (suc n) none w at =
+      subst P (sym (add-zero k)) (once w at)
+  many_rounds once (suc n) none w at =
       let m = k + rounds_of n k in
       let sum : k + rounds_of (suc n) k ≡ m + k = omega arith in
       let o = bus.picture.registers.settings.overscan in
       let all : passed_in bus (m + k) ≡ [] = ap (passed o bus.beam) (sym sum) ∙ none in
       let P : ℕ → Type 0 = λ i. LooksTo cpu (gone_on bus i) w i in
-      subst P (sym sum) (one_more m (many_rounds n (passed_parts o bus.beam m k all).0) all w at)
+      subst P (sym sum) (one_more m (many_rounds once n (passed_parts o bus.beam m k all).0) all w at)
 
 -- ---- told as a run
 
@@ -355,11 +357,25 @@ look_on cpu cpu' bus bus' w k c n h calm look made sum =
       at = made'.at;
     }
 
--- the steps led back to the processor and the byte that they began with, and the beam went on by some rounds more
+-- the clocks of rounds are a product
+rounds_times : (n k : ℕ) → n * k ≡ rounds_of n k
+rounds_times zero k = omega arith
+rounds_times (suc n) k = suc-mul n k ∙ ap (λ (x : ℕ). x + k) (rounds_times n k)
+
+pub no_rounds : (k : ℕ) → IsRounds k 0
+no_rounds k = record { number = 0; times = refl }
+
+pub some_rounds : (n k : ℕ) → IsRounds k (n * k)
+some_rounds n k = record { number = n; times = rounds_times n k }
+
+pub rounds_within : (left k : ℕ) → 0 < left → (left - 1) / k * k < left
+rounds_within left k some = omega (arith, div-mul-le_self (left - 1) k, some)
+
+-- the steps led back to a processor that does what the first does, and to the byte that they began with, and the beam went on by some rounds more
 pub rounds_run : (cpu cpu' : Cpu) (bus bus' end : Rest) (k n more all : ℕ) → ((w : World) → IsAt cpu bus w → LooksTo cpu' bus' w k)
-    → cpu' ≡ cpu → bus'.last ≡ bus.last → more ≡ rounds_of n k → end ≡ gone_on bus' more → passed_in bus' more ≡ [] → all ≡ k + more
+    → ((s : Standing) → Stands cpu' s → Stands cpu s) → bus'.last ≡ bus.last → more ≡ rounds_of n k → end ≡ gone_on bus' more → passed_in bus' more ≡ [] → all ≡ k + more
     → (w : World) → IsAt cpu bus w → w.rest.beam.h < 1364 → HasRun cpu' end w all
-rounds_run cpu cpu' bus bus' end k n more all looks same last times on none sum w at line =
+rounds_run cpu cpu' bus bus' end k n more all looks like last times on none sum w at line =
     let first = looks w at in
     let e = looks_end first.steps w first.to k first.run in
     let ends : bus' ≡ with_bus bus bus'.last (beam_after bus.picture.registers.settings.overscan bus.beam k) =
@@ -367,19 +383,18 @@ rounds_run cpu cpu' bus bus' end k n more all looks same last times on none sum 
     ∙ ap (λ (r : Rest). with_bus r first.to.rest.last (beam_after r.picture.registers.settings.overscan r.beam k)) (sym at.rest)
     ∙ ap (λ (r : Rest). with_bus bus r.last (beam_after bus.picture.registers.settings.overscan bus.beam k)) (sym first.at.rest) in
     let back : bus' ≡ gone_on bus k = ends ∙ ap (λ (i : ℕ). with_bus bus i (beam_after bus.picture.registers.settings.overscan bus.beam k)) last in
-    let R : Cpu → Type 0 = λ c. (u : World) → IsAt cpu bus u → LooksTo c (gone_on bus k) u k in
     let S : Rest → Type 0 = λ r. (u : World) → IsAt cpu bus u → LooksTo cpu' r u k in
-    let round : (u : World) → IsAt cpu bus u → LooksTo cpu (gone_on bus k) u k = subst R same (subst S back looks) in
+    let once : (u : World) → IsAt cpu bus u → LooksTo cpu' (gone_on bus k) u k = subst S back looks in
+    let round : (u : World) → IsAt cpu' bus u → LooksTo cpu' (gone_on bus k) u k = λ u there. once u (record { processor = like u.processor there.processor; rest = there.rest }) in
     let P : Rest → Type 0 = λ r. passed_in r k ≡ [] in
     let before : passed_in bus k ≡ [] = subst P (sym at.rest) e.nothing in
     let Q : Rest → Type 0 = λ r. passed_in r more ≡ [] in
     let after : passed_in (gone_on bus k) more ≡ [] = subst Q back none in
     let whole : passed_in bus (k + more) ≡ [] = passed_both bus.picture.registers.settings.overscan bus.beam k more before after in
     let W : ℕ → Type 0 = λ i. passed_in bus (k + i) ≡ [] in
-    let far = many_rounds cpu bus k round n (subst W times whole) w at in
-    let L : ℕ → Type 0 = λ i. LooksTo cpu (gone_on bus (k + i)) w (k + i) in
-    let there : LooksTo cpu (gone_on bus (k + more)) w (k + more) = subst L (sym times) far in
+    let far = many_rounds cpu cpu' bus k round once n (subst W times whole) w at in
+    let L : ℕ → Type 0 = λ i. LooksTo cpu' (gone_on bus (k + i)) w (k + i) in
+    let there : LooksTo cpu' (gone_on bus (k + more)) w (k + more) = subst L (sym times) far in
     let is : end ≡ gone_on bus (k + more) = on ∙ ap (λ (r : Rest). gone_on r more) back ∙ gone_joined bus k more in
-    let C : Cpu → Type 0 = λ c. LooksTo c (gone_on bus (k + more)) w (k + more) in
     let E : Rest → Type 0 = λ r. LooksTo cpu' r w (k + more) in
-    looks_run_by cpu' end w (k + more) all line (subst E (sym is) (subst C (sym same) there)) sum
+    looks_run_by cpu' end w (k + more) all line (subst E (sym is) there) sum

@@ -61,3 +61,8 @@ pub record LooksTo (cpu : Cpu) (bus : Rest) (w : World) (clocks : ℕ) : Type 0 
 abbrev pub rounds_of : ℕ → ℕ → ℕ
 rounds_of zero round = 0
 rounds_of (suc n) round = rounds_of n round + round
+
+-- so many clocks are some rounds, of so many clocks each
+pub record IsRounds (round clocks : ℕ) : Type 0 where
+  pub number : ℕ
+  pub times : clocks ≡ rounds_of number round

@@ -1,8 +1,9 @@
-ghost use Rattle.std.specs.Prelude.{◌≡◌, ◌<◌, ◌^◌, ◌||◌, IsTrue, false, true};
+ghost use Rattle.std.specs.Prelude.{◌≡◌, ◌<◌, ◌^◌, ◌||◌, IsTrue, MatchBool, None, Some, false, true};
 ghost use Rattle.cpu_modes.specs.Plan.{address_of, first_access};
 ghost use Rattle.cpu_modes.specs.Rest.{rest};
 ghost use Rattle.cpu65816.specs.Instruction.{ahead};
 
+use crate::likeness::{leave_the_same, same_registers};
 use crate::settling::settle;
 use cpu_modes::Micro;
 use cpu_tables::{Access, Mode, Op, Regs, Row};
@@ -180,12 +181,32 @@ impl Cpu {
         (self.nmi_level, self.irq_level)
     }
 
-    /// Whether this is the same processor as another, between the same two accesses.
-    #[inline(never)]
-    pub fn is_same(&self, other: &Cpu) -> bool
-        ensures { IsTrue result → self.now ≡ other.now }
+    /// Whether an instruction has ended, or waits for an interrupt.
+    #[inline(always)]
+    pub fn is_between(&self) -> bool
+        ensures { MatchBool result
+            (finished true (rest self.now.micro) ≡ Some self.now.micro.here)
+            (finished true (rest self.now.micro) ≡ None) }
     {
-        *self == *other
+        self.micro.has_ended(true)
+    }
+
+    /// Whether another processor stands for whatever this one stands for. It is seen between two instructions and
+    /// where both wait for an interrupt; elsewhere the answer is no.
+    #[tactic(auto, using(crate::proofs::Alike::stands_alike))]
+    #[inline(always)]
+    pub fn is_like(&self, other: &Cpu) -> bool
+        ensures { IsTrue result → (s : Standing) → Stands self.now s → Stands other.now s }
+    {
+        if !leave_the_same(&self.micro, &other.micro) {
+            return false;
+        }
+        if !same_registers(&self.micro.start, &other.micro.start) {
+            return false;
+        }
+        self.kept == other.kept
+            && self.nmi_level == other.nmi_level
+            && self.irq_level == other.irq_level
     }
 
     /// The registers at the start of the instruction in hand.
