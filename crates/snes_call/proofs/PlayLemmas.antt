@@ -36,8 +36,7 @@ module _ (order : Order) (told : Input → Option (List ℕ)) (image : Image) (t
     pub play_first : TookSome (play_start image table) order.count (Holds (before.written Sound)) (Holds (after.written Sound))
         → AllOf (HoldsFirst play order told after.written) (Sound ∷ [])
     play_first h =
-        let some = h.taken [] empty in
-        (
+        let some = h.taken [] empty in (
           record {
             contents = λ o. h.bytes;
             line = line_of (samples_text order.count);

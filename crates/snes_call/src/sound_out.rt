@@ -14,6 +14,7 @@ use spc_player::Player;
 
 /// The output for sound: the sound side's bytes are put to it, and those of a console are passed over. So no other
 /// output is touched.
+#[derive(Drop)]
 struct SoundOut<'a, H> {
     shelf: &'a mut H,
 }

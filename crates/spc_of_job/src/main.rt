@@ -94,7 +94,10 @@ fn compare(
     table: &Table,
     samples: u32,
 ) -> io::Result<()> {
-    let (Ok(job), Ok(shelf)) = (run.listen(alloc, samples), heard(alloc, file, table, samples)) else {
+    let (Ok(job), Ok(shelf)) = (
+        run.listen(alloc, samples),
+        heard(alloc, file, table, samples),
+    ) else {
         return println!(rt; "not played");
     };
     println!(rt;
