@@ -4,11 +4,11 @@ use crate::sound_out::play_sound;
 use crate::spc::SpcFile;
 use crate::table::TableFile;
 use file_shelf::{Failed, Input, Out, Shelf};
+use run_drive::Workers;
 use run_io::{Asked, Count, Form, Line, samples_line};
 use snes_defs::NoMemory;
 use spc_player::Player;
 use std::alloc::Global;
-use std::thread::Threads;
 
 /// The command `play`: a sound file is played by the sound side alone.
 pub(crate) struct Play;
@@ -51,7 +51,7 @@ impl Performs for Play {
         Player::new(alloc, &image, &table)
     }
 
-    fn fill<R: Threads, H: Shelf>(
+    fn fill<R: Workers, H: Shelf>(
         &self,
         _rt: &R,
         asked: &Asked<'_>,
