@@ -1,5 +1,5 @@
 -- A sound side that was taken out of a job into a sound file, beside the one that goes on in the job.
-use Rattle.std.specs.Prelude.{◌≡◌, ℕ, Bool, true, false, not, ◌/◌, ◌==◌, ◌&&◌, ◌||◌, nat_le, List, [], ◌∷◌, length, slice_index}
+use Rattle.std.specs.Prelude.{◌≡◌, ℕ, Bool, true, false, not, ◌/◌, ◌==◌, ◌&&◌, ◌||◌, nat_le, List, [], length, slice_index}
 use Rattle.snes_defs.specs.declared.region.Region.TheVariants.{Ntsc}
 use Rattle.spc_tables.specs.declared.regs.SpcRegs.{SpcRegs}
 use Rattle.spc700.specs.Instruction.{between}
@@ -45,12 +45,13 @@ with_memory b ram' boot' = record b { ram = ram'; boot = boot' }
 -- the stages of the timers are 0, voices and noise are those of an S-DSP into which the 128 bytes were written, and the
 -- echo has heard nothing
 pub record GivesBack (b : Board) (dsp table ports : List ℕ) : Type 0 where
+  pub ram_size : length b.ram ≡ 65536
+  pub four_ports : length ports ≡ 4
   pub ram' : List ℕ
   pub boot' : List ℕ
   pub board : board_from (kept_ram b ports) dsp table ≡ with_memory b ram' boot'
   pub alike : IsAlike b.boot_seen ram' b.ram
   pub boot_same : b.boot_seen ≡ true → boot' ≡ b.boot
-  pub ports_kept : slice_index (kept_ram b ports) 0xF4 ∷ slice_index (kept_ram b ports) 0xF5 ∷ slice_index (kept_ram b ports) 0xF6 ∷ slice_index (kept_ram b ports) 0xF7 ∷ [] ≡ ports
 
 -- SAMPLE s LOOKS AT NO SUCH BYTE: with any others it makes the same board, and the same two numbers
 pub record IsBlind (seen : Bool) (s : ℕ) (b : Board) : Type 0 where
