@@ -48,7 +48,8 @@ impl Performs for Play {
         inputs: <(SpcFile, TableFile) as Loads>::Value,
     ) -> Result<Player, NoMemory> {
         let (image, table) = inputs;
-        Player::new(alloc, &image, &table)
+        let player = Player::new(alloc, &image, &table)?;
+        Ok(player)
     }
 
     fn fill<R: Workers, H: Shelf>(
