@@ -1,5 +1,5 @@
 -- A put and then a flush of one output.
-use Rattle.std.proofs.Common.{◌≡◌, ℕ, List, ◌++◌, length, Option, sym, ◌∙◌, subst, arith}
+use Rattle.std.proofs.Common.{◌≡◌, ℕ, List, ◌++◌, length, Option, sym, subst, arith}
 use Rattle.std.proofs.lemmas.List.{take_all}
 use Rattle.file_shelf.specs.declared.shelves.Out.{Out}
 use Rattle.file_shelf.specs.Told.{Holds, Appends, AppendsSome, HasRisen}

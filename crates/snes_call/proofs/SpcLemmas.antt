@@ -2,7 +2,6 @@
 use Rattle.std.proofs.Common.{◌≡◌, ℕ, ◌<◌, true, nat_lt, List, length, refl, Option, Some, None}
 use Rattle.std.proofs.lemmas.Bool.{lt-ltb}
 use Rattle.file_shelf.specs.declared.shelves.Input.TheVariants as input
-use Rattle.spc_player.specs.declared.image.SpcRefused.{SpcRefused}
 use Rattle.spc_player.specs.declared.image.SpcRefused.TheVariants.{TooLong}
 use Rattle.spc_player.specs.SoundFile.{refusal_of}
 use Rattle.snes_call.specs.declared.status.Why.{Why}
