@@ -7,9 +7,10 @@
 # File names are those of the folder in which it is called. `./snes`, `./scene` and `./look` are calls of it.
 #
 # The program is built where it is missing or a source of the crates that it stands on is newer. That is the gate,
-# `rt ci`, over a copy of those crates without the edits that have to fail: what it proves is kept on this machine
-# for the whole gate, and what the gate has proved is taken here. It takes minutes once, says on standard error how
-# far it is, and its log is crates/CRATE/out/build.log.
+# `rt ci`, over a copy of those crates without the edits that have to fail. It takes minutes, says on standard error how
+# far it is, and its log is crates/CRATE/out/build.log. A toolchain that keeps proofs on the machine takes here what the
+# gate has proved, and there what is proved here; one that keeps none proves the crates of each program anew. A program
+# that the gate, or `rt run` in its crate, has built since the last change is taken as it is.
 #
 # Where there is no program to run, the status is 70, which no program here has. With ONLY_BUILD set it is not run.
 top=$(cd "$(dirname "$(readlink -f "${BASH_SOURCE[0]}")")/.." && pwd) || exit 70
@@ -35,34 +36,20 @@ built_together() {
   esac
 }
 
-# The lines of crates.txt of some crates and of all that they stand on, lowest first.
-lines_below() {
-  awk -v roots="$*" '
-    !/^#/ && /:/ { split($0, part, ":"); split(part[1], head, " "); line[head[1]] = $0; stands[head[1]] = part[2] }
-    function visit(crate, below, count, i) {
-      if (crate in seen || !(crate in line)) return
-      seen[crate] = 1
-      count = split(stands[crate], below, " ")
-      for (i = 1; i <= count; i++) visit(below[i])
-      print line[crate]
-    }
-    END { count = split(roots, root, " "); for (i = 1; i <= count; i++) visit(root[i]) }' "$top/crates.txt"
-}
-
-# The folders of such crates, from the top of the repository.
+# The folders of the crates of such lines of crates.txt, from the top of the repository.
 folders_of() { sed 's/[ :].*//; s,^,crates/,'; }
 
 # Whether the program stands and no source of its crates is newer.
 is_built() {
   [ -x "$program" ] || return 1
   local folders
-  mapfile -t folders < <(lines_below "$crate" | folders_of)
+  mapfile -t folders < <("$top/tools/lines_below.sh" "$crate" | folders_of)
   [ -z "$(cd "$top" && find "${folders[@]}" -name out -prune -o \( -path '*/src/*.rt' -o -path '*/specs/*.antt' \) -newer "$program" -print -quit)" ]
 }
 
 # Copies the crates to build to a folder, without what was made of them and without their must-fail edits.
 copy_sources() {
-  lines_below $(built_together) >"$1/crates.txt" && cp "$top/HANDLES" "$1" || return 1
+  "$top/tools/lines_below.sh" $(built_together) >"$1/crates.txt" && cp "$top/HANDLES" "$1" || return 1
   local folders
   mapfile -t folders < <(folders_of <"$1/crates.txt")
   tar -C "$top" --exclude=out --exclude=must-fail -cf - "${folders[@]}" | tar -C "$1" -xf -
