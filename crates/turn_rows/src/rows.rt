@@ -1,6 +1,7 @@
 // Pairs of tapes by turns, each beside the serial console of the same two.
 
 use crate::runs::{Pair, by_run_turns, by_serial, by_turns};
+use crate::sums::Sums;
 use crate::tapes::style_of;
 use clock_ratio::least;
 use snes_defs::Region;
@@ -22,11 +23,19 @@ struct Compared {
     /// Pairs of which both sides heard something: they emitted a byte that is not 0. In twelve of a hundred one
     /// side only reads, so that the other one hears nothing.
     heard: u64,
+    /// Pairs that emitted what the pair before them did by the serial console, of other tapes: none, or the sums would tell
+    /// nothing.
+    as_before: u64,
 }
 
 /// Runs the pairs of a region: four by `run_turns`, four by bare turns, and so on.
 fn compare<R: AllocGlobal + Threads>(rt: &R, region: Region) -> Result<Compared, Fail> {
-    let mut compared = Compared { alike: 0, heard: 0 };
+    let mut compared = Compared {
+        alike: 0,
+        heard: 0,
+        as_before: 0,
+    };
+    let mut before = Sums::new();
     for number in 0..PAIRS {
         let pair = Pair {
             region,
@@ -46,6 +55,10 @@ fn compare<R: AllocGlobal + Threads>(rt: &R, region: Region) -> Result<Compared,
         if serial.console.sounding > 0 && serial.sound.sounding > 0 {
             compared.heard = compared.heard.wrapping_add(1);
         }
+        if turns == before {
+            compared.as_before = compared.as_before.wrapping_add(1);
+        }
+        before = serial;
     }
     Ok(compared)
 }
@@ -56,7 +69,8 @@ fn turns_emit_what_the_serial_console_emits(rt: HostRuntime) -> Result<(), Fail>
         compare(&rt, Region::Ntsc)?,
         Compared {
             alike: 100,
-            heard: 88
+            heard: 88,
+            as_before: 0
         }
     );
     Ok(())
@@ -68,7 +82,8 @@ fn turns_emit_what_the_serial_console_emits_in_pal(rt: HostRuntime) -> Result<()
         compare(&rt, Region::Pal)?,
         Compared {
             alike: 100,
-            heard: 88
+            heard: 88,
+            as_before: 0
         }
     );
     Ok(())
