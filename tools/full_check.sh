@@ -1,7 +1,7 @@
 #!/usr/bin/env bash
 # Runs everything that is no part of the gate, and ends with one line: `full check: N of M parts hold`.
 #
-#     tools/full_check.sh [PART ..]
+#     tools/full_check.sh [PART | PART:ITEM ..]
 #
 # Its parts, the cheap ones first, and the items of each:
 #
@@ -78,6 +78,7 @@ committed() { git -C "$top" rev-parse "HEAD:$1"; }
 item() {
   local name=$1 sum=$2
   shift 2
+  [ -z "$only" ] || [ "$only" = "$name" ] || return
   items=$((items + 1))
   if [ "$sum" != now ] && grep -q "^$sum $part $name " "$checked/held"; then
     noted=$((noted + 1))
@@ -128,14 +129,15 @@ bodies() {
 
 hold=0
 for part in "${parts[@]}"; do
-  started=$(date +%s) items=0 noted=0 bad=0
+  started=$(date +%s) items=0 noted=0 bad=0 only=
+  [[ $part != *:* ]] || { only=${part#*:} && part=${part%%:*}; }
   case $part in
     edits | allocations | soak | rows | bodies) $part ;;
     device) item all now device ;;
-    *) echo "no part of this name: $part" && bad=1 ;;
+    *) echo "no part of this name: $part" ;;
   esac
-  [ $bad = 0 ] && hold=$((hold + 1))
-  echo "$part: $items items, $bad don't hold, $noted are noted from before; $(($(date +%s) - started)) s"
+  [ $bad = 0 ] && [ $items -gt 0 ] && hold=$((hold + 1))
+  echo "$part${only:+, $only}: $items items, $bad don't hold, $noted are noted from before; $(($(date +%s) - started)) s"
 done
 echo "full check: $hold of ${#parts[@]} parts hold ($commit, $(date -u +%Y-%m-%d))"
 [ "$hold" = ${#parts[@]} ]

@@ -83,5 +83,5 @@ for fault in "${faults[@]}"; do
     told "$fault" || bad=$((bad + 1))
   fi
 done
-echo "$tried faults, $bad of all calls not as they should be"
+echo "$tried faults tried, $((${#faults[@]} - bad)) of ${#faults[@]} runs as they should be"
 [ $bad = 0 ]
