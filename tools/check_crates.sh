@@ -3,11 +3,15 @@
 # there once and is named by a source of its crate, as NAME::.. or as Rattle.NAME.., outside of comments.
 #
 # An entry that nothing names makes a crate wait for another, and be proved again with it, for nothing: `rt ci` does not
-# tell. This takes no proof and half a second. The status is 1 where a line is not so.
+# tell. This takes no proof and half a second. The status is 1 where a line is not so. With --mend such entries are
+# taken out of crates.txt, and so are those that stand twice.
 top=$(cd "$(dirname "${BASH_SOURCE[0]}")/.." && pwd) || exit 2
-cd "$top" && exec python3 - <<'P'
+cd "$top" && exec python3 - "$@" <<'P'
 import glob, os, re, sys
 
+mends = sys.argv[1:] == ["--mend"]
+if sys.argv[1:] and not mends:
+    sys.exit("usage: tools/check_crates.sh [--mend]")
 bad = 0
 
 
@@ -30,8 +34,10 @@ def named(crate):
 
 lines = 0
 entries = 0
-listed = {}
+listed = set()
+mended = []
 for line in open("crates.txt", encoding="utf-8"):
+    mended.append(line)
     head, colon, below = line.partition("#")[0].partition(":")
     if not colon:
         continue
@@ -40,20 +46,27 @@ for line in open("crates.txt", encoding="utf-8"):
     if crate in listed:
         complain(f"{crate}: has two lines")
         continue
-    listed[crate] = below.split()
+    listed.add(crate)
     if not os.path.isdir(f"crates/{crate}/src"):
         complain(f"{crate}: no folder crates/{crate}/src")
         continue
     names = named(crate)
-    for at, entry in enumerate(listed[crate]):
+    kept = []
+    for entry in below.split():
         entries += 1
-        if entry in listed[crate][:at]:
+        if entry in kept:
             complain(f"{crate}: {entry} stands there twice")
         elif entry not in names:
             complain(f"{crate}: nothing names {entry}")
+        else:
+            kept.append(entry)
+    if len(kept) < len(below.split()):
+        mended[-1] = " ".join([f"{head}:", *kept]) + "\n"
 for folder in sorted(glob.glob("crates/*/src")):
     if folder.split("/")[1] not in listed:
         complain(f"{folder}: no line of crates.txt names its crate")
 print(f"{lines} crates, {entries} entries, {bad} complaints")
+if mends:
+    open("crates.txt", "w", encoding="utf-8").writelines(mended)
 sys.exit(bad > 0)
 P
