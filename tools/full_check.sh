@@ -10,6 +10,7 @@
 #     allocations  each request for memory is refused once (refuse_each_allocation.sh)
 #     soak         SOAK jobs (1000) by two workers, 50 an item (soak.sh)
 #     rows         the rows of the console without a fault, and each planted fault (try_row_faults.sh)
+#     workers      the bodies that make a run by one worker (try_one_worker.sh)
 #     bodies       the wrong bodies of each crate (try_wrong_bodies.sh)
 #
 # It can be ended at any time and called again. What held is noted in the file `held` of the folder CHECKED
@@ -28,7 +29,7 @@ export snes=${SNES:-$top/crates/snes_run/out/snes_run}
 jobs=${WILD_JOBS:-$top/crates/wild_jobs/out/wild_jobs}
 commit=$(git -C "$top" rev-parse --short HEAD) || exit 2
 parts=("$@")
-[ $# -gt 0 ] || parts=(edits device allocations soak rows bodies)
+[ $# -gt 0 ] || parts=(edits device allocations soak rows workers bodies)
 
 # A full device, a device that takes everything, a name that can't be made: what the program says and its status.
 device() {
@@ -118,6 +119,11 @@ rows() {
   done
 }
 
+workers() {
+  item all "$(sum_of "$(sources_of worker_rows)" "$(committed crates/worker_rows)" "$(committed tools/one_worker)" \
+    "$(committed tools/try_one_worker.sh)")" "$top/tools/try_one_worker.sh"
+}
+
 bodies() {
   local crate
   for crate in "$top"/tools/wrong_bodies/*/; do
@@ -127,12 +133,16 @@ bodies() {
   done
 }
 
+if [ -n "${TREE-}" ]; then
+  # Both parts that prove in it look at this commit.
+  cd "$TREE" && git fetch -q "$top" HEAD && git checkout -q --force --detach FETCH_HEAD && git clean -fdq crates || exit 2
+fi
 hold=0
 for part in "${parts[@]}"; do
   started=$(date +%s) items=0 noted=0 bad=0 only=
   [[ $part != *:* ]] || { only=${part#*:} && part=${part%%:*}; }
   case $part in
-    edits | allocations | soak | rows | bodies) $part ;;
+    edits | allocations | soak | rows | workers | bodies) $part ;;
     device) item all now device ;;
     *) echo "no part of this name: $part" ;;
   esac

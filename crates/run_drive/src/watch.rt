@@ -1,6 +1,7 @@
 use port_wire::Gate;
 use snes_defs::Side;
 use std::sync::atomic::{AtomicU64, Ordering};
+use std::thread::yield_now;
 
 /// The workers look for each other in so many turns of a run, until they have met.
 const WATCHED: u64 = 100;
@@ -29,7 +30,7 @@ impl Worker {
     }
 }
 
-/// A gate at which each worker looks whether the other has set out on the same turn, a bounded number of
+/// A gate at which each of two workers looks whether the other has set out on the same turn, a bounded number of
 /// times. Both see each other in one turn only where neither had ended it before the other set out.
 #[derive(Drop)]
 pub struct Watch {
@@ -54,10 +55,24 @@ impl Watch {
 
     /// Whether each worker set out on so many turns, numbered from 0 on, each once and in order.
     pub fn counted(&self, turns: u64) -> bool {
-        self.console.turn.load(Ordering::SeqCst) == turns
-            && self.sound.turn.load(Ordering::SeqCst) == turns
-            && self.console.jumps.load(Ordering::SeqCst) == 0
-            && self.sound.jumps.load(Ordering::SeqCst) == 0
+        self.turns() == Some(turns)
+    }
+
+    /// On how many turns each worker set out, numbered from 0 on, each once and in order; nothing where they
+    /// were numbered otherwise, or not alike for both.
+    pub fn turns(&self) -> Option<u64> {
+        let turns = self.console.turn.load(Ordering::SeqCst);
+        let alike = self.sound.turn.load(Ordering::SeqCst) == turns;
+        let jumps = self
+            .console
+            .jumps
+            .load(Ordering::SeqCst)
+            .max(self.sound.jumps.load(Ordering::SeqCst));
+        if alike && jumps == 0 {
+            Some(turns)
+        } else {
+            None
+        }
     }
 }
 
@@ -86,9 +101,12 @@ impl Gate for Watch {
         if turn > WATCHED || self.met() {
             return;
         }
-        for _ in 0..LOOKS {
+        for look in 0..LOOKS {
             if looks(&self.met, own, other, turn) {
                 return;
+            }
+            if look % 64 == 63 {
+                yield_now();
             }
         }
     }
