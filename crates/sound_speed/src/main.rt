@@ -12,7 +12,6 @@
 ghost use Rattle.std.specs.Prelude.{◌≡◌, length};
 
 use audio_side::AudioSide;
-use case_text::Generator;
 use sdsp_echo::Echo;
 use sdsp_voice::Voices;
 use side_law::Machine;
@@ -60,9 +59,10 @@ fn set_mix(voices: &mut Voices) {
 fn fill(ram: &mut [u8])
     requires { length ram.old ≡ 65536 }
 {
-    let mut noise = Generator::new(0x12345);
+    let mut x = 0x12345u32;
     'bytes: for i in 0..65536 {
-        ram[i] = noise.byte(1);
+        x = x.wrapping_mul(1664525).wrapping_add(1013904223);
+        ram[i] = (x >> 24) as u8;
     }
     'sources: for k in 0..64 {
         let place = 9 * (k % 8);
