@@ -124,7 +124,7 @@ fn rounds_before(round: u16, left: u16) -> u16
     if round == 0 {
         return 0;
     }
-    left / round * round
+    (left - 1) / round * round
 }
 
 /// The beam goes on by the whole rounds, of so many clocks each, that end before the next place.
