@@ -7,6 +7,13 @@ use Rattle.input_files.specs.Fields.{span_of, word_of, behind}
 use Rattle.input_files.specs.declared.plan.PlanStep.{PlanStep}
 use Rattle.input_files.specs.declared.plan.PlanStep.TheVariants.{Go, Keep, Back}
 
+-- how many frames the goes of a plan last
+abbrev pub frames_in : List PlanStep → ℕ
+frames_in [] = 0
+frames_in (Go count pad1 pad2 ∷ rest) = count + frames_in rest
+frames_in (Keep slot ∷ rest) = frames_in rest
+frames_in (Back slot ∷ rest) = frames_in rest
+
 -- what was read of a plan: its steps, the sum of the counts of its goes, and for each of the eight slots whether it was kept
 pub record PlanRead : Type 0 where
   pub steps : List PlanStep

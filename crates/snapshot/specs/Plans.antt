@@ -1,4 +1,4 @@
--- How much memory a plan needs: a span for each of its goes, and the slots up to the highest that it keeps.
+-- How much memory a plan needs: a span for each of its goes, and the slots up to the highest that it names.
 use Rattle.std.specs.Prelude.{ℕ, ◌+◌, max, List, [], ◌∷◌}
 use Rattle.input_files.specs.declared.plan.PlanStep.{PlanStep}
 use Rattle.input_files.specs.declared.plan.PlanStep.TheVariants.{Go, Keep, Back}
@@ -14,7 +14,7 @@ abbrev pub slots_from : List PlanStep → ℕ → ℕ
 slots_from [] n = n
 slots_from (Go count pad1 pad2 ∷ rest) n = slots_from rest n
 slots_from (Keep slot ∷ rest) n = slots_from rest (max n (slot + 1))
-slots_from (Back slot ∷ rest) n = slots_from rest n
+slots_from (Back slot ∷ rest) n = slots_from rest (max n (slot + 1))
 
 abbrev pub slots_of : List PlanStep → ℕ
 slots_of steps = slots_from steps 0

@@ -26,7 +26,7 @@ pub fn count_goes(steps: &[PlanStep]) -> usize
     count
 }
 
-/// How many slots there are up to the highest that a plan keeps.
+/// How many slots there are up to the highest that a plan names.
 pub fn count_slots(steps: &[PlanStep]) -> usize
     ensures { result ≡ slots_of steps.now }
 {
@@ -35,7 +35,7 @@ pub fn count_slots(steps: &[PlanStep]) -> usize
         match step {
             PlanStep::Go { .. } => {}
             PlanStep::Keep(slot) => count = count.max(*slot as usize + 1),
-            PlanStep::Back(_) => {}
+            PlanStep::Back(slot) => count = count.max(*slot as usize + 1),
         }
     }
     count

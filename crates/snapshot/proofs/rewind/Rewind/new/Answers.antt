@@ -9,7 +9,7 @@ returns-clause-rested c =
     let job = c.args.job.now in
     let P : ℕ → Type 0 = λ goes. HoldsPath job (max job.script.room goes) [] c.in_ok-run.run' in
     let Q : ℕ → Type 0 = λ goes. (k : ℕ) (other : Run) → k < length c.in_ok-slots.slots.items → HoldsPath job (max job.script.room goes) [] (slice_index_or c.in_ok-slots.slots.items k other) in
-    let goes = c.count_goes-goes.ensures ∙ ap goes_of c.steps.ensures in
+    let goes = c.count_goes-goes.ensures ∙ ap goes_of c.steps.ensures.all in
     record {
       now = subst P goes ([], [], c.in_ok-run.ensures);
       slots = subst Q goes c.in_ok-slots.ensures.starts;

@@ -1,0 +1,11 @@
+-- How many frames a plan lasts that has one step more.
+use Rattle.std.proofs.Common.{◌≡◌, ℕ, ◌+◌, List, [], ◌∷◌, ◌++◌, arith}
+use Rattle.input_files.specs.declared.plan.PlanStep.{PlanStep}
+use Rattle.input_files.specs.declared.plan.PlanStep.TheVariants.{Go, Keep, Back}
+use Rattle.input_files.specs.Plan.{frames_in}
+
+pub frames_more : (steps : List PlanStep) (step : PlanStep) → frames_in (steps ++ step ∷ []) ≡ frames_in steps + frames_in (step ∷ [])
+frames_more [] step = omega arith
+frames_more (Go count pad1 pad2 ∷ rest) step = let more = frames_more rest step in omega (arith, more)
+frames_more (Keep slot ∷ rest) step = frames_more rest step
+frames_more (Back slot ∷ rest) step = frames_more rest step
