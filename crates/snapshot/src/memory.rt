@@ -2,8 +2,7 @@
 ghost use Rattle.std.specs.Prelude.{◌≡◌, ◌<◌, ℕ, [], length, max, slice_index_or, IfOk};
 ghost use Rattle.snes_defs.specs.declared.region.Region.TheVariants.{Ntsc};
 ghost use Rattle.snapshot.specs.declared.run.Run.{Run};
-ghost use Rattle.snapshot.specs.Path.{path_script};
-ghost use Rattle.snapshot.specs.Plans.{goes_of, slots_of};
+ghost use Rattle.plan_drive.specs.Paths.{path_script, goes_of, slots_of};
 ghost use Rattle.snapshot.specs.Standing.{HoldsPath};
 
 use crate::run::{Run, first_run};

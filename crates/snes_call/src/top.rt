@@ -15,7 +15,7 @@ ghost use Rattle.snes_call.specs.Snes.{OrNoMemory, IsEarly, IsLate, IsOver, IsDu
 use crate::call::called;
 use crate::status::Status;
 use file_shelf::Shelf;
-use run_drive::Player;
+use plan_drive::PlanPlayer;
 use run_io::Argv;
 use std::thread::Threads;
 
@@ -26,7 +26,7 @@ use std::thread::Threads;
 ///
 /// Each clause speaks of what the shelf tells; of a shelf that tells nothing, of the words and of counts
 /// alone. `NoMemory` is the one answer that no input and no count causes.
-pub fn snes<P: Player, R: AllocGlobal + Threads, H: Shelf>(
+pub fn snes<P: PlanPlayer, R: AllocGlobal + Threads, H: Shelf>(
     rt: &R,
     words: &Argv,
     shelf: &mut H,

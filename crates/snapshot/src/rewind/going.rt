@@ -3,7 +3,7 @@ ghost use Rattle.std.specs.Prelude.{◌≡◌, ◌≤◌, ◌+◌, ℕ, List, []
 ghost use Rattle.snes_defs.specs.declared.cart.Job.{Job};
 ghost use Rattle.snes_defs.specs.declared.ports.Side.{Side};
 ghost use Rattle.snes_defs.specs.declared.script.Span.{Span};
-ghost use Rattle.snapshot.specs.Path.{Paths};
+ghost use Rattle.plan_drive.specs.Paths.{Paths};
 ghost use Rattle.snapshot.specs.Standing.{IsRested, IsGoing, IsBeyond, slot_count, video_waiting, audio_waiting};
 ghost use Rattle.snapshot.specs.Handed.{Gave, GaveSome};
 
