@@ -17,7 +17,7 @@ use crate::plan::PlanFile;
 use crate::table::TableFile;
 use file_shelf::{Input, Out, Shelf};
 use input_files::Plan;
-use plan_drive::{Lengths, PlanPlayer, lengths};
+use plan_drive::{Lengths, PlanPlayer, measure};
 use run_drive::out_of;
 use run_io::{Asked, Form, Line, frames_line};
 use snes_defs::{Job, NoMemory, Region, Side, Spans};
@@ -77,7 +77,7 @@ fn machines_of(alloc: Global, files: <PlanFiles as Loads>::Value) -> (Job, Plan)
 fn line_of_plan(plan: &Plan) -> Line
     ensures { result ≡ plan_line plan.now }
 {
-    let Lengths { frames, samples } = lengths(plan);
+    let Lengths { frames, samples } = measure(plan);
     frames_line(frames, samples)
 }
 

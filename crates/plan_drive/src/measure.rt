@@ -24,7 +24,7 @@ fn samples_to(frames: u32) -> u64
 }
 
 /// How many frames and samples the goes of a plan last.
-pub fn lengths(plan: &Plan) -> Lengths
+pub fn measure(plan: &Plan) -> Lengths
     ensures frames { result.frames ≡ frames_in plan.now }
     ensures samples { result.samples ≡ samples_in plan.now no_paths }
 {
