@@ -6,8 +6,8 @@
 // `measure` tells how many frames and samples it is. `docs/REWINDER.md` has the rules.
 #![tactic(auto)]
 
-mod measure;
+mod lengths;
 mod plan_player;
 
-pub use measure::{Lengths, measure};
+pub use lengths::{Lengths, measure};
 pub use plan_player::PlanPlayer;

@@ -1,7 +1,7 @@
 use Rattle.std.proofs.Common.{◌≡◌, ◌≤◌, drop}
 use Rattle.input_files.specs.Plan.{frames_in, NamesBelow}
 use Rattle.plan_drive.proofs.Counting.{Counted}
-use Rattle.plan_drive.proofs.measure.measure.Given as goal
+use Rattle.plan_drive.proofs.lengths.measure.Given as goal
 
 abbrev pub invariant-loop-step : goal.invariant-loop-step
 invariant-loop-step l = record {
