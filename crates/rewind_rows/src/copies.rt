@@ -20,7 +20,7 @@ fn repeat(rewind: &mut Rewind, times: u32)
 }
 
 /// A rewinder with eight slots, kept and gone back to so many times; and how often it was.
-pub fn copies(alloc: Global, size: usize, times: u32) -> u32 {
+pub fn copy_often(alloc: Global, size: usize, times: u32) -> u32 {
     let Some(job) = idle_job(alloc, size) else {
         return 0;
     };

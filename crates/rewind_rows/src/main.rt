@@ -12,7 +12,7 @@ mod copies;
 mod counts;
 mod jobs;
 
-use copies::copies;
+use copies::copy_often;
 use counts::count_goes;
 use input_files::read_plan;
 use jobs::talking_job;
@@ -24,7 +24,7 @@ use std::{env, io};
 const PLAN: &[u8] = b"go 3 0500 0000\nkeep 0\ngo 1 0300 0000\nback 0\ngo 1 0000 0000\nback 0\ngo 1 0300 0000\n";
 
 /// How many steps each go of the plan makes.
-fn counts(alloc: Global) -> Option<Vec<u64>> {
+fn count_plan(alloc: Global) -> Option<Vec<u64>> {
     let job = talking_job(alloc)?;
     let plan = read_plan(alloc, PLAN).ok()?;
     let mut rewind = Rewind::new(alloc, &job, &plan).ok()?;
@@ -46,7 +46,7 @@ fn main(rt: HostRuntime) -> io::Result<()> {
     let alloc = rt.alloc();
     let mut words = env::args(&rt)?.skip(1);
     let Some(_command) = words.next() else {
-        return match counts(alloc) {
+        return match count_plan(alloc) {
             Some(counts) => tell(&rt, counts.as_slice()),
             None => println!(rt; "no memory, or no end"),
         };
@@ -56,6 +56,6 @@ fn main(rt: HostRuntime) -> io::Result<()> {
     };
     let times = times.as_str().parse::<u32>().unwrap_or(0);
     let size = size.as_str().parse::<u16>().unwrap_or(0) as usize;
-    let times = copies(alloc, 1024 * size, times);
+    let times = copy_often(alloc, 1024 * size, times);
     println!(rt; "{times}")
 }
