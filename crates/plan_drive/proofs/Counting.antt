@@ -1,5 +1,5 @@
 -- How long the steps of a plan are, counted one after another.
-use Rattle.std.proofs.Common.{◌≡◌, ℕ, ◌+◌, ◌-◌, ◌*◌, ◌<◌, ◌≤◌, ◌==◌, Bool, true, false, List, [], ◌∷◌, ◌++◌, length, slice_set, slice_index_or, replicate, refl, ap, sym, ◌∙◌, subst, ⊎_elim, arith, if◌then◌else◌, length-set}
+use Rattle.std.proofs.Common.{◌≡◌, ℕ, ◌+◌, ◌-◌, ◌*◌, ◌<◌, ◌≤◌, ◌==◌, Bool, true, false, List, [], ◌∷◌, ◌++◌, length, slice_set, slice_index_or, replicate, drop, drop-cons, suc, refl, ap, sym, ◌∙◌, subst, ⊎_elim, arith, if◌then◌else◌, length-set}
 use Rattle.std.proofs.lemmas.Bool.{cases_eq}
 use Rattle.std.proofs.lemmas.Bool.Decides.{nat_tests}
 use Rattle.std.proofs.lemmas.List.{get_or-set_same, get_or-set_other, get_or-replicate}
@@ -134,3 +134,18 @@ module _ (steps rest : List PlanStep) (frames samples path : ℕ) (held : List �
 pub counted_all : (steps : List PlanStep) (frames samples path : ℕ) (held : List ℕ) → Counted steps [] frames samples path held
     → (frames ≡ frames_in steps) × (samples ≡ samples_in steps no_paths)
 counted_all steps frames samples path held h = let f = h.frames_left in let s = h.samples_left in (omega (arith, f), omega (arith, s))
+
+pub counted_same : (steps rest : List PlanStep) (frames samples path later_frames later_samples later_path : ℕ) (held later_held : List ℕ)
+    → later_frames ≡ frames → later_samples ≡ samples → later_path ≡ path → later_held ≡ held
+    → Counted steps rest frames samples path held → Counted steps rest later_frames later_samples later_path later_held
+counted_same steps rest frames samples path later_frames later_samples later_path held later_held f s p e h =
+    subst (λ x. Counted steps rest x later_samples later_path later_held) (sym f)
+    (subst (λ x. Counted steps rest frames x later_path later_held) (sym s)
+    (subst (λ x. Counted steps rest frames samples x later_held) (sym p)
+    (subst (λ x. Counted steps rest frames samples path x) (sym e) h)))
+
+-- the step at a place is the first of those from there on
+pub next_step : (steps : List PlanStep) (i : ℕ) (other step : PlanStep) → i < length steps → slice_index_or steps i other ≡ step → drop i steps ≡ step ∷ drop (i + 1) steps
+next_step steps i other step within is =
+    let one : suc i ≡ i + 1 = omega arith in
+    drop-cons steps i other within ∙ ap (λ s. s ∷ drop (suc i) steps) is ∙ ap (λ n. step ∷ drop n steps) one

@@ -105,18 +105,18 @@ module _ (job : Job) (n : ℕ) where
   steps_emit (Go count pad1 pad2 ∷ rest) paths most within few =
       let le = within.path in
       let one = goes_further paths.path (record { count = count; pad1 = pad1; pad2 = pad2 }) (omega (arith, le, few)) in
-      let then = steps_emit rest (after_step paths (Go count pad1 pad2)) (most + count) (gone_within most count pad1 pad2 paths within) (omega (arith, few)) in
+      let next = steps_emit rest (after_step paths (Go count pad1 pad2)) (most + count) (gone_within most count pad1 pad2 paths within) (omega (arith, few)) in
       record {
-        video = one.video ++ then.video;
-        audio = one.audio ++ then.audio;
-        joins = (one.video, one.audio, then.video, then.audio, one.beyond, then.joins, refl, refl);
+        video = one.video ++ next.video;
+        audio = one.audio ++ next.audio;
+        joins = (one.video, one.audio, next.video, next.audio, one.beyond, next.joins, refl, refl);
       }
   steps_emit (Keep slot ∷ rest) paths most within few =
-      let then = steps_emit rest (kept paths slot) most (kept_within most slot paths within) (omega (arith, few)) in
-      record { video = then.video; audio = then.audio; joins = then.joins }
+      let next = steps_emit rest (kept paths slot) most (kept_within most slot paths within) (omega (arith, few)) in
+      record { video = next.video; audio = next.audio; joins = next.joins }
   steps_emit (Back slot ∷ rest) paths most within few =
-      let then = steps_emit rest (after_step paths (Back slot)) most (back_within most slot paths within) (omega (arith, few)) in
-      record { video = then.video; audio = then.audio; joins = then.joins }
+      let next = steps_emit rest (after_step paths (Back slot)) most (back_within most slot paths within) (omega (arith, few)) in
+      record { video = next.video; audio = next.audio; joins = next.joins }
 
   -- a plan emits something
   pub plan_emits : (steps : List PlanStep) → frames_in steps ≤ 36000 → IsPlayable (Joins (PathEmits job n) steps no_paths)
@@ -225,7 +225,7 @@ module _ (job : Job) (n : ℕ) (steps rest : List PlanStep) (now later : Side �
       let span : Span = record { count = count; pad1 = pad1; pad2 = pad2 } in
       let left = h.frames_left in
       let le = h.within.path in
-      let then = steps_emit job n rest (after_step h.paths (Go count pad1 pad2)) (h.frames + count) (gone_within job n h.frames count pad1 pad2 h.paths h.within) (omega (arith, left, few)) in
+      let next = steps_emit job n rest (after_step h.paths (Go count pad1 pad2)) (h.frames + count) (gone_within job n h.frames count pad1 pad2 h.paths h.within) (omega (arith, left, few)) in
       let both = longer_begins job n h.paths.path span gave.first_video gave.first_audio gave.whole_video gave.whole_audio (omega (arith, le, left, few)) gave.first gave.whole in
       let beyond : IsBeyond job n h.paths.path (after_step h.paths (Go count pad1 pad2)).path both.0.0 both.1.0 = record {
         first_video = gave.first_video;
@@ -235,13 +235,13 @@ module _ (job : Job) (n : ℕ) (steps rest : List PlanStep) (now later : Side �
             (subst (λ a. PathEmits job n (h.paths.path ++ span ∷ []) gave.whole_video a) (sym both.1.1) gave.whole);
       } in
       record {
-        video = h.video ++ (both.0.0 ++ then.video);
-        audio = h.audio ++ (both.1.0 ++ then.audio);
-        emitted = h.so_far (both.0.0 ++ then.video) (both.1.0 ++ then.audio) (both.0.0, both.1.0, then.video, then.audio, beyond, then.joins, refl, refl);
+        video = h.video ++ (both.0.0 ++ next.video);
+        audio = h.audio ++ (both.1.0 ++ next.audio);
+        emitted = h.so_far (both.0.0 ++ next.video) (both.1.0 ++ next.audio) (both.0.0, both.1.0, next.video, next.audio, beyond, next.joins, refl, refl);
         video_count = length (h.video ++ gave.video);
-        video_taken = first_taken (later Console) h.video gave.video gave.whole_video both.0.0 then.video gave.first_video gave.video_count gave.video_is both.0.1 gave.video_taken;
+        video_taken = first_taken (later Console) h.video gave.video gave.whole_video both.0.0 next.video gave.first_video gave.video_count gave.video_is both.0.1 gave.video_taken;
         audio_count = length (h.audio ++ gave.audio);
-        audio_taken = first_taken (later Sound) h.audio gave.audio gave.whole_audio both.1.0 then.audio gave.first_audio gave.audio_count gave.audio_is both.1.1 gave.audio_taken;
+        audio_taken = first_taken (later Sound) h.audio gave.audio gave.whole_audio both.1.0 next.audio gave.first_audio gave.audio_count gave.audio_is both.1.1 gave.audio_taken;
       }
 
   shorter : (b : Bool) (goes : ℕ) (p q : List Span) → length p ≤ goes → length q ≤ goes → length (if b then p else q) ≤ goes

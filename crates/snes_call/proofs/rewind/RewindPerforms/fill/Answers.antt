@@ -15,8 +15,8 @@ returns-in-Ok-clause-first g c =
     let r = c.requires.ready in
     rewind_first g.P.Player.emits (order_by c.args._asked.now) (told_in (shows c.args.shelf.now) c.args._asked.now.pairs.now) r.0 c.args.ready.plan r.1 (shows c.play_into.new.shelf) (c.play_into.ensures.first r.0 r.2)
 
-pub returns-in-Err-clause-first : goal.returns-in-Err-clause-first
-returns-in-Err-clause-first g c =
+pub returns-clause-first : goal.returns-clause-first
+returns-clause-first g c =
     let shows = g.H.Shelf.shown in
     let r = c.requires.ready in
     rewind_first g.P.Player.emits (order_by c.args._asked.now) (told_in (shows c.args.shelf.now) c.args._asked.now.pairs.now) r.0 c.args.ready.plan r.1 (shows c.play_into.new.shelf) (c.play_into.ensures.first r.0 r.2)
