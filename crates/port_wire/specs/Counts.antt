@@ -5,8 +5,8 @@ use Rattle.port_wire.specs.declared.late.PassLate.{PassLate}
 use Rattle.port_wire.specs.declared.late.PassLate.TheVariants.{Ahead}
 use Rattle.port_wire.specs.Tally.{Tally, same_name, after_refusal, after_answer}
 use Rattle.port_wire.specs.Tally as tally
-use Rattle.port_lock.specs.declared.counts.Counts.{Counts}
-use Rattle.port_lock.specs.declared.counts.Refusal.{Refusal}
+use Rattle.port_wire.specs.declared.counts.Counts.{Counts}
+use Rattle.port_wire.specs.declared.counts.Refusal.{Refusal}
 
 abbrev pub refused_by : Refusal → tally.Refused
 refused_by r = record { name = r.name; at = r.at; late = r.late }

@@ -2,27 +2,27 @@
 ghost use Rattle.std.specs.Prelude.{◌≡◌};
 ghost use Rattle.clock_ratio.specs.Stamp.{window_of};
 ghost use Rattle.port_wire.specs.Tally.{counted_on, no_tally, after_refusal, after_answer};
-ghost use Rattle.port_lock.specs.Counts.{tally_of, is_again_by, tally_after, counted_as};
+ghost use Rattle.port_wire.specs.Counts.{tally_of, is_again_by, tally_after, counted_as};
 
+use crate::late::{CallName, PassLate};
 use clock_ratio::window;
-use port_wire::{CallName, PassLate};
 use snes_defs::Region;
 
 /// A refused call, by its name and stamp, and its refusal.
 #[derive(Clone, Copy)]
-pub(crate) struct Refusal {
-    pub(crate) name: CallName,
-    pub(crate) at: u64,
-    pub(crate) late: PassLate,
+pub struct Refusal {
+    pub name: CallName,
+    pub at: u64,
+    pub late: PassLate,
 }
 
 /// How many calls were refused, how many of the last ones in a row were, all of one name and at one
 /// stamp, and the last refusal.
 #[derive(Clone, Copy)]
-pub(crate) struct Counts {
-    pub(crate) refused: u64,
-    pub(crate) row: u64,
-    pub(crate) last: Option<Refusal>,
+pub struct Counts {
+    pub refused: u64,
+    pub row: u64,
+    pub last: Option<Refusal>,
 }
 
 /// One more, but at the end of the range no more.
@@ -43,11 +43,7 @@ fn goes_on(last: Option<Refusal>, name: CallName, at: u64) -> bool
 }
 
 /// An advance at `at` counts as refused where it was told a clock that is too early for a step there.
-pub(crate) fn counted(
-    region: Region,
-    at: u64,
-    answer: Result<u64, PassLate>,
-) -> Result<u64, PassLate>
+pub fn counted(region: Region, at: u64, answer: Result<u64, PassLate>) -> Result<u64, PassLate>
     ensures { result ≡ counted_as (window_of region) at answer }
 {
     match answer {
@@ -64,7 +60,7 @@ pub(crate) fn counted(
 
 impl Counts {
     /// No call was made yet.
-    pub(crate) fn none() -> Counts
+    pub fn none() -> Counts
         ensures { tally_of result ≡ no_tally }
     {
         Counts {
@@ -89,7 +85,7 @@ impl Counts {
 
     /// The tally after a call of a name at a stamp, by its answer.
     #[inline(always)]
-    pub(crate) fn after<T>(self, name: CallName, at: u64, answer: &Result<T, PassLate>) -> Counts
+    pub fn after<T>(self, name: CallName, at: u64, answer: &Result<T, PassLate>) -> Counts
         ensures { tally_of result ≡ tally_after name at answer.now (tally_of self) }
     {
         match answer {
