@@ -22,13 +22,13 @@ fn go(rewind: &mut Rewind, span: Span) -> Option<u64>
     rewind.begin(span);
     'steps: for _ in 0..u64::MAX {
         if rewind.turn().is_none() {
-            break;
+            return if rewind.is_over() { Some(steps) } else { None };
         }
         steps = steps.wrapping_add(1);
         let _video = rewind.drain(Side::Console, &mut buffer);
         let _audio = rewind.drain(Side::Sound, &mut buffer);
     }
-    if rewind.is_over() { Some(steps) } else { None }
+    None
 }
 
 /// Follows a plan, and answers how many steps each of its goes made.

@@ -8,3 +8,8 @@ times-preserved c =
       (job, n, back (kept paths 0) 0, c.back.ensures.back job n (kept paths 0) (c.keep.ensures.kept job n paths rested)),
       subst (λ k. 0 < k) (sym (c.back.ensures.slots ∙ c.keep.ensures.slots)) c.times.invariant.1,
     )
+
+pub back-requires-clause-rested : goal.back-requires-clause-rested
+back-requires-clause-rested c =
+    let (job, n, paths, rested) = c.times.invariant.0 in
+    (job, n, kept paths 0, c.keep.ensures.kept job n paths rested)

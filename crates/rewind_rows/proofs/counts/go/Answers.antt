@@ -1,0 +1,29 @@
+use Rattle.std.proofs.Common.{◌≡◌, ◌≤◌, ◌+◌, ℕ, List, [], length, refl, ap, sym, subst, ◌∙◌, rules, arith}
+use Rattle.snes_defs.specs.declared.cart.Job.{Job}
+use Rattle.plan_drive.specs.Paths.{Paths, gone}
+use Rattle.snapshot.specs.Standing.{IsRested, video_waiting, audio_waiting}
+use Rattle.rewind_rows.proofs.Ways.{OnWay, drained}
+use Rattle.rewind_rows.proofs.counts.go.Goals as goal
+
+pub steps-init : goal.steps-init
+steps-init c = record {
+  way = λ job n paths rested. record { video = []; audio = []; going = c.begin.ensures.going job n paths rested };
+  no_video = c.begin.ensures.no_video;
+  no_audio = c.begin.ensures.no_audio;
+  slots = c.begin.ensures.slots;
+}
+
+pub turn-requires-clause-going : goal.turn-requires-clause-going
+turn-requires-clause-going c =
+    let (job, n, paths, rested, short, few) = c.requires.rested in
+    let w = c.steps.invariant.way job n paths rested in
+    (job, n, gone paths c.args.span, paths.path, w.video, w.audio, w.going)
+
+pub turn-requires-clause-console_room : goal.turn-requires-clause-console_room
+turn-requires-clause-console_room c = subst (λ (w : List ℕ). length w + 1024 ≤ 65536) (sym c.steps.invariant.no_video) (omega arith)
+
+pub turn-requires-clause-sound_room : goal.turn-requires-clause-sound_room
+turn-requires-clause-sound_room c = subst (λ (w : List ℕ). length w + 4 ≤ 4096) (sym c.steps.invariant.no_audio) (omega arith)
+
+pub steps-preserved : goal.steps-preserved
+steps-preserved c = ?
