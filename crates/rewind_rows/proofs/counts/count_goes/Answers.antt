@@ -41,7 +41,16 @@ loop-step-preserved c =
     let was = c.loop-step.rewind in
     let (job, n, reached, fits) = c.loop-step.invariant.reached in
     elim c.match-step.branch [
-      | in-Go+in_ok-steps-in-Go+in_ok-ok-in-Go w ↦ ?
+      | in-Go+in_ok-steps-in-Go+in_ok-ok-in-Go w ↦
+      let here = next_step items i (Go 0 0 0) (Go w.in-Go.count w.in-Go.pad1 w.in-Go.pad2) c.loop-step-test.true w.in-Go.is in
+      let r = subst (λ s. Reached job n steps s (λ side bytes. Unit {0}) was) here reached in
+      record {
+        reached = (job, n, subst (λ v. Reached job n steps rest (λ side bytes. Unit {0}) v) (sym w.rewind-is)
+            (reached_go job n steps rest (λ side bytes. Unit {0}) (λ side bytes. Unit {0}) was w.go.new.rewind w.in-Go.count w.in-Go.pad1 w.in-Go.pad2 r
+            (w.in_ok-steps-in-Go.ensures.gave job n r.paths (by_side r.video r.audio) r.rested)), fits);
+        names = subst (λ v. NamesBelow (slot_count v) rest) (sym w.rewind-is)
+            (subst (λ m. NamesBelow m rest) (sym w.go.ensures.slots) (subst (NamesBelow (slot_count was)) here c.loop-step.invariant.names));
+      }
       | in-Keep w ↦
       let here = next_step items i (Go 0 0 0) (Keep w.in-Keep.slot) c.loop-step-test.true w.in-Keep.is in
       let r = subst (λ s. Reached job n steps s (λ side bytes. Unit {0}) was) here reached in
