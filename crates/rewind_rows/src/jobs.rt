@@ -41,16 +41,3 @@ pub fn talking_job(alloc: Global) -> Option<Job>
     *bytes.get_mut(0x7ffd)? = 0x80;
     job_of(alloc, image)
 }
-
-/// A cartridge of so many bytes whose program does nothing, with 128 KiB of RAM.
-pub fn idle_job(alloc: Global, size: usize) -> Option<Job>
-    ensures script { IfSome result (λ job. job.script ≡ path_script 0 []) }
-    ensures region { IfSome result (λ job. job.region ≡ Ntsc) }
-{
-    let mut image = vec![in alloc; 0xeau8; size].ok()?;
-    let bytes = image.as_mut_slice();
-    *bytes.get_mut(0x7fd5)? = 0x20;
-    *bytes.get_mut(0x7fd6)? = 0;
-    *bytes.get_mut(0x7fd8)? = 7;
-    job_of(alloc, image)
-}
