@@ -1,4 +1,4 @@
-ghost use Rattle.std.specs.Prelude.{◌≡◌, ◌+◌, ◌<◌, ◌≤◌, ℕ, List, length, IsSome};
+ghost use Rattle.std.specs.Prelude.{◌≡◌, ◌+◌, ◌<◌, ◌≤◌, ℕ, List, length, IfSome};
 ghost use Rattle.snes_defs.specs.declared.cart.Job.{Job};
 ghost use Rattle.snes_defs.specs.declared.ports.Side.{Side};
 ghost use Rattle.snes_defs.specs.Script.{frames_of};
@@ -14,7 +14,7 @@ use std::alloc::Global;
 /// Plays a span one step of the serial console after another, and answers how many steps it made.
 fn go(rewind: &mut Rewind, span: Span) -> Option<u64>
     requires rested { (job : Job) × (n : ℕ) × (paths : Paths) × IsRested job n paths rewind.old × (length paths.path < n) × (frames_of paths.path + span.count ≤ 36000) }
-    ensures gave { IsSome result → (job : Job) (n : ℕ) (paths : Paths) (base : Side → List ℕ) → IsRested job n paths rewind.old → Gave job n (gone paths span) paths.path base (λ side bytes. Unit {0}) rewind.new }
+    ensures gave { IfSome result (λ steps. (job : Job) (n : ℕ) (paths : Paths) (base : Side → List ℕ) → IsRested job n paths rewind.old → Gave job n (gone paths span) paths.path base (λ side bytes. Unit {0}) rewind.new) }
     ensures slots { slot_count rewind.new ≡ slot_count rewind.old }
 {
     let mut buffer = [0u8; 1024];
@@ -22,13 +22,13 @@ fn go(rewind: &mut Rewind, span: Span) -> Option<u64>
     rewind.begin(span);
     'steps: for _ in 0..u64::MAX {
         if rewind.turn().is_none() {
-            break;
+            return if rewind.is_over() { Some(steps) } else { None };
         }
         steps = steps.wrapping_add(1);
         let _video = rewind.drain(Side::Console, &mut buffer);
         let _audio = rewind.drain(Side::Sound, &mut buffer);
     }
-    if rewind.is_over() { Some(steps) } else { None }
+    None
 }
 
 /// Follows a plan, and answers how many steps each of its goes made.

@@ -7,7 +7,7 @@ use Rattle.rewind_rows.proofs.counts.go.Given as goal
 
 abbrev pub invariant-steps : goal.invariant-steps
 invariant-steps l = record {
-  way : (job : Job) (n : ℕ) (paths : Paths) → IsRested job n paths l.initial.rewind → OnWay job n paths l.span l.rewind;
+  way : (job : Job) (n : ℕ) (paths : Paths) → IsRested job n paths l.initial.rewind → OnWay job n paths l.fn.span l.rewind;
   no_video : video_waiting l.rewind ≡ [];
   no_audio : audio_waiting l.rewind ≡ [];
   slots : slot_count l.rewind ≡ slot_count l.initial.rewind;

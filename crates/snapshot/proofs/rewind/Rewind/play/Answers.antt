@@ -74,40 +74,40 @@ loop-step-preserved g c =
     let was = c.loop-step.self in
     elim c.match-step.branch [
       | in-Go+in-Ok w ↦
-      let step = Go w.in-Go.count w.in-Go.pad1 w.in-Go.pad2 in
-      let here = next_step items i (Go 0 0 0) step c.loop-step-test.true w.in-Go.is in
-      record {
-        reached = λ job n rested.
-            let r = subst (λ s. Reached job n steps s (holds c.loop-step.sink) was) here (c.loop-step.invariant.reached job n rested) in
-            let done = reached_go job n steps rest (holds c.loop-step.sink) (holds w.go_on.new.sink) was w.go_on.new.self w.in-Go.count w.in-Go.pad1 w.in-Go.pad2 r
-            (w.in-Ok.ensures.whole job n (after_step r.paths step) r.paths.path (by_side r.video r.audio) (w.begin.ensures.going job n r.paths r.rested) r.video_taken r.audio_taken) in
-            subst (λ k. Reached job n steps rest (holds k) c.match-step.self) (sym w.sink-is) (subst (λ v. Reached job n steps rest (holds w.go_on.new.sink) v) (sym w.self-is) done);
-        names = subst (λ v. NamesBelow (slot_count v) rest) (sym w.self-is)
-            (subst (λ m. NamesBelow m rest) (sym (w.go_on.ensures.slots ∙ w.begin.ensures.slots)) (subst (NamesBelow (slot_count was)) here c.loop-step.invariant.names));
-        only = subst (g.K.Sink.only_takes c.args.sink.now) (sym w.sink-is) (g.met.K.Sink.takes_more _ _ _ c.loop-step.invariant.only w.go_on.ensures.only);
-      }
+          let step = Go w.in-Go.count w.in-Go.pad1 w.in-Go.pad2 in
+          let here = next_step items i (Go 0 0 0) step c.loop-step-test.true w.in-Go.is in
+          record {
+            reached = λ job n rested.
+                let r = subst (λ s. Reached job n steps s (holds c.loop-step.sink) was) here (c.loop-step.invariant.reached job n rested) in
+                let done = reached_go job n steps rest (holds c.loop-step.sink) (holds w.go_on.new.sink) was w.go_on.new.self w.in-Go.count w.in-Go.pad1 w.in-Go.pad2 r
+                (w.in-Ok.ensures.whole job n (after_step r.paths step) r.paths.path (by_side r.video r.audio) (w.begin.ensures.going job n r.paths r.rested) r.video_taken r.audio_taken) in
+                subst (λ k. Reached job n steps rest (holds k) c.match-step.self) (sym w.sink-is) (subst (λ v. Reached job n steps rest (holds w.go_on.new.sink) v) (sym w.self-is) done);
+            names = subst (λ v. NamesBelow (slot_count v) rest) (sym w.self-is)
+                (subst (λ m. NamesBelow m rest) (sym (w.go_on.ensures.slots ∙ w.begin.ensures.slots)) (subst (NamesBelow (slot_count was)) here c.loop-step.invariant.names));
+            only = subst (g.K.Sink.only_takes c.args.sink.now) (sym w.sink-is) (g.met.K.Sink.takes_more _ _ _ c.loop-step.invariant.only w.go_on.ensures.only);
+          }
       | in-Keep w ↦
-      let here = next_step items i (Go 0 0 0) (Keep w.in-Keep.slot) c.loop-step-test.true w.in-Keep.is in
-      record {
-        reached = λ job n rested.
-            let r = subst (λ s. Reached job n steps s (holds c.loop-step.sink) was) here (c.loop-step.invariant.reached job n rested) in
-            let done = reached_keep job n steps rest (holds c.loop-step.sink) (holds c.loop-step.sink) was w.keep.new.self w.in-Keep.slot r (w.keep.ensures.kept job n r.paths r.rested) in
-            subst (λ k. Reached job n steps rest (holds k) c.match-step.self) (sym w.sink-is) (subst (λ v. Reached job n steps rest (holds c.loop-step.sink) v) (sym w.self-is) done);
-        names = subst (λ v. NamesBelow (slot_count v) rest) (sym w.self-is)
-            (subst (λ m. NamesBelow m rest) (sym w.keep.ensures.slots) (subst (NamesBelow (slot_count was)) here c.loop-step.invariant.names).1);
-        only = subst (g.K.Sink.only_takes c.args.sink.now) (sym w.sink-is) c.loop-step.invariant.only;
-      }
+          let here = next_step items i (Go 0 0 0) (Keep w.in-Keep.slot) c.loop-step-test.true w.in-Keep.is in
+          record {
+            reached = λ job n rested.
+                let r = subst (λ s. Reached job n steps s (holds c.loop-step.sink) was) here (c.loop-step.invariant.reached job n rested) in
+                let done = reached_keep job n steps rest (holds c.loop-step.sink) (holds c.loop-step.sink) was w.keep.new.self w.in-Keep.slot r (w.keep.ensures.kept job n r.paths r.rested) in
+                subst (λ k. Reached job n steps rest (holds k) c.match-step.self) (sym w.sink-is) (subst (λ v. Reached job n steps rest (holds c.loop-step.sink) v) (sym w.self-is) done);
+            names = subst (λ v. NamesBelow (slot_count v) rest) (sym w.self-is)
+                (subst (λ m. NamesBelow m rest) (sym w.keep.ensures.slots) (subst (NamesBelow (slot_count was)) here c.loop-step.invariant.names).1);
+            only = subst (g.K.Sink.only_takes c.args.sink.now) (sym w.sink-is) c.loop-step.invariant.only;
+          }
       | in-Back w ↦
-      let here = next_step items i (Go 0 0 0) (Back w.in-Back.slot) c.loop-step-test.true w.in-Back.is in
-      record {
-        reached = λ job n rested.
-            let r = subst (λ s. Reached job n steps s (holds c.loop-step.sink) was) here (c.loop-step.invariant.reached job n rested) in
-            let done = reached_back job n steps rest (holds c.loop-step.sink) (holds c.loop-step.sink) was w.back.new.self w.in-Back.slot r (w.back.ensures.back job n r.paths r.rested) in
-            subst (λ k. Reached job n steps rest (holds k) c.match-step.self) (sym w.sink-is) (subst (λ v. Reached job n steps rest (holds c.loop-step.sink) v) (sym w.self-is) done);
-        names = subst (λ v. NamesBelow (slot_count v) rest) (sym w.self-is)
-            (subst (λ m. NamesBelow m rest) (sym w.back.ensures.slots) (subst (NamesBelow (slot_count was)) here c.loop-step.invariant.names).1);
-        only = subst (g.K.Sink.only_takes c.args.sink.now) (sym w.sink-is) c.loop-step.invariant.only;
-      }
+          let here = next_step items i (Go 0 0 0) (Back w.in-Back.slot) c.loop-step-test.true w.in-Back.is in
+          record {
+            reached = λ job n rested.
+                let r = subst (λ s. Reached job n steps s (holds c.loop-step.sink) was) here (c.loop-step.invariant.reached job n rested) in
+                let done = reached_back job n steps rest (holds c.loop-step.sink) (holds c.loop-step.sink) was w.back.new.self w.in-Back.slot r (w.back.ensures.back job n r.paths r.rested) in
+                subst (λ k. Reached job n steps rest (holds k) c.match-step.self) (sym w.sink-is) (subst (λ v. Reached job n steps rest (holds c.loop-step.sink) v) (sym w.self-is) done);
+            names = subst (λ v. NamesBelow (slot_count v) rest) (sym w.self-is)
+                (subst (λ m. NamesBelow m rest) (sym w.back.ensures.slots) (subst (NamesBelow (slot_count was)) here c.loop-step.invariant.names).1);
+            only = subst (g.K.Sink.only_takes c.args.sink.now) (sym w.sink-is) c.loop-step.invariant.only;
+          }
     ]
 
 pub returns-clause-whole : goal.returns-clause-whole
