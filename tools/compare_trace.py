@@ -115,4 +115,5 @@ def main():
     return 0 if hashes and alike == hashes else 1
 
 
-sys.exit(main())
+if __name__ == "__main__":
+    sys.exit(main())
