@@ -9,6 +9,9 @@ use Rattle.spc_tables.specs.declared.access.SpcAccess.{SpcAccess}
 use Rattle.spc_tables.specs.declared.access.SpcAccess.TheVariants as spc
 use Rattle.audio_side.specs.Board.{Board}
 use Rattle.audio_side.specs.Effect.{loaded}
+use Rattle.cpu_tables.specs.declared.regs.Regs.{Regs}
+use Rattle.snes_trace.specs.declared.step.Instruction.{Instruction}
+use Rattle.snes_trace.specs.declared.step.Instruction.TheVariants as instruction
 use Rattle.snes_trace.specs.declared.step.Kind.{Kind}
 use Rattle.snes_trace.specs.declared.step.Kind.TheVariants as kind
 use Rattle.snes_trace.specs.declared.step.Way.TheVariants as way
@@ -37,6 +40,12 @@ abbrev pub TellsMove : Step → Move → Type 0
 TellsMove step (Load from) = (step.kind ≡ kind.Hdma) × (step.address ≡ Some from) × (step.way ≡ way.Table)
 TellsMove step (ToB from port) = (is_transfer step.kind ≡ true) × (step.address ≡ Some from) × (step.way ≡ way.To port)
 TellsMove step (ToA port to) = (step.kind ≡ kind.Dma) × (step.address ≡ Some to) × (step.way ≡ way.From port)
+
+-- the registers with which an instruction of the 65C816 begins, where a step begins one
+abbrev pub HasRegs : Instruction → Regs → Type 0
+HasRegs (instruction.Console told bytes) regs = told ≡ regs
+HasRegs (instruction.Sound told bytes) regs = Unit {0}
+HasRegs instruction.Nothing regs = Unit {0}
 
 -- the step that is due
 abbrev pub Tells : Step → Due → Type 0

@@ -102,9 +102,7 @@ pub fn read_breaks(alloc: Global, name: &str, file: &str) -> Result<Vec<Break>> 
         }
         match break_of(text) {
             Some(found) => breaks.push(found)?,
-            None => bail!(
-                "{name} refused: line {number} is no breakpoint (ADDRESS or FIRST-LAST, then console or sound, then opcode, fetch, read, write, dma or hdma)"
-            ),
+            None => bail!("{name} refused: line {number} is no breakpoint (see --help)"),
         }
     }
     if breaks.is_empty() {

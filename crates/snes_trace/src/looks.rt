@@ -4,7 +4,7 @@ ghost use Rattle.std.specs.Prelude.{◌≡◌, ◌+◌, ◌*◌, Some, None, tru
 ghost use Rattle.cpu65816.specs.Instruction.{Standing, next_of, registers_of};
 ghost use Rattle.cpu65816.specs.Stands.{Stands};
 ghost use Rattle.console_machine.specs.Dues.{due_from};
-ghost use Rattle.snes_trace.specs.Tells.{Tells, TellsAccess, TellsMove, TellsSpcAccess, is_fetch, is_transfer};
+ghost use Rattle.snes_trace.specs.Tells.{Tells, TellsAccess, TellsMove, TellsSpcAccess, HasRegs, is_fetch, is_transfer};
 
 use crate::step::{Instruction, Kind, Step, Way};
 use audio_side::AudioSide;
@@ -25,6 +25,7 @@ fn still(side: Side, stamp: u64, kind: Kind) -> Step
     ensures stamp { result.stamp ≡ stamp }
     ensures kind { result.kind ≡ kind }
     ensures address { result.address ≡ None }
+    ensures instruction { result.instruction ≡ Instruction.Nothing }
 {
     Step {
         side,
@@ -44,6 +45,7 @@ fn at(stamp: u64, kind: Kind, address: u32, way: Way) -> Step
     ensures kind { result.kind ≡ kind }
     ensures address { result.address ≡ Some address }
     ensures way { result.way ≡ way }
+    ensures instruction { result.instruction ≡ Instruction.Nothing }
 {
     Step {
         side: Side::Console,
@@ -72,6 +74,7 @@ fn kind_to_b(dma: &Dma, due: Move) -> Kind
 fn look_at_move(dma: &Dma, due: Move, stamp: u64) -> Step
     ensures tells { TellsMove result due }
     ensures stamp { result.stamp ≡ stamp }
+    ensures instruction { result.instruction ≡ Instruction.Nothing }
 {
     match due {
         Move::Load { from } => at(stamp, Kind::Hdma, from, Way::Table),
@@ -91,6 +94,7 @@ fn opcode_address(regs: &Regs) -> u32
 fn look_at_fetch(regs: Regs, address: u32, stamp: u64) -> Step
     ensures fetch { is_fetch result.kind ≡ true }
     ensures address { result.address ≡ Some address }
+    ensures regs { HasRegs result.instruction regs }
     ensures stamp { result.stamp ≡ stamp }
 {
     let mut step = at(stamp, Kind::Fetch, address, Way::Nowhere);
@@ -104,6 +108,7 @@ fn look_at_fetch(regs: Regs, address: u32, stamp: u64) -> Step
 /// An access of the 65C816.
 fn look_at_access(console: &ConsoleSide, stamp: u64) -> Step
     ensures tells { (s : Standing) → Stands console.now.cpu s → TellsAccess result (next_of s) }
+    ensures regs { (s : Standing) → Stands console.now.cpu s → HasRegs result.instruction (registers_of s) }
     ensures stamp { result.stamp ≡ stamp }
 {
     let regs = console.processor().regs();
@@ -127,6 +132,7 @@ fn look_at_access(console: &ConsoleSide, stamp: u64) -> Step
 /// The console's next step: what it is, and at which address. Its byte is known once it is made, but for a write.
 pub fn look_at_console(console: &ConsoleSide, dma: &Dma) -> Step
     ensures tells { (s : Standing) → Stands console.now.cpu s → Tells result (due_from s console.now.rest) }
+    ensures regs { (s : Standing) → Stands console.now.cpu s → HasRegs result.instruction (registers_of s) }
     ensures stamp { result.stamp ≡ console.now.stamp }
 {
     let stamp = console.stamp();

@@ -5,7 +5,7 @@ use crate::comma::{HEAD, push_row};
 use crate::pair::Pair;
 use crate::step::{Kind, Step};
 use crate::text::push_line;
-use anyhow::{Result, bail};
+use anyhow::{Context, Result, bail};
 use snes_defs::{Region, Side};
 use std::alloc::Global;
 use std::io::Write;
@@ -95,7 +95,8 @@ fn write_step<W: Write>(
     } else {
         push_line(line, region, step)?;
     }
-    out.write_all(line.as_slice())?;
+    out.write_all(line.as_slice())
+        .context("cannot write the trace")?;
     Ok(())
 }
 
@@ -117,7 +118,8 @@ pub fn write_trace<W: Write>(
         },
     };
     if wanted.is_csv {
-        out.write_all(HEAD.as_bytes())?;
+        out.write_all(HEAD.as_bytes())
+            .context("cannot write the trace")?;
     }
     for _ in 0..u64::MAX {
         if pair.is_past(wanted.to) || telling.told.lines >= wanted.lines {
@@ -131,6 +133,6 @@ pub fn write_trace<W: Write>(
             telling.told.lines = telling.told.lines.saturating_add(1);
         }
     }
-    out.flush()?;
+    out.flush().context("cannot write the trace")?;
     Ok(telling.told)
 }
