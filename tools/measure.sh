@@ -10,13 +10,19 @@
 # the best of RUNS (5) runs of FRAMES (600) frames, the programs in turn. All outputs go to the null device, so that no
 # figure has the writing of files in it. An OTHER is a program with the same words, which is measured beside.
 #
-# The program has to be built: ./snes demo 7 --frames 0. SNES=PROGRAM measures another build, JOBS="red" only some jobs.
+# The program has to be built: ./snes demo 7 --frames 0. SNES=PROGRAM measures another build, JOBS="red" only some jobs;
+# SCENE=FOLDER takes the files that ./scene has written there before.
 top=$(cd "$(dirname "${BASH_SOURCE[0]}")/.." && pwd) || exit 2
 snes=${SNES:-$top/crates/snes_run/out/snes_run}
 [ -x "$snes" ] || { echo "no program: $snes (./snes demo 7 --frames 0 builds it)" >&2; exit 2; }
 work=$(mktemp -d) || exit 2
 trap 'rm -rf "$work"' EXIT
 frames=${FRAMES:-600} runs=${RUNS:-5}
+
+# The scene's files, in a folder.
+scene_in() {
+  if [ -n "${SCENE:-}" ]; then cp "$SCENE"/{scene.sfc,boot.bin,table.bin,script.txt} "$1/"; else "$top/scene" "$1" >/dev/null; fi
+}
 
 # The files of a job, in $work/JOB: cart.sfc, boot.bin, table.bin, script.txt.
 files_of() {
@@ -27,9 +33,9 @@ files_of() {
       cp "$top"/crates/snes_run/data/{boot.bin,table.bin,script.txt} "$folder/" &&
         cp "$top/crates/snes_run/data/red.sfc" "$folder/cart.sfc"
       ;;
-    scene) "$top/scene" "$folder" >/dev/null && mv "$folder"/*.sfc "$folder/cart.sfc" ;;
+    scene) scene_in "$folder" && mv "$folder/scene.sfc" "$folder/cart.sfc" ;;
     seven)
-      "$top/scene" "$folder" >/dev/null && rm -f "$folder"/*.sfc &&
+      scene_in "$folder" && rm -f "$folder/scene.sfc" &&
         "$snes" make 7 --out "$folder/cart.sfc" >/dev/null
       ;;
     *)

@@ -1,5 +1,5 @@
 -- A halted processor: its cycles between the ends of 16 are silent steps, which only the clock sees.
-use Rattle.std.proofs.Common.{◌≡◌, ◌≢◌, ◌∙◌, ◌<◌, ◌≤◌, ◌%◌, ◌+◌, ◌*◌, ℕ, zero, suc, false, List, ◌++◌, length, refl, sym, ap, subst, arith}
+use Rattle.std.proofs.Common.{◌≡◌, ◌≢◌, ◌∙◌, ◌<◌, ◌≤◌, ◌%◌, ◌+◌, ◌*◌, ℕ, zero, suc, false, List, ◌++◌, refl, sym, ap, subst, arith}
 use Rattle.snes_defs.specs.declared.region.Region.{Region}
 use Rattle.snes_defs.specs.declared.region.Region.TheVariants.{Ntsc, Pal}
 use Rattle.snes_defs.specs.declared.ports.Side.TheVariants.{Sound}

@@ -9,10 +9,10 @@ use Rattle.side_law.specs.Quiet.{SilentSteps}
 use Rattle.side_law.proofs.QuietRuns.{IsSilent}
 use Rattle.cpu65816.specs.declared.processor.Cpu.{Cpu}
 use Rattle.console_bus.specs.Rest.{Rest}
-use Rattle.console_steps.specs.World.{World, act_of, due_of, due_clocks, world_after, bytes_after, region_of, console_moves}
+use Rattle.console_steps.specs.World.{World, act_of, due_of, world_after, bytes_after, region_of, console_moves}
 use Rattle.console_steps.specs.Stands.{IsAt}
 use Rattle.console_machine.specs.Side.{ConsoleValue, StandsAt}
-use Rattle.console_machine.specs.SideLaws.{IsAfter, step_keeps, due_step}
+use Rattle.console_machine.specs.SideLaws.{step_keeps, due_step}
 use Rattle.console_machine.specs.Standing.{stamp_on}
 use Rattle.console_machine.specs.Runs.{SilentWorlds, HasRun}
 use Rattle.console_machine.proofs.AtOnce.{IsStepMade}
@@ -98,9 +98,12 @@ to_silent before (suc n) w to r line (first, nothing, rest) region stop =
     let step = s.clock in
     let least = d.least in
     let later = clock_later n (world_after w (due_of w) 0) to s.line rest in
-    let less : w.clock < to.clock = omega (arith, step, least, later) in
-    (first, stamp_before r (region_of w) w.clock to.clock before region less stop, nothing,
-    to_silent before n (world_after w (due_of w) 0) to r s.line rest (s.region ∙ region) stop)
+    let less : w.clock < to.clock = omega (arith, step, least, later) in (
+      first,
+      stamp_before r (region_of w) w.clock to.clock before region less stop,
+      nothing,
+      to_silent before n (world_after w (due_of w) 0) to r s.line rest (s.region ∙ region) stop,
+    )
 
 run_stands : (v x : ConsoleValue) (w : World) (k : ℕ) → StandsAt v w → (g : HasRun x.cpu x.rest w k) → x.region ≡ v.region
     → x.stamp ≡ v.stamp + rate_of v.region Console * k → StandsAt x g.to

@@ -10,6 +10,7 @@
 mod acts;
 mod many_steps;
 mod parts;
+mod patience;
 mod side;
 mod step;
 

@@ -11,6 +11,7 @@ ghost use Rattle.console_steps.specs.AtOnce.{gone_on, passed_in, IsMadeAtOnce};
 ghost use Rattle.console_steps.specs.Plain.{IsWired, IsCalm, IsLook};
 ghost use Rattle.console_machine.specs.Runs.{HasRun, IsRounds};
 
+use crate::patience::Patience;
 use cart_map::Place;
 use console_bus::Bus;
 use console_steps::{is_calm, is_wired, try_look, try_plain};
@@ -142,7 +143,7 @@ fn go_rounds(bus: &mut Bus, round: u16) -> u16
 /// Makes accesses that only look, and where they come back to the processor and the byte on the data bus that they
 /// began with, passes the rounds that fit before the next place. Answers how many clocks all of them last.
 #[inline(never)]
-fn make_rounds(cpu: &mut Cpu, bus: &mut Bus) -> u16
+fn make_rounds(cpu: &mut Cpu, bus: &mut Bus, patience: &mut Patience) -> u16
     ensures run { (w : World) → IsAt cpu.old bus.old w → w.rest.beam.h < 1364 → HasRun cpu.new bus.new w result }
     ensures left { result + clocks_left bus.new.beam ≡ clocks_left bus.old.beam }
 {
@@ -153,6 +154,7 @@ fn make_rounds(cpu: &mut Cpu, bus: &mut Bus) -> u16
         return 0;
     }
     let _left = bus.left();
+    patience.begins();
     let first = *cpu;
     let byte = last_byte(bus);
     let mut gone: u16 = 0;
@@ -162,6 +164,7 @@ fn make_rounds(cpu: &mut Cpu, bus: &mut Bus) -> u16
             None => return gone,
         }
         if is_back(cpu, bus, &first, byte) {
+            patience.found();
             let more = go_rounds(bus, gone);
             return gone + more;
         }
@@ -169,8 +172,8 @@ fn make_rounds(cpu: &mut Cpu, bus: &mut Bus) -> u16
     gone
 }
 
-/// Looks for a round where the next place is far enough.
-fn look_for_rounds(cpu: &mut Cpu, bus: &mut Bus) -> u16
+/// Looks for a round where the next place is far enough and it is time for it.
+fn look_for_rounds(cpu: &mut Cpu, bus: &mut Bus, patience: &mut Patience) -> u16
     ensures run { (w : World) → IsAt cpu.old bus.old w → w.rest.beam.h < 1364 → HasRun cpu.new bus.new w result }
     ensures left { result + clocks_left bus.new.beam ≡ clocks_left bus.old.beam }
 {
@@ -178,19 +181,22 @@ fn look_for_rounds(cpu: &mut Cpu, bus: &mut Bus) -> u16
     if left < FEW_CLOCKS {
         return 0;
     }
+    if !patience.asks() {
+        return 0;
+    }
     let first = finish_instruction(cpu, bus);
-    let rounds = make_rounds(cpu, bus);
+    let rounds = make_rounds(cpu, bus, patience);
     first + rounds
 }
 
 /// Makes quiet steps that emit nothing, at most up to the next place of the beam, and answers how many clocks they last.
-pub(crate) fn make_plain_steps(cpu: &mut Cpu, bus: &mut Bus) -> u16
+pub(crate) fn make_plain_steps(cpu: &mut Cpu, bus: &mut Bus, patience: &mut Patience) -> u16
     ensures run { (w : World) → IsAt cpu.old bus.old w → w.rest.beam.h < 1364 → HasRun cpu.new bus.new w result }
     ensures left { result + clocks_left bus.new.beam ≡ clocks_left bus.old.beam }
     ensures few { result ≤ 1364 }
 {
     let _left = bus.left();
-    let rounds = look_for_rounds(cpu, bus);
+    let rounds = look_for_rounds(cpu, bus, patience);
     let others = make_accesses(cpu, bus);
     rounds + others
 }

@@ -10,6 +10,7 @@ ghost use Rattle.console_machine.specs.Side.{IsSome, StandsAt};
 
 use crate::acts::due_act;
 use crate::many_steps::make_plain_steps;
+use crate::patience::Patience;
 use crate::step::{make_step, try_make};
 use circular_buffer::HeapCircularBuffer;
 use clock_ratio::{CONSOLE_RATE, PAL_CONSOLE_RATE};
@@ -31,6 +32,8 @@ pub struct Parts {
     pub stamp: u64,
     /// The emitted bytes that wait.
     pub waiting: HeapCircularBuffer<u8>,
+    /// When a round is looked for.
+    pub patience: Patience,
 }
 
 /// The stamps of a step's master clocks.
@@ -158,7 +161,7 @@ impl Parts {
         ensures region { self.new.region ≡ self.old.region }
         ensures waiting { self.new.waiting ≡ self.old.waiting }
     {
-        let clocks = make_plain_steps(&mut self.cpu, &mut self.bus);
+        let clocks = make_plain_steps(&mut self.cpu, &mut self.bus, &mut self.patience);
         self.stamp += line_stamps(self.region, clocks);
     }
 

@@ -3,6 +3,7 @@ ghost use Rattle.console_steps.specs.World.{console_start};
 ghost use Rattle.console_machine.specs.Side.{IsSome, StandsAt};
 
 use crate::parts::Parts;
+use crate::patience::Patience;
 use circular_buffer::HeapCircularBuffer;
 use console_bus::Bus;
 use cpu65816::Cpu;
@@ -52,6 +53,7 @@ impl ConsoleSide {
                 region: job.region,
                 stamp: 0,
                 waiting,
+                patience: Patience::full(),
             },
         })
     }

@@ -7,8 +7,8 @@ use Rattle.cpu65816.specs.declared.processor.Cpu.{Cpu}
 use Rattle.cpu65816.specs.Instruction.{Standing, moved_by, moved_on, signalled, end_of, left_of}
 use Rattle.cpu65816.specs.Stands.{Stands}
 use Rattle.console_bus.specs.Rest.{Rest}
-use Rattle.console_steps.specs.World.{after_access, byte_of, with_lines}
-use Rattle.console_steps.specs.AtOnce.{gone_on, IsMadeAtOnce}
+use Rattle.console_steps.specs.World.{after_access, with_lines}
+use Rattle.console_steps.specs.AtOnce.{IsMadeAtOnce}
 use Rattle.console_steps.specs.Plain.{IsWired}
 
 kept_same : (kept n : Bool) → (kept || (n && not n)) ≡ kept

@@ -1,7 +1,6 @@
 -- Accesses of the processor that follow one another with nothing else on the bus: when it may be taken that no line and
 -- no transfer comes between, and which of them change nothing but the processor and the byte last on the data bus.
 use Rattle.std.specs.Prelude.{◌≡◌, ℕ, false, None, Some}
-use Rattle.cart_map.specs.declared.places.Place.{Place}
 use Rattle.cpu_tables.specs.declared.access.Access.{Access}
 use Rattle.cpu_tables.specs.declared.access.Access.TheVariants.{Fetch, Read, Write, Inner}
 use Rattle.cpu65816.specs.declared.processor.Cpu.{Cpu}

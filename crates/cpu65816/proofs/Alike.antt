@@ -1,5 +1,5 @@
 -- Processors whose registers are alike and whose instructions have ended leave the same to do.
-use Rattle.std.proofs.Common.{◌≡◌, ℕ, Bool, true, false, Option, Some, None, refl, sym, ap, ◌∙◌}
+use Rattle.std.proofs.Common.{◌≡◌, ℕ, Bool, true, false, Some, None, sym, ap, ◌∙◌}
 use Rattle.cpu_tables.specs.declared.regs.Regs.{Regs}
 use Rattle.cpu_modes.specs.Rest.{rest}
 use Rattle.cpu65816.specs.Instruction.{Standing}

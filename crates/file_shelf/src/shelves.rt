@@ -15,6 +15,8 @@ pub enum Input {
     Table,
     /// The script of pads.
     Script,
+    /// The plan of a rewinder.
+    Plan,
 }
 
 /// The four places that the program writes to.

@@ -14,6 +14,7 @@ input_option input.Boot = codes "--boot"
 input_option input.Spc = codes "--spc"
 input_option input.Table = codes "--table"
 input_option input.Script = codes "--script"
+input_option input.Plan = codes "--plan"
 
 -- the option of an output; the lines have none
 abbrev pub output_option : Out → List ℕ

@@ -22,6 +22,7 @@ pub(crate) fn option_of_input(input: Input) -> &'static str
         Input::Spc => "--spc",
         Input::Table => "--table",
         Input::Script => "--script",
+        Input::Plan => "--plan",
     }
 }
 

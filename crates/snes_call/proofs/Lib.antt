@@ -10,5 +10,6 @@ pub mod MakeLemmas
 pub mod OutputLemmas
 pub mod PlayLemmas
 pub mod Putting
+pub mod RewindLemmas
 pub mod RunLemmas
 pub mod SpcLemmas

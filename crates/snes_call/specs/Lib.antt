@@ -8,6 +8,7 @@ pub mod Loads
 pub mod Make
 pub mod Play
 pub mod PutLaws
+pub mod Rewind
 pub mod Run
 pub mod Said
 pub mod Snes

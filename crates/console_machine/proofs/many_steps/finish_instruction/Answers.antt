@@ -1,5 +1,4 @@
-use Rattle.std.proofs.Common.{rules, refl, arith}
-use Rattle.std.proofs.lemmas.Grind.{common_steps}
+use Rattle.std.proofs.Common.{refl, arith}
 use Rattle.cpu65816.specs.Stands.{access_of}
 use Rattle.console_steps.proofs.Wires.{wired_then}
 use Rattle.console_machine.proofs.AtOnce.{is_step}

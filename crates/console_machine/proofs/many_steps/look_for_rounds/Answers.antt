@@ -5,6 +5,9 @@ use Rattle.console_machine.proofs.many_steps.look_for_rounds.Goals as goal
 pub returns-then-left-lt-FEW_CLOCKS-clause-run : goal.returns-then-left-lt-FEW_CLOCKS-clause-run
 returns-then-left-lt-FEW_CLOCKS-clause-run c = λ w at line. no_run c.args.cpu.now c.args.bus.now w at line
 
+pub returns-then-not-asks-clause-run : goal.returns-then-not-asks-clause-run
+returns-then-not-asks-clause-run c = λ w at line. no_run c.args.cpu.now c.args.bus.now w at line
+
 pub returns-clause-run : goal.returns-clause-run
 returns-clause-run c = λ w at line.
     let first = c.finish_instruction-first in

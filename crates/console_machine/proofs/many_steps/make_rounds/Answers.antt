@@ -1,4 +1,4 @@
-use Rattle.std.proofs.Common.{◌≡◌, ◌+◌, [], ℕ, refl, arith, sym, ap, subst, ◌∙◌}
+use Rattle.std.proofs.Common.{◌≡◌, ◌+◌, [], refl, arith, sym, ap, subst, ◌∙◌}
 use Rattle.cpu65816.specs.Stands.{access_of}
 use Rattle.console_bus.specs.Rest.{Rest}
 use Rattle.console_steps.specs.AtOnce.{gone_on, passed_in}

@@ -1,4 +1,3 @@
-use Rattle.std.proofs.Common.{refl}
 use Rattle.side_law.proofs.QuietRuns.{none_made}
 use Rattle.audio_side.specs.Parts.{value_of}
 use Rattle.audio_side.specs.Sound.{StandsAt, sound_moves}

@@ -1,4 +1,4 @@
-use Rattle.std.proofs.Common.{rules, ◌≡◌, ◌<◌, ℕ, List, refl, sym, ◌∙◌, ◌++◌, ap, subst, length, [], arith}
+use Rattle.std.proofs.Common.{rules, ◌≡◌, refl, sym, ◌∙◌, ◌++◌, ap, subst, length, [], arith}
 use Rattle.std.proofs.lemmas.List.{append-nil}
 use Rattle.std.proofs.lemmas.Grind.{common_steps}
 use Rattle.side_law.proofs.QuietRuns.{IsSilent, goes_on_silently}

@@ -1,12 +1,12 @@
 use Rattle.std.proofs.Common.{rules, refl}
 use Rattle.console_steps.specs.World.{console_start}
-use Rattle.console_machine.specs.Parts.{value_of}
+use Rattle.console_machine.specs.Side.{ConsoleValue}
 use Rattle.console_machine.specs.Standing.{starts_at}
 use Rattle.console_machine.proofs.side.ConsoleSide.new.Goals as goal
 
 pub invariant_of-result : goal.invariant_of-result
 invariant_of-result c =
-    let value = value_of (record { cpu = c.new-2.result; bus = c.in_ok-bus.bus; region = c.args.job.now.region; stamp = 0; waiting = c.in-Ok.waiting }) in
+    let value : ConsoleValue = record { cpu = c.new-2.result; rest = c.in_ok-bus.bus; region = c.args.job.now.region; stamp = 0; waiting = c.in-Ok.waiting.items } in
     let job = c.args.job.now in (
       ∣ (console_start job.cart job.script job.region, starts_at value job.cart job.script job.region c.new-2.ensures c.in_ok-bus.ensures refl refl) ∣₁,
       search rules,

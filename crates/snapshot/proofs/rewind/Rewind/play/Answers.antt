@@ -1,0 +1,133 @@
+use Rattle.std.proofs.Common.{◌≡◌, ℕ, ◌+◌, List, [], ◌∷◌, drop, length, drop_of_length-le, sym, subst, ◌∙◌, rules, arith}
+use Rattle.snes_defs.specs.declared.cart.Job.{Job}
+use Rattle.snes_defs.specs.declared.ports.Side.{Side}
+use Rattle.input_files.specs.declared.plan.PlanStep.{PlanStep}
+use Rattle.input_files.specs.declared.plan.PlanStep.TheVariants.{Go, Keep, Back}
+use Rattle.input_files.specs.Plan.{NamesBelow}
+use Rattle.plan_drive.specs.Paths.{no_paths, after_step}
+use Rattle.plan_drive.specs.Joins.{Joins}
+use Rattle.plan_drive.proofs.Counting.{next_step}
+use Rattle.snapshot.specs.Path.{PathEmits}
+use Rattle.snapshot.specs.Standing.{slot_count}
+use Rattle.snapshot.specs.Driven.{by_side}
+use Rattle.snapshot.proofs.Steps.{Reached, reached_first, reached_go, reached_part, reached_keep, reached_back, reached_whole, reached_rested, whole_is_first, names_below}
+use Rattle.snapshot.proofs.rewind.Rewind.play.Goals.{in-Go+in-Ok, in-Keep, in-Back}
+use Rattle.snapshot.proofs.rewind.Rewind.play.Goals as goal
+
+pub loop-step-init : goal.loop-step-init
+loop-step-init g c = record {
+  reached = λ job n rested.
+      subst (λ s. Reached job n c.args.plan.now s (g.K.Sink.holds c.args.sink.now) c.args.self.now) (sym c.steps-step-items.ensures.all)
+      (reached_first job n c.args.plan.now (g.K.Sink.holds c.args.sink.now) c.args.self.now rested c.requires.no_video c.requires.no_audio);
+  names = subst (NamesBelow (slot_count c.args.self.now)) (sym c.steps-step-items.ensures.all) (names_below c.args.plan.now (slot_count c.args.self.now) c.requires.slots);
+  only = search rules;
+}
+
+pub begin-requires : goal.begin-requires
+begin-requires g c =
+    let (job, n, rested, fits) = c.requires.rested in
+    let items = c.steps-step-items.result.now in
+    let here = next_step items c.loop-step.step-index (Go 0 0 0) (Go c.in-Go.count c.in-Go.pad1 c.in-Go.pad2) c.loop-step-test.true c.in-Go.is in
+    let r = subst (λ s. Reached job n c.args.plan.now s (g.K.Sink.holds c.loop-step.sink) c.loop-step.self) here (c.loop-step.invariant.reached job n rested) in
+    let spans = r.spans in
+    let goes = r.goes_left in
+    let lasts = r.within.path in
+    let frames = r.frames_left in
+    let few = c.steps-step-items.ensures.few in
+    record { rested = (job, n, r.paths, r.rested, omega (arith, spans, goes, fits), omega (arith, lasts, frames, few)) }
+
+pub go_on-requires-clause-going : goal.go_on-requires-clause-going
+go_on-requires-clause-going g c =
+    let (job, n, rested, fits) = c.requires.rested in
+    let r = c.loop-step.invariant.reached job n rested in
+    (job, n, after_step r.paths (Go c.in-Go.count c.in-Go.pad1 c.in-Go.pad2), r.paths.path, c.begin.ensures.going job n r.paths r.rested)
+
+pub keep-requires-clause-rested : goal.keep-requires-clause-rested
+keep-requires-clause-rested g c =
+    let (job, n, rested, fits) = c.requires.rested in
+    let r = c.loop-step.invariant.reached job n rested in
+    (job, n, r.paths, r.rested)
+
+pub back-requires-clause-rested : goal.back-requires-clause-rested
+back-requires-clause-rested g c =
+    let (job, n, rested, fits) = c.requires.rested in
+    let r = c.loop-step.invariant.reached job n rested in
+    (job, n, r.paths, r.rested)
+
+pub returns-in-Err-clause-first : goal.returns-in-Err-clause-first
+returns-in-Err-clause-first g c = λ job n rested.
+    let items = c.steps-step-items.result.now in
+    let i = c.loop-step.step-index in
+    let here = next_step items i (Go 0 0 0) (Go c.in-Go.count c.in-Go.pad1 c.in-Go.pad2) c.loop-step-test.true c.in-Go.is in
+    let r = subst (λ s. Reached job n c.args.plan.now s (g.K.Sink.holds c.loop-step.sink) c.loop-step.self) here (c.loop-step.invariant.reached job n rested) in
+    reached_part job n c.args.plan.now (drop (i + 1) items) (g.K.Sink.holds c.loop-step.sink) (g.K.Sink.holds c.go_on.new.sink) c.loop-step.self c.loop-step.self
+    c.in-Go.count c.in-Go.pad1 c.in-Go.pad2 r c.steps-step-items.ensures.few
+    (c.in-Err.ensures.some job n (after_step r.paths (Go c.in-Go.count c.in-Go.pad1 c.in-Go.pad2)) r.paths.path (by_side r.video r.audio) (c.begin.ensures.going job n r.paths r.rested) r.video_taken r.audio_taken)
+
+pub loop-step-preserved : goal.loop-step-preserved
+loop-step-preserved g c =
+    let steps = c.args.plan.now in
+    let items = c.steps-step-items.result.now in
+    let i = c.loop-step.step-index in
+    let rest = drop (i + 1) items in
+    let holds = g.K.Sink.holds in
+    let was = c.loop-step.self in
+    elim c.match-step.branch [
+      | in-Go+in-Ok w ↦
+          let step = Go w.in-Go.count w.in-Go.pad1 w.in-Go.pad2 in
+          let here = next_step items i (Go 0 0 0) step c.loop-step-test.true w.in-Go.is in
+          record {
+            reached = λ job n rested.
+                let r = subst (λ s. Reached job n steps s (holds c.loop-step.sink) was) here (c.loop-step.invariant.reached job n rested) in
+                let done = reached_go job n steps rest (holds c.loop-step.sink) (holds w.go_on.new.sink) was w.go_on.new.self w.in-Go.count w.in-Go.pad1 w.in-Go.pad2 r
+                (w.in-Ok.ensures.whole job n (after_step r.paths step) r.paths.path (by_side r.video r.audio) (w.begin.ensures.going job n r.paths r.rested) r.video_taken r.audio_taken) in
+                subst (λ k. Reached job n steps rest (holds k) c.match-step.self) (sym w.sink-is) (subst (λ v. Reached job n steps rest (holds w.go_on.new.sink) v) (sym w.self-is) done);
+            names = subst (λ v. NamesBelow (slot_count v) rest) (sym w.self-is)
+                (subst (λ m. NamesBelow m rest) (sym (w.go_on.ensures.slots ∙ w.begin.ensures.slots)) (subst (NamesBelow (slot_count was)) here c.loop-step.invariant.names));
+            only = subst (g.K.Sink.only_takes c.args.sink.now) (sym w.sink-is) (g.met.K.Sink.takes_more _ _ _ c.loop-step.invariant.only w.go_on.ensures.only);
+          }
+      | in-Keep w ↦
+          let here = next_step items i (Go 0 0 0) (Keep w.in-Keep.slot) c.loop-step-test.true w.in-Keep.is in
+          record {
+            reached = λ job n rested.
+                let r = subst (λ s. Reached job n steps s (holds c.loop-step.sink) was) here (c.loop-step.invariant.reached job n rested) in
+                let done = reached_keep job n steps rest (holds c.loop-step.sink) (holds c.loop-step.sink) was w.keep.new.self w.in-Keep.slot r (w.keep.ensures.kept job n r.paths r.rested) in
+                subst (λ k. Reached job n steps rest (holds k) c.match-step.self) (sym w.sink-is) (subst (λ v. Reached job n steps rest (holds c.loop-step.sink) v) (sym w.self-is) done);
+            names = subst (λ v. NamesBelow (slot_count v) rest) (sym w.self-is)
+                (subst (λ m. NamesBelow m rest) (sym w.keep.ensures.slots) (subst (NamesBelow (slot_count was)) here c.loop-step.invariant.names).1);
+            only = subst (g.K.Sink.only_takes c.args.sink.now) (sym w.sink-is) c.loop-step.invariant.only;
+          }
+      | in-Back w ↦
+          let here = next_step items i (Go 0 0 0) (Back w.in-Back.slot) c.loop-step-test.true w.in-Back.is in
+          record {
+            reached = λ job n rested.
+                let r = subst (λ s. Reached job n steps s (holds c.loop-step.sink) was) here (c.loop-step.invariant.reached job n rested) in
+                let done = reached_back job n steps rest (holds c.loop-step.sink) (holds c.loop-step.sink) was w.back.new.self w.in-Back.slot r (w.back.ensures.back job n r.paths r.rested) in
+                subst (λ k. Reached job n steps rest (holds k) c.match-step.self) (sym w.sink-is) (subst (λ v. Reached job n steps rest (holds c.loop-step.sink) v) (sym w.self-is) done);
+            names = subst (λ v. NamesBelow (slot_count v) rest) (sym w.self-is)
+                (subst (λ m. NamesBelow m rest) (sym w.back.ensures.slots) (subst (NamesBelow (slot_count was)) here c.loop-step.invariant.names).1);
+            only = subst (g.K.Sink.only_takes c.args.sink.now) (sym w.sink-is) c.loop-step.invariant.only;
+          }
+    ]
+
+pub returns-clause-whole : goal.returns-clause-whole
+returns-clause-whole g c = λ job n rested.
+    let items = c.steps-step-items.result.now in
+    let over = drop_of_length-le items {i = c.loop-step.step-index} (omega (arith, c.loop-step-test.false)) in
+    reached_whole job n c.args.plan.now (g.K.Sink.holds c.loop-step.sink) c.loop-step.self
+    (subst (λ s. Reached job n c.args.plan.now s (g.K.Sink.holds c.loop-step.sink) c.loop-step.self) over (c.loop-step.invariant.reached job n rested))
+
+pub returns-clause-rested : goal.returns-clause-rested
+returns-clause-rested g c = λ job n rested.
+    let items = c.steps-step-items.result.now in
+    let over = drop_of_length-le items {i = c.loop-step.step-index} (omega (arith, c.loop-step-test.false)) in
+    reached_rested job n c.args.plan.now (g.K.Sink.holds c.loop-step.sink) c.loop-step.self
+    (subst (λ s. Reached job n c.args.plan.now s (g.K.Sink.holds c.loop-step.sink) c.loop-step.self) over (c.loop-step.invariant.reached job n rested))
+
+pub returns-clause-first : goal.returns-clause-first
+returns-clause-first g c = λ job n rested.
+    let items = c.steps-step-items.result.now in
+    let over = drop_of_length-le items {i = c.loop-step.step-index} (omega (arith, c.loop-step-test.false)) in
+    whole_is_first (Joins (PathEmits job n) c.args.plan.now no_paths) (g.K.Sink.holds c.loop-step.sink)
+    (reached_whole job n c.args.plan.now (g.K.Sink.holds c.loop-step.sink) c.loop-step.self
+    (subst (λ s. Reached job n c.args.plan.now s (g.K.Sink.holds c.loop-step.sink) c.loop-step.self) over (c.loop-step.invariant.reached job n rested)))
