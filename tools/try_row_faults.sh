@@ -15,7 +15,7 @@ rows=$work/snes/crates/console_rows
 
 # What the rows print, without the lines that `rt try` adds; nothing where the program didn't end well.
 shown() {
-  (cd "$rows" && rt try -- "$rows/data/rows.txt") >"$work/said" 2>"$work/errors" || return 1
+  (cd "$rows" && rt try --seconds 600 -- "$rows/data/rows.txt") >"$work/said" 2>"$work/errors" || return 1
   grep -q '^run=ended status=0' "$work/said" "$work/errors" || return 1
   grep -v '^checked: \|^run=' "$work/said" >"$work/rows"
 }
