@@ -1,0 +1,4 @@
+pub mod Fronts
+pub mod Puts
+pub mod Reading
+pub mod Takes
