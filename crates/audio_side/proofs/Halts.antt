@@ -9,7 +9,7 @@ use Rattle.side_law.proofs.QuietRuns.{IsSilent, none_made, goes_on_silently, sil
 use Rattle.spc_tables.specs.declared.access.SpcAccess.{SpcAccess}
 use Rattle.spc_tables.specs.declared.access.SpcAccess.TheVariants as Access
 use Rattle.spc_modes.specs.Plan.{first_access}
-use Rattle.spc700.specs.Instruction.{Standing, moved_on, next_of}
+use Rattle.spc700.specs.Instruction.{SpcState, moved_on, next_of}
 use Rattle.spc700.specs.Stands.{Stands, access_of}
 use Rattle.audio_side.specs.Clock.{Clock, gone_on, is_reset_due, stamp_now}
 use Rattle.audio_side.specs.Effect.{act_of, effect, emitted, given, passed}
@@ -44,12 +44,12 @@ later c = later_in c.region c.cycle
 -- a processor that has halted
 pub record HasHalted (v : AudioValue) : Type 0 where
   pub inner : access_of v.processor ≡ Access.Inner
-  pub stays : (s : Standing) (byte : ℕ) → Stands v.processor s → Stands v.processor (moved_on s byte)
+  pub stays : (s : SpcState) (byte : ℕ) → Stands v.processor s → Stands v.processor (moved_on s byte)
 
 abbrev with_clock : AudioValue → Clock → AudioValue
 with_clock v c = record v { clock = c }
 
-next_is_inner : (v : AudioValue) (s : Standing) → HasHalted v → Stands v.processor s → next_of s ≡ Access.Inner
+next_is_inner : (v : AudioValue) (s : SpcState) → HasHalted v → Stands v.processor s → next_of s ≡ Access.Inner
 next_is_inner v s halted h = sym (ap first_access h.left) ∙ halted.inner
 
 bare_step : (before : ℕ) (v : AudioValue) (waited : List ℕ) (from : SoundState) → HasHalted v → IsBare before v.clock
@@ -62,11 +62,11 @@ bare_step before v waited from halted bare h =
     goes_on_silently sound_moves before (StandsAt v) (StandsAt new) waited v.waiting v.waiting from h
     (quiet_stands v h.to h.now_stands bare.no_reset (λ s stands. ap act_of (next_is_inner v s halted stands)))
     (omega (arith, stamp, early))
-    (next_quiet v new h.to h.now_stands bare.no_reset (λ s stands. halted.stays s (given v.board (next_of s) 0) stands)
-    (λ s stands. sym (passes_nothing n v.board bare.no_tick) ∙ ap (λ (a : SpcAccess). passed n (effect v.board a)) (sym (next_is_inner v s halted stands)))
+    (next_quiet v new h.to h.now_stands bare.no_reset (λ s stands. halted.stays s (given v.hardware (next_of s) 0) stands)
+    (λ s stands. sym (passes_nothing n v.hardware bare.no_tick) ∙ ap (λ (a : SpcAccess). passed n (effect v.hardware a)) (sym (next_is_inner v s halted stands)))
     refl)
     (emits_quiet v v.waiting h.to h.now_stands bare.no_reset
-    (λ s stands. emits_nothing v.waiting n v.board bare.no_tick ∙ ap (λ (a : SpcAccess). v.waiting ++ emitted n (effect v.board a)) (sym (next_is_inner v s halted stands))))
+    (λ s stands. emits_nothing v.waiting n v.hardware bare.no_tick ∙ ap (λ (a : SpcAccess). v.waiting ++ emitted n (effect v.hardware a)) (sym (next_is_inner v s halted stands))))
     (omega arith)
 
 bare_steps : (before n : ℕ) (v : AudioValue) (to : Clock) (waited : List ℕ) (from : SoundState) → HasHalted v → BareCycles before n v.clock to

@@ -1,7 +1,7 @@
 -- The zeros of RAM, told by their number.
 use Rattle.std.proofs.Common.{◌≡◌, ℕ, zero, suc, List, [], ◌∷◌, length, All, replicate, refl, arith}
 use Rattle.std.proofs.lemmas.List.Elements.{All-head, All-tail}
-use Rattle.audio_side.specs.Board.{ram_size, zeros}
+use Rattle.audio_side.specs.HardwareState.{ram_size, zeros}
 
 -- a list of zeros is told by its length
 same_zeros : (xs : List ℕ) (n : ℕ) → length xs ≡ n → All (λ b. b ≡ 0) xs → xs ≡ replicate n 0

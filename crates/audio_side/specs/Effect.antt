@@ -8,11 +8,11 @@ use Rattle.spc_tables.specs.declared.access.SpcAccess.TheVariants as Access
 use Rattle.sdsp_voice.specs.Registers.{at_reset, bit, read, written}
 use Rattle.sdsp_voice.specs.Sample.{after_sample, sums_of}
 use Rattle.sdsp_echo.specs.Echo.{after_mix, left_out, right_out, ram_after}
-use Rattle.audio_side.specs.Board.{Board}
+use Rattle.audio_side.specs.HardwareState.{HardwareState}
 use Rattle.audio_side.specs.Timer.{stopped, switched, ticked}
 
 -- what F0 to FF show: F4 to F7 are the ports, whose byte is `got`
-unfoldable pub register_shown : Board → ℕ → ℕ → ℕ
+unfoldable pub register_shown : HardwareState → ℕ → ℕ → ℕ
 register_shown b at got =
     if at == 0xF2 then b.address
     else (if at == 0xF3 then read b.voices (b.address % 128)
@@ -25,7 +25,7 @@ register_shown b at got =
     else 0)))))))
 
 -- THE BYTE that a fetch or a read at an address gets
-unfoldable pub loaded : Board → ℕ → ℕ → ℕ
+unfoldable pub loaded : HardwareState → ℕ → ℕ → ℕ
 loaded b at got =
     if nat_lt at 0xF0 then slice_index b.ram at
     else (if nat_lt at 0x100 then register_shown b at got
@@ -33,7 +33,7 @@ loaded b at got =
     else slice_index b.ram at))
 
 -- after it: a counter that was read is 0
-unfoldable pub after_load : Board → ℕ → Board
+unfoldable pub after_load : HardwareState → ℕ → HardwareState
 after_load b at =
     if at == 0xFD then record b { timer0 = record b.timer0 { counter = 0 } }
     else (if at == 0xFE then record b { timer1 = record b.timer1 { counter = 0 } }
@@ -41,7 +41,7 @@ after_load b at =
     else b))
 
 -- F1: the boot ROM and the timers
-unfoldable pub controlled : Board → ℕ → Board
+unfoldable pub controlled : HardwareState → ℕ → HardwareState
 controlled b byte =
     record b {
       boot_seen = bit byte 7;
@@ -51,14 +51,14 @@ controlled b byte =
     }
 
 -- F3: the S-DSP register of F2, which takes no write where its bit 7 is set
-unfoldable pub dsp_written : Board → ℕ → Board
+unfoldable pub dsp_written : HardwareState → ℕ → HardwareState
 dsp_written b byte = if nat_lt b.address 128 then record b { voices = written b.voices b.address byte } else b
 
-abbrev pub stored_in_ram : Board → ℕ → ℕ → Board
+abbrev pub stored_in_ram : HardwareState → ℕ → ℕ → HardwareState
 stored_in_ram b at byte = record b { ram = slice_set b.ram at byte }
 
 -- a write at F0 to FF: F8 and F9 are RAM
-unfoldable pub register_stored : Board → ℕ → ℕ → Board
+unfoldable pub register_stored : HardwareState → ℕ → ℕ → HardwareState
 register_stored b at byte =
     if at == 0xF1 then controlled b byte
     else (if at == 0xF2 then record b { address = byte }
@@ -70,7 +70,7 @@ register_stored b at byte =
     else b))))))
 
 -- A WRITE: all other places are RAM, under the boot ROM too
-unfoldable pub stored : Board → ℕ → ℕ → Board
+unfoldable pub stored : HardwareState → ℕ → ℕ → HardwareState
 stored b at byte = if nat_le 0xF0 at && nat_le at 0xFF then register_stored b at byte else stored_in_ram b at byte
 
 -- THE ACT of an access: F4 to F7 are ports 0 to 3; a write of F1 clears the incoming ports 0 and 1 by bit 4, 2 and 3 by bit 5
@@ -93,26 +93,26 @@ act_of (Access.Write at byte) = act_of_store at byte
 act_of Access.Inner = Quiet
 
 -- the byte that an access gives the processor
-abbrev pub given : Board → SpcAccess → ℕ → ℕ
+abbrev pub given : HardwareState → SpcAccess → ℕ → ℕ
 given b (Access.Fetch at) got = loaded b at got
 given b (Access.Read at) got = loaded b at got
 given b (Access.Write at byte) got = 0
 given b Access.Inner got = 0
 
--- what it does to the board
-abbrev pub effect : Board → SpcAccess → Board
+-- what it does to the hardware
+abbrev pub effect : HardwareState → SpcAccess → HardwareState
 effect b (Access.Fetch at) = after_load b at
 effect b (Access.Read at) = after_load b at
 effect b (Access.Write at byte) = stored b at byte
 effect b Access.Inner = b
 
 -- A RESET: the boot ROM is seen, the timers stop, F2 is 0, FLG is E0 and KON's notes are dropped; all else stays
-unfoldable pub reset_board : Board → Board
-reset_board b =
+unfoldable pub reset_hardware : HardwareState → HardwareState
+reset_hardware b =
     record b { boot_seen = true; address = 0; timer0 = stopped; timer1 = stopped; timer2 = stopped; voices = at_reset b.voices }
 
 -- THE END OF CYCLE n: timer 2 ticks each 16 cycles, timers 0 and 1 each 128
-unfoldable pub timed : ℕ → Board → Board
+unfoldable pub timed : ℕ → HardwareState → HardwareState
 timed n b =
     record b {
       timer0 = if (n + 1) % 128 == 0 then ticked b.timer0 else b.timer0;
@@ -124,8 +124,8 @@ timed n b =
 abbrev pub is_sampling : ℕ → Bool
 is_sampling n = n % 32 == 31
 
--- the board after sample s
-unfoldable pub sampled : ℕ → Board → Board
+-- the hardware after sample s
+unfoldable pub sampled : ℕ → HardwareState → HardwareState
 sampled s b =
     let voices' = after_sample b.ram b.table s b.voices in
     let sums = sums_of b.ram b.table s b.voices in
@@ -145,15 +145,15 @@ high_byte n = n / 256
 abbrev pub pair_bytes : ℕ → ℕ → List ℕ
 pair_bytes left right = low_byte left ∷ high_byte left ∷ low_byte right ∷ high_byte right ∷ []
 
-unfoldable pub sample_bytes : ℕ → Board → List ℕ
+unfoldable pub sample_bytes : ℕ → HardwareState → List ℕ
 sample_bytes s b =
     let voices' = after_sample b.ram b.table s b.voices in
     let sums = sums_of b.ram b.table s b.voices in
     pair_bytes (cast_unsigned w16 (left_out voices' sums b.ram b.echo)) (cast_unsigned w16 (right_out voices' sums b.ram b.echo))
 
--- the board after the end of cycle n, and the bytes that it emits
-unfoldable pub passed : ℕ → Board → Board
+-- the hardware after the end of cycle n, and the bytes that it emits
+unfoldable pub passed : ℕ → HardwareState → HardwareState
 passed n b = if is_sampling n then sampled (n / 32) (timed n b) else timed n b
 
-unfoldable pub emitted : ℕ → Board → List ℕ
+unfoldable pub emitted : ℕ → HardwareState → List ℕ
 emitted n b = if is_sampling n then sample_bytes (n / 32) (timed n b) else []

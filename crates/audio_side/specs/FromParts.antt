@@ -6,7 +6,7 @@ use Rattle.spc700.specs.Instruction.{between}
 use Rattle.sdsp_voice.specs.Registers.{at_power_on, bit, written}
 use Rattle.sdsp_voice.specs.declared.voices.Voices.{Voices}
 use Rattle.sdsp_echo.specs.Echo.{silent_echo}
-use Rattle.audio_side.specs.Board.{Board, table_of}
+use Rattle.audio_side.specs.HardwareState.{HardwareState, table_of}
 use Rattle.audio_side.specs.Clock.{Clock}
 use Rattle.audio_side.specs.Sound.{SoundState}
 use Rattle.audio_side.specs.declared.timer.Timer.{Timer}
@@ -25,8 +25,8 @@ unfoldable pub timer_from : Bool → ℕ → ℕ → Timer
 timer_from on' target' count = record { on = on'; target = target'; stage = 0; counter = count % 16 }
 
 -- THE BOARD, by the bytes of RAM under the registers F1 (boot ROM and timers), F2, FA to FC and FD to FF. The boot ROM is what RAM has in its place
-unfoldable pub board_from : List ℕ → List ℕ → List ℕ → Board
-board_from ram' dsp table' =
+unfoldable pub hardware_from : List ℕ → List ℕ → List ℕ → HardwareState
+hardware_from ram' dsp table' =
     record {
       boot = drop 0xFFC0 ram';
       table = table_of table';
@@ -47,4 +47,4 @@ unbroken_clock = record { region = Ntsc; resets = []; cycle = 0 }
 -- THE START from registers, RAM, the 128 bytes of the S-DSP and the interpolation table: before an opcode fetch
 abbrev pub sound_from : SpcRegs → List ℕ → List ℕ → List ℕ → SoundState
 sound_from regs ram' dsp table' =
-    record { processor = between regs; board = board_from ram' dsp table'; clock = unbroken_clock }
+    record { processor = between regs; hardware = hardware_from ram' dsp table'; clock = unbroken_clock }

@@ -1,6 +1,6 @@
 pub mod Timer
 pub mod Clock
-pub mod Board
+pub mod HardwareState
 pub mod Effect
 pub mod Sound
 pub mod Parts

@@ -10,10 +10,10 @@ use Rattle.side_law.specs.Moves.{IsLawful, IsAtPorts}
 use Rattle.spc_tables.specs.declared.access.SpcAccess.{SpcAccess}
 use Rattle.spc_tables.specs.declared.access.SpcAccess.TheVariants as Access
 use Rattle.spc700.specs.Instruction.{next_of}
-use Rattle.audio_side.specs.Board.{Board}
+use Rattle.audio_side.specs.HardwareState.{HardwareState}
 use Rattle.audio_side.specs.Clock.{Clock, is_reset_due, stamp_now}
 use Rattle.audio_side.specs.Effect.{act_of, act_of_load, act_of_store, cleared_ports, emitted, is_sampling, sample_bytes}
-use Rattle.audio_side.specs.Sound.{AudioValue, SoundState, StandsAt, IsSound, board_before_end, sound_act, sound_moves}
+use Rattle.audio_side.specs.Sound.{AudioValue, SoundState, StandsAt, IsSound, hardware_before_end, sound_act, sound_moves}
 
 pub region_stands : (x : AudioValue) (m : SoundState) → StandsAt x m → IsSound x.clock.region m
 region_stands x m h = sym (ap (λ (c : Clock). c.region) h.clock)
@@ -61,7 +61,7 @@ rises_at_most_in : (r : Region) (n : ℕ) → rate_of r Sound * (n + 1) ≤ rate
 rises_at_most_in Ntsc n = omega arith
 rises_at_most_in Pal n = omega arith
 
-few_bytes : (n : ℕ) (b : Board) → length (emitted n b) ≤ 4
+few_bytes : (n : ℕ) (b : HardwareState) → length (emitted n b) ≤ 4
 unfolding emitted sample_bytes
 few_bytes n b = by_test (is_sampling n) (λ e. rw e (lit≤ tt)) (λ e. rw e (lit≤ tt))
 
@@ -71,5 +71,5 @@ sound_is_lawful region = record {
   stays_valid = λ m got valid byte. valid;
   rises = λ m got valid byte. subst (λ (r : Region). stamp_now m.clock + least_of r ≤ rate_of m.clock.region Sound * (m.clock.cycle + 1)) valid (rises_in m.clock.region m.clock.cycle);
   rises_at_most = λ m got valid byte. subst (λ (r : Region). rate_of m.clock.region Sound * (m.clock.cycle + 1) ≤ stamp_now m.clock + most_of r) valid (rises_at_most_in m.clock.region m.clock.cycle);
-  emits_at_most = λ m got valid byte. few_bytes m.clock.cycle (board_before_end m);
+  emits_at_most = λ m got valid byte. few_bytes m.clock.cycle (hardware_before_end m);
 }

@@ -3,11 +3,11 @@ ghost use Rattle.std.specs.Prelude.{◌≡◌, ◌<◌, ◌%◌, [], IfOk, drop,
 ghost use Rattle.sdsp_voice.specs.Registers.{bit};
 ghost use Rattle.spc700.specs.Instruction.{between};
 ghost use Rattle.spc700.specs.Stands.{Stands};
-ghost use Rattle.audio_side.specs.FromParts.{board_from, sound_from, timer_from, unbroken_clock, voices_from};
+ghost use Rattle.audio_side.specs.FromParts.{hardware_from, sound_from, timer_from, unbroken_clock, voices_from};
 ghost use Rattle.audio_side.specs.Sound.{IsRunning, StandsAt};
 
-use crate::board::Hardware;
 use crate::clock::CycleClock;
+use crate::hardware::Hardware;
 use crate::parts::Parts;
 use crate::side::{AudioSide, copied};
 use crate::timer::Timer;
@@ -69,12 +69,12 @@ fn boot_of(ram: &[u8]) -> [u8; 64]
     boot
 }
 
-/// The board that begins with these.
-#[tactic(auto, unfolding(crate::specs::FromParts::board_from))]
-fn board_of(alloc: Global, ram: &[u8], dsp: &[u8], table: &Table) -> Result<Hardware, NoMemory>
+/// The hardware that begins with these.
+#[tactic(auto, unfolding(crate::specs::FromParts::hardware_from))]
+fn hardware_of(alloc: Global, ram: &[u8], dsp: &[u8], table: &Table) -> Result<Hardware, NoMemory>
     requires ram { length ram.now ≡ 65536 }
     requires dsp { length dsp.now ≡ 128 }
-    ensures { IfOk result (λ board. board ≡ board_from ram.now dsp.now table.now) }
+    ensures { IfOk result (λ hardware. hardware ≡ hardware_from ram.now dsp.now table.now) }
 {
     let Ok(kept) = Vec::from_slice(alloc, ram) else {
         return Err(NoMemory);
@@ -120,7 +120,7 @@ impl AudioSide {
         ensures starts { IfOk result (λ s. StandsAt s (sound_from regs ram.now dsp.now table.now)) }
         ensures empty { IfOk result (λ s. s.waiting ≡ []) }
     {
-        let board = board_of(alloc, ram, dsp, table)?;
+        let hardware = hardware_of(alloc, ram, dsp, table)?;
         let waiting = match HeapCircularBuffer::with_capacity(alloc, 4096) {
             Ok(waiting) => waiting,
             Err(_) => return Err(NoMemory),
@@ -129,7 +129,7 @@ impl AudioSide {
         Ok(AudioSide {
             parts: Parts {
                 spc: before_fetch(regs),
-                board,
+                hardware,
                 clock,
                 waiting,
             },

@@ -5,7 +5,7 @@ ghost use Rattle.spc700.specs.Stands.{Stands, begins_with};
 ghost use Rattle.sdsp_voice.specs.Registers.{read};
 ghost use Rattle.audio_side.specs.Kept.{control_of, kept_ram, ports_kept, seen_ram, timers_kept, under_boot, weight_of};
 
-use crate::board::Hardware;
+use crate::hardware::Hardware;
 use crate::side::AudioSide;
 use spc700::SpcRegs;
 
@@ -18,13 +18,13 @@ fn weight(on: bool, weight: u8) -> u8
 
 /// F1.
 #[tactic(auto, unfolding(crate::specs::Kept::control_of))]
-fn control(board: &Hardware) -> u8
-    ensures { result ≡ control_of board.now }
+fn control(hardware: &Hardware) -> u8
+    ensures { result ≡ control_of hardware.now }
 {
-    weight(board.boot_seen, 128)
-        + weight(board.timer2.on, 4)
-        + weight(board.timer1.on, 2)
-        + weight(board.timer0.on, 1)
+    weight(hardware.boot_seen, 128)
+        + weight(hardware.timer2.on, 4)
+        + weight(hardware.timer1.on, 2)
+        + weight(hardware.timer0.on, 1)
 }
 
 /// Puts the boot ROM over the last 64 bytes of RAM.
@@ -41,13 +41,13 @@ fn put_boot(boot: &[u8; 64], into: &mut [u8])
 
 /// RAM as the processor sees it.
 #[tactic(auto, unfolding(crate::specs::Kept::seen_ram))]
-fn copy_seen(board: &Hardware, into: &mut [u8])
+fn copy_seen(hardware: &Hardware, into: &mut [u8])
     requires { length into.old ≡ 65536 }
-    ensures { into.new ≡ seen_ram board.now }
+    ensures { into.new ≡ seen_ram hardware.now }
 {
-    into.copy_from_slice(board.ram.as_slice());
-    if board.boot_seen {
-        put_boot(&board.boot, into);
+    into.copy_from_slice(hardware.ram.as_slice());
+    if hardware.boot_seen {
+        put_boot(&hardware.boot, into);
     }
 }
 
@@ -65,29 +65,29 @@ fn keep_ports(ports: [u8; 4], into: &mut [u8])
 
 /// The targets and the counters.
 #[tactic(auto, unfolding(crate::specs::Kept::timers_kept))]
-fn keep_timers(board: &Hardware, into: &mut [u8])
+fn keep_timers(hardware: &Hardware, into: &mut [u8])
     requires { length into.old ≡ 65536 }
-    ensures { into.new ≡ timers_kept board.now into.old }
+    ensures { into.new ≡ timers_kept hardware.now into.old }
 {
-    into[0xFA] = board.timer0.target;
-    into[0xFB] = board.timer1.target;
-    into[0xFC] = board.timer2.target;
-    into[0xFD] = board.timer0.counter;
-    into[0xFE] = board.timer1.counter;
-    into[0xFF] = board.timer2.counter;
+    into[0xFA] = hardware.timer0.target;
+    into[0xFB] = hardware.timer1.target;
+    into[0xFC] = hardware.timer2.target;
+    into[0xFD] = hardware.timer0.counter;
+    into[0xFE] = hardware.timer1.counter;
+    into[0xFF] = hardware.timer2.counter;
 }
 
 /// The RAM of a file.
 #[tactic(auto, unfolding(crate::specs::Kept::kept_ram))]
-fn keep_ram(board: &Hardware, ports: [u8; 4], into: &mut [u8])
+fn keep_ram(hardware: &Hardware, ports: [u8; 4], into: &mut [u8])
     requires { length into.old ≡ 65536 }
-    ensures { into.new ≡ kept_ram board.now ports }
+    ensures { into.new ≡ kept_ram hardware.now ports }
 {
-    copy_seen(board, into);
-    into[0xF1] = control(board);
-    into[0xF2] = board.address;
+    copy_seen(hardware, into);
+    into[0xF1] = control(hardware);
+    into[0xF2] = hardware.address;
     keep_ports(ports, into);
-    keep_timers(board, into);
+    keep_timers(hardware, into);
 }
 
 impl AudioSide {
@@ -103,16 +103,16 @@ impl AudioSide {
     /// under F1, F2, F4 to F7 and FA to FF what those registers hold. `ports` are the incoming bytes.
     pub fn keep_ram(&self, ports: [u8; 4], into: &mut [u8])
         requires { length into.old ≡ 65536 }
-        ensures { into.new ≡ kept_ram self.now.board ports }
+        ensures { into.new ≡ kept_ram self.now.hardware ports }
     {
-        keep_ram(&self.parts.board, ports, into);
+        keep_ram(&self.parts.hardware, ports, into);
     }
 
     /// The byte that a register of the S-DSP shows.
     pub fn dsp(&self, register: u8) -> u8
         requires { register < 128 }
-        ensures { result ≡ read self.now.board.voices register }
+        ensures { result ≡ read self.now.hardware.voices register }
     {
-        self.parts.board.voices.read(register)
+        self.parts.hardware.voices.read(register)
     }
 }

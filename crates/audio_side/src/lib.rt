@@ -7,9 +7,9 @@
 //! with the incoming byte; the other side's bytes are no part of this machine.
 #![tactic(auto)]
 
-mod board;
 mod clock;
 mod from_parts;
+mod hardware;
 mod kept;
 mod parts;
 mod side;

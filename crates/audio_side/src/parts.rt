@@ -6,10 +6,10 @@ ghost use Rattle.audio_side.specs.Clock.{gone_on, stamp_now};
 ghost use Rattle.audio_side.specs.Rests.{HasRested};
 ghost use Rattle.side_law.proofs.QuietRuns.{IsSilent};
 ghost use Rattle.audio_side.specs.Effect.{emitted};
-ghost use Rattle.audio_side.specs.Sound.{IsRunning, SoundState, StandsAt, board_before_end, sound_act, sound_moves, sound_next};
+ghost use Rattle.audio_side.specs.Sound.{IsRunning, SoundState, StandsAt, hardware_before_end, sound_act, sound_moves, sound_next};
 
-use crate::board::Hardware;
 use crate::clock::CycleClock;
+use crate::hardware::Hardware;
 use crate::step::{begin, finish, next_act, try_access};
 use circular_buffer::HeapCircularBuffer;
 use side_law::Pause;
@@ -20,7 +20,7 @@ use spc700::Spc;
 #[derive(Drop)]
 pub struct Parts {
     pub spc: Spc,
-    pub board: Hardware,
+    pub hardware: Hardware,
     pub clock: CycleClock,
     /// The emitted bytes that wait.
     pub waiting: HeapCircularBuffer<u8>,
@@ -54,7 +54,7 @@ impl Parts {
         ensures at_ports { IsAtPorts result }
         ensures value { (m : SoundState) → StandsAt (value_of self.now) m → sound_act m ≡ result }
     {
-        next_act(&self.spc, &self.board, &self.clock)
+        next_act(&self.spc, &self.hardware, &self.clock)
     }
 
     /// A step.
@@ -65,15 +65,15 @@ impl Parts {
         ensures next { (m : SoundState) → StandsAt (value_of self.old) m
             → StandsAt (value_of self.new) (sound_next m (taken (sound_act m) got)) }
         ensures emits { (m : SoundState) → StandsAt (value_of self.old) m
-            → self.new.waiting.items ≡ self.old.waiting.items ++ emitted m.clock.cycle (board_before_end m) }
+            → self.new.waiting.items ≡ self.old.waiting.items ++ emitted m.clock.cycle (hardware_before_end m) }
         ensures clock { self.new.clock ≡ gone_on self.old.clock }
         ensures capacity { self.new.waiting.capacity ≡ self.old.waiting.capacity }
         ensures few { length self.new.waiting.items ≤ length self.old.waiting.items + 4 }
         ensures runs { IsRunning self.old.spc → IsRunning self.new.spc }
     {
         let cycle = self.clock.number();
-        begin(&mut self.spc, &mut self.board, &self.clock, got);
-        finish(&mut self.board, cycle, &mut self.waiting);
+        begin(&mut self.spc, &mut self.hardware, &self.clock, got);
+        finish(&mut self.hardware, cycle, &mut self.waiting);
         self.clock.go_on();
     }
 
@@ -86,7 +86,7 @@ impl Parts {
         ensures quiet { IsTrue result → (m : SoundState) → StandsAt (value_of self.old) m → sound_act m ≡ Quiet }
         ensures next { IsTrue result → (m : SoundState) → StandsAt (value_of self.old) m → StandsAt (value_of self.new) (sound_next m 0) }
         ensures emits { IsTrue result → (m : SoundState) → StandsAt (value_of self.old) m
-            → self.new.waiting.items ≡ self.old.waiting.items ++ emitted m.clock.cycle (board_before_end m) }
+            → self.new.waiting.items ≡ self.old.waiting.items ++ emitted m.clock.cycle (hardware_before_end m) }
         ensures clock { IsTrue result → self.new.clock ≡ gone_on self.old.clock }
         ensures region { self.new.clock.region ≡ self.old.clock.region }
         ensures capacity { self.new.waiting.capacity ≡ self.old.waiting.capacity }
@@ -97,11 +97,11 @@ impl Parts {
         if self.clock.is_due() {
             return false;
         }
-        if !try_access(&mut self.spc, &mut self.board) {
+        if !try_access(&mut self.spc, &mut self.hardware) {
             return false;
         }
         let cycle = self.clock.number();
-        finish(&mut self.board, cycle, &mut self.waiting);
+        finish(&mut self.hardware, cycle, &mut self.waiting);
         self.clock.go_on();
         true
     }

@@ -1,11 +1,11 @@
 ghost use Rattle.std.specs.Prelude.{◌≡◌, ◌++◌, [], ◌∷◌, All, IfOk, OnOk, length, if◌then◌else◌};
-ghost use Rattle.audio_side.specs.Board.{table_of, zeros};
+ghost use Rattle.audio_side.specs.HardwareState.{table_of, zeros};
 ghost use Rattle.audio_side.specs.Clock.{reset_frames};
 ghost use Rattle.audio_side.specs.Effect.{loaded};
 ghost use Rattle.audio_side.specs.Sound.{IsRunning, StandsAt, sound_start};
 
-use crate::board::Hardware;
 use crate::clock::CycleClock;
+use crate::hardware::Hardware;
 use crate::parts::Parts;
 use crate::step::fresh;
 use crate::timer::stopped_timer;
@@ -32,7 +32,7 @@ impl Model for AudioSide {
 
     ghost Value = { AudioValue };
 
-    ghost view = { λ s. record { processor = s.parts.spc; board = s.parts.board; clock = s.parts.clock; waiting = s.parts.waiting.items } };
+    ghost view = { λ s. record { processor = s.parts.spc; hardware = s.parts.hardware; clock = s.parts.clock; waiting = s.parts.waiting.items } };
 
     ghost invariant = { λ s. IsRunning s.parts.spc × (s.parts.waiting.capacity ≡ 4096) × (length s.parts.waiting.items ≤ 4096) };
 }
@@ -100,7 +100,7 @@ pub(crate) fn copied(table: &Table) -> Table
 impl AudioSide {
     /// The sound side of a job before its first cycle. It takes the room for RAM and for the bytes
     /// that wait, and refuses only for want of memory.
-    #[tactic(auto, unfolding(crate::specs::Board::board_at_start))]
+    #[tactic(auto, unfolding(crate::specs::HardwareState::hardware_at_start))]
     pub fn new(alloc: Global, job: &Job) -> Result<AudioSide, NoMemory>
         ensures starts { IfOk result (λ s. StandsAt s (sound_start job.now.region job.now.script.resets job.now.boot job.now.table)) }
         ensures empty { IfOk result (λ s. s.waiting ≡ []) }
@@ -111,7 +111,7 @@ impl AudioSide {
             Ok(waiting) => waiting,
             Err(_) => return Err(NoMemory),
         };
-        let board = Hardware {
+        let hardware = Hardware {
             boot: job.boot,
             table: copied(&job.table),
             ram,
@@ -124,11 +124,11 @@ impl AudioSide {
             address: 0,
         };
         let clock = CycleClock::new(job.region, resets);
-        let spc = fresh(board.entry());
+        let spc = fresh(hardware.entry());
         Ok(AudioSide {
             parts: Parts {
                 spc,
-                board,
+                hardware,
                 clock,
                 waiting,
             },
@@ -144,9 +144,9 @@ impl AudioSide {
 
     /// The byte that a fetch or a read of an address gets now, where an incoming port has `got`.
     pub fn byte_at(&self, at: u16, got: u8) -> u8
-        ensures { result ≡ loaded self.now.board at got }
+        ensures { result ≡ loaded self.now.hardware at got }
     {
-        self.parts.board.load(at, got)
+        self.parts.hardware.load(at, got)
     }
 
     /// The processor stands for some instruction.

@@ -1,15 +1,15 @@
 ghost use Rattle.std.specs.Prelude.{IfSome, None, ◌≡◌, ◌≢◌, ◌/◌, false, IsTrue, MatchBool, ◌≤◌, ◌+◌, ◌%◌, ◌^◌, ◌++◌, length};
 ghost use Rattle.side_law.specs.Moves.{IsAtPorts};
 ghost use Rattle.snes_defs.specs.declared.ports.Act.TheVariants.{Quiet};
-ghost use Rattle.spc700.specs.Instruction.{Standing, at_reset, moved_on, next_of};
+ghost use Rattle.spc700.specs.Instruction.{SpcState, at_reset, moved_on, next_of};
 ghost use Rattle.spc_modes.specs.Plan.{gets_byte};
 ghost use Rattle.spc700.specs.Stands.{Stands, access_of};
-ghost use Rattle.audio_side.specs.Board.{vector};
-ghost use Rattle.audio_side.specs.Effect.{act_of, act_of_load, after_load, loaded, act_of_store, effect, emitted, given, passed, reset_board, stored};
-ghost use Rattle.audio_side.specs.Sound.{IsRunning, SoundState, board_before_end, processor_after, sound_act};
+ghost use Rattle.audio_side.specs.HardwareState.{vector};
+ghost use Rattle.audio_side.specs.Effect.{act_of, act_of_load, after_load, loaded, act_of_store, effect, emitted, given, passed, reset_hardware, stored};
+ghost use Rattle.audio_side.specs.Sound.{IsRunning, SoundState, hardware_before_end, processor_after, sound_act};
 
-use crate::board::{Hardware, cleared};
 use crate::clock::CycleClock;
+use crate::hardware::{Hardware, cleared};
 use circular_buffer::HeapCircularBuffer;
 use snes_defs::Act;
 use spc700::{Spc, SpcAccess};
@@ -47,7 +47,7 @@ fn store_act(at: u16, byte: u8) -> Act
 /// What the next access does at the ports.
 #[inline(always)]
 fn access_act(spc: &Spc) -> Act
-    ensures value { (s : Standing) → Stands spc.now s → result ≡ act_of (next_of s) }
+    ensures value { (s : SpcState) → Stands spc.now s → result ≡ act_of (next_of s) }
     ensures at_ports { IsAtPorts result }
 {
     match spc.next() {
@@ -61,12 +61,12 @@ fn access_act(spc: &Spc) -> Act
 /// What the next step does at the ports.
 #[tactic(auto, unfolding(crate::specs::Sound::sound_act))]
 #[inline(always)]
-pub fn next_act(spc: &Spc, board: &Hardware, clock: &CycleClock) -> Act
-    ensures value { (s : Standing) → Stands spc.now s
-        → result ≡ sound_act (record { processor = s; board = board.now; clock = clock.now }) }
+pub fn next_act(spc: &Spc, hardware: &Hardware, clock: &CycleClock) -> Act
+    ensures value { (s : SpcState) → Stands spc.now s
+        → result ≡ sound_act (record { processor = s; hardware = hardware.now; clock = clock.now }) }
     ensures at_ports { IsAtPorts result }
 {
-    let _board = board;
+    let _hardware = hardware;
     if clock.is_due() {
         Act::Clear(15)
     } else {
@@ -76,18 +76,18 @@ pub fn next_act(spc: &Spc, board: &Hardware, clock: &CycleClock) -> Act
 
 /// The processor's next access is made.
 #[inline(always)]
-fn access(spc: &mut Spc, board: &mut Hardware, got: u8)
-    ensures processor { (s : Standing) → Stands spc.old s → Stands spc.new (moved_on s (given board.old (next_of s) got)) }
-    ensures board { (s : Standing) → Stands spc.old s → board.new ≡ effect board.old (next_of s) }
+fn access(spc: &mut Spc, hardware: &mut Hardware, got: u8)
+    ensures processor { (s : SpcState) → Stands spc.old s → Stands spc.new (moved_on s (given hardware.old (next_of s) got)) }
+    ensures hardware { (s : SpcState) → Stands spc.old s → hardware.new ≡ effect hardware.old (next_of s) }
 {
     match spc.next() {
         SpcAccess::Fetch(at) | SpcAccess::Read(at) => {
-            let byte = board.load(at, got);
-            board.finish_load(at);
+            let byte = hardware.load(at, got);
+            hardware.finish_load(at);
             spc.took(byte);
         }
         SpcAccess::Write(at, byte) => {
-            board.store(at, byte);
+            hardware.store(at, byte);
             spc.wrote();
         }
         SpcAccess::Inner => spc.idle(),
@@ -104,16 +104,16 @@ fn is_register(at: u16) -> bool
 
 /// The byte that a fetch or a read at F0 to FF gets, where it is at none of the ports.
 #[inline(never)]
-fn try_register(board: &mut Hardware, at: u16) -> Option<u8>
+fn try_register(hardware: &mut Hardware, at: u16) -> Option<u8>
     ensures quiet { IfSome result (λ _. act_of_load at ≡ Quiet) }
-    ensures byte { IfSome result (λ byte. byte ≡ loaded board.old at 0) }
-    ensures board { IfSome result (λ _. board.new ≡ after_load board.old at) }
-    ensures stays { result ≡ None → board.new ≡ board.old }
+    ensures byte { IfSome result (λ byte. byte ≡ loaded hardware.old at 0) }
+    ensures hardware { IfSome result (λ _. hardware.new ≡ after_load hardware.old at) }
+    ensures stays { result ≡ None → hardware.new ≡ hardware.old }
 {
     match load_act(at) {
         Act::Quiet => {
-            let byte = board.load(at, 0);
-            board.finish_load(at);
+            let byte = hardware.load(at, 0);
+            hardware.finish_load(at);
             Some(byte)
         }
         Act::Read(_) => None,
@@ -124,14 +124,14 @@ fn try_register(board: &mut Hardware, at: u16) -> Option<u8>
 
 /// A write at F0 to FF, where it is quiet.
 #[inline(never)]
-fn try_register_store(board: &mut Hardware, at: u16, byte: u8) -> bool
+fn try_register_store(hardware: &mut Hardware, at: u16, byte: u8) -> bool
     ensures quiet { IsTrue result → act_of_store at byte ≡ Quiet }
-    ensures board { IsTrue result → board.new ≡ stored board.old at byte }
-    ensures stays { result ≡ false → board.new ≡ board.old }
+    ensures hardware { IsTrue result → hardware.new ≡ stored hardware.old at byte }
+    ensures stays { result ≡ false → hardware.new ≡ hardware.old }
 {
     match store_act(at, byte) {
         Act::Quiet => {
-            board.store(at, byte);
+            hardware.store(at, byte);
             true
         }
         Act::Read(_) => false,
@@ -143,15 +143,15 @@ fn try_register_store(board: &mut Hardware, at: u16, byte: u8) -> bool
 /// A write where it is quiet.
 #[tactic(auto, unfolding(crate::specs::Effect::act_of_store))]
 #[inline(always)]
-fn try_store(board: &mut Hardware, at: u16, byte: u8) -> bool
+fn try_store(hardware: &mut Hardware, at: u16, byte: u8) -> bool
     ensures quiet { IsTrue result → act_of_store at byte ≡ Quiet }
-    ensures board { IsTrue result → board.new ≡ stored board.old at byte }
-    ensures stays { result ≡ false → board.new ≡ board.old }
+    ensures hardware { IsTrue result → hardware.new ≡ stored hardware.old at byte }
+    ensures stays { result ≡ false → hardware.new ≡ hardware.old }
 {
     if is_register(at) {
-        try_register_store(board, at, byte)
+        try_register_store(hardware, at, byte)
     } else {
-        board.store_memory(at, byte);
+        hardware.store_memory(at, byte);
         true
     }
 }
@@ -159,21 +159,21 @@ fn try_store(board: &mut Hardware, at: u16, byte: u8) -> bool
 /// The processor fetches or reads a byte, but none of a port.
 #[tactic(auto, unfolding(crate::specs::Effect::act_of_load, crate::specs::Effect::after_load))]
 #[inline(always)]
-fn try_load(spc: &mut Spc, board: &mut Hardware, at: u16) -> bool
+fn try_load(spc: &mut Spc, hardware: &mut Hardware, at: u16) -> bool
     requires { IsTrue (gets_byte (access_of spc.old)) }
     ensures quiet { IsTrue result → act_of_load at ≡ Quiet }
-    ensures processor { IsTrue result → (s : Standing) → Stands spc.old s → Stands spc.new (moved_on s (loaded board.old at 0)) }
-    ensures board { IsTrue result → board.new ≡ after_load board.old at }
+    ensures processor { IsTrue result → (s : SpcState) → Stands spc.old s → Stands spc.new (moved_on s (loaded hardware.old at 0)) }
+    ensures hardware { IsTrue result → hardware.new ≡ after_load hardware.old at }
     ensures spc_stays { result ≡ false → spc.new ≡ spc.old }
-    ensures board_stays { result ≡ false → board.new ≡ board.old }
+    ensures hardware_stays { result ≡ false → hardware.new ≡ hardware.old }
 {
     let byte = if is_register(at) {
-        match try_register(board, at) {
+        match try_register(hardware, at) {
             Some(byte) => byte,
             None => return false,
         }
     } else {
-        board.load_memory(at)
+        hardware.load_memory(at)
     };
     spc.took(byte);
     true
@@ -182,17 +182,17 @@ fn try_load(spc: &mut Spc, board: &mut Hardware, at: u16) -> bool
 /// The processor's next access is made where it is at none of the ports, and no write that clears
 /// them, and whether it was is answered. Otherwise nothing has changed.
 #[inline(always)]
-pub fn try_access(spc: &mut Spc, board: &mut Hardware) -> bool
-    ensures quiet { IsTrue result → (s : Standing) → Stands spc.old s → act_of (next_of s) ≡ Quiet }
-    ensures processor { IsTrue result → (s : Standing) → Stands spc.old s → Stands spc.new (moved_on s (given board.old (next_of s) 0)) }
-    ensures board { IsTrue result → (s : Standing) → Stands spc.old s → board.new ≡ effect board.old (next_of s) }
+pub fn try_access(spc: &mut Spc, hardware: &mut Hardware) -> bool
+    ensures quiet { IsTrue result → (s : SpcState) → Stands spc.old s → act_of (next_of s) ≡ Quiet }
+    ensures processor { IsTrue result → (s : SpcState) → Stands spc.old s → Stands spc.new (moved_on s (given hardware.old (next_of s) 0)) }
+    ensures hardware { IsTrue result → (s : SpcState) → Stands spc.old s → hardware.new ≡ effect hardware.old (next_of s) }
     ensures spc_stays { result ≡ false → spc.new ≡ spc.old }
-    ensures board_stays { result ≡ false → board.new ≡ board.old }
+    ensures hardware_stays { result ≡ false → hardware.new ≡ hardware.old }
 {
     match spc.next() {
-        SpcAccess::Fetch(at) | SpcAccess::Read(at) => try_load(spc, board, at),
+        SpcAccess::Fetch(at) | SpcAccess::Read(at) => try_load(spc, hardware, at),
         SpcAccess::Write(at, byte) => {
-            if !try_store(board, at, byte) {
+            if !try_store(hardware, at, byte) {
                 return false;
             }
             spc.wrote();
@@ -215,57 +215,57 @@ pub fn fresh(pc: u16) -> Spc
 
 /// A reset.
 #[inline(never)]
-fn restart(spc: &mut Spc, board: &mut Hardware)
-    ensures processor { Stands spc.new (at_reset (vector board.old)) }
-    ensures board { board.new ≡ reset_board board.old }
+fn restart(spc: &mut Spc, hardware: &mut Hardware)
+    ensures processor { Stands spc.new (at_reset (vector hardware.old)) }
+    ensures hardware { hardware.new ≡ reset_hardware hardware.old }
 {
-    *spc = Spc::new(board.entry());
-    board.reset();
+    *spc = Spc::new(hardware.entry());
+    hardware.reset();
 }
 
 /// The next step but for its end: a reset, or an access.
 #[inline(always)]
-pub fn begin(spc: &mut Spc, board: &mut Hardware, clock: &CycleClock, got: u8)
-    ensures processor { (s : Standing) → Stands spc.old s
-        → Stands spc.new (processor_after (record { processor = s; board = board.old; clock = clock.now }) got) }
-    ensures board { (s : Standing) → Stands spc.old s
-        → board.new ≡ board_before_end (record { processor = s; board = board.old; clock = clock.now }) }
+pub fn begin(spc: &mut Spc, hardware: &mut Hardware, clock: &CycleClock, got: u8)
+    ensures processor { (s : SpcState) → Stands spc.old s
+        → Stands spc.new (processor_after (record { processor = s; hardware = hardware.old; clock = clock.now }) got) }
+    ensures hardware { (s : SpcState) → Stands spc.old s
+        → hardware.new ≡ hardware_before_end (record { processor = s; hardware = hardware.old; clock = clock.now }) }
     ensures runs { IsRunning spc.old → IsRunning spc.new }
 {
-    make(spc, board, clock, got);
+    make(spc, hardware, clock, got);
 }
 
 /// The same, by the instruction that the processor stands for.
-#[tactic(auto, unfolding(crate::specs::Sound::processor_after, crate::specs::Sound::board_before_end))]
+#[tactic(auto, unfolding(crate::specs::Sound::processor_after, crate::specs::Sound::hardware_before_end))]
 #[inline(always)]
-fn make(spc: &mut Spc, board: &mut Hardware, clock: &CycleClock, got: u8)
-    ensures processor { (s : Standing) → Stands spc.old s
-        → Stands spc.new (processor_after (record { processor = s; board = board.old; clock = clock.now }) got) }
-    ensures board { (s : Standing) → Stands spc.old s
-        → board.new ≡ board_before_end (record { processor = s; board = board.old; clock = clock.now }) }
+fn make(spc: &mut Spc, hardware: &mut Hardware, clock: &CycleClock, got: u8)
+    ensures processor { (s : SpcState) → Stands spc.old s
+        → Stands spc.new (processor_after (record { processor = s; hardware = hardware.old; clock = clock.now }) got) }
+    ensures hardware { (s : SpcState) → Stands spc.old s
+        → hardware.new ≡ hardware_before_end (record { processor = s; hardware = hardware.old; clock = clock.now }) }
 {
     if clock.is_due() {
-        restart(spc, board);
+        restart(spc, hardware);
     } else {
-        access(spc, board, got);
+        access(spc, hardware, got);
     }
 }
 
 /// The end of every 16th step: the timers, and of every second of these a sample, whose bytes wait.
 #[tactic(auto, unfolding(crate::specs::Effect::passed, crate::specs::Effect::emitted))]
 #[inline(never)]
-fn finish_tick(board: &mut Hardware, cycle: u64, waiting: &mut HeapCircularBuffer<u8>)
+fn finish_tick(hardware: &mut Hardware, cycle: u64, waiting: &mut HeapCircularBuffer<u8>)
     requires cycle { cycle ≤ 2 ^ 46 }
     requires tick { (cycle + 1) % 16 ≡ 0 }
     requires room { length waiting.old.items + 4 ≤ waiting.old.capacity }
-    ensures board { board.new ≡ passed cycle board.old }
-    ensures waiting { waiting.new.items ≡ waiting.old.items ++ emitted cycle board.old }
+    ensures hardware { hardware.new ≡ passed cycle hardware.old }
+    ensures waiting { waiting.new.items ≡ waiting.old.items ++ emitted cycle hardware.old }
     ensures capacity { waiting.new.capacity ≡ waiting.old.capacity }
     ensures few { length waiting.new.items ≤ length waiting.old.items + 4 }
 {
-    board.tick(cycle);
+    hardware.tick(cycle);
     if cycle % 32 == 31 {
-        let bytes = board.sample(cycle / 32);
+        let bytes = hardware.sample(cycle / 32);
         waiting.fill_from_slice(&bytes);
     }
 }
@@ -273,15 +273,15 @@ fn finish_tick(board: &mut Hardware, cycle: u64, waiting: &mut HeapCircularBuffe
 /// The end of a step: the timers, and by the last of each 32 cycles a sample, whose bytes wait.
 #[tactic(auto, using(crate::proofs::Ticks::passes_nothing, crate::proofs::Ticks::emits_nothing))]
 #[inline(always)]
-pub fn finish(board: &mut Hardware, cycle: u64, waiting: &mut HeapCircularBuffer<u8>)
+pub fn finish(hardware: &mut Hardware, cycle: u64, waiting: &mut HeapCircularBuffer<u8>)
     requires cycle { cycle ≤ 2 ^ 46 }
     requires room { length waiting.old.items + 4 ≤ waiting.old.capacity }
-    ensures board { board.new ≡ passed cycle board.old }
-    ensures waiting { waiting.new.items ≡ waiting.old.items ++ emitted cycle board.old }
+    ensures hardware { hardware.new ≡ passed cycle hardware.old }
+    ensures waiting { waiting.new.items ≡ waiting.old.items ++ emitted cycle hardware.old }
     ensures capacity { waiting.new.capacity ≡ waiting.old.capacity }
     ensures few { length waiting.new.items ≤ length waiting.old.items + 4 }
 {
     if (cycle + 1) % 16 == 0 {
-        finish_tick(board, cycle, waiting);
+        finish_tick(hardware, cycle, waiting);
     }
 }

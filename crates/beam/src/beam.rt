@@ -71,7 +71,7 @@ impl Beam {
 
     /// The master clocks, at least 1, to the next place of the line at which something may happen.
     #[inline(always)]
-    pub fn left(&self) -> u16
+    pub fn clocks_left(&self) -> u16
         ensures clocks { result ≡ clocks_left self.now }
         ensures some { 0 < result }
         ensures on_line { self.now.h + result ≤ 1364 }

@@ -6,7 +6,7 @@ use Rattle.ppu_regs.specs.Picture.{Picture, screens_of}
 use Rattle.ppu_regs.specs.declared.registers.ColourMath.{ColourMath}
 use Rattle.ppu_regs.specs.declared.registers.WindowPart.{WindowPart}
 use Rattle.ppu_regs.specs.declared.registers.WindowPart.TheVariants.{Never, Outside, Inside, Always}
-use Rattle.row_passes.specs.Colours.{colour_of, colour_with}
+use Rattle.scanline_ops.specs.Colours.{colour_of, colour_with}
 use Rattle.color_window.specs.Windows.{is_inside}
 
 -- whether something holds at a pixel, by where it holds and whether the pixel lies in the colour window

@@ -1,6 +1,6 @@
 //! Windows and colour arithmetic of the picture unit.
 //!
-//! The crate stands on `ppu_regs`, and on `row_passes` for the arithmetic of two colours. `inside` says
+//! The crate stands on `ppu_regs`, and on `scanline_ops` for the arithmetic of two colours. `inside` says
 //! whether a pixel lies in a layer's windows (`specs/Windows.antt`), `mix` what the main screen shows
 //! at a pixel before brightness (`specs/Mixing.antt`). `mask_row` and `mix_row` do the same to a row
 //! of 256 pixels at once.

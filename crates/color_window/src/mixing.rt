@@ -2,12 +2,12 @@
 
 ghost use Rattle.std.specs.Prelude.{◌≡◌, ℕ, ◌+◌, ◌*◌, ◌<◌, ◌==◌, Bool, true, false, not, slice_index, if◌then◌else◌};
 ghost use Rattle.color_window.specs.Windows.{is_inside};
-ghost use Rattle.row_passes.specs.Inks.{is_named, is_found};
+ghost use Rattle.scanline_ops.specs.RankedPixels.{is_named, is_found};
 ghost use Rattle.color_window.specs.Mixing.{holds_at, fixed_colour, mixed, mixed_at, is_front_named, front_colour, dot_colour};
 
 use crate::windows::{inside, mask_row};
 use ppu_regs::{ColourMath, Dot, Ppu, WindowPart};
-use row_passes::{is_found_key, join_colours};
+use scanline_ops::{is_found_key, join_colours};
 
 #[inline(always)]
 #[tactic(auto, unfolding(crate::specs::Mixing::holds_at))]

@@ -5,7 +5,7 @@ ghost use Rattle.ppu_regs.specs.Picture.{windows_of};
 ghost use Rattle.color_window.specs.Windows.{is_within, truth_of, is_inside, mask_of};
 
 use ppu_regs::{Combine, LayerWindows, Ppu, Registers, Window};
-use row_passes::fill_row;
+use scanline_ops::fill_row;
 
 /// Whether the pixel `x` lies in the windows of a layer: 1 to 4 for BG1 to BG4, 5 for the objects, 6 for the
 /// colour window.

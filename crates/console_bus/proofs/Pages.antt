@@ -13,7 +13,7 @@ use Rattle.snes_defs.specs.declared.cart.MapKind.TheVariants.{LoRom, HiRom}
 use Rattle.cart_map.specs.Fold.{fold, fold_below}
 use Rattle.cart_map.specs.Clocks.{clocks_of, system_clocks, is_fast_bank}
 use Rattle.cart_map.specs.Place.{IsInside, lies, is_cpu_register, is_system_bank, system_place_of, ram_place_of, lorom_place_of, hirom_place_of, cart_place_of, bank_place_of}
-use Rattle.console_bus.specs.declared.board.Board.{Board}
+use Rattle.console_bus.specs.declared.cart_board.CartBoard.{CartBoard}
 use Rattle.console_bus.specs.Places.{place_at}
 use Rattle.console_bus.specs.declared.address_map.Page.{Page}
 use Rattle.console_bus.specs.Memory.{index_of, IsWhole, IsPageOf, ArePages}
@@ -96,26 +96,26 @@ fold_in_page (suc k) size x o some whole first within below =
 -- ---- places
 
 -- the place of an address further on in a page whose first address has a place in the memory
-pub record IsThere (board : Board) (y : Place) (at : ℕ) : Type 0 where
+pub record IsThere (board : CartBoard) (y : Place) (at : ℕ) : Type 0 where
   pub index : index_of board y ≡ Some at
   pub lies : IsInside board.rom board.ram y
   pub inside : at < 131072 + board.ram + board.rom
 
-abbrev Leads : Board → ℕ → Place → Place → Type 0
+abbrev Leads : CartBoard → ℕ → Place → Place → Type 0
 Leads board o x y = (at : ℕ) → index_of board x ≡ Some at → IsWhole board x → IsThere board y (at + o)
 
-either : (b : Bool) (board : Board) (o : ℕ) (x x' y y' : Place) → (b ≡ true → Leads board o x x') → (b ≡ false → Leads board o y y')
+either : (b : Bool) (board : CartBoard) (o : ℕ) (x x' y y' : Place) → (b ≡ true → Leads board o x x') → (b ≡ false → Leads board o y y')
     → Leads board o (if b then x else y) (if b then x' else y')
 either true board o x x' y y' h k = h refl
 either false board o x x' y y' h k = k refl
 
-leads_wram : (board : Board) (o i j : ℕ) → o < 8192 → j ≡ i + o → Leads board o (Wram i) (Wram j)
+leads_wram : (board : CartBoard) (o i j : ℕ) → o < 8192 → j ≡ i + o → Leads board o (Wram i) (Wram j)
 leads_wram board o i j within e = λ at h w.
     let a : i ≡ at = cc in
     let b : j ≡ at + o = omega arith in
     record { index = ap Some b; lies = omega arith; inside = omega arith }
 
-leads_ram : (board : Board) (o i j : ℕ) → o < 8192 → (board.ram % 8192 ≡ 0 → j ≡ i + o) → Leads board o (Ram i) (Ram j)
+leads_ram : (board : CartBoard) (o i j : ℕ) → o < 8192 → (board.ram % 8192 ≡ 0 → j ≡ i + o) → Leads board o (Ram i) (Ram j)
 leads_ram board o i j within e = λ at h w.
     let q = e w.0 in
     let fits = w.1 in
@@ -123,7 +123,7 @@ leads_ram board o i j within e = λ at h w.
     let b : 131072 + j ≡ at + o = omega arith in
     record { index = ap Some b; lies = omega arith; inside = omega arith }
 
-leads_rom : (board : Board) (o i j : ℕ) → o < 8192 → (board.rom % 8192 ≡ 0 → j ≡ i + o) → Leads board o (Rom i) (Rom j)
+leads_rom : (board : CartBoard) (o i j : ℕ) → o < 8192 → (board.rom % 8192 ≡ 0 → j ≡ i + o) → Leads board o (Rom i) (Rom j)
 leads_rom board o i j within e = λ at h w.
     let q = e w.0 in
     let fits = w.1 in
@@ -131,7 +131,7 @@ leads_rom board o i j within e = λ at h w.
     let b : 131072 + board.ram + j ≡ at + o = omega arith in
     record { index = ap Some b; lies = omega arith; inside = omega arith }
 
-leads_none : (board : Board) (o : ℕ) (y : Place) → Leads board o Open y
+leads_none : (board : CartBoard) (o : ℕ) (y : Place) → Leads board o Open y
 leads_none board o y = λ at h w. absurd (cc)
 
 -- ROM: the offset of 22 bits at which a page begins
@@ -142,11 +142,11 @@ fold_leads rom x o some whole first within below =
     let here : x % 0x400000 ≡ x = omega arith in
     rw (there, here) (fold_in_page 9 rom x o some whole first within below)
 
-leads_fold : (board : Board) (o x y : ℕ) → 0 < board.rom → x % 8192 ≡ 0 → y ≡ x + o → o < 8192 → x < 4194304 → Leads board o (Rom (fold board.rom x)) (Rom (fold board.rom y))
+leads_fold : (board : CartBoard) (o x y : ℕ) → 0 < board.rom → x % 8192 ≡ 0 → y ≡ x + o → o < 8192 → x < 4194304 → Leads board o (Rom (fold board.rom x)) (Rom (fold board.rom y))
 leads_fold board o x y some first e within below =
     leads_rom board o _ _ within (λ whole. ap (fold board.rom) e ∙ fold_leads board.rom x o some whole first within below)
 
-leads_ram_place : (board : Board) (o x y : ℕ) → x % 8192 ≡ 0 → y ≡ x + o → o < 8192 → Leads board o (ram_place_of board.ram x) (ram_place_of board.ram y)
+leads_ram_place : (board : CartBoard) (o x y : ℕ) → x % 8192 ≡ 0 → y ≡ x + o → o < 8192 → Leads board o (ram_place_of board.ram x) (ram_place_of board.ram y)
 leads_ram_place board o x y first e within =
     either (nat_eq board.ram 0) board o Open Open (Ram (x % board.ram)) (Ram (y % board.ram))
     (λ z. leads_none board o Open)
@@ -175,14 +175,14 @@ no_bus j = grind (arith, nat_tests)
 no_chip : (j : ℕ) → is_cpu_register (8192 * j) ≡ false
 no_chip j = grind (arith, nat_tests)
 
-system_leads : (board : Board) (j o : ℕ) → o < 8192 → Leads board o (system_place_of (8192 * j)) (system_place_of (8192 * j + o))
+system_leads : (board : CartBoard) (j o : ℕ) → o < 8192 → Leads board o (system_place_of (8192 * j)) (system_place_of (8192 * j + o))
 system_leads board j o within =
     rw (low_alike j o within, no_bus j, no_chip j) (
     either (lies 0 0x1fff (8192 * j)) board o (Wram (8192 * j)) (Wram (8192 * j + o)) Open _
     (λ h. leads_wram board o _ _ within refl)
     (λ h. leads_none board o _))
 
-lorom_leads : (board : Board) (bank j o : ℕ) → 0 < board.rom → j < 8 → o < 8192
+lorom_leads : (board : CartBoard) (bank j o : ℕ) → 0 < board.rom → j < 8 → o < 8192
     → Leads board o (lorom_place_of board.rom board.ram bank (8192 * j)) (lorom_place_of board.rom board.ram bank (8192 * j + o))
 lorom_leads board bank j o some few within =
     rw (high_alike j o within) (
@@ -192,7 +192,7 @@ lorom_leads board bank j o some few within =
     (λ h. leads_ram_place board o _ _ (omega arith) (omega arith) within)
     (λ h. leads_none board o Open)))
 
-hirom_leads : (board : Board) (bank j o : ℕ) → 0 < board.rom → j < 8 → o < 8192
+hirom_leads : (board : CartBoard) (bank j o : ℕ) → 0 < board.rom → j < 8 → o < 8192
     → Leads board o (hirom_place_of board.rom board.ram bank (8192 * j)) (hirom_place_of board.rom board.ram bank (8192 * j + o))
 hirom_leads board bank j o some few within =
     rw (high_alike j o within, middle_alike j o within) (
@@ -202,12 +202,12 @@ hirom_leads board bank j o some few within =
     (λ h. leads_ram_place board o _ _ (omega arith) (omega arith) within)
     (λ h. leads_none board o Open)))
 
-cart_leads : (board : Board) (map : MapKind) (bank j o : ℕ) → 0 < board.rom → j < 8 → o < 8192
+cart_leads : (board : CartBoard) (map : MapKind) (bank j o : ℕ) → 0 < board.rom → j < 8 → o < 8192
     → Leads board o (cart_place_of map board.rom board.ram bank (8192 * j)) (cart_place_of map board.rom board.ram bank (8192 * j + o))
 cart_leads board LoRom bank j o some few within = lorom_leads board bank j o some few within
 cart_leads board HiRom bank j o some few within = hirom_leads board bank j o some few within
 
-bank_leads : (board : Board) (bank j o : ℕ) → 0 < board.rom → j < 8 → o < 8192
+bank_leads : (board : CartBoard) (bank j o : ℕ) → 0 < board.rom → j < 8 → o < 8192
     → Leads board o (bank_place_of board.map board.rom board.ram bank (8192 * j)) (bank_place_of board.map board.rom board.ram bank (8192 * j + o))
 bank_leads board bank j o some few within =
     rw (system_alike j o within) (
@@ -218,7 +218,7 @@ bank_leads board bank j o some few within =
     (λ h. cart_leads board board.map bank j o some few within)))
 
 -- the byte at an address of a page
-pub byte_in_page : (board : Board) (number o at : ℕ) → 0 < board.rom → number < 2048 → o < 8192
+pub byte_in_page : (board : CartBoard) (number o at : ℕ) → 0 < board.rom → number < 2048 → o < 8192
     → index_of board (place_at board (8192 * number)) ≡ Some at → IsWhole board (place_at board (8192 * number))
     → IsThere board (place_at board (8192 * number + o)) (at + o)
 byte_in_page board number o at some few within =
@@ -251,7 +251,7 @@ clocks_inside true fast j o bank within other =
     let slow_alike : nat_lt (8192 * j + o) 0x4200 ≡ nat_lt (8192 * j) 0x4200 = (let n = other refl in grind (arith, nat_tests)) in
     rw (lower_alike j o within, ram_alike j o within, bus_alike j o within, chip_alike j o within, slow_alike) refl
 
-no_memory : (board : Board) (bank j at : ℕ) → IsTrue (nat_lt (bank % 128) 64) → bank < 256 → j ≡ 2 → index_of board (bank_place_of board.map board.rom board.ram bank (8192 * j)) ≡ Some at → ⊥
+no_memory : (board : CartBoard) (bank j at : ℕ) → IsTrue (nat_lt (bank % 128) 64) → bank < 256 → j ≡ 2 → index_of board (bank_place_of board.map board.rom board.ram bank (8192 * j)) ≡ Some at → ⊥
 no_memory board bank j at system few there h =
     let a : lies 0x7e 0x7f bank ≡ false = grind (arith, nat_tests) in
     let b : is_system_bank bank ≡ true = grind (arith, nat_tests) in
@@ -260,7 +260,7 @@ no_memory board bank j at system few there h =
     let q : index_of board (bank_place_of board.map board.rom board.ram bank (8192 * j)) ≡ None = rw (a, b, d, e, no_bus j, no_chip j) refl in
     absurd (cc)
 
-pub clocks_in_page : (board : Board) (number o at : ℕ) (fast : Bool) → number < 2048 → o < 8192
+pub clocks_in_page : (board : CartBoard) (number o at : ℕ) (fast : Bool) → number < 2048 → o < 8192
     → index_of board (place_at board (8192 * number)) ≡ Some at → clocks_of (8192 * number + o) fast ≡ clocks_of (8192 * number) fast
 clocks_in_page board number o at fast few within h =
     let bank : 8192 * number / 65536 ≡ number / 8 = omega arith in
@@ -273,7 +273,7 @@ clocks_in_page board number o at fast few within h =
     (clocks_inside (nat_lt (number / 8 % 128) 64) fast (number % 8) o (number / 8) within (λ s j. no_memory board (number / 8) (number % 8) at s (omega arith) j h'))
 
 -- a page of memory, from its first address
-pub is_page : (board : Board) (number : ℕ) (page : Page) → 0 < board.rom → number < 2048
+pub is_page : (board : CartBoard) (number : ℕ) (page : Page) → 0 < board.rom → number < 2048
     → index_of board (place_at board (8192 * number)) ≡ Some page.at → IsWhole board (place_at board (8192 * number))
     → page.slow ≡ clocks_of (8192 * number) false → page.fast ≡ clocks_of (8192 * number) true → IsPageOf board number page
 is_page board number page some few h whole slow fast =
@@ -284,14 +284,14 @@ is_page board number page some few h whole slow fast =
     }
 
 -- the place at a page's first address, by bank and offset
-pub first_place : (board : Board) (number : ℕ) → number < 2048
+pub first_place : (board : CartBoard) (number : ℕ) → number < 2048
     → bank_place_of board.map board.rom board.ram (8192 * number / 65536) (8192 * number % 65536) ≡ place_at board (8192 * number)
 first_place board number few =
     let bank : 8192 * number / 0x10000 % 0x100 ≡ 8192 * number / 65536 = omega arith in
     rw bank refl
 
 -- a list of pages with one more
-pub one_more : (board : Board) (pages : List Page) (page : Page) → ArePages board pages → (IsTrue page.memory → IsPageOf board (length pages) page) → ArePages board (pages ++ page ∷ [])
+pub one_more : (board : CartBoard) (pages : List Page) (page : Page) → ArePages board pages → (IsTrue page.memory → IsPageOf board (length pages) page) → ArePages board (pages ++ page ∷ [])
 one_more board pages page are new = λ number d below.
     let Holds : Page → Type 0 = λ q. IsTrue q.memory → IsPageOf board number q in
     let size : length (pages ++ page ∷ []) ≡ length pages + 1 = length-append pages (page ∷ []) in

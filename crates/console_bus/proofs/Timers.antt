@@ -2,7 +2,7 @@
 use Rattle.std.proofs.Common.{◌≡◌, ℕ, ◌==◌, Bool, true, false, refl, if◌then◌else◌}
 use Rattle.io_math.specs.declared.registers.IoRegisters.{IoRegisters}
 use Rattle.io_math.specs.Registers.{framed, blanked, timed, after_read}
-use Rattle.console_bus.specs.Rest.{timer_of}
+use Rattle.console_bus.specs.BusState.{timer_of}
 
 pub timer_framed : (io : IoRegisters) (a b : ℕ) → timer_of (framed io a b) ≡ timer_of io
 unfolding framed

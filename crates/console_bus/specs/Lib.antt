@@ -1,4 +1,4 @@
-pub mod Rest
+pub mod BusState
 pub mod Places
 pub mod Memory
 pub mod Happenings

@@ -4,13 +4,13 @@ use Rattle.cart_map.specs.declared.places.Place.{Place}
 use Rattle.cart_map.specs.declared.places.Place.TheVariants.{Wram, Rom, Ram, BBus, Cpu, Open}
 use Rattle.cart_map.specs.Place.{IsInside}
 use Rattle.cart_map.specs.Clocks.{clocks_of}
-use Rattle.console_bus.specs.declared.board.Board.{Board}
+use Rattle.console_bus.specs.declared.cart_board.CartBoard.{CartBoard}
 use Rattle.console_bus.specs.declared.address_map.Page.{Page}
 use Rattle.console_bus.specs.Places.{place_at}
-use Rattle.console_bus.specs.Rest.{Rest}
+use Rattle.console_bus.specs.BusState.{BusState}
 
 -- the byte of the memory that lies at a place: of work RAM, of the cartridge's RAM behind it, or of the ROM behind both
-abbrev pub index_of : Board → Place → Option ℕ
+abbrev pub index_of : CartBoard → Place → Option ℕ
 index_of board (Wram i) = Some i
 index_of board (Ram i) = Some (131072 + i)
 index_of board (Rom i) = Some (131072 + board.ram + i)
@@ -19,11 +19,11 @@ index_of board (Cpu register) = None
 index_of board Open = None
 
 -- a write of a byte of the memory, of which ROM stays as it is
-abbrev pub stored : Rest → ℕ → ℕ → Rest
+abbrev pub stored : BusState → ℕ → ℕ → BusState
 stored r at v = if nat_lt at (131072 + r.board.ram) then (record r { memory = slice_set r.memory at v }) else r
 
 -- the memory of a place has a page of 8 KiB from there on, and is made of whole pages
-abbrev pub IsWhole : Board → Place → Type 0
+abbrev pub IsWhole : CartBoard → Place → Type 0
 IsWhole board (Wram i) = i + 8192 ≤ 131072
 IsWhole board (Ram i) = (board.ram % 8192 ≡ 0) × (i + 8192 ≤ board.ram)
 IsWhole board (Rom i) = (board.rom % 8192 ≡ 0) × (i + 8192 ≤ board.rom)
@@ -32,18 +32,18 @@ IsWhole board (Cpu register) = Unit {0}
 IsWhole board Open = Unit {0}
 
 -- at an address lies this byte of the memory, and an access there lasts so many clocks; `fast` is bit 0 of MEMSEL
-pub record IsMemoryAt (board : Board) (fast : Bool) (addr at clocks : ℕ) : Type 0 where
+pub record IsMemoryAt (board : CartBoard) (fast : Bool) (addr at clocks : ℕ) : Type 0 where
   pub place : index_of board (place_at board addr) ≡ Some at
   pub lasts : clocks ≡ clocks_of addr fast
   pub lies : IsInside board.rom board.ram (place_at board addr)
   pub inside : at < 131072 + board.ram + board.rom
 
 -- the addresses of a page of 8 KiB are memory, one byte after another
-pub record IsPageOf (board : Board) (number : ℕ) (page : Page) : Type 0 where
+pub record IsPageOf (board : CartBoard) (number : ℕ) (page : Page) : Type 0 where
   pub slow : (o : ℕ) → o < 8192 → IsMemoryAt board false (8192 * number + o) (page.at + o) page.slow
   pub fast : (o : ℕ) → o < 8192 → IsMemoryAt board true (8192 * number + o) (page.at + o) page.fast
 
 -- each page that is marked as memory is such a page
-abbrev pub ArePages : Board → List Page → Type 0
+abbrev pub ArePages : CartBoard → List Page → Type 0
 ArePages board pages = (number : ℕ) (d : Page) → number < length pages
     → IsTrue (slice_index_or pages number d).memory → IsPageOf board number (slice_index_or pages number d)

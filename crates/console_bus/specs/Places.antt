@@ -9,11 +9,11 @@ use Rattle.dma_hdma.specs.Channel as channel
 use Rattle.dma_hdma.specs.Channels.{channel_at, channel_number, register_number, by_bits}
 use Rattle.ppu_regs.specs.Reads as picture_reads
 use Rattle.ppu_regs.specs.Writes as picture_writes
-use Rattle.console_bus.specs.declared.board.Board.{Board}
-use Rattle.console_bus.specs.Rest.{Rest, spot_of, with_io}
+use Rattle.console_bus.specs.declared.cart_board.CartBoard.{CartBoard}
+use Rattle.console_bus.specs.BusState.{BusState, spot_of, with_io}
 
 -- what lies at a 24-bit address: at an offset of 16 bits in a bank of 8
-abbrev pub place_at : Board → ℕ → Place
+abbrev pub place_at : CartBoard → ℕ → Place
 place_at board addr = bank_place_of board.map board.rom board.ram (addr / 0x10000 % 0x100) (addr % 0x10000)
 
 -- the transfers' A side reaches no registers: those of the B bus and of the processor's chip are open there
@@ -32,7 +32,7 @@ abbrev pub is_port : ℕ → Bool
 is_port register = nat_le 0x40 register && nat_lt register 0x80
 
 -- the byte of a register; a port gives what came in there
-unfoldable pub register_byte : Rest → ℕ → ℕ → ℕ
+unfoldable pub register_byte : BusState → ℕ → ℕ → ℕ
 register_byte r register got =
     if nat_lt register 0x40 then picture_reads.byte_read r.picture register r.last
     else if nat_lt register 0x80 then got
@@ -40,13 +40,13 @@ register_byte r register got =
     else if register == 0x80 then slice_index r.memory r.port
     else r.last
 
-unfoldable pub register_read : Rest → ℕ → Rest
+unfoldable pub register_read : BusState → ℕ → BusState
 register_read r register =
     if nat_lt register 0x40 then (record r { picture = picture_reads.after_read r.picture register (spot_of r.beam) })
     else if register == 0x80 then (record r { port = (r.port + 1) % 0x20000 })
     else r
 
-unfoldable pub register_written : Rest → ℕ → ℕ → Rest
+unfoldable pub register_written : BusState → ℕ → ℕ → BusState
 register_written r register v =
     if nat_lt register 0x40 then (record r { picture = picture_writes.after_write r.picture register v })
     else if register == 0x80 then (record r { memory = slice_set r.memory r.port v; port = (r.port + 1) % 0x20000 })
@@ -61,15 +61,15 @@ register_written r register v =
 abbrev pub is_channel : ℕ → Bool
 is_channel register = nat_le 0x4300 register && nat_le register 0x437f
 
-unfoldable pub chip_byte : Rest → ℕ → ℕ
+unfoldable pub chip_byte : BusState → ℕ → ℕ
 chip_byte r register =
     if is_channel register then channel.register_of (channel_at r.channels (channel_number register)) (register_number register) r.last
     else io.byte_read r.io register r.last (spot_of r.beam)
 
-unfoldable pub chip_read : Rest → ℕ → Rest
+unfoldable pub chip_read : BusState → ℕ → BusState
 chip_read r register = if is_channel register then r else (record r { io = io.after_read r.io register })
 
-unfoldable pub chip_written : Rest → ℕ → ℕ → Rest
+unfoldable pub chip_written : BusState → ℕ → ℕ → BusState
 chip_written r register v =
     if is_channel register then (record r {
       channels = slice_set r.channels (channel_number register)
@@ -82,7 +82,7 @@ chip_written r register v =
 
 -- ---- a place of the address map
 
-abbrev pub place_byte : Rest → Place → ℕ → ℕ
+abbrev pub place_byte : BusState → Place → ℕ → ℕ
 place_byte r (Wram i) got = slice_index r.memory i
 place_byte r (Ram i) got = slice_index r.memory (131072 + i)
 place_byte r (Rom i) got = slice_index r.memory (131072 + r.board.ram + i)
@@ -90,7 +90,7 @@ place_byte r (BBus register) got = register_byte r register got
 place_byte r (Cpu register) got = chip_byte r register
 place_byte r Open got = r.last
 
-abbrev pub place_read : Rest → Place → Rest
+abbrev pub place_read : BusState → Place → BusState
 place_read r (Wram i) = r
 place_read r (Ram i) = r
 place_read r (Rom i) = r
@@ -98,7 +98,7 @@ place_read r (BBus register) = register_read r register
 place_read r (Cpu register) = chip_read r register
 place_read r Open = r
 
-abbrev pub place_written : Rest → Place → ℕ → Rest
+abbrev pub place_written : BusState → Place → ℕ → BusState
 place_written r (Wram i) v = record r { memory = slice_set r.memory i v }
 place_written r (Ram i) v = record r { memory = slice_set r.memory (131072 + i) v }
 place_written r (Rom i) v = r
@@ -107,9 +107,9 @@ place_written r (Cpu register) v = chip_written r register v
 place_written r Open v = r
 
 -- the byte that a transfer takes from the A side
-abbrev pub taken_from : Rest → ℕ → ℕ
+abbrev pub taken_from : BusState → ℕ → ℕ
 taken_from r addr = place_byte r (a_side (place_at r.board addr)) 0
 
 -- a byte has gone over the data bus
-abbrev pub on_bus : Rest → ℕ → Rest
+abbrev pub on_bus : BusState → ℕ → BusState
 on_bus r byte = record r { last = byte }

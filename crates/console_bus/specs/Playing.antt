@@ -3,7 +3,7 @@ use Rattle.std.specs.Prelude.{ℕ, List, [], ◌∷◌, ◌++◌}
 use Rattle.snes_defs.specs.declared.script.Span.{Span}
 use Rattle.snes_defs.specs.Script.{Script, pads_at}
 use Rattle.io_math.specs.Words.{with_words}
-use Rattle.console_bus.specs.Rest.{Rest}
+use Rattle.console_bus.specs.BusState.{BusState}
 
 -- a script with one span more
 abbrev pub lengthened : Script → Span → Script
@@ -14,10 +14,10 @@ abbrev pub with_room : Script → ℕ → Script
 with_room script n = record script { room = n }
 
 -- another script, whose pads in this frame are held
-abbrev pub told : Script → Rest → Rest
+abbrev pub told : Script → BusState → BusState
 told script r =
     record r { script = script; io = with_words r.io (pads_at script.spans r.frame).0 (pads_at script.spans r.frame).1 }
 
 -- the script goes on by a span
-abbrev pub played : Rest → Span → Rest
+abbrev pub played : BusState → Span → BusState
 played r span = told (lengthened r.script span) r

@@ -1,11 +1,11 @@
 // What lies at an address, and at which byte of the memory, by pages that are made once.
 ghost use Rattle.std.specs.Prelude.{◌≡◌, ℕ, ◌<◌, ◌≤◌, ◌+◌, ◌*◌, ◌^◌, false, IfOk, IfSome, IsTrue, length};
 ghost use Rattle.cart_map.specs.Place.{IsInside};
-ghost use Rattle.console_bus.specs.declared.board.Board.{Board};
+ghost use Rattle.console_bus.specs.declared.cart_board.CartBoard.{CartBoard};
 ghost use Rattle.console_bus.specs.Memory.{index_of, IsWhole, IsMemoryAt, IsPageOf, ArePages};
 
-use crate::board::Board;
 use crate::bus::WORK_RAM;
+use crate::cart_board::CartBoard;
 use cart_map::{Place, clocks, place_in};
 use snes_defs::NoMemory;
 use std::alloc::Global;
@@ -40,16 +40,16 @@ pub(crate) struct Page {
 /// A cartridge's board with its pages, seen in contracts as the board.
 #[derive(Drop)]
 pub(crate) struct AddressMap {
-    board: Board,
+    board: CartBoard,
     pages: Vec<Page>,
 }
 
 impl Model for AddressMap {
     ghost use Rattle.std.specs.Prelude.{◌≡◌, ℕ, ◌<◌, length};
-    ghost use Rattle.console_bus.specs.declared.board.Board.{Board};
+    ghost use Rattle.console_bus.specs.declared.cart_board.CartBoard.{CartBoard};
     ghost use Rattle.console_bus.specs.Memory.{ArePages};
 
-    ghost Value = { Board };
+    ghost Value = { CartBoard };
 
     ghost view = { λ m. m.board };
 
@@ -58,7 +58,7 @@ impl Model for AddressMap {
 
 impl AddressMap {
     /// The map of a board. It takes the memory for its pages, and refuses only for want of it.
-    pub(crate) fn new(alloc: Global, board: Board) -> Result<AddressMap, NoMemory>
+    pub(crate) fn new(alloc: Global, board: CartBoard) -> Result<AddressMap, NoMemory>
         requires { 0 < board.rom }
         ensures { IfOk result (λ map. map ≡ board) }
     {
@@ -68,7 +68,7 @@ impl AddressMap {
 
     /// The board.
     #[inline(always)]
-    pub(crate) fn board(&self) -> &Board
+    pub(crate) fn board(&self) -> &CartBoard
         ensures { result.now ≡ self.now }
     {
         &self.board
@@ -89,7 +89,7 @@ impl AddressMap {
 #[inline(always)]
 fn access(page: Page, offset: u32, fast: bool) -> Option<MemoryAccess>
     requires { offset < 8192 }
-    ensures { (board : Board) (number : ℕ) → (IsTrue page.memory → IsPageOf board number page)
+    ensures { (board : CartBoard) (number : ℕ) → (IsTrue page.memory → IsPageOf board number page)
         → IfSome result (λ access. IsMemoryAt board fast (8192 * number + offset) access.at access.clocks) }
 {
     if !page.memory {
@@ -103,7 +103,7 @@ fn access(page: Page, offset: u32, fast: bool) -> Option<MemoryAccess>
 
 /// The pages of a board.
 #[tactic(auto, using(crate::proofs::Pages::one_more))]
-fn pages_of(alloc: Global, board: &Board) -> Result<Vec<Page>, NoMemory>
+fn pages_of(alloc: Global, board: &CartBoard) -> Result<Vec<Page>, NoMemory>
     requires { 0 < board.now.rom }
     ensures count { IfOk result (λ pages. length pages.items ≡ 2048) }
     ensures pages { IfOk result (λ pages. ArePages board.now pages.items) }
@@ -132,7 +132,7 @@ fn no_page() -> Page
 
 /// A page of a board.
 
-fn page_from(board: &Board, number: u32) -> Page
+fn page_from(board: &CartBoard, number: u32) -> Page
     requires some { 0 < board.now.rom }
     requires number { number < 2048 }
     ensures { IsTrue result.memory → IsPageOf board.now number result }
@@ -152,7 +152,7 @@ fn page_from(board: &Board, number: u32) -> Page
 
 /// The byte of the memory at a place where a page may begin: none for a page that would pass the end of the
 /// memory of which it is, or where that isn't made of whole pages.
-fn first_byte(board: &Board, place: Place) -> Option<u32>
+fn first_byte(board: &CartBoard, place: Place) -> Option<u32>
     ensures index { IfSome result (λ at. index_of board.now place ≡ Some at) }
     ensures whole { IfSome result (λ at. IsWhole board.now place) }
 {

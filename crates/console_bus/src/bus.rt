@@ -3,7 +3,7 @@ ghost use Rattle.snes_defs.specs.declared.cart.Cart.{Cart};
 ghost use Rattle.cart_map.specs.Place.{IsInside};
 ghost use Rattle.io_math.specs.Registers.{written as io_written};
 ghost use Rattle.ppu_regs.specs.Writes.{after_write};
-ghost use Rattle.console_bus.specs.Rest.{Rest, rest_start, with_pads, with_io};
+ghost use Rattle.console_bus.specs.BusState.{BusState, bus_start, with_pads, with_io};
 ghost use Rattle.console_bus.specs.Memory.{IsMemoryAt, stored};
 ghost use Rattle.console_bus.specs.Places.{place_at, a_side, taken_from, register_byte, register_read, register_written, chip_byte, chip_read, chip_written, place_byte, place_read, place_written, on_bus};
 
@@ -20,7 +20,7 @@ use tile_cache::TileCache;
 /// The bytes of work RAM.
 pub(crate) const WORK_RAM: usize = 131_072;
 
-/// The console without its processor, seen in contracts as a `Rest`.
+/// The console without its processor, seen in contracts as a `BusState`.
 #[derive(Drop)]
 pub struct Bus {
     pub(crate) map: AddressMap,
@@ -40,10 +40,10 @@ pub struct Bus {
 
 impl Model for Bus {
     ghost use Rattle.std.specs.Prelude.{◌≡◌, ◌<◌, ◌+◌, length};
-    ghost use Rattle.tile_cache.specs.Planes.{IsInStep};
-    ghost use Rattle.console_bus.specs.Rest.{Rest, timer_of};
+    ghost use Rattle.tile_cache.specs.Bitplanes.{IsInStep};
+    ghost use Rattle.console_bus.specs.BusState.{BusState, timer_of};
 
-    ghost Value = { Rest };
+    ghost Value = { BusState };
 
     ghost view = { λ b. record { board = b.map; script = b.script; memory = b.memory.items; port = b.port; io = b.io; channels = b.dma; picture = b.ppu; beam = b.beam; frame = b.frame; last = b.last; refresh = b.refresh; reset = b.reset } };
 

@@ -1,11 +1,11 @@
 ghost use Rattle.std.specs.Prelude.{◌≡◌, ℕ, ◌+◌, ◌==◌, if◌then◌else◌, ◌<◌, ◌≤◌, ◌-◌, Bool, true, false, [], None, IsSome, map, slice_index};
 ghost use Rattle.beam.specs.Events.{happens_next, beam_next, beam_after, passed};
 ghost use Rattle.beam.specs.Places.{clocks_left};
-ghost use Rattle.dma_hdma.specs.Channel.{framed as channel_framed, lined};
+ghost use Rattle.dma_hdma.specs.Channel.{frame_begun as channel_frame_begun, line_begun};
 ghost use Rattle.dma_hdma.specs.Channels.{due_of, after_byte};
 ghost use Rattle.io_math.specs.Registers.{registers_start, timed, nmi_level, irq_level};
 ghost use Rattle.ppu_regs.specs.Writes.{after_write};
-ghost use Rattle.console_bus.specs.Rest.{Rest, with_io, with_pads, channels_start};
+ghost use Rattle.console_bus.specs.BusState.{BusState, with_io, with_pads, channels_start};
 ghost use Rattle.console_bus.specs.Happenings.{frame_begun, blank_begun, shown_dot, row_drawn, was_reset};
 
 use crate::bus::Bus;
@@ -17,7 +17,7 @@ use ppu_line::draw;
 impl Bus {
     /// The levels of the processor's NMI and IRQ lines.
     #[inline(always)]
-    pub fn lines(&self) -> (bool, bool)
+    pub fn interrupt_levels(&self) -> (bool, bool)
         ensures nmi { result.0 ≡ nmi_level self.now.io }
         ensures irq { result.1 ≡ irq_level self.now.io }
     {
@@ -90,12 +90,12 @@ impl Bus {
 
     /// The clocks, at least 1, until something may happen.
     #[inline(always)]
-    pub fn left(&self) -> u16
+    pub fn clocks_left(&self) -> u16
         ensures clocks { result ≡ clocks_left self.now.beam }
         ensures some { 0 < result }
         ensures on_line { self.now.beam.h + result ≤ 1364 }
     {
-        self.beam.left()
+        self.beam.clocks_left()
     }
 
     /// The beam goes on by fewer clocks than are left: nothing happens.
@@ -126,7 +126,7 @@ impl Bus {
 
     /// The line where the beam stands.
     #[inline(always)]
-    pub fn line(&self) -> u16
+    pub fn scanline(&self) -> u16
         ensures { result ≡ self.now.beam.v }
     {
         self.beam.spot().v
@@ -162,14 +162,14 @@ impl Bus {
 
     /// The HDMA channels begin a frame.
     pub fn begin_hdma(&mut self)
-        ensures { self.new ≡ record self.old { channels = map channel_framed self.old.channels } }
+        ensures { self.new ≡ record self.old { channels = map channel_frame_begun self.old.channels } }
     {
         self.dma.frame();
     }
 
     /// The HDMA channels begin a line.
     pub fn begin_hdma_line(&mut self)
-        ensures { self.new ≡ record self.old { channels = map lined self.old.channels } }
+        ensures { self.new ≡ record self.old { channels = map line_begun self.old.channels } }
     {
         self.dma.line();
     }
@@ -191,7 +191,7 @@ impl Bus {
 
     /// Draws the row above the line where the beam stands, 1 to 239: 512 dots of 15 bits.
     #[tactic(auto, unfolding(crate::specs::Happenings::row_drawn, crate::specs::Happenings::is_shown, crate::specs::Happenings::shown_dot))]
-    pub fn draw(&mut self, dots: &mut [u16; 512])
+    pub fn draw_dots(&mut self, dots: &mut [u16; 512])
         requires first { 1 ≤ self.old.beam.v }
         requires last { self.old.beam.v ≤ 239 }
         ensures after { self.new ≡ row_drawn self.old }
@@ -227,7 +227,7 @@ impl Bus {
     }
 
     /// No channel has anything to do.
-    #[tactic(auto, unfolding(crate::specs::Rest::channels_start))]
+    #[tactic(auto, unfolding(crate::specs::BusState::channels_start))]
     fn stop_transfers(&mut self)
         ensures { self.new ≡ record self.old { channels = channels_start } }
     {

@@ -7,12 +7,12 @@
 #![tactic(auto)]
 
 mod address_map;
-mod board;
 mod bus;
+mod cart_board;
 mod copy;
 mod happenings;
 mod start;
 
 pub use address_map::MemoryAccess;
-pub use board::Board;
 pub use bus::Bus;
+pub use cart_board::CartBoard;

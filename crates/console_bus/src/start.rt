@@ -1,10 +1,10 @@
 ghost use Rattle.std.specs.Prelude.{◌≡◌, ◌+◌, ◌++◌, All, IfOk, length, replicate};
-ghost use Rattle.console_bus.specs.Rest.{board_of, beam_start, channels_start, memory_start, rest_start, with_pads};
+ghost use Rattle.console_bus.specs.BusState.{board_of, beam_start, channels_start, memory_start, bus_start, with_pads};
 ghost use Rattle.io_math.specs.Registers.{registers_start};
 
 use crate::address_map::AddressMap;
-use crate::board::Board;
 use crate::bus::{Bus, WORK_RAM};
+use crate::cart_board::CartBoard;
 use beam::Beam;
 use dma_hdma::Dma;
 use io_math::Io;
@@ -17,7 +17,7 @@ impl Bus {
     /// The bus of a console at its start, with a cartridge and a script. It takes all its memory here, and
     /// refuses only for want of it.
     pub fn new(alloc: Global, cart: &Cart, script: &Spans, region: Region) -> Result<Bus, NoMemory>
-        ensures { IfOk result (λ bus. bus ≡ rest_start cart.now script.now region) }
+        ensures { IfOk result (λ bus. bus ≡ bus_start cart.now script.now region) }
     {
         let memory = memory_of(alloc, cart)?;
         let map = AddressMap::new(alloc, board(cart))?;
@@ -46,10 +46,10 @@ impl Bus {
 }
 
 /// The cartridge's map and sizes.
-fn board(cart: &Cart) -> Board
+fn board(cart: &Cart) -> CartBoard
     ensures { result ≡ board_of cart.now }
 {
-    Board {
+    CartBoard {
         map: cart.map,
         rom: cart.rom.get().len(),
         ram: cart.ram,
@@ -67,7 +67,7 @@ fn first_io(script: &Spans) -> Io
 }
 
 /// Channels with nothing to do.
-#[tactic(auto, unfolding(crate::specs::Rest::channels_start))]
+#[tactic(auto, unfolding(crate::specs::BusState::channels_start))]
 fn no_transfers() -> Dma
     ensures { result ≡ channels_start }
 {
@@ -75,7 +75,7 @@ fn no_transfers() -> Dma
 }
 
 /// Work RAM and the cartridge's RAM as zeros, then its ROM.
-#[tactic(auto, unfolding(crate::specs::Rest::memory_start), using(crate::proofs::Zeros::same_zeros))]
+#[tactic(auto, unfolding(crate::specs::BusState::memory_start), using(crate::proofs::Zeros::same_zeros))]
 fn memory_of(alloc: Global, cart: &Cart) -> Result<Vec<u8>, NoMemory>
     ensures { IfOk result (λ memory. memory.items ≡ memory_start cart.now.ram cart.now.rom) }
 {

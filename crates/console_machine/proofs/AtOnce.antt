@@ -1,24 +1,24 @@
--- A step that is an access made at once, told of a world.
+-- A step that is an access made at once, told of a console state.
 use Rattle.std.proofs.Common.{◌≡◌, ℕ, ◌≤◌, false, None, [], refl, sym, ap, subst, ◌∙◌}
 use Rattle.snes_defs.specs.declared.ports.Act.TheVariants.{Quiet}
 use Rattle.cpu_tables.specs.declared.access.Access.{Access}
 use Rattle.cpu65816.specs.declared.processor.Cpu.{Cpu}
-use Rattle.cpu65816.specs.Instruction.{Standing, next_of}
+use Rattle.cpu65816.specs.Instruction.{CpuState, next_of}
 use Rattle.cpu65816.specs.Stands.{Stands, access_of}
 use Rattle.dma_hdma.specs.Channels.{due_of as transfer_of}
-use Rattle.console_bus.specs.Rest.{Rest}
-use Rattle.console_steps.specs.World.{World, Due, Accesses, act_of, due_of, due_clocks, after_access, effect, world_after, bytes_after, after_clocks, bytes_in}
+use Rattle.console_bus.specs.BusState.{BusState}
+use Rattle.console_steps.specs.ConsoleState.{ConsoleState, Due, Accesses, act_of, due_of, due_clocks, after_access, effect, console_after, bytes_after, after_clocks, bytes_in}
 use Rattle.console_steps.specs.Stands.{IsAt}
 use Rattle.console_steps.specs.AtOnce.{IsMadeAtOnce}
 use Rattle.console_steps.proofs.PassSteps.{went_on}
 use Rattle.console_machine.specs.SideLaws.{due_step}
 
 -- the access of a processor is that of what it stands for
-pub same_access : (cpu : Cpu) (s : Standing) → Stands cpu s → access_of cpu ≡ next_of s
+pub same_access : (cpu : Cpu) (s : CpuState) → Stands cpu s → access_of cpu ≡ next_of s
 same_access cpu s h = rw (h.kept, h.irq_level, h.left) refl
 
 -- the step that is due is that access
-due_access : (cpu : Cpu) (bus : Rest) (w : World) → IsAt cpu bus w → bus.reset ≡ false → bus.refresh ≡ false → transfer_of bus.channels ≡ None
+due_access : (cpu : Cpu) (bus : BusState) (w : ConsoleState) → IsAt cpu bus w → bus.reset ≡ false → bus.refresh ≡ false → transfer_of bus.channels ≡ None
     → due_of w ≡ Accesses (access_of cpu)
 due_access cpu bus w at reset refresh transfer =
     let a : w.rest.reset ≡ false = ap (λ r. r.reset) (sym at.rest) ∙ reset in
@@ -26,15 +26,15 @@ due_access cpu bus w at reset refresh transfer =
     let d : transfer_of w.rest.channels ≡ None = ap (λ r. transfer_of r.channels) (sym at.rest) ∙ transfer in
     rw (a, b, d) (ap Accesses (sym (same_access cpu w.processor at.processor)))
 
--- a step of a world, which is due: quiet, with nothing emitted, and so many clocks long
-pub record IsStepMade (cpu' : Cpu) (bus' : Rest) (w : World) (due : Due) (clocks : ℕ) : Type 0 where
+-- a step of a console state, which is due: quiet, with nothing emitted, and so many clocks long
+pub record IsStepMade (cpu' : Cpu) (bus' : BusState) (w : ConsoleState) (due : Due) (clocks : ℕ) : Type 0 where
   pub quiet : act_of w.rest due ≡ Quiet
-  pub at : IsAt cpu' bus' (world_after w due 0)
+  pub at : IsAt cpu' bus' (console_after w due 0)
   pub none : bytes_after w due 0 ≡ []
   pub lasts : clocks ≡ due_clocks due w.rest.io.fast
 
--- for a world whose bus is this one
-told : (cpu cpu' : Cpu) (bus' : Rest) (w : World) (a : Access) (clocks : ℕ) → Stands cpu w.processor → IsMadeAtOnce cpu cpu' w.rest bus' a clocks
+-- for a console state whose bus is this one
+told : (cpu cpu' : Cpu) (bus' : BusState) (w : ConsoleState) (a : Access) (clocks : ℕ) → Stands cpu w.processor → IsMadeAtOnce cpu cpu' w.rest bus' a clocks
     → IsStepMade cpu' bus' w (Accesses a) clocks
 told cpu cpu' bus' w a clocks s m =
     let there : IsAt cpu' (after_access w.rest a 0) (effect w (Accesses a) 0) = record { processor = m.processor w.processor s; rest = refl } in
@@ -43,20 +43,20 @@ told cpu cpu' bus' w a clocks s m =
     let Emits : ℕ → Type 0 = λ n. bytes_in (effect w (Accesses a) 0) n ≡ [] in
     record { quiet = m.quiet; at = subst At m.lasts on.0; none = subst Emits m.lasts on.1; lasts = m.lasts }
 
-pub is_step : (cpu cpu' : Cpu) (bus bus' : Rest) (w : World) (clocks : ℕ) → IsAt cpu bus w → IsMadeAtOnce cpu cpu' bus bus' (access_of cpu) clocks
+pub is_step : (cpu cpu' : Cpu) (bus bus' : BusState) (w : ConsoleState) (clocks : ℕ) → IsAt cpu bus w → IsMadeAtOnce cpu cpu' bus bus' (access_of cpu) clocks
     → bus.reset ≡ false → bus.refresh ≡ false → transfer_of bus.channels ≡ None → IsStepMade cpu' bus' w (due_of w) clocks
 is_step cpu cpu' bus bus' w clocks at m reset refresh transfer =
-    let P : Rest → Type 0 = λ r. IsMadeAtOnce cpu cpu' r bus' (access_of cpu) clocks in
+    let P : BusState → Type 0 = λ r. IsMadeAtOnce cpu cpu' r bus' (access_of cpu) clocks in
     let Q : Due → Type 0 = λ d. IsStepMade cpu' bus' w d clocks in
     subst Q (sym (due_access cpu bus w at reset refresh transfer)) (told cpu cpu' bus' w (access_of cpu) clocks at.processor (subst P at.rest m))
 
 -- an access made at once lasts 6 to 40 clocks
-pub least_made : (cpu cpu' : Cpu) (bus bus' : Rest) (clocks : ℕ) → IsMadeAtOnce cpu cpu' bus bus' (access_of cpu) clocks → 6 ≤ clocks
+pub least_made : (cpu cpu' : Cpu) (bus bus' : BusState) (clocks : ℕ) → IsMadeAtOnce cpu cpu' bus bus' (access_of cpu) clocks → 6 ≤ clocks
 least_made cpu cpu' bus bus' clocks m =
     let P : ℕ → Type 0 = λ n. 6 ≤ n in
     subst P (sym m.lasts) (due_step (Accesses (access_of cpu)) bus.io.fast).least
 
-pub few_made : (cpu cpu' : Cpu) (bus bus' : Rest) (clocks : ℕ) → IsMadeAtOnce cpu cpu' bus bus' (access_of cpu) clocks → clocks ≤ 40
+pub few_made : (cpu cpu' : Cpu) (bus bus' : BusState) (clocks : ℕ) → IsMadeAtOnce cpu cpu' bus bus' (access_of cpu) clocks → clocks ≤ 40
 few_made cpu cpu' bus bus' clocks m =
     let P : ℕ → Type 0 = λ n. n ≤ 40 in
     subst P (sym m.lasts) (due_step (Accesses (access_of cpu)) bus.io.fast).most

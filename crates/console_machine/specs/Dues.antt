@@ -1,11 +1,11 @@
 -- The step that is due, by the processor and all else.
 use Rattle.std.specs.Prelude.{if◌then◌else◌}
-use Rattle.cpu65816.specs.Instruction.{Standing, next_of}
+use Rattle.cpu65816.specs.Instruction.{CpuState, next_of}
 use Rattle.dma_hdma.specs.Channels.{due_of as transfer_of}
-use Rattle.console_bus.specs.Rest.{Rest}
-use Rattle.console_steps.specs.World.{Due, Resets, Refreshes, due_after}
+use Rattle.console_bus.specs.BusState.{BusState}
+use Rattle.console_steps.specs.ConsoleState.{Due, Resets, Refreshes, due_after}
 
-abbrev pub due_from : Standing → Rest → Due
+abbrev pub due_from : CpuState → BusState → Due
 due_from s r =
     if r.reset then Resets
     else (if r.refresh then Refreshes

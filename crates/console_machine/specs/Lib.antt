@@ -3,7 +3,7 @@ pub mod Keeping
 pub mod Parts
 pub mod Side
 pub mod SideLaws
-pub mod Standing
+pub mod AfterStep
 pub mod Taken
 pub mod Playing
 pub mod Runs

@@ -15,9 +15,9 @@ use Rattle.dma_hdma.specs.declared.moves.Move.TheVariants.{ToB, ToA, Load}
 use Rattle.side_law.specs.Moves.{IsLawful, IsAtPorts}
 use Rattle.snes_defs.specs.declared.ports.Act.{Act}
 use Rattle.snes_defs.specs.declared.ports.Act.TheVariants.{Quiet, Read as PortRead, Write as PortWrite}
-use Rattle.console_bus.specs.Rest.{Rest}
+use Rattle.console_bus.specs.BusState.{BusState}
 use Rattle.console_bus.specs.Places.{is_port, place_at, taken_from}
-use Rattle.console_steps.specs.World.{World, Due, Resets, Refreshes, Moves_byte, Accesses, due_of, access_clocks, due_clocks, read_at, write_at, move_act, access_act, act_of, effect, world_after, bytes_after, region_of, console_moves}
+use Rattle.console_steps.specs.ConsoleState.{ConsoleState, Due, Resets, Refreshes, Moves_byte, Accesses, due_of, access_clocks, due_clocks, read_at, write_at, move_act, access_act, act_of, effect, console_after, bytes_after, region_of, console_moves}
 use Rattle.console_steps.specs.Draws.{room_for}
 use Rattle.console_machine.specs.Side.{IsConsoleOf}
 use Rattle.console_machine.specs.Keeping.{effect_beam, clocks_keep, bytes_fit}
@@ -44,18 +44,18 @@ write_ports (BBus n) v = either_act (is_port n) (PortWrite (n % 4) (v % 256)) Qu
 write_ports (Cpu n) v = tt
 write_ports Open v = tt
 
-move_ports : (r : Rest) (m : Move) → IsAtPorts (move_act r m)
+move_ports : (r : BusState) (m : Move) → IsAtPorts (move_act r m)
 move_ports r (ToB from port) = write_ports (BBus port) (taken_from r from)
 move_ports r (ToA port to) = read_ports (BBus port)
 move_ports r (Load from) = tt
 
-access_ports : (r : Rest) (a : Access) → IsAtPorts (access_act r a)
+access_ports : (r : BusState) (a : Access) → IsAtPorts (access_act r a)
 access_ports r (Fetch addr) = read_ports (place_at r.board addr)
 access_ports r (Read addr) = read_ports (place_at r.board addr)
 access_ports r (Write addr v) = write_ports (place_at r.board addr) v
 access_ports r Inner = tt
 
-pub act_ports : (r : Rest) (d : Due) → IsAtPorts (act_of r d)
+pub act_ports : (r : BusState) (d : Due) → IsAtPorts (act_of r d)
 act_ports r Resets = (omega arith, omega arith)
 act_ports r Refreshes = tt
 act_ports r (Moves_byte m) = move_ports r m
@@ -116,12 +116,12 @@ room_within h k = grind (arith, nat_tests)
 
 -- ---- a whole step
 
-pub record IsAfter (w x : World) (clocks : ℕ) : Type 0 where
+pub record IsAfter (w x : ConsoleState) (clocks : ℕ) : Type 0 where
   pub region : region_of x ≡ region_of w
   pub line : x.rest.beam.h < 1364
   pub clock : x.clock ≡ w.clock + clocks
 
-pub step_keeps : (w : World) (d : Due) (got : ℕ) → w.rest.beam.h < 1364 → IsAfter w (world_after w d got) (due_clocks d w.rest.io.fast)
+pub step_keeps : (w : ConsoleState) (d : Due) (got : ℕ) → w.rest.beam.h < 1364 → IsAfter w (console_after w d got) (due_clocks d w.rest.io.fast)
 step_keeps w d got line =
     let e = effect_beam w.rest d got in
     let P : ℕ → Type 0 = λ h. h < 1364 in
@@ -129,7 +129,7 @@ step_keeps w d got line =
     let k = clocks_keep (effect w d got) (due_clocks d w.rest.io.fast) there in
     record { region = k.region ∙ e.region; line = k.line; clock = k.clock }
 
-pub step_emits : (w : World) (d : Due) (got : ℕ) → w.rest.beam.h < 1364 → length (bytes_after w d got) ≤ 1024
+pub step_emits : (w : ConsoleState) (d : Due) (got : ℕ) → w.rest.beam.h < 1364 → length (bytes_after w d got) ≤ 1024
 step_emits w d got line =
     let e = effect_beam w.rest d got in
     let P : ℕ → Type 0 = λ h. h < 1364 in
@@ -140,20 +140,20 @@ step_emits w d got line =
     let room = room_within (effect w d got).rest.beam.h (due_clocks d w.rest.io.fast) in
     omega arith
 
-step_rises : (region : Region) (w : World) (got : ℕ) → IsConsoleOf region w
-    → stamp_of (region_of w) Console w.clock + least_of region ≤ stamp_of (region_of (world_after w (due_of w) got)) Console (world_after w (due_of w) got).clock
+step_rises : (region : Region) (w : ConsoleState) (got : ℕ) → IsConsoleOf region w
+    → stamp_of (region_of w) Console w.clock + least_of region ≤ stamp_of (region_of (console_after w (due_of w) got)) Console (console_after w (due_of w) got).clock
 step_rises region w got h =
     let k = step_keeps w (due_of w) got h.line in
     let s = due_step (due_of w) w.rest.io.fast in
-    rises_to region (region_of w) (region_of (world_after w (due_of w) got)) w.clock (world_after w (due_of w) got).clock (due_clocks (due_of w) w.rest.io.fast)
+    rises_to region (region_of w) (region_of (console_after w (due_of w) got)) w.clock (console_after w (due_of w) got).clock (due_clocks (due_of w) w.rest.io.fast)
     h.region (k.region ∙ h.region) k.clock s.least
 
-step_rises_at_most : (region : Region) (w : World) (got : ℕ) → IsConsoleOf region w
-    → stamp_of (region_of (world_after w (due_of w) got)) Console (world_after w (due_of w) got).clock ≤ stamp_of (region_of w) Console w.clock + most_of region
+step_rises_at_most : (region : Region) (w : ConsoleState) (got : ℕ) → IsConsoleOf region w
+    → stamp_of (region_of (console_after w (due_of w) got)) Console (console_after w (due_of w) got).clock ≤ stamp_of (region_of w) Console w.clock + most_of region
 step_rises_at_most region w got h =
     let k = step_keeps w (due_of w) got h.line in
     let s = due_step (due_of w) w.rest.io.fast in
-    rises_at_most_to region (region_of w) (region_of (world_after w (due_of w) got)) w.clock (world_after w (due_of w) got).clock (due_clocks (due_of w) w.rest.io.fast)
+    rises_at_most_to region (region_of w) (region_of (console_after w (due_of w) got)) w.clock (console_after w (due_of w) got).clock (due_clocks (due_of w) w.rest.io.fast)
     h.region (k.region ∙ h.region) k.clock s.most
 
 pub console_is_lawful : (region : Region) → IsLawful region (IsConsoleOf region) 1024 console_moves

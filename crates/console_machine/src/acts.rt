@@ -1,8 +1,8 @@
 ghost use Rattle.std.specs.Prelude.{◌≡◌, ◌<◌};
 ghost use Rattle.side_law.specs.Moves.{IsAtPorts};
-ghost use Rattle.cpu65816.specs.Instruction.{Standing};
+ghost use Rattle.cpu65816.specs.Instruction.{CpuState};
 ghost use Rattle.cpu65816.specs.Stands.{Stands};
-ghost use Rattle.console_steps.specs.World.{act_of, move_act, read_at, write_at};
+ghost use Rattle.console_steps.specs.ConsoleState.{act_of, move_act, read_at, write_at};
 ghost use Rattle.console_machine.specs.Dues.{due_from};
 
 use cart_map::Place;
@@ -78,7 +78,7 @@ fn transfer_act(bus: &Bus, due: Move) -> Act
 /// What the step that is due does at the ports.
 #[inline(always)]
 pub(crate) fn due_act(cpu: &Cpu, bus: &Bus) -> Act
-    ensures value { (s : Standing) → Stands cpu.now s → result ≡ act_of bus.now (due_from s bus.now) }
+    ensures value { (s : CpuState) → Stands cpu.now s → result ≡ act_of bus.now (due_from s bus.now) }
     ensures at_ports { IsAtPorts result }
 {
     if bus.resets() {

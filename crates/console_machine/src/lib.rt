@@ -2,7 +2,7 @@
 //! transfer or one reset a step.
 //!
 //! Stands on `console_steps`, whose halves of a step are joined here in the order in which they are due,
-//! behind the trait `Machine`. What a step means is `console_steps/specs/World.antt`; that its moves are
+//! behind the trait `Machine`. What a step means is `console_steps/specs/ConsoleState.antt`; that its moves are
 //! those of a machine of either region (a step lasts 6 to 40 clocks, emits at most one row, acts at ports
 //! below 4 with bytes) is `console_is_lawful` of `specs/SideLaws.antt`.
 #![tactic(auto)]

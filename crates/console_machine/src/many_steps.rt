@@ -2,10 +2,10 @@
 // of the beam at which something may happen. A loop that only looks, as one that waits for an interrupt, and a
 // processor that waits, come back to the state that they were in: then the whole rounds that still fit are passed at once.
 ghost use Rattle.std.specs.Prelude.{◌≡◌, ℕ, ◌+◌, ◌-◌, ◌<◌, ◌≤◌, [], None, IsTrue, IfSome};
-ghost use Rattle.cpu65816.specs.Instruction.{Standing};
+ghost use Rattle.cpu65816.specs.Instruction.{CpuState};
 ghost use Rattle.cpu65816.specs.Stands.{Stands, access_of};
 ghost use Rattle.beam.specs.Places.{clocks_left};
-ghost use Rattle.console_steps.specs.World.{World};
+ghost use Rattle.console_steps.specs.ConsoleState.{ConsoleState};
 ghost use Rattle.console_steps.specs.Stands.{IsAt};
 ghost use Rattle.console_steps.specs.AtOnce.{gone_on, passed_in, IsMadeAtOnce};
 ghost use Rattle.console_steps.specs.Plain.{IsWired, IsCalm, IsLook};
@@ -33,7 +33,7 @@ const FEW_CLOCKS: u16 = 128;
 /// else happens in their clocks, and answers how many clocks they last together.
 #[inline(never)]
 fn make_accesses(cpu: &mut Cpu, bus: &mut Bus) -> u16
-    ensures run { (w : World) → IsAt cpu.old bus.old w → w.rest.beam.h < 1364 → HasRun cpu.new bus.new w result }
+    ensures run { (w : ConsoleState) → IsAt cpu.old bus.old w → w.rest.beam.h < 1364 → HasRun cpu.new bus.new w result }
     ensures left { result + clocks_left bus.new.beam ≡ clocks_left bus.old.beam }
 {
     if !is_calm(bus) {
@@ -42,7 +42,7 @@ fn make_accesses(cpu: &mut Cpu, bus: &mut Bus) -> u16
     if !is_wired(cpu, bus) {
         return 0;
     }
-    let _left = bus.left();
+    let _left = bus.clocks_left();
     let mut gone: u16 = 0;
     'steps: for _ in 0..MOST_ACCESSES {
         match try_plain(cpu, bus) {
@@ -69,7 +69,7 @@ fn look_once(cpu: &mut Cpu, bus: &mut Bus) -> Option<u8>
 
 /// Makes accesses that only look up to the end of an instruction, and answers how many clocks they last.
 fn finish_instruction(cpu: &mut Cpu, bus: &mut Bus) -> u16
-    ensures run { (w : World) → IsAt cpu.old bus.old w → w.rest.beam.h < 1364 → HasRun cpu.new bus.new w result }
+    ensures run { (w : ConsoleState) → IsAt cpu.old bus.old w → w.rest.beam.h < 1364 → HasRun cpu.new bus.new w result }
     ensures left { result + clocks_left bus.new.beam ≡ clocks_left bus.old.beam }
 {
     if !is_calm(bus) {
@@ -78,7 +78,7 @@ fn finish_instruction(cpu: &mut Cpu, bus: &mut Bus) -> u16
     if !is_wired(cpu, bus) {
         return 0;
     }
-    let _left = bus.left();
+    let _left = bus.clocks_left();
     let mut gone: u16 = 0;
     'steps: for _ in 0..MOST_TO_END {
         if cpu.is_between() {
@@ -103,7 +103,7 @@ fn last_byte(bus: &mut Bus) -> u8
 
 /// Whether the processor does what another one does, and a byte is the last on the data bus.
 fn is_back(cpu: &Cpu, bus: &mut Bus, first: &Cpu, byte: u8) -> bool
-    ensures processor { IsTrue result → (s : Standing) → Stands cpu.now s → Stands first.now s }
+    ensures processor { IsTrue result → (s : CpuState) → Stands cpu.now s → Stands first.now s }
     ensures last { IsTrue result → bus.new.last ≡ byte }
     ensures stays { bus.new ≡ bus.old }
 {
@@ -135,7 +135,7 @@ fn go_rounds(bus: &mut Bus, round: u16) -> u16
     ensures nothing { passed_in bus.old result ≡ [] }
     ensures left { result + clocks_left bus.new.beam ≡ clocks_left bus.old.beam }
 {
-    let more = rounds_before(round, bus.left());
+    let more = rounds_before(round, bus.clocks_left());
     bus.go_on(more);
     more
 }
@@ -144,7 +144,7 @@ fn go_rounds(bus: &mut Bus, round: u16) -> u16
 /// began with, passes the rounds that fit before the next place. Answers how many clocks all of them last.
 #[inline(never)]
 fn make_rounds(cpu: &mut Cpu, bus: &mut Bus, patience: &mut Patience) -> u16
-    ensures run { (w : World) → IsAt cpu.old bus.old w → w.rest.beam.h < 1364 → HasRun cpu.new bus.new w result }
+    ensures run { (w : ConsoleState) → IsAt cpu.old bus.old w → w.rest.beam.h < 1364 → HasRun cpu.new bus.new w result }
     ensures left { result + clocks_left bus.new.beam ≡ clocks_left bus.old.beam }
 {
     if !is_calm(bus) {
@@ -153,7 +153,7 @@ fn make_rounds(cpu: &mut Cpu, bus: &mut Bus, patience: &mut Patience) -> u16
     if !is_wired(cpu, bus) {
         return 0;
     }
-    let _left = bus.left();
+    let _left = bus.clocks_left();
     patience.begins();
     let first = *cpu;
     let byte = last_byte(bus);
@@ -174,10 +174,10 @@ fn make_rounds(cpu: &mut Cpu, bus: &mut Bus, patience: &mut Patience) -> u16
 
 /// Looks for a round where the next place is far enough and it is time for it.
 fn look_for_rounds(cpu: &mut Cpu, bus: &mut Bus, patience: &mut Patience) -> u16
-    ensures run { (w : World) → IsAt cpu.old bus.old w → w.rest.beam.h < 1364 → HasRun cpu.new bus.new w result }
+    ensures run { (w : ConsoleState) → IsAt cpu.old bus.old w → w.rest.beam.h < 1364 → HasRun cpu.new bus.new w result }
     ensures left { result + clocks_left bus.new.beam ≡ clocks_left bus.old.beam }
 {
-    let left = bus.left();
+    let left = bus.clocks_left();
     if left < FEW_CLOCKS {
         return 0;
     }
@@ -191,11 +191,11 @@ fn look_for_rounds(cpu: &mut Cpu, bus: &mut Bus, patience: &mut Patience) -> u16
 
 /// Makes quiet steps that emit nothing, at most up to the next place of the beam, and answers how many clocks they last.
 pub(crate) fn make_plain_steps(cpu: &mut Cpu, bus: &mut Bus, patience: &mut Patience) -> u16
-    ensures run { (w : World) → IsAt cpu.old bus.old w → w.rest.beam.h < 1364 → HasRun cpu.new bus.new w result }
+    ensures run { (w : ConsoleState) → IsAt cpu.old bus.old w → w.rest.beam.h < 1364 → HasRun cpu.new bus.new w result }
     ensures left { result + clocks_left bus.new.beam ≡ clocks_left bus.old.beam }
     ensures few { result ≤ 1364 }
 {
-    let _left = bus.left();
+    let _left = bus.clocks_left();
     let rounds = look_for_rounds(cpu, bus, patience);
     let others = make_accesses(cpu, bus);
     rounds + others

@@ -5,7 +5,7 @@ ghost use Rattle.clock_ratio.specs.Stamp.{least_of, most_of, rate_of};
 ghost use Rattle.side_law.specs.Moves.{IsAtPorts, taken};
 ghost use Rattle.side_law.specs.Quiet.{HasGoneQuietly};
 ghost use Rattle.side_law.proofs.QuietRuns.{IsSilent};
-ghost use Rattle.console_steps.specs.World.{World, act_of, due_of, world_after, bytes_after, console_moves};
+ghost use Rattle.console_steps.specs.ConsoleState.{ConsoleState, act_of, due_of, console_after, bytes_after, console_moves};
 ghost use Rattle.console_machine.specs.Side.{IsSome, StandsAt};
 
 use crate::acts::due_act;
@@ -85,7 +85,7 @@ impl Parts {
     #[inline(always)]
     pub fn act(&self) -> Act
         ensures at_ports { IsAtPorts result }
-        ensures value { (w : World) → StandsAt (value_of self.now) w → act_of w.rest (due_of w) ≡ result }
+        ensures value { (w : ConsoleState) → StandsAt (value_of self.now) w → act_of w.rest (due_of w) ≡ result }
     {
         due_act(&self.cpu, &self.bus)
     }
@@ -95,9 +95,9 @@ impl Parts {
     pub fn step(&mut self, got: u8)
         requires room { length self.old.waiting.items + 1024 ≤ self.old.waiting.capacity }
         requires early { self.old.stamp ≤ 2 ^ 62 }
-        ensures next { (w : World) → StandsAt (value_of self.old) w
-            → StandsAt (value_of self.new) (world_after w (due_of w) (taken (act_of w.rest (due_of w)) got)) }
-        ensures emits { (w : World) → StandsAt (value_of self.old) w
+        ensures next { (w : ConsoleState) → StandsAt (value_of self.old) w
+            → StandsAt (value_of self.new) (console_after w (due_of w) (taken (act_of w.rest (due_of w)) got)) }
+        ensures emits { (w : ConsoleState) → StandsAt (value_of self.old) w
             → self.new.waiting.items ≡ self.old.waiting.items ++ bytes_after w (due_of w) (taken (act_of w.rest (due_of w)) got) }
         ensures rises { self.old.stamp + least_of self.old.region ≤ self.new.stamp }
         ensures rises_at_most { self.new.stamp ≤ self.old.stamp + most_of self.old.region }
@@ -114,9 +114,9 @@ impl Parts {
     #[inline(always)]
     pub fn try_step(&mut self) -> bool
         requires early { self.old.stamp ≤ 2 ^ 62 }
-        ensures quiet { IsTrue result → (w : World) → StandsAt (value_of self.old) w → act_of w.rest (due_of w) ≡ Quiet }
-        ensures next { IsTrue result → (w : World) → StandsAt (value_of self.old) w → StandsAt (value_of self.new) (world_after w (due_of w) 0) }
-        ensures none { IsTrue result → (w : World) → StandsAt (value_of self.old) w → bytes_after w (due_of w) 0 ≡ [] }
+        ensures quiet { IsTrue result → (w : ConsoleState) → StandsAt (value_of self.old) w → act_of w.rest (due_of w) ≡ Quiet }
+        ensures next { IsTrue result → (w : ConsoleState) → StandsAt (value_of self.old) w → StandsAt (value_of self.new) (console_after w (due_of w) 0) }
+        ensures none { IsTrue result → (w : ConsoleState) → StandsAt (value_of self.old) w → bytes_after w (due_of w) 0 ≡ [] }
         ensures keeps { IsSome (value_of self.old) → IsSome (value_of self.new) }
         ensures rises { IsTrue result → self.old.stamp + least_of self.old.region ≤ self.new.stamp }
         ensures rises_at_most { IsTrue result → self.new.stamp ≤ self.old.stamp + most_of self.old.region }
@@ -137,7 +137,7 @@ impl Parts {
     #[inline(never)]
     fn creep(&mut self, before: u64)
         requires early { before ≤ 2 ^ 62 }
-        ensures gone { (w : World) → StandsAt (value_of self.old) w → IsSilent console_moves before (StandsAt (value_of self.new)) self.old.waiting.items w self.new.waiting.items }
+        ensures gone { (w : ConsoleState) → StandsAt (value_of self.old) w → IsSilent console_moves before (StandsAt (value_of self.new)) self.old.waiting.items w self.new.waiting.items }
         ensures keeps { IsSome (value_of self.old) → IsSome (value_of self.new) }
         ensures forward { self.old.stamp ≤ self.new.stamp }
         ensures region { self.new.region ≡ self.old.region }
@@ -155,7 +155,7 @@ impl Parts {
     fn rush(&mut self, before: u64)
         requires far { self.old.stamp + 139673600 ≤ before }
         requires early { before ≤ 2 ^ 62 }
-        ensures gone { (w : World) → StandsAt (value_of self.old) w → IsSilent console_moves before (StandsAt (value_of self.new)) self.old.waiting.items w self.new.waiting.items }
+        ensures gone { (w : ConsoleState) → StandsAt (value_of self.old) w → IsSilent console_moves before (StandsAt (value_of self.new)) self.old.waiting.items w self.new.waiting.items }
         ensures keeps { IsSome (value_of self.old) → IsSome (value_of self.new) }
         ensures forward { self.old.stamp ≤ self.new.stamp }
         ensures region { self.new.region ≡ self.old.region }
@@ -170,7 +170,7 @@ impl Parts {
     #[inline(never)]
     fn hurry(&mut self, before: u64)
         requires early { before ≤ 2 ^ 62 }
-        ensures gone { (w : World) → StandsAt (value_of self.old) w → IsSilent console_moves before (StandsAt (value_of self.new)) self.old.waiting.items w self.new.waiting.items }
+        ensures gone { (w : ConsoleState) → StandsAt (value_of self.old) w → IsSilent console_moves before (StandsAt (value_of self.new)) self.old.waiting.items w self.new.waiting.items }
         ensures keeps { IsSome (value_of self.old) → IsSome (value_of self.new) }
         ensures forward { self.old.stamp ≤ self.new.stamp }
         ensures region { self.new.region ≡ self.old.region }
@@ -189,10 +189,10 @@ impl Parts {
     pub fn quiet(&mut self, before: u64) -> Pause
         requires room { length self.old.waiting.items + 1024 ≤ self.old.waiting.capacity }
         requires early { before ≤ 2 ^ 62 }
-        ensures went { (w : World) → StandsAt (value_of self.old) w → HasGoneQuietly console_moves before (StandsAt (value_of self.new)) self.old.waiting.items self.new.waiting.items result.at w }
+        ensures went { (w : ConsoleState) → StandsAt (value_of self.old) w → HasGoneQuietly console_moves before (StandsAt (value_of self.new)) self.old.waiting.items self.new.waiting.items result.at w }
         ensures keeps { IsSome (value_of self.old) → IsSome (value_of self.new) }
         ensures at_ports { IsAtPorts result.act }
-        ensures act { (w : World) → StandsAt (value_of self.new) w → act_of w.rest (due_of w) ≡ result.act }
+        ensures act { (w : ConsoleState) → StandsAt (value_of self.new) w → act_of w.rest (due_of w) ≡ result.act }
         ensures forward { self.old.stamp ≤ self.new.stamp }
         ensures silent { length self.new.waiting.items ≡ length self.old.waiting.items → result.at ≡ self.new.stamp }
         ensures emitted { length self.old.waiting.items < length self.new.waiting.items → (self.old.stamp ≤ result.at) × (result.at < before) × (result.at < self.new.stamp) }

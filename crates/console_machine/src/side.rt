@@ -1,5 +1,5 @@
 ghost use Rattle.std.specs.Prelude.{◌≡◌, ◌≤◌, [], IfOk};
-ghost use Rattle.console_steps.specs.World.{console_start};
+ghost use Rattle.console_steps.specs.ConsoleState.{console_start};
 ghost use Rattle.console_machine.specs.Side.{IsSome, StandsAt};
 
 use crate::parts::Parts;
@@ -72,7 +72,7 @@ impl ConsoleSide {
         &self.parts.bus
     }
 
-    /// The value stands for some world.
+    /// The value stands for some console state.
     #[inline(always)]
     fn standing(&self)
         ensures { IsSome self.now }
@@ -84,10 +84,10 @@ impl ConsoleSide {
 impl Machine for ConsoleSide {
     ghost use Rattle.std.specs.Prelude.{◌*◌};
     ghost use Rattle.std.proofs.Common.{rules};
-    ghost use Rattle.console_steps.specs.World.{World, console_moves};
+    ghost use Rattle.console_steps.specs.ConsoleState.{ConsoleState, console_moves};
     ghost use Rattle.console_machine.specs.Side.{IsConsoleOf, StandsAt};
     ghost use Rattle.console_machine.specs.SideLaws.{console_is_lawful};
-    ghost use Rattle.console_machine.specs.Standing.{stamp_stands};
+    ghost use Rattle.console_machine.specs.AfterStep.{stamp_stands};
 
     const CAP: usize = 65_536;
 
@@ -97,7 +97,7 @@ impl Machine for ConsoleSide {
 
     ghost MOST = { 1024 };
 
-    ghost State = { World };
+    ghost State = { ConsoleState };
 
     ghost valid = { IsConsoleOf };
 
@@ -116,7 +116,7 @@ impl Machine for ConsoleSide {
         self.parts.region
     }
 
-    #[tactic(auto, using(crate::specs::Standing::stamp_stands))]
+    #[tactic(auto, using(crate::specs::AfterStep::stamp_stands))]
     #[inline(always)]
     fn stamp(&self) -> u64 {
         self.standing();

@@ -2,9 +2,9 @@ ghost use Rattle.std.specs.Prelude.{◌≡◌, ◌+◌, ◌<◌, ◌≤◌, ◌+
 ghost use Rattle.snes_defs.specs.declared.ports.Act.TheVariants.{Quiet};
 ghost use Rattle.cpu_modes.specs.Plan.{gets_byte, is_write, is_inner};
 ghost use Rattle.cpu_tables.specs.declared.access.Access.{Access};
-ghost use Rattle.cpu65816.specs.Instruction.{Standing, next_of};
+ghost use Rattle.cpu65816.specs.Instruction.{CpuState, next_of};
 ghost use Rattle.cpu65816.specs.Stands.{Stands, access_of};
-ghost use Rattle.console_steps.specs.World.{World, Accesses, access_clocks, act_of, due_of, due_clocks, rest_after, processor_after, with_lines, world_after, bytes_after};
+ghost use Rattle.console_steps.specs.ConsoleState.{ConsoleState, Accesses, access_clocks, act_of, due_of, due_clocks, rest_after, processor_after, with_interrupt_levels, console_after, bytes_after};
 ghost use Rattle.console_steps.specs.Stands.{IsAt};
 ghost use Rattle.cart_map.specs.Clocks.{clocks_of};
 ghost use Rattle.console_machine.specs.Dues.{due_from};
@@ -13,7 +13,8 @@ use cart_map::clocks;
 use circular_buffer::HeapCircularBuffer;
 use console_bus::Bus;
 use console_steps::{
-    give_lines, make_inner, make_move, make_read, make_reset, make_write, pass, try_access,
+    give_interrupt_levels, make_inner, make_move, make_read, make_reset, make_write, pass,
+    try_access,
 };
 use cpu_tables::Access;
 use cpu65816::Cpu;
@@ -43,7 +44,7 @@ fn lasts(bus: &Bus, addr: u32) -> u8
 #[inline(always)]
 fn make_access(cpu: &mut Cpu, bus: &mut Bus, got: u8) -> u8
     ensures rest { bus.new ≡ rest_after bus.old (Accesses (access_of cpu.old)) got }
-    ensures processor { (s : Standing) → Stands cpu.old s → Stands cpu.new (with_lines (processor_after s bus.old (Accesses (access_of cpu.old)) got) bus.new) }
+    ensures processor { (s : CpuState) → Stands cpu.old s → Stands cpu.new (with_interrupt_levels (processor_after s bus.old (Accesses (access_of cpu.old)) got) bus.new) }
     ensures clocks { result ≡ access_clocks (access_of cpu.old) bus.old.io.fast }
     ensures least { 6 ≤ result }
     ensures few { result ≤ 40 }
@@ -74,9 +75,9 @@ fn make_access(cpu: &mut Cpu, bus: &mut Bus, got: u8) -> u8
 /// Makes the effect of the step that is due, and answers how many clocks the step lasts.
 #[inline(always)]
 fn make_effect(cpu: &mut Cpu, bus: &mut Bus, got: u8) -> u8
-    ensures rest { (s : Standing) → Stands cpu.old s → bus.new ≡ rest_after bus.old (due_from s bus.old) got }
-    ensures processor { (s : Standing) → Stands cpu.old s → Stands cpu.new (with_lines (processor_after s bus.old (due_from s bus.old) got) bus.new) }
-    ensures clocks { (s : Standing) → Stands cpu.old s → result ≡ due_clocks (due_from s bus.old) bus.old.io.fast }
+    ensures rest { (s : CpuState) → Stands cpu.old s → bus.new ≡ rest_after bus.old (due_from s bus.old) got }
+    ensures processor { (s : CpuState) → Stands cpu.old s → Stands cpu.new (with_interrupt_levels (processor_after s bus.old (due_from s bus.old) got) bus.new) }
+    ensures clocks { (s : CpuState) → Stands cpu.old s → result ≡ due_clocks (due_from s bus.old) bus.old.io.fast }
     ensures least { 6 ≤ result }
     ensures few { result ≤ 40 }
 {
@@ -86,12 +87,12 @@ fn make_effect(cpu: &mut Cpu, bus: &mut Bus, got: u8) -> u8
     }
     if bus.refreshes() {
         bus.refreshed();
-        give_lines(cpu, bus);
+        give_interrupt_levels(cpu, bus);
         return REFRESH_CLOCKS;
     }
     if let Some(due) = bus.transfer() {
         make_move(bus, due, got);
-        give_lines(cpu, bus);
+        give_interrupt_levels(cpu, bus);
         return MOVE_CLOCKS;
     }
     make_access(cpu, bus, got)
@@ -101,10 +102,10 @@ fn make_effect(cpu: &mut Cpu, bus: &mut Bus, got: u8) -> u8
 /// clocks, and answers how many these are. Otherwise nothing has changed.
 #[inline(always)]
 pub(crate) fn try_make(cpu: &mut Cpu, bus: &mut Bus) -> Option<u8>
-    ensures quiet { IfSome result (λ clocks. (w : World) → IsAt cpu.old bus.old w → act_of w.rest (due_of w) ≡ Quiet) }
-    ensures at { IfSome result (λ clocks. (w : World) → IsAt cpu.old bus.old w → IsAt cpu.new bus.new (world_after w (due_of w) 0)) }
-    ensures none { IfSome result (λ clocks. (w : World) → IsAt cpu.old bus.old w → bytes_after w (due_of w) 0 ≡ []) }
-    ensures clocks { IfSome result (λ clocks. (w : World) → IsAt cpu.old bus.old w → clocks ≡ due_clocks (due_of w) w.rest.io.fast) }
+    ensures quiet { IfSome result (λ clocks. (w : ConsoleState) → IsAt cpu.old bus.old w → act_of w.rest (due_of w) ≡ Quiet) }
+    ensures at { IfSome result (λ clocks. (w : ConsoleState) → IsAt cpu.old bus.old w → IsAt cpu.new bus.new (console_after w (due_of w) 0)) }
+    ensures none { IfSome result (λ clocks. (w : ConsoleState) → IsAt cpu.old bus.old w → bytes_after w (due_of w) 0 ≡ []) }
+    ensures clocks { IfSome result (λ clocks. (w : ConsoleState) → IsAt cpu.old bus.old w → clocks ≡ due_clocks (due_of w) w.rest.io.fast) }
     ensures least { IfSome result (λ clocks. 6 ≤ clocks) }
     ensures few { IfSome result (λ clocks. clocks ≤ 40) }
     ensures bus_stays { result ≡ None → bus.new ≡ bus.old }
@@ -126,9 +127,9 @@ pub(crate) fn make_step(
     got: u8,
 ) -> u8
     requires room { length waiting.old.items + 1024 ≤ waiting.old.capacity }
-    ensures at { (w : World) → IsAt cpu.old bus.old w → IsAt cpu.new bus.new (world_after w (due_of w) got) }
-    ensures bytes { (w : World) → IsAt cpu.old bus.old w → waiting.new.items ≡ waiting.old.items ++ bytes_after w (due_of w) got }
-    ensures clocks { (w : World) → IsAt cpu.old bus.old w → result ≡ due_clocks (due_of w) w.rest.io.fast }
+    ensures at { (w : ConsoleState) → IsAt cpu.old bus.old w → IsAt cpu.new bus.new (console_after w (due_of w) got) }
+    ensures bytes { (w : ConsoleState) → IsAt cpu.old bus.old w → waiting.new.items ≡ waiting.old.items ++ bytes_after w (due_of w) got }
+    ensures clocks { (w : ConsoleState) → IsAt cpu.old bus.old w → result ≡ due_clocks (due_of w) w.rest.io.fast }
     ensures least { 6 ≤ result }
     ensures few { result ≤ 40 }
     ensures size { length waiting.new.items ≤ length waiting.old.items + 1024 }

@@ -3,7 +3,7 @@ use Rattle.std.proofs.Common.{◌≡◌, ℕ, zero, suc, ◌+◌, ◌-◌, ◌<�
 use Rattle.std.proofs.lemmas.Bool.Decides.{nat_tests}
 use Rattle.beam.specs.declared.events.Event.{Event}
 use Rattle.beam.specs.Events.{BeamValue, happens_next, happens_at, beam_next, beam_after, passed, next_v, next_h}
-use Rattle.console_steps.specs.World.{World, overscan_of, moved, events_next, after_events, bytes_of_events, after_clocks, bytes_in}
+use Rattle.console_steps.specs.ConsoleState.{ConsoleState, overscan_of, moved, events_next, after_events, bytes_of_events, after_clocks, bytes_in}
 use Rattle.console_steps.specs.Draws.{room_for}
 
 first_empty : (xs ys : List Event) → xs ++ ys ≡ [] → xs ≡ []
@@ -14,11 +14,11 @@ second_empty : (xs ys : List Event) → xs ++ ys ≡ [] → ys ≡ []
 second_empty [] ys e = e
 second_empty (x ∷ xs) ys e = absurd (cc)
 
--- a world whose beam goes on with nothing happening
-abbrev pub drifted : World → ℕ → World
+-- a console state whose beam goes on with nothing happening
+abbrev pub drifted : ConsoleState → ℕ → ConsoleState
 drifted w k = record w { rest = record w.rest { beam = beam_after (overscan_of w) w.rest.beam k }; clock = w.clock + k }
 
-pub quiet_clocks : (w : World) (k : ℕ) → passed (overscan_of w) w.rest.beam k ≡ []
+pub quiet_clocks : (w : ConsoleState) (k : ℕ) → passed (overscan_of w) w.rest.beam k ≡ []
     → (after_clocks w k ≡ drifted w k) × (bytes_in w k ≡ [])
 unfolding after_clocks bytes_in passed beam_after
 quiet_clocks w zero e = (ap (λ n. record w { clock = n }) (sym (add-zero w.clock)), refl)
@@ -29,7 +29,7 @@ quiet_clocks w (suc k) e =
     (rw none (later.0 ∙ ap (λ n. record (drifted (moved w) k) { clock = n }) sum), rw none later.1)
 
 -- so many clocks, and then more
-pub clocks_joined : (w : World) (j k : ℕ) → (after_clocks w (j + k) ≡ after_clocks (after_clocks w j) k) × (bytes_in w (j + k) ≡ bytes_in w j ++ bytes_in (after_clocks w j) k)
+pub clocks_joined : (w : ConsoleState) (j k : ℕ) → (after_clocks w (j + k) ≡ after_clocks (after_clocks w j) k) × (bytes_in w (j + k) ≡ bytes_in w j ++ bytes_in (after_clocks w j) k)
 unfolding after_clocks bytes_in
 clocks_joined w zero k =
     let z : zero + k ≡ k = omega arith in
@@ -40,15 +40,15 @@ clocks_joined w (suc j) k =
     let rest = clocks_joined next j k in
     (rw s (rest.0), rw s (ap (λ x. bytes_of_events (moved w) (events_next w) ++ x) rest.1 ∙ sym (append_assoc (bytes_of_events (moved w) (events_next w)) (bytes_in next j) (bytes_in (after_clocks next j) k))))
 
--- the world at a place where something may happen, before that happens
-abbrev pub arrived : World → ℕ → World
+-- the console state at a place where something may happen, before that happens
+abbrev pub arrived : ConsoleState → ℕ → ConsoleState
 arrived w left = moved (drifted w (left - 1))
 
-abbrev pub arrival : World → ℕ → List Event
+abbrev pub arrival : ConsoleState → ℕ → List Event
 arrival w left = events_next (drifted w (left - 1))
 
 -- the clocks that are left lead to a place; the others come after what happens there
-pub clocks_to_place : (w : World) (left clocks : ℕ) → 0 < left → left ≤ clocks → passed (overscan_of w) w.rest.beam (left - 1) ≡ []
+pub clocks_to_place : (w : ConsoleState) (left clocks : ℕ) → 0 < left → left ≤ clocks → passed (overscan_of w) w.rest.beam (left - 1) ≡ []
     → (after_clocks w clocks ≡ after_clocks (after_events (arrived w left) (arrival w left)) (clocks - left))
     × (bytes_in w clocks ≡ bytes_of_events (arrived w left) (arrival w left) ++ bytes_in (after_events (arrived w left) (arrival w left)) (clocks - left))
 unfolding after_clocks bytes_in

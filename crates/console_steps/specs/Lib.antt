@@ -1,4 +1,4 @@
-pub mod World
+pub mod ConsoleState
 pub mod Stands
 pub mod Parts
 pub mod Draws

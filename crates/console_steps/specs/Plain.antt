@@ -6,27 +6,27 @@ use Rattle.cpu_tables.specs.declared.access.Access.TheVariants.{Fetch, Read, Wri
 use Rattle.cpu65816.specs.declared.processor.Cpu.{Cpu}
 use Rattle.io_math.specs.Registers.{nmi_level, irq_level}
 use Rattle.dma_hdma.specs.Channels.{due_of as transfer_of}
-use Rattle.console_bus.specs.Rest.{Rest}
+use Rattle.console_bus.specs.BusState.{BusState}
 use Rattle.console_bus.specs.Places.{place_at}
 use Rattle.console_bus.specs.Memory.{index_of}
 
 -- the processor was given the levels that its lines have now
-pub record IsWired (cpu : Cpu) (bus : Rest) : Type 0 where
+pub record IsWired (cpu : Cpu) (bus : BusState) : Type 0 where
   pub nmi : cpu.nmi_level ≡ nmi_level bus.io
   pub irq : cpu.irq_level ≡ irq_level bus.io
 
 -- neither a reset, nor a refresh, nor a byte of a transfer is due
-pub record IsCalm (r : Rest) : Type 0 where
+pub record IsCalm (r : BusState) : Type 0 where
   pub reset : r.reset ≡ false
   pub refresh : r.refresh ≡ false
   pub transfer : transfer_of r.channels ≡ None
 
 -- the byte at an address is one of the memory
-abbrev pub IsOfMemory : Rest → ℕ → Type 0
+abbrev pub IsOfMemory : BusState → ℕ → Type 0
 IsOfMemory r addr = (at : ℕ) × (index_of r.board (place_at r.board addr) ≡ Some at)
 
 -- an access that only looks: it reads a byte of the memory, or is an internal cycle
-abbrev pub IsLook : Rest → Access → Type 0
+abbrev pub IsLook : BusState → Access → Type 0
 IsLook r (Fetch addr) = IsOfMemory r addr
 IsLook r (Read addr) = IsOfMemory r addr
 IsLook r (Write addr v) = ⊥

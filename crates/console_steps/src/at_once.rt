@@ -4,15 +4,15 @@ ghost use Rattle.std.specs.Prelude.{◌≡◌, ◌+◌, ◌<◌, ◌^◌, ℕ, [
 ghost use Rattle.snes_defs.specs.declared.ports.Act.TheVariants.{Quiet};
 ghost use Rattle.cpu_tables.specs.declared.access.Access.TheVariants.{Read, Write, Inner};
 ghost use Rattle.cpu_modes.specs.Plan.{gets_byte, is_write, is_inner};
-ghost use Rattle.cpu65816.specs.Instruction.{Standing, moved_on};
+ghost use Rattle.cpu65816.specs.Instruction.{CpuState, moved_on};
 ghost use Rattle.cpu65816.specs.Stands.{Stands, access_of};
 ghost use Rattle.beam.specs.Events.{beam_after, passed};
 ghost use Rattle.beam.specs.Places.{clocks_left};
 ghost use Rattle.console_bus.specs.Memory.{stored};
-ghost use Rattle.console_steps.specs.World.{with_lines};
+ghost use Rattle.console_steps.specs.ConsoleState.{with_interrupt_levels};
 ghost use Rattle.console_steps.specs.AtOnce.{IsMadeAtOnce};
 
-use crate::effects::give_lines;
+use crate::effects::give_interrupt_levels;
 use console_bus::Bus;
 use cpu_tables::Access;
 use cpu65816::Cpu;
@@ -25,12 +25,12 @@ fn take_memory(cpu: &mut Cpu, bus: &mut Bus, at: usize, clocks: u8)
     requires few { clocks < clocks_left bus.old.beam }
     ensures rest { bus.new ≡ record bus.old { last = slice_index bus.old.memory at; beam = beam_after bus.old.picture.registers.settings.overscan bus.old.beam clocks } }
     ensures nothing { passed bus.old.picture.registers.settings.overscan bus.old.beam clocks ≡ [] }
-    ensures processor { (s : Standing) → Stands cpu.old s → Stands cpu.new (with_lines (moved_on s (slice_index bus.old.memory at)) bus.old) }
+    ensures processor { (s : CpuState) → Stands cpu.old s → Stands cpu.new (with_interrupt_levels (moved_on s (slice_index bus.old.memory at)) bus.old) }
 {
     let byte = bus.load(at);
     bus.put(byte);
     cpu.took(byte);
-    give_lines(cpu, bus);
+    give_interrupt_levels(cpu, bus);
     bus.go_on(clocks as u16);
 }
 
@@ -55,11 +55,11 @@ fn give_memory(cpu: &mut Cpu, bus: &mut Bus, at: usize, v: u8, clocks: u8)
     requires few { clocks < clocks_left bus.old.beam }
     ensures rest { bus.new ≡ record (stored bus.old at v) { last = v; beam = beam_after bus.old.picture.registers.settings.overscan bus.old.beam clocks } }
     ensures nothing { passed bus.old.picture.registers.settings.overscan bus.old.beam clocks ≡ [] }
-    ensures processor { (s : Standing) → Stands cpu.old s → Stands cpu.new (with_lines (moved_on s 0) bus.old) }
+    ensures processor { (s : CpuState) → Stands cpu.old s → Stands cpu.new (with_interrupt_levels (moved_on s 0) bus.old) }
 {
     put_memory(bus, at, v);
     cpu.wrote();
-    give_lines(cpu, bus);
+    give_interrupt_levels(cpu, bus);
     bus.go_on(clocks as u16);
 }
 
@@ -73,7 +73,7 @@ fn try_read(cpu: &mut Cpu, bus: &mut Bus, addr: u32) -> Option<u8>
     ensures cpu_stays { result ≡ None → cpu.new ≡ cpu.old }
 {
     let access = bus.memory_at(addr)?;
-    if access.clocks as u16 >= bus.left() {
+    if access.clocks as u16 >= bus.clocks_left() {
         return None;
     }
     take_memory(cpu, bus, access.at, access.clocks);
@@ -90,7 +90,7 @@ fn try_write(cpu: &mut Cpu, bus: &mut Bus, addr: u32, v: u8) -> Option<u8>
     ensures cpu_stays { result ≡ None → cpu.new ≡ cpu.old }
 {
     let access = bus.memory_at(addr)?;
-    if access.clocks as u16 >= bus.left() {
+    if access.clocks as u16 >= bus.clocks_left() {
         return None;
     }
     give_memory(cpu, bus, access.at, v, access.clocks);
@@ -105,11 +105,11 @@ fn try_inner(cpu: &mut Cpu, bus: &mut Bus) -> Option<u8>
     ensures bus_stays { result ≡ None → bus.new ≡ bus.old }
     ensures cpu_stays { result ≡ None → cpu.new ≡ cpu.old }
 {
-    if bus.left() <= 6 {
+    if bus.clocks_left() <= 6 {
         return None;
     }
     cpu.idle();
-    give_lines(cpu, bus);
+    give_interrupt_levels(cpu, bus);
     bus.go_on(6);
     Some(6)
 }

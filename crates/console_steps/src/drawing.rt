@@ -1,11 +1,11 @@
 ghost use Rattle.std.specs.Prelude.{◌≡◌, ◌+◌, ◌≤◌, ◌++◌, length};
 ghost use Rattle.beam.specs.declared.events.Event.TheVariants as events;
-ghost use Rattle.cpu65816.specs.Instruction.{Standing};
+ghost use Rattle.cpu65816.specs.Instruction.{CpuState};
 ghost use Rattle.cpu65816.specs.Stands.{Stands};
 ghost use Rattle.console_bus.specs.Happenings.{happened, row_bytes};
-ghost use Rattle.console_steps.specs.World.{with_lines};
+ghost use Rattle.console_steps.specs.ConsoleState.{with_interrupt_levels};
 
-use crate::effects::give_lines;
+use crate::effects::give_interrupt_levels;
 use crate::rows::emit_row;
 use circular_buffer::HeapCircularBuffer;
 use console_bus::Bus;
@@ -22,20 +22,20 @@ fn draw_row(bus: &mut Bus, waiting: &mut HeapCircularBuffer<u8>)
     ensures capacity { waiting.new.capacity ≡ waiting.old.capacity }
 {
     let mut dots = [0u16; 512];
-    bus.draw(&mut dots);
+    bus.draw_dots(&mut dots);
     emit_row(waiting, &dots);
 }
 
 /// A row is drawn, and the processor is given the levels again.
-pub fn draw(cpu: &mut Cpu, bus: &mut Bus, waiting: &mut HeapCircularBuffer<u8>)
+pub fn make_row(cpu: &mut Cpu, bus: &mut Bus, waiting: &mut HeapCircularBuffer<u8>)
     requires first { 1 ≤ bus.old.beam.v }
     requires last { bus.old.beam.v ≤ 239 }
     requires room { length waiting.old.items + 1024 ≤ waiting.old.capacity }
     ensures rest { bus.new ≡ happened bus.old events.Draw }
     ensures row { waiting.new.items ≡ waiting.old.items ++ row_bytes bus.old }
     ensures capacity { waiting.new.capacity ≡ waiting.old.capacity }
-    ensures processor { (s : Standing) → Stands cpu.old s → Stands cpu.new (with_lines s bus.new) }
+    ensures processor { (s : CpuState) → Stands cpu.old s → Stands cpu.new (with_interrupt_levels s bus.new) }
 {
     draw_row(bus, waiting);
-    give_lines(cpu, bus);
+    give_interrupt_levels(cpu, bus);
 }

@@ -1,12 +1,12 @@
 ghost use Rattle.std.specs.Prelude.{◌≡◌, ℕ, ◌<◌, ◌^◌, Option, Some, IsTrue, IsSome};
 ghost use Rattle.cpu_modes.specs.Plan.{gets_byte, is_write, is_inner};
-ghost use Rattle.cpu65816.specs.Instruction.{Standing, at_reset, moved_on};
+ghost use Rattle.cpu65816.specs.Instruction.{CpuState, at_reset, moved_on};
 ghost use Rattle.cpu65816.specs.Stands.{Stands, access_of};
 ghost use Rattle.dma_hdma.specs.Channels.{due_of as transfer_of};
 ghost use Rattle.dma_hdma.specs.declared.moves.Move.{Move};
 ghost use Rattle.console_bus.specs.Places.{place_at, place_byte};
 ghost use Rattle.console_bus.specs.Happenings.{was_reset};
-ghost use Rattle.console_steps.specs.World.{with_lines, after_move, after_read, after_write};
+ghost use Rattle.console_steps.specs.ConsoleState.{with_interrupt_levels, after_move, after_read, after_write};
 
 use console_bus::Bus;
 use cpu65816::Cpu;
@@ -14,10 +14,10 @@ use dma_hdma::Move;
 
 /// The processor is given the levels of its lines.
 #[inline(always)]
-pub fn give_lines(cpu: &mut Cpu, bus: &Bus)
-    ensures { (s : Standing) → Stands cpu.old s → Stands cpu.new (with_lines s bus.now) }
+pub fn give_interrupt_levels(cpu: &mut Cpu, bus: &Bus)
+    ensures { (s : CpuState) → Stands cpu.old s → Stands cpu.new (with_interrupt_levels s bus.now) }
 {
-    let (nmi, irq) = bus.lines();
+    let (nmi, irq) = bus.interrupt_levels();
     cpu.signal(nmi, irq);
 }
 
@@ -48,11 +48,11 @@ fn put_byte(bus: &mut Bus, addr: u32, v: u8)
 pub fn make_read(cpu: &mut Cpu, bus: &mut Bus, addr: u32, got: u8)
     requires { IsTrue (gets_byte (access_of cpu.old)) }
     ensures rest { let place = place_at bus.old.board addr in bus.new ≡ after_read bus.old place (place_byte bus.old place got) }
-    ensures processor { let place = place_at bus.old.board addr in (s : Standing) → Stands cpu.old s → Stands cpu.new (with_lines (moved_on s (place_byte bus.old place got)) bus.new) }
+    ensures processor { let place = place_at bus.old.board addr in (s : CpuState) → Stands cpu.old s → Stands cpu.new (with_interrupt_levels (moved_on s (place_byte bus.old place got)) bus.new) }
 {
     let byte = take_byte(bus, addr, got);
     cpu.took(byte);
-    give_lines(cpu, bus);
+    give_interrupt_levels(cpu, bus);
 }
 
 /// The processor writes a byte.
@@ -60,21 +60,21 @@ pub fn make_read(cpu: &mut Cpu, bus: &mut Bus, addr: u32, got: u8)
 pub fn make_write(cpu: &mut Cpu, bus: &mut Bus, addr: u32, v: u8)
     requires { IsTrue (is_write (access_of cpu.old)) }
     ensures rest { bus.new ≡ after_write bus.old (place_at bus.old.board addr) v }
-    ensures processor { (s : Standing) → Stands cpu.old s → Stands cpu.new (with_lines (moved_on s 0) bus.new) }
+    ensures processor { (s : CpuState) → Stands cpu.old s → Stands cpu.new (with_interrupt_levels (moved_on s 0) bus.new) }
 {
     put_byte(bus, addr, v);
     cpu.wrote();
-    give_lines(cpu, bus);
+    give_interrupt_levels(cpu, bus);
 }
 
 /// The processor makes an internal cycle.
 #[inline(always)]
 pub fn make_inner(cpu: &mut Cpu, bus: &Bus)
     requires { IsTrue (is_inner (access_of cpu.old)) }
-    ensures { (s : Standing) → Stands cpu.old s → Stands cpu.new (with_lines (moved_on s 0) bus.now) }
+    ensures { (s : CpuState) → Stands cpu.old s → Stands cpu.new (with_interrupt_levels (moved_on s 0) bus.now) }
 {
     cpu.idle();
-    give_lines(cpu, bus);
+    give_interrupt_levels(cpu, bus);
 }
 
 /// A byte of a transfer goes from the A side to a register of the B bus.
@@ -125,9 +125,9 @@ pub fn make_move(bus: &mut Bus, due: Move, got: u8)
 /// The reset that was due is made.
 pub fn make_reset(cpu: &mut Cpu, bus: &mut Bus)
     ensures rest { bus.new ≡ was_reset bus.old }
-    ensures processor { Stands cpu.new (with_lines at_reset bus.new) }
+    ensures processor { Stands cpu.new (with_interrupt_levels at_reset bus.new) }
 {
     bus.reset();
     *cpu = Cpu::new();
-    give_lines(cpu, bus);
+    give_interrupt_levels(cpu, bus);
 }

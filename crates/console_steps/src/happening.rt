@@ -1,12 +1,12 @@
 ghost use Rattle.std.specs.Prelude.{◌≡◌, ◌≢◌};
 ghost use Rattle.beam.specs.declared.events.Event.{Event};
 ghost use Rattle.beam.specs.declared.events.Event.TheVariants as events;
-ghost use Rattle.cpu65816.specs.Instruction.{Standing};
+ghost use Rattle.cpu65816.specs.Instruction.{CpuState};
 ghost use Rattle.cpu65816.specs.Stands.{Stands};
 ghost use Rattle.console_bus.specs.Happenings.{happened};
-ghost use Rattle.console_steps.specs.World.{with_lines};
+ghost use Rattle.console_steps.specs.ConsoleState.{with_interrupt_levels};
 
-use crate::effects::give_lines;
+use crate::effects::give_interrupt_levels;
 use beam::Event;
 use console_bus::Bus;
 use cpu65816::Cpu;
@@ -16,7 +16,7 @@ use cpu65816::Cpu;
 fn begin_line(bus: &mut Bus)
     ensures { bus.new ≡ happened bus.old events.Line }
 {
-    if bus.line() == 0 {
+    if bus.scanline() == 0 {
         bus.begin_frame();
     }
 }
@@ -41,8 +41,8 @@ fn happen_on_bus(bus: &mut Bus, event: Event)
 pub fn happen(cpu: &mut Cpu, bus: &mut Bus, event: Event)
     requires { event ≢ events.Draw }
     ensures rest { bus.new ≡ happened bus.old event }
-    ensures processor { (s : Standing) → Stands cpu.old s → Stands cpu.new (with_lines s bus.new) }
+    ensures processor { (s : CpuState) → Stands cpu.old s → Stands cpu.new (with_interrupt_levels s bus.new) }
 {
     happen_on_bus(bus, event);
-    give_lines(cpu, bus);
+    give_interrupt_levels(cpu, bus);
 }

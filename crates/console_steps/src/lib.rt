@@ -1,10 +1,10 @@
 //! What the console does in a step, and what comes while its clocks pass.
 //!
-//! Stands on the processor and on the bus with all its parts. `specs/World.antt` says what the console is as
+//! Stands on the processor and on the bus with all its parts. `specs/ConsoleState.antt` says what the console is as
 //! a machine: which step is due, what it does, what it emits. The functions here are the halves of a step:
 //! its effect (an access or internal cycle of the processor, a byte of a transfer, a reset), and the clocks
 //! that pass after it, with the events of the beam and the rows that these emit. Each is exact for every
-//! world that processor and bus are at. A caller puts the two together in the order of `due_of`.
+//! console state that processor and bus are at. A caller puts the two together in the order of `due_of`.
 #![tactic(auto)]
 
 mod at_once;
@@ -16,6 +16,8 @@ mod plain;
 mod rows;
 
 pub use at_once::try_access;
-pub use effects::{give_lines, make_inner, make_move, make_read, make_reset, make_write};
+pub use effects::{
+    give_interrupt_levels, make_inner, make_move, make_read, make_reset, make_write,
+};
 pub use passing::pass;
 pub use plain::{is_calm, is_wired, try_look, try_plain};

@@ -2,12 +2,12 @@ ghost use Rattle.std.specs.Prelude.{◌≡◌, ◌≢◌, ◌+◌, ◌*◌, ◌-
 ghost use Rattle.beam.specs.Events.{one_if, events_of};
 ghost use Rattle.beam.specs.declared.events.Event.{Event};
 ghost use Rattle.beam.specs.declared.events.Event.TheVariants as events;
-ghost use Rattle.console_steps.specs.World.{World, after_events, bytes_of_events, after_clocks, bytes_in};
+ghost use Rattle.console_steps.specs.ConsoleState.{ConsoleState, after_events, bytes_of_events, after_clocks, bytes_in};
 ghost use Rattle.console_steps.specs.Draws.{room_for};
 ghost use Rattle.console_steps.specs.Parts.{first_of, last_of};
 ghost use Rattle.console_steps.specs.Stands.{IsAt};
 
-use crate::drawing::draw;
+use crate::drawing::make_row;
 use crate::happening::happen;
 use beam::{Event, Happens};
 use circular_buffer::HeapCircularBuffer;
@@ -17,8 +17,8 @@ use cpu65816::Cpu;
 /// An event that comes or not, but for a row that is drawn.
 fn pass_event(cpu: &mut Cpu, bus: &mut Bus, comes: bool, event: Event)
     requires { event ≢ events.Draw }
-    ensures at { (w : World) → IsAt cpu.old bus.old w → IsAt cpu.new bus.new (after_events w (one_if comes event)) }
-    ensures none { (w : World) → bytes_of_events w (one_if comes event) ≡ [] }
+    ensures at { (w : ConsoleState) → IsAt cpu.old bus.old w → IsAt cpu.new bus.new (after_events w (one_if comes event)) }
+    ensures none { (w : ConsoleState) → bytes_of_events w (one_if comes event) ≡ [] }
     ensures beam { bus.new.beam ≡ bus.old.beam }
 {
     if comes {
@@ -31,21 +31,21 @@ fn pass_row(cpu: &mut Cpu, bus: &mut Bus, waiting: &mut HeapCircularBuffer<u8>, 
     requires first { IsTrue comes → 1 ≤ bus.old.beam.v }
     requires last { IsTrue comes → bus.old.beam.v ≤ 239 }
     requires room { IsTrue comes → length waiting.old.items + 1024 ≤ waiting.old.capacity }
-    ensures at { (w : World) → IsAt cpu.old bus.old w → IsAt cpu.new bus.new (after_events w (one_if comes events.Draw)) }
-    ensures row { (w : World) → IsAt cpu.old bus.old w → waiting.new.items ≡ waiting.old.items ++ bytes_of_events w (one_if comes events.Draw) }
+    ensures at { (w : ConsoleState) → IsAt cpu.old bus.old w → IsAt cpu.new bus.new (after_events w (one_if comes events.Draw)) }
+    ensures row { (w : ConsoleState) → IsAt cpu.old bus.old w → waiting.new.items ≡ waiting.old.items ++ bytes_of_events w (one_if comes events.Draw) }
     ensures size { length waiting.new.items ≡ length waiting.old.items + (if comes then 1024 else 0) }
     ensures capacity { waiting.new.capacity ≡ waiting.old.capacity }
     ensures beam { bus.new.beam ≡ bus.old.beam }
 {
     if comes {
-        draw(cpu, bus, waiting);
+        make_row(cpu, bus, waiting);
     }
 }
 
 /// The events of a place before a row is drawn: line, blank, HDMA of a frame, refresh.
 fn pass_first(cpu: &mut Cpu, bus: &mut Bus, happens: Happens)
-    ensures at { (w : World) → IsAt cpu.old bus.old w → IsAt cpu.new bus.new (after_events w (first_of happens)) }
-    ensures none { (w : World) → bytes_of_events w (first_of happens) ≡ [] }
+    ensures at { (w : ConsoleState) → IsAt cpu.old bus.old w → IsAt cpu.new bus.new (after_events w (first_of happens)) }
+    ensures none { (w : ConsoleState) → bytes_of_events w (first_of happens) ≡ [] }
     ensures beam { bus.new.beam ≡ bus.old.beam }
 {
     pass_event(cpu, bus, happens.line, Event::Line);
@@ -56,8 +56,8 @@ fn pass_first(cpu: &mut Cpu, bus: &mut Bus, happens: Happens)
 
 /// The events of a place after a row is drawn: HDMA of a line, the timer.
 fn pass_last(cpu: &mut Cpu, bus: &mut Bus, happens: Happens)
-    ensures at { (w : World) → IsAt cpu.old bus.old w → IsAt cpu.new bus.new (after_events w (last_of happens)) }
-    ensures none { (w : World) → bytes_of_events w (last_of happens) ≡ [] }
+    ensures at { (w : ConsoleState) → IsAt cpu.old bus.old w → IsAt cpu.new bus.new (after_events w (last_of happens)) }
+    ensures none { (w : ConsoleState) → bytes_of_events w (last_of happens) ≡ [] }
     ensures beam { bus.new.beam ≡ bus.old.beam }
 {
     pass_event(cpu, bus, happens.hdma_line, Event::HdmaLine);
@@ -69,8 +69,8 @@ fn pass_place(cpu: &mut Cpu, bus: &mut Bus, waiting: &mut HeapCircularBuffer<u8>
     requires first { IsTrue happens.draw → 1 ≤ bus.old.beam.v }
     requires last { IsTrue happens.draw → bus.old.beam.v ≤ 239 }
     requires room { IsTrue happens.draw → length waiting.old.items + 1024 ≤ waiting.old.capacity }
-    ensures at { (w : World) → IsAt cpu.old bus.old w → IsAt cpu.new bus.new (after_events w (events_of happens)) }
-    ensures bytes { (w : World) → IsAt cpu.old bus.old w → waiting.new.items ≡ waiting.old.items ++ bytes_of_events w (events_of happens) }
+    ensures at { (w : ConsoleState) → IsAt cpu.old bus.old w → IsAt cpu.new bus.new (after_events w (events_of happens)) }
+    ensures bytes { (w : ConsoleState) → IsAt cpu.old bus.old w → waiting.new.items ≡ waiting.old.items ++ bytes_of_events w (events_of happens) }
     ensures size { length waiting.new.items ≡ length waiting.old.items + (if happens.draw then 1024 else 0) }
     ensures capacity { waiting.new.capacity ≡ waiting.old.capacity }
     ensures beam { bus.new.beam ≡ bus.old.beam }
@@ -84,13 +84,13 @@ fn pass_place(cpu: &mut Cpu, bus: &mut Bus, waiting: &mut HeapCircularBuffer<u8>
 pub fn pass(cpu: &mut Cpu, bus: &mut Bus, waiting: &mut HeapCircularBuffer<u8>, clocks: u16)
     requires step { clocks ≤ 40 }
     requires room { length waiting.old.items + room_for bus.old.beam.h clocks ≤ waiting.old.capacity }
-    ensures at { (w : World) → IsAt cpu.old bus.old w → IsAt cpu.new bus.new (after_clocks w clocks) }
-    ensures bytes { (w : World) → IsAt cpu.old bus.old w → waiting.new.items ≡ waiting.old.items ++ bytes_in w clocks }
+    ensures at { (w : ConsoleState) → IsAt cpu.old bus.old w → IsAt cpu.new bus.new (after_clocks w clocks) }
+    ensures bytes { (w : ConsoleState) → IsAt cpu.old bus.old w → waiting.new.items ≡ waiting.old.items ++ bytes_in w clocks }
     ensures size { length waiting.new.items ≤ length waiting.old.items + room_for bus.old.beam.h clocks }
     ensures capacity { waiting.new.capacity ≡ waiting.old.capacity }
     ensures region { bus.new.beam.region ≡ bus.old.beam.region }
 {
-    let left = bus.left();
+    let left = bus.clocks_left();
     if clocks < left {
         bus.go_on(clocks);
         return;

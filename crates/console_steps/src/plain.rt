@@ -4,7 +4,7 @@
 ghost use Rattle.std.specs.Prelude.{◌≡◌, ◌+◌, ◌-◌, ◌<◌, ◌^◌, ℕ, [], None, IsTrue, IfSome, slice_index};
 ghost use Rattle.cpu_tables.specs.declared.access.Access.TheVariants.{Read, Write, Inner};
 ghost use Rattle.cpu_modes.specs.Plan.{gets_byte, is_write, is_inner};
-ghost use Rattle.cpu65816.specs.Instruction.{Standing, moved_on};
+ghost use Rattle.cpu65816.specs.Instruction.{CpuState, moved_on};
 ghost use Rattle.cpu65816.specs.Stands.{Stands, access_of};
 ghost use Rattle.beam.specs.Events.{beam_after, passed};
 ghost use Rattle.beam.specs.Places.{clocks_left};
@@ -21,7 +21,7 @@ use cpu65816::Cpu;
 pub fn is_wired(cpu: &Cpu, bus: &Bus) -> bool
     ensures { IsTrue result → IsWired cpu.now bus.now }
 {
-    let (nmi, irq) = bus.lines();
+    let (nmi, irq) = bus.interrupt_levels();
     let (given_nmi, given_irq) = cpu.levels();
     given_nmi == nmi && given_irq == irq
 }
@@ -43,7 +43,7 @@ fn take_plainly(cpu: &mut Cpu, bus: &mut Bus, at: usize, clocks: u8)
     ensures rest { bus.new ≡ record bus.old { last = slice_index bus.old.memory at; beam = beam_after bus.old.picture.registers.settings.overscan bus.old.beam clocks } }
     ensures nothing { passed bus.old.picture.registers.settings.overscan bus.old.beam clocks ≡ [] }
     ensures left { clocks_left bus.new.beam ≡ clocks_left bus.old.beam - clocks }
-    ensures processor { (s : Standing) → Stands cpu.old s → Stands cpu.new (moved_on s (slice_index bus.old.memory at)) }
+    ensures processor { (s : CpuState) → Stands cpu.old s → Stands cpu.new (moved_on s (slice_index bus.old.memory at)) }
 {
     let byte = bus.load(at);
     bus.put(byte);
@@ -76,7 +76,7 @@ fn give_plainly(cpu: &mut Cpu, bus: &mut Bus, at: usize, v: u8, clocks: u8)
     ensures nothing { passed bus.old.picture.registers.settings.overscan bus.old.beam clocks ≡ [] }
     ensures left { clocks_left bus.new.beam ≡ clocks_left bus.old.beam - clocks }
     ensures calm { IsCalm bus.old → IsCalm bus.new }
-    ensures processor { (s : Standing) → Stands cpu.old s → Stands cpu.new (moved_on s 0) }
+    ensures processor { (s : CpuState) → Stands cpu.old s → Stands cpu.new (moved_on s 0) }
 {
     put_plainly(bus, at, v);
     bus.go_on(clocks as u16);
@@ -97,7 +97,7 @@ fn read_plainly(cpu: &mut Cpu, bus: &mut Bus, addr: u32) -> Option<u8>
     ensures cpu_stays { result ≡ None → cpu.new ≡ cpu.old }
 {
     let access = bus.memory_at(addr)?;
-    if access.clocks as u16 >= bus.left() {
+    if access.clocks as u16 >= bus.clocks_left() {
         return None;
     }
     take_plainly(cpu, bus, access.at, access.clocks);
@@ -117,7 +117,7 @@ fn write_plainly(cpu: &mut Cpu, bus: &mut Bus, addr: u32, v: u8) -> Option<u8>
     ensures cpu_stays { result ≡ None → cpu.new ≡ cpu.old }
 {
     let access = bus.memory_at(addr)?;
-    if access.clocks as u16 >= bus.left() {
+    if access.clocks as u16 >= bus.clocks_left() {
         return None;
     }
     give_plainly(cpu, bus, access.at, v, access.clocks);
@@ -132,7 +132,7 @@ fn rest_plainly(cpu: &mut Cpu, bus: &mut Bus)
     ensures rest { bus.new ≡ record bus.old { beam = beam_after bus.old.picture.registers.settings.overscan bus.old.beam 6 } }
     ensures nothing { passed bus.old.picture.registers.settings.overscan bus.old.beam 6 ≡ [] }
     ensures left { clocks_left bus.new.beam ≡ clocks_left bus.old.beam - 6 }
-    ensures processor { (s : Standing) → Stands cpu.old s → Stands cpu.new (moved_on s 0) }
+    ensures processor { (s : CpuState) → Stands cpu.old s → Stands cpu.new (moved_on s 0) }
 {
     bus.go_on(6);
     cpu.idle();
@@ -149,7 +149,7 @@ fn idle_plainly(cpu: &mut Cpu, bus: &mut Bus) -> Option<u8>
     ensures bus_stays { result ≡ None → bus.new ≡ bus.old }
     ensures cpu_stays { result ≡ None → cpu.new ≡ cpu.old }
 {
-    if bus.left() <= 6 {
+    if bus.clocks_left() <= 6 {
         return None;
     }
     rest_plainly(cpu, bus);

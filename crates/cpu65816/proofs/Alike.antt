@@ -1,8 +1,8 @@
 -- Processors whose registers are alike and whose instructions have ended leave the same to do.
 use Rattle.std.proofs.Common.{◌≡◌, ℕ, Bool, true, false, Some, None, sym, ap, ◌∙◌}
 use Rattle.cpu_tables.specs.declared.regs.Regs.{Regs}
-use Rattle.cpu_modes.specs.Rest.{rest}
-use Rattle.cpu65816.specs.Instruction.{Standing}
+use Rattle.cpu_modes.specs.Remaining.{remaining}
+use Rattle.cpu65816.specs.Instruction.{CpuState}
 use Rattle.cpu65816.specs.Stands.{Stands}
 use Rattle.cpu65816.specs.declared.processor.Cpu.{Cpu}
 use Rattle.cpu_modes.specs.Plan.{Plan, fetches, reads, writes, idles, waits, stops, ends, finished}
@@ -53,7 +53,7 @@ pub same_wait : (p q : Plan) (r s : Regs) → r ≡ s → finished true p ≡ So
 same_wait p q r s same h h' k k' = waits_is p r h h' ∙ ap waits same ∙ sym (waits_is q s k k')
 
 -- a processor that leaves to do what another one leaves, with the same start and lines, stands for what that one stands for
-pub stands_alike : (x y : Cpu) (s : Standing) → rest x.micro ≡ rest y.micro → x.micro.start ≡ y.micro.start → x.kept ≡ y.kept
+pub stands_alike : (x y : Cpu) (s : CpuState) → remaining x.micro ≡ remaining y.micro → x.micro.start ≡ y.micro.start → x.kept ≡ y.kept
     → x.nmi_level ≡ y.nmi_level → x.irq_level ≡ y.irq_level → Stands x s → Stands y s
 stands_alike x y s left start kept nmi irq h = record {
   left = sym left ∙ h.left;

@@ -4,24 +4,24 @@ use Rattle.cpu_tables.specs.declared.access.Access.{Access}
 use Rattle.cpu_tables.specs.declared.access.Access.TheVariants.{Fetch, Read, Write, Inner}
 use Rattle.cpu_tables.specs.declared.flags.TheConstants.{IRQ_DISABLE}
 use Rattle.cpu_tables.specs.declared.regs.Regs.{Regs}
-use Rattle.cpu_modes.specs.Plan.{Plan, fetches, reads, writes, idles, waits, stops, ends, after, comes, finished, first_access, follow, gets_byte, is_inner, is_write}
-use Rattle.cpu_modes.specs.Rest.{onward, rest}
+use Rattle.cpu_modes.specs.Plan.{Plan, fetches, reads, writes, idles, waits, stops, ends, after, comes, finished, first_access, plan_after, gets_byte, is_inner, is_write}
+use Rattle.cpu_modes.specs.Remaining.{onward, remaining}
 use Rattle.cpu_modes.specs.Uses.{use_of}
-use Rattle.cpu65816.specs.Instruction.{Beginning, opcode, irq, Standing, plan_of, left_by, left_of, end_of, ahead, ahead_by, registers_by, moved_by, moved_on, chosen, kept_after}
+use Rattle.cpu65816.specs.Instruction.{Beginning, opcode, irq, CpuState, plan_of, left_by, left_of, end_of, ahead, ahead_by, registers_by, moved_by, moved_on, chosen, kept_after}
 use Rattle.cpu65816.specs.Stands.{Stands, TakesUp, access_of, kept_by}
 use Rattle.cpu65816.specs.declared.processor.Cpu.{Cpu}
 
 -- one more access, after all those so far
-pub follow-append : (bytes : List ℕ) (plan : Plan) (byte : ℕ) → follow plan (bytes ++ byte ∷ []) ≡ after (follow plan bytes) byte
-follow-append [] plan byte = refl
-follow-append (b ∷ bs) plan byte = follow-append bs (after plan b) byte
+pub plan_after-append : (bytes : List ℕ) (plan : Plan) (byte : ℕ) → plan_after plan (bytes ++ byte ∷ []) ≡ after (plan_after plan bytes) byte
+plan_after-append [] plan byte = refl
+plan_after-append (b ∷ bs) plan byte = plan_after-append bs (after plan b) byte
 
 pub left_by-append : (begun : Option Beginning) (r : Regs) (got : List ℕ) (byte : ℕ) → left_by begun r (got ++ byte ∷ []) ≡ after (left_by begun r got) byte
 left_by-append None r got byte = refl
-left_by-append (Some b) r got byte = follow-append got (plan_of b r) byte
+left_by-append (Some b) r got byte = plan_after-append got (plan_of b r) byte
 
 -- one access further, whether the instruction has ended before it or not
-pub Stands-moved_by : (f : Option Regs) (old new : Cpu) (s : Standing) (byte : ℕ) → Stands old s → rest new.micro ≡ after (ahead_by f old.kept old.irq_level (rest old.micro)) byte → new.micro.start ≡ registers_by f old.micro.start → new.kept ≡ kept_by f old.kept old.irq_level → new.nmi_level ≡ old.nmi_level → new.irq_level ≡ old.irq_level → Stands new (moved_by f byte s)
+pub Stands-moved_by : (f : Option Regs) (old new : Cpu) (s : CpuState) (byte : ℕ) → Stands old s → remaining new.micro ≡ after (ahead_by f old.kept old.irq_level (remaining old.micro)) byte → new.micro.start ≡ registers_by f old.micro.start → new.kept ≡ kept_by f old.kept old.irq_level → new.nmi_level ≡ old.nmi_level → new.irq_level ≡ old.irq_level → Stands new (moved_by f byte s)
 Stands-moved_by None old new s byte h left start kept nmi_level irq_level =
     record {
       left = left ∙ (ap (λ p. after p byte) h.left ∙ sym (left_by-append s.begun s.start s.got byte));
@@ -118,21 +118,21 @@ onward-is_write kept irq_level p h =
     ap (λ q. is_write (first_access q)) (goes_on kept irq_level p (is_write-inner (first_access (ahead kept irq_level p)) h)).left ∙ h
 
 -- what a processor stands for moves on with it, at any step that is known by what the last instruction came to
-pub Stands-by_end : (old new : Cpu) (s : Standing) (byte : ℕ) → Stands old s → rest new.micro ≡ after (ahead old.kept old.irq_level (rest old.micro)) byte → new.micro.start ≡ registers_by (end_of old.kept old.irq_level (rest old.micro)) old.micro.start → new.kept ≡ kept_by (end_of old.kept old.irq_level (rest old.micro)) old.kept old.irq_level → new.nmi_level ≡ old.nmi_level → new.irq_level ≡ old.irq_level → Stands new (moved_on s byte)
+pub Stands-by_end : (old new : Cpu) (s : CpuState) (byte : ℕ) → Stands old s → remaining new.micro ≡ after (ahead old.kept old.irq_level (remaining old.micro)) byte → new.micro.start ≡ registers_by (end_of old.kept old.irq_level (remaining old.micro)) old.micro.start → new.kept ≡ kept_by (end_of old.kept old.irq_level (remaining old.micro)) old.kept old.irq_level → new.nmi_level ≡ old.nmi_level → new.irq_level ≡ old.irq_level → Stands new (moved_on s byte)
 Stands-by_end old new s byte h left start kept nmi_level irq_level =
-    let same : end_of old.kept old.irq_level (rest old.micro) ≡ end_of s.kept s.irq_level (left_of s) =
-    ap (λ k. end_of k old.irq_level (rest old.micro)) h.kept ∙ (ap (λ i. end_of s.kept i (rest old.micro)) h.irq_level ∙ ap (λ p. end_of s.kept s.irq_level p) h.left) in
+    let same : end_of old.kept old.irq_level (remaining old.micro) ≡ end_of s.kept s.irq_level (left_of s) =
+    ap (λ k. end_of k old.irq_level (remaining old.micro)) h.kept ∙ (ap (λ i. end_of s.kept i (remaining old.micro)) h.irq_level ∙ ap (λ p. end_of s.kept s.irq_level p) h.left) in
     subst (λ (f : Option Regs). Stands new (moved_by f byte s)) same
-    (Stands-moved_by (end_of old.kept old.irq_level (rest old.micro)) old new s byte h left start kept nmi_level irq_level)
+    (Stands-moved_by (end_of old.kept old.irq_level (remaining old.micro)) old new s byte h left start kept nmi_level irq_level)
 
 -- a fetch, a read or a write
-pub Stands-after_access : (old new : Cpu) (s : Standing) (byte : ℕ) → is_inner (access_of old) ≡ false → rest new.micro ≡ after (onward (rest old.micro)) byte → new.micro.start ≡ unwrap_or (finished true (rest old.micro)) old.micro.start → new.kept ≡ old.kept → new.nmi_level ≡ old.nmi_level → new.irq_level ≡ old.irq_level → Stands old s → Stands new (moved_on s byte)
+pub Stands-after_access : (old new : Cpu) (s : CpuState) (byte : ℕ) → is_inner (access_of old) ≡ false → remaining new.micro ≡ after (onward (remaining old.micro)) byte → new.micro.start ≡ unwrap_or (finished true (remaining old.micro)) old.micro.start → new.kept ≡ old.kept → new.nmi_level ≡ old.nmi_level → new.irq_level ≡ old.irq_level → Stands old s → Stands new (moved_on s byte)
 Stands-after_access old new s byte n left start kept nmi_level irq_level h =
-    let g : GoesOn old.kept old.irq_level (rest old.micro) = goes_on old.kept old.irq_level (rest old.micro) n in
+    let g : GoesOn old.kept old.irq_level (remaining old.micro) = goes_on old.kept old.irq_level (remaining old.micro) n in
     Stands-by_end old new s byte h (left ∙ ap (λ p. after p byte) g.left) (start ∙ g.start old.micro.start) (kept ∙ sym g.edge) nmi_level irq_level
 
 -- an internal cycle: an interrupt may have been taken up before it
-pub Stands-after_cycle : (old mid new : Cpu) (s : Standing) → TakesUp old mid → rest new.micro ≡ after (rest mid.micro) 0 → new.micro.start ≡ mid.micro.start → new.kept ≡ mid.kept → new.nmi_level ≡ mid.nmi_level → new.irq_level ≡ mid.irq_level → Stands old s → Stands new (moved_on s 0)
+pub Stands-after_cycle : (old mid new : Cpu) (s : CpuState) → TakesUp old mid → remaining new.micro ≡ after (remaining mid.micro) 0 → new.micro.start ≡ mid.micro.start → new.kept ≡ mid.kept → new.nmi_level ≡ mid.nmi_level → new.irq_level ≡ mid.irq_level → Stands old s → Stands new (moved_on s 0)
 Stands-after_cycle old mid new s a left start kept nmi_level irq_level h =
     Stands-by_end old new s 0 h (left ∙ ap (λ p. after p 0) a.left) (start ∙ a.start) (kept ∙ a.kept) (nmi_level ∙ a.nmi_level) (irq_level ∙ a.irq_level)
 

@@ -1,6 +1,6 @@
 // Whether two processors between two instructions leave the same to do.
 ghost use Rattle.std.specs.Prelude.{◌≡◌, IsTrue};
-ghost use Rattle.cpu_modes.specs.Rest.{rest};
+ghost use Rattle.cpu_modes.specs.Remaining.{remaining};
 
 use cpu_modes::Micro;
 use cpu_tables::Regs;
@@ -28,7 +28,7 @@ pub(crate) fn same_registers(a: &Regs, b: &Regs) -> bool
 #[inline(always)]
 fn both_ended(a: &Micro, b: &Micro) -> bool
     requires { a.now.here ≡ b.now.here }
-    ensures { IsTrue result → rest a.now ≡ rest b.now }
+    ensures { IsTrue result → remaining a.now ≡ remaining b.now }
 {
     if !a.has_ended(false) {
         return false;
@@ -41,7 +41,7 @@ fn both_ended(a: &Micro, b: &Micro) -> bool
 #[inline(always)]
 fn both_wait(a: &Micro, b: &Micro) -> bool
     requires { a.now.here ≡ b.now.here }
-    ensures { IsTrue result → rest a.now ≡ rest b.now }
+    ensures { IsTrue result → remaining a.now ≡ remaining b.now }
 {
     if a.has_ended(false) || b.has_ended(false) {
         return false;
@@ -55,7 +55,7 @@ fn both_wait(a: &Micro, b: &Micro) -> bool
 /// Whether both instructions have ended, or both wait, with the same registers.
 #[inline(always)]
 pub(crate) fn leave_the_same(a: &Micro, b: &Micro) -> bool
-    ensures { IsTrue result → rest a.now ≡ rest b.now }
+    ensures { IsTrue result → remaining a.now ≡ remaining b.now }
 {
     if !same_registers(&a.here, &b.here) {
         return false;

@@ -1,6 +1,6 @@
 ghost use Rattle.std.specs.Prelude.{◌≡◌, ◌<◌, ◌^◌, ◌||◌, IsTrue, MatchBool, None, Some, false, true};
 ghost use Rattle.cpu_modes.specs.Plan.{address_of, first_access};
-ghost use Rattle.cpu_modes.specs.Rest.{rest};
+ghost use Rattle.cpu_modes.specs.Remaining.{remaining};
 ghost use Rattle.cpu65816.specs.Instruction.{ahead};
 
 use crate::likeness::{leave_the_same, same_registers};
@@ -15,14 +15,14 @@ pub struct Cpu {
     kept: bool,
     nmi_level: bool,
     irq_level: bool,
-    ghost ready: { micro.access ≡ first_access (ahead kept irq_level (rest micro)) },
+    ghost ready: { micro.access ≡ first_access (ahead kept irq_level (remaining micro)) },
     ghost within: { address_of micro.access < 16777216 },
 }
 
 impl Cpu {
     ghost use Rattle.cpu_modes.specs.Plan.{finished, gets_byte, is_inner, is_write};
-    ghost use Rattle.cpu_modes.specs.Rest.{Keeps};
-    ghost use Rattle.cpu65816.specs.Instruction.{Standing, at_reset, between_instructions, chosen, kept_after, moved_on, next_of, plan_of, registers_of, row_of_signal, signalled};
+    ghost use Rattle.cpu_modes.specs.Remaining.{Keeps};
+    ghost use Rattle.cpu65816.specs.Instruction.{CpuState, at_reset, between_instructions, chosen, kept_after, moved_on, next_of, plan_of, registers_of, row_of_signal, signalled};
     ghost use Rattle.cpu_tables.specs.declared.operation.Op.TheVariants.{Reset};
     ghost use Rattle.cpu65816.specs.Stands.{Stands, TakesUp, access_of};
 
@@ -84,7 +84,7 @@ impl Cpu {
     pub fn next(&self) -> Access
         ensures now { result ≡ access_of self.now }
         ensures within { address_of result < 2 ^ 24 }
-        ensures standing { (s : Standing) → Stands self.now s → result ≡ next_of s }
+        ensures standing { (s : CpuState) → Stands self.now s → result ≡ next_of s }
     {
         self.micro.access
     }
@@ -99,7 +99,7 @@ impl Cpu {
 
     /// An interrupt begins, where the last instruction has ended and the next access is no fetch.
     fn begin_interrupt(&mut self)
-        requires ended { finished (self.old.kept || self.old.irq_level) (rest self.old.micro) ≡ Some self.old.micro.here }
+        requires ended { finished (self.old.kept || self.old.irq_level) (remaining self.old.micro) ≡ Some self.old.micro.here }
         requires inner { IsTrue (is_inner (access_of self.old)) }
         ensures { TakesUp self.old self.new }
     {
@@ -128,7 +128,7 @@ impl Cpu {
     #[inline(always)]
     pub fn took(&mut self, byte: u8)
         requires { IsTrue (gets_byte (access_of self.old)) }
-        ensures { (s : Standing) → Stands self.old s → Stands self.new (moved_on s byte) }
+        ensures { (s : CpuState) → Stands self.old s → Stands self.new (moved_on s byte) }
     {
         let has_ended = self.micro.took(byte);
         settle(&mut self.micro, has_ended, self.kept, self.irq_level);
@@ -138,7 +138,7 @@ impl Cpu {
     #[inline(always)]
     pub fn wrote(&mut self)
         requires { IsTrue (is_write (access_of self.old)) }
-        ensures { (s : Standing) → Stands self.old s → Stands self.new (moved_on s 0) }
+        ensures { (s : CpuState) → Stands self.old s → Stands self.new (moved_on s 0) }
     {
         let has_ended = self.micro.wrote();
         settle(&mut self.micro, has_ended, self.kept, self.irq_level);
@@ -148,7 +148,7 @@ impl Cpu {
     #[inline(always)]
     pub fn idle(&mut self)
         requires { IsTrue (is_inner (access_of self.old)) }
-        ensures { (s : Standing) → Stands self.old s → Stands self.new (moved_on s 0) }
+        ensures { (s : CpuState) → Stands self.old s → Stands self.new (moved_on s 0) }
     {
         self.take_up();
         let has_ended = self.micro.idle();
@@ -158,7 +158,7 @@ impl Cpu {
     /// The lines are given.
     #[inline(always)]
     pub fn signal(&mut self, nmi: bool, irq: bool)
-        ensures { (s : Standing) → Stands self.old s → Stands self.new (signalled s nmi irq) }
+        ensures { (s : CpuState) → Stands self.old s → Stands self.new (signalled s nmi irq) }
     {
         if nmi == self.nmi_level && irq == self.irq_level {
             return;
@@ -185,8 +185,8 @@ impl Cpu {
     #[inline(always)]
     pub fn is_between(&self) -> bool
         ensures { MatchBool result
-            (finished true (rest self.now.micro) ≡ Some self.now.micro.here)
-            (finished true (rest self.now.micro) ≡ None) }
+            (finished true (remaining self.now.micro) ≡ Some self.now.micro.here)
+            (finished true (remaining self.now.micro) ≡ None) }
     {
         self.micro.has_ended(true)
     }
@@ -196,7 +196,7 @@ impl Cpu {
     #[tactic(auto, using(crate::proofs::Alike::stands_alike))]
     #[inline(always)]
     pub fn is_like(&self, other: &Cpu) -> bool
-        ensures { IsTrue result → (s : Standing) → Stands self.now s → Stands other.now s }
+        ensures { IsTrue result → (s : CpuState) → Stands self.now s → Stands other.now s }
     {
         if !leave_the_same(&self.micro, &other.micro) {
             return false;
@@ -212,7 +212,7 @@ impl Cpu {
     /// The registers at the start of the instruction in hand.
     #[inline(always)]
     pub fn regs(&self) -> Regs
-        ensures { (s : Standing) → Stands self.now s → result ≡ registers_of s }
+        ensures { (s : CpuState) → Stands self.now s → result ≡ registers_of s }
     {
         if self.micro.has_ended(self.is_awake()) {
             self.micro.here

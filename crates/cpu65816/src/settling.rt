@@ -1,6 +1,6 @@
 ghost use Rattle.std.specs.Prelude.{◌≡◌, ◌<◌, Some, true};
 ghost use Rattle.cpu_modes.specs.Plan.{address_of, finished, first_access};
-ghost use Rattle.cpu_modes.specs.Rest.{Keeps, rest};
+ghost use Rattle.cpu_modes.specs.Remaining.{Keeps, remaining};
 ghost use Rattle.cpu65816.specs.Instruction.{ahead};
 
 use cpu_modes::{Micro, code_address};
@@ -12,8 +12,8 @@ use status_bits::is_set;
 #[inline(always)]
 #[tactic(auto, unfolding(cpu_modes::specs::Uses::use_of))]
 fn following(micro: &Micro, kept: bool, irq_level: bool) -> Access
-    requires { finished true (rest micro.now) ≡ Some micro.now.here }
-    ensures exact { result ≡ first_access (ahead kept irq_level (rest micro.now)) }
+    requires { finished true (remaining micro.now) ≡ Some micro.now.here }
+    ensures exact { result ≡ first_access (ahead kept irq_level (remaining micro.now)) }
     ensures within { address_of result < 16777216 }
 {
     if kept {
@@ -35,9 +35,9 @@ fn following(micro: &Micro, kept: bool, irq_level: bool) -> Access
 #[inline(always)]
 pub(crate) fn settle(micro: &mut Micro, has_ended: bool, kept: bool, irq_level: bool)
     requires { Keeps has_ended micro.old }
-    ensures ready { micro.new.access ≡ first_access (ahead kept irq_level (rest micro.new)) }
+    ensures ready { micro.new.access ≡ first_access (ahead kept irq_level (remaining micro.new)) }
     ensures within { address_of micro.new.access < 16777216 }
-    ensures left { rest micro.new ≡ rest micro.old }
+    ensures left { remaining micro.new ≡ remaining micro.old }
     ensures start { micro.new.start ≡ micro.old.start }
     ensures here { micro.new.here ≡ micro.old.here }
 {

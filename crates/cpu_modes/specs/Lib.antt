@@ -2,4 +2,4 @@ pub mod Plan
 pub mod Uses
 pub mod Addresses
 pub mod Orders
-pub mod Rest
+pub mod Remaining

@@ -5,13 +5,13 @@ use crate::place::{Place, TargetKind};
 
 impl Micro {
     ghost use Rattle.cpu_modes.specs.Plan.{after, first_access, is_inner};
-    ghost use Rattle.cpu_modes.specs.Rest.{Keeps, rest};
+    ghost use Rattle.cpu_modes.specs.Remaining.{Keeps, remaining};
 
     /// The next access, an internal cycle, was made. Answers whether the instruction has ended or waits.
     #[inline(always)]
     pub fn idle(&mut self) -> bool
-        requires { IsTrue (is_inner (first_access (rest self.old))) }
-        ensures left { rest self.new ≡ after (rest self.old) 0 }
+        requires { IsTrue (is_inner (first_access (remaining self.old))) }
+        ensures left { remaining self.new ≡ after (remaining self.old) 0 }
         ensures keeps { Keeps result self.new }
         ensures start { self.new.start ≡ self.old.start }
     {

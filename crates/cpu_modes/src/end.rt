@@ -6,11 +6,11 @@ use cpu_tables::{Access, Regs, Row};
 
 impl Micro {
     ghost use Rattle.cpu_modes.specs.Plan.{ends, finished};
-    ghost use Rattle.cpu_modes.specs.Rest.{rest};
+    ghost use Rattle.cpu_modes.specs.Remaining.{remaining};
 
     /// An instruction that has ended.
     pub fn ended(registers: Regs, row: Row) -> Micro
-        ensures left { rest result ≡ ends registers }
+        ensures left { remaining result ≡ ends registers }
         ensures start { result.start ≡ registers }
         ensures here { result.here ≡ registers }
         ensures row { result.row ≡ row }
@@ -34,8 +34,8 @@ impl Micro {
     #[inline(always)]
     pub fn has_ended(&self, awake: bool) -> bool
         ensures { MatchBool result
-            (finished awake (rest self.now) ≡ Some self.now.here)
-            (finished awake (rest self.now) ≡ None) }
+            (finished awake (remaining self.now) ≡ Some self.now.here)
+            (finished awake (remaining self.now) ≡ None) }
     {
         match self.place {
             Place::Ended => true,

@@ -23,12 +23,12 @@ fn vector(cause: Cause, e: bool) -> u32
 
 impl Micro {
     ghost use Rattle.cpu_modes.specs.Orders.{by_mode, call_order, data_of, jump_kind, operand, order};
-    ghost use Rattle.cpu_modes.specs.Rest.{Keeps, rest};
+    ghost use Rattle.cpu_modes.specs.Remaining.{Keeps, remaining};
 
     /// An operation with data begins.
     #[inline(always)]
     pub(crate) fn enter_mode(&mut self)
-        ensures left { rest self.new ≡ by_mode self.old.row.mode self.old.traffic self.old.row self.old.here }
+        ensures left { remaining self.new ≡ by_mode self.old.row.mode self.old.traffic self.old.row self.old.here }
         ensures keeps { Keeps false self.new }
         ensures start { self.new.start ≡ self.old.start }
     {
@@ -67,7 +67,7 @@ impl Micro {
     /// A jump begins.
     #[inline(always)]
     pub(crate) fn enter_jump(&mut self)
-        ensures left { rest self.new ≡ operand (jump_kind self.old.row.mode) self.old.traffic self.old.row self.old.here }
+        ensures left { remaining self.new ≡ operand (jump_kind self.old.row.mode) self.old.traffic self.old.row self.old.here }
         ensures keeps { Keeps false self.new }
         ensures start { self.new.start ≡ self.old.start }
     {
@@ -84,7 +84,7 @@ impl Micro {
     /// A call begins.
     #[inline(always)]
     pub(crate) fn enter_call(&mut self)
-        ensures left { rest self.new ≡ call_order self.old.row.mode self.old.traffic self.old.row self.old.here }
+        ensures left { remaining self.new ≡ call_order self.old.row.mode self.old.traffic self.old.row self.old.here }
         ensures keeps { Keeps false self.new }
         ensures start { self.new.start ≡ self.old.start }
     {
@@ -106,7 +106,7 @@ impl Micro {
     /// The row's accesses after the opcode begin.
     #[inline(always)]
     pub fn enter(&mut self)
-        ensures left { rest self.new ≡ order self.old.row self.old.here }
+        ensures left { remaining self.new ≡ order self.old.row self.old.here }
         ensures keeps { Keeps false self.new }
         ensures start { self.new.start ≡ self.old.start }
     {

@@ -4,7 +4,7 @@
 //! held beside the data sheet's table of cycles: at each fetch and read it goes on by the byte got,
 //! and at its end it has the registers. A `Micro` is an instruction in the middle of its order: it
 //! keeps a place, registers, a base, a word and its next access, and forgets the accesses made. What it
-//! leaves to do is `rest` of `specs/Rest.antt`. The crate promises that `Micro::took`, `wrote` and
+//! leaves to do is `remaining` of `specs/Remaining.antt`. The crate promises that `Micro::took`, `wrote` and
 //! `idle` leave what the tree leaves after the next access, and that the access kept then is the first
 //! of that (`Keeps`). They answer whether the instruction has ended or waits: then the next access is
 //! for the interrupt lines to say, so the layer above sets it, and the opcode that `took` is given is

@@ -10,13 +10,13 @@ use cpu_alu::{is_taken, operand_written, relative};
 
 impl Micro {
     ghost use Rattle.cpu_modes.specs.Orders.{after_bank, after_offset, after_operand, after_pointer, after_return, after_target, branch_cycles, data_at, data_indexed, interrupted, push_data, return_pulls, written_of};
-    ghost use Rattle.cpu_modes.specs.Rest.{Keeps, rest};
+    ghost use Rattle.cpu_modes.specs.Remaining.{Keeps, remaining};
 
     /// The data is next, at an address.
     #[inline(always)]
     pub(crate) fn reach_data(&mut self, reach: Reach, at: u32)
         requires { at < 2 ^ 24 }
-        ensures left { rest self.new ≡ data_at self.old.traffic reach self.old.row self.old.here at }
+        ensures left { remaining self.new ≡ data_at self.old.traffic reach self.old.row self.old.here at }
         ensures keeps { Keeps false self.new }
         ensures start { self.new.start ≡ self.old.start }
     {
@@ -32,7 +32,7 @@ impl Micro {
     #[inline(always)]
     pub(crate) fn reach_indexed(&mut self, at: u32, index: u16)
         requires { at < 2 ^ 24 }
-        ensures left { rest self.new ≡ data_indexed self.old.traffic self.old.row self.old.here at index }
+        ensures left { remaining self.new ≡ data_indexed self.old.traffic self.old.row self.old.here at index }
         ensures keeps { Keeps false self.new }
         ensures start { self.new.start ≡ self.old.start }
     {
@@ -49,7 +49,7 @@ impl Micro {
     /// An offset from the direct register was fetched, and the cycle after it made.
     #[inline(always)]
     pub(crate) fn pass_offset(&mut self, kind: DirectKind, offset: u16)
-        ensures left { rest self.new ≡ after_offset kind self.old.traffic self.old.row self.old.here offset }
+        ensures left { remaining self.new ≡ after_offset kind self.old.traffic self.old.row self.old.here offset }
         ensures keeps { Keeps false self.new }
         ensures start { self.new.start ≡ self.old.start }
     {
@@ -96,7 +96,7 @@ impl Micro {
     /// A pointer's two bytes were read.
     #[inline(always)]
     pub(crate) fn pass_pointer(&mut self, kind: PointerKind, at: u32, word: u16)
-        ensures left { rest self.new ≡ after_pointer kind self.old.traffic self.old.row self.old.here at word }
+        ensures left { remaining self.new ≡ after_pointer kind self.old.traffic self.old.row self.old.here at word }
         ensures keeps { Keeps false self.new }
         ensures start { self.new.start ≡ self.old.start }
     {
@@ -129,7 +129,7 @@ impl Micro {
     /// An operand's two bytes were fetched.
     #[inline(always)]
     pub(crate) fn pass_operand(&mut self, kind: OperandKind, word: u16) -> bool
-        ensures left { rest self.new ≡ after_operand kind self.old.traffic self.old.row self.old.here word }
+        ensures left { remaining self.new ≡ after_operand kind self.old.traffic self.old.row self.old.here word }
         ensures keeps { Keeps result self.new }
         ensures start { self.new.start ≡ self.old.start }
     {
@@ -205,7 +205,7 @@ impl Micro {
     /// The bank of an operand was fetched.
     #[inline(always)]
     pub(crate) fn pass_bank(&mut self, kind: BankKind, bank: u8) -> bool
-        ensures left { rest self.new ≡ after_bank kind self.old.traffic self.old.row self.old.here self.old.word bank }
+        ensures left { remaining self.new ≡ after_bank kind self.old.traffic self.old.row self.old.here self.old.word bank }
         ensures keeps { Keeps result self.new }
         ensures start { self.new.start ≡ self.old.start }
     {
@@ -230,7 +230,7 @@ impl Micro {
     /// What the operation writes is pushed next.
     #[inline(always)]
     pub(crate) fn push_written(&mut self)
-        ensures left { rest self.new ≡ push_data self.old.traffic self.old.row self.old.here (written_of self.old.row self.old.here self.old.word) self.old.word }
+        ensures left { remaining self.new ≡ push_data self.old.traffic self.old.row self.old.here (written_of self.old.row self.old.here self.old.word) self.old.word }
         ensures keeps { Keeps false self.new }
         ensures start { self.new.start ≡ self.old.start }
     {
@@ -246,7 +246,7 @@ impl Micro {
     #[inline(always)]
     pub(crate) fn pass_target(&mut self, kind: TargetKind, at: u32, word: u16) -> bool
         requires { at < 2 ^ 24 }
-        ensures left { rest self.new ≡ after_target kind self.old.row self.old.here at word }
+        ensures left { remaining self.new ≡ after_target kind self.old.row self.old.here at word }
         ensures keeps { Keeps result self.new }
         ensures start { self.new.start ≡ self.old.start }
     {
@@ -264,7 +264,7 @@ impl Micro {
     /// What a return pulls first.
     #[inline(always)]
     pub(crate) fn pull_return(&mut self, kind: ReturnKind)
-        ensures left { rest self.new ≡ return_pulls kind self.old.row self.old.here }
+        ensures left { remaining self.new ≡ return_pulls kind self.old.row self.old.here }
         ensures keeps { Keeps false self.new }
         ensures start { self.new.start ≡ self.old.start }
     {
@@ -278,7 +278,7 @@ impl Micro {
     /// The program counter was pulled.
     #[inline(always)]
     pub(crate) fn pass_return(&mut self, kind: ReturnKind, word: u16) -> bool
-        ensures left { rest self.new ≡ after_return kind self.old.row self.old.here word }
+        ensures left { remaining self.new ≡ after_return kind self.old.row self.old.here word }
         ensures keeps { Keeps result self.new }
         ensures start { self.new.start ≡ self.old.start }
     {
@@ -306,7 +306,7 @@ impl Micro {
     /// A branch's distance was fetched.
     #[inline(always)]
     pub(crate) fn branch(&mut self, offset: u8) -> bool
-        ensures left { rest self.new ≡ branch_cycles self.old.row self.old.here offset }
+        ensures left { remaining self.new ≡ branch_cycles self.old.row self.old.here offset }
         ensures keeps { Keeps result self.new }
         ensures start { self.new.start ≡ self.old.start }
     {
@@ -327,7 +327,7 @@ impl Micro {
     /// An interrupt's pushes are next.
     #[inline(always)]
     pub(crate) fn interrupt(&mut self)
-        ensures left { rest self.new ≡ interrupted self.old.row self.old.here self.old.base }
+        ensures left { remaining self.new ≡ interrupted self.old.row self.old.here self.old.base }
         ensures keeps { Keeps false self.new }
         ensures start { self.new.start ≡ self.old.start }
     {

@@ -16,16 +16,16 @@ fn join(low: u16, high: u8) -> u16
 
 impl Micro {
     ghost use Rattle.cpu_modes.specs.Plan.{after, finished, first_access, gets_byte};
-    ghost use Rattle.cpu_modes.specs.Rest.{Keeps, onward, rest};
+    ghost use Rattle.cpu_modes.specs.Remaining.{Keeps, onward, remaining};
 
     /// The next access, a fetch or a read, got a byte; where the last instruction has ended or was
     /// woken, it is the opcode fetch of the next one. Answers whether the instruction has ended.
     #[inline(always)]
     pub fn took(&mut self, got: u8) -> bool
-        requires { IsTrue (gets_byte (first_access (onward (rest self.old)))) }
-        ensures left { rest self.new ≡ after (onward (rest self.old)) got }
+        requires { IsTrue (gets_byte (first_access (onward (remaining self.old)))) }
+        ensures left { remaining self.new ≡ after (onward (remaining self.old)) got }
         ensures keeps { Keeps result self.new }
-        ensures start { self.new.start ≡ unwrap_or (finished true (rest self.old)) self.old.start }
+        ensures start { self.new.start ≡ unwrap_or (finished true (remaining self.old)) self.old.start }
     {
         let byte = got as u16;
         match self.place {

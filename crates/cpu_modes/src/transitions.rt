@@ -17,7 +17,7 @@ use cpu_tables::Access;
 // registers are set before the next access is.
 impl Micro {
     ghost use Rattle.cpu_modes.specs.Orders.{done, immediate, load, pull_data, push_low, push_word, store, write_back, written_of};
-    ghost use Rattle.cpu_modes.specs.Rest.{Keeps, rest};
+    ghost use Rattle.cpu_modes.specs.Remaining.{Keeps, remaining};
 
     /// A byte of the program was fetched.
     #[inline(always)]
@@ -118,7 +118,7 @@ impl Micro {
     #[inline(always)]
     pub(crate) fn finish(&mut self) -> bool
         ensures last { result ≡ true }
-        ensures left { rest self.new ≡ done self.old.row self.old.here self.old.word }
+        ensures left { remaining self.new ≡ done self.old.row self.old.here self.old.word }
         ensures keeps { Keeps result self.new }
         ensures start { self.new.start ≡ self.old.start }
     {
@@ -131,7 +131,7 @@ impl Micro {
     #[inline(always)]
     #[tactic(auto, using(crate::proofs::Widths::narrow_immediate, crate::proofs::Widths::wide_immediate))]
     pub(crate) fn to_immediate(&mut self)
-        ensures left { rest self.new ≡ immediate self.old.traffic self.old.row self.old.here }
+        ensures left { remaining self.new ≡ immediate self.old.traffic self.old.row self.old.here }
         ensures keeps { Keeps false self.new }
         ensures start { self.new.start ≡ self.old.start }
     {
@@ -146,7 +146,7 @@ impl Micro {
     #[inline(always)]
     #[tactic(auto, using(crate::proofs::Widths::narrow_load, crate::proofs::Widths::wide_load))]
     pub(crate) fn to_load(&mut self, reach: Reach)
-        ensures left { rest self.new ≡ load self.old.traffic reach self.old.row self.old.here self.old.base }
+        ensures left { remaining self.new ≡ load self.old.traffic reach self.old.row self.old.here self.old.base }
         ensures keeps { Keeps false self.new }
         ensures start { self.new.start ≡ self.old.start }
     {
@@ -161,7 +161,7 @@ impl Micro {
     #[inline(always)]
     #[tactic(auto, using(crate::proofs::Widths::narrow_pull, crate::proofs::Widths::wide_pull))]
     pub(crate) fn to_pulled(&mut self)
-        ensures left { rest self.new ≡ pull_data self.old.traffic self.old.row self.old.here }
+        ensures left { remaining self.new ≡ pull_data self.old.traffic self.old.row self.old.here }
         ensures keeps { Keeps false self.new }
         ensures start { self.new.start ≡ self.old.start }
     {
@@ -175,7 +175,7 @@ impl Micro {
     /// What a store writes is written next, at the base. Out of line, as what is written is a large match.
     #[inline(never)]
     pub(crate) fn to_store(&mut self, reach: Reach)
-        ensures left { rest self.new ≡ store self.old.traffic reach self.old.here self.old.base (written_of self.old.row self.old.here 0) }
+        ensures left { remaining self.new ≡ store self.old.traffic reach self.old.here self.old.base (written_of self.old.row self.old.here 0) }
         ensures keeps { Keeps false self.new }
         ensures start { self.new.start ≡ self.old.start }
     {
@@ -187,7 +187,7 @@ impl Micro {
     /// Changed data is written back next, its high byte first.
     #[inline(never)]
     pub(crate) fn to_change(&mut self, reach: Reach)
-        ensures left { rest self.new ≡ write_back self.old.traffic reach self.old.row self.old.here self.old.base self.old.word }
+        ensures left { remaining self.new ≡ write_back self.old.traffic reach self.old.row self.old.here self.old.base self.old.word }
         ensures keeps { Keeps false self.new }
         ensures start { self.new.start ≡ self.old.start }
     {
@@ -203,7 +203,7 @@ impl Micro {
     /// The base, a word, is pushed next.
     #[inline(always)]
     pub(crate) fn to_push_word(&mut self)
-        ensures left { rest self.new ≡ push_word self.old.row self.old.here self.old.base self.old.word }
+        ensures left { remaining self.new ≡ push_word self.old.row self.old.here self.old.base self.old.word }
         ensures keeps { Keeps false self.new }
         ensures start { self.new.start ≡ self.old.start }
     {
@@ -213,7 +213,7 @@ impl Micro {
     /// The low byte of the base is pushed next.
     #[inline(always)]
     pub(crate) fn to_push_low(&mut self)
-        ensures left { rest self.new ≡ push_low self.old.row self.old.here self.old.base self.old.word }
+        ensures left { remaining self.new ≡ push_low self.old.row self.old.here self.old.base self.old.word }
         ensures keeps { Keeps false self.new }
         ensures start { self.new.start ≡ self.old.start }
     {

@@ -7,15 +7,15 @@ use cpu_alu::{operand_written, pushed_status};
 
 impl Micro {
     ghost use Rattle.cpu_modes.specs.Plan.{after, finished, first_access, is_write};
-    ghost use Rattle.cpu_modes.specs.Rest.{Keeps, onward, rest};
+    ghost use Rattle.cpu_modes.specs.Remaining.{Keeps, onward, remaining};
 
     /// The next access, a write, was made. Answers whether the instruction has ended.
     #[inline(always)]
     pub fn wrote(&mut self) -> bool
-        requires { IsTrue (is_write (first_access (onward (rest self.old)))) }
-        ensures left { rest self.new ≡ after (onward (rest self.old)) 0 }
+        requires { IsTrue (is_write (first_access (onward (remaining self.old)))) }
+        ensures left { remaining self.new ≡ after (onward (remaining self.old)) 0 }
         ensures keeps { Keeps result self.new }
-        ensures start { self.new.start ≡ unwrap_or (finished true (rest self.old)) self.old.start }
+        ensures start { self.new.start ≡ unwrap_or (finished true (remaining self.old)) self.old.start }
     {
         match self.place {
             Place::StoreLow(reach) => {

@@ -138,14 +138,14 @@ abbrev pub loaded : Channel → Channel
 loaded c = if nat_eq c.line 0 then record c { live = false; work = Idle } else record c { sending = true; work = Idle }
 
 -- a frame begins: every channel is live and not sending, and one that is enabled loads from the start of its table
-unfoldable pub framed : Channel → Channel
-framed c =
+unfoldable pub frame_begun : Channel → Channel
+frame_begun c =
     if c.enabled then record c { live = true; sending = false; table = c.addr; work = Line }
     else record c { live = true; sending = false; work = Idle }
 
 -- a line begins for an enabled live channel: it sends its pattern from the first byte on, or counts the line at once
-unfoldable pub lined : Channel → Channel
-lined c =
+unfoldable pub line_begun : Channel → Channel
+line_begun c =
     if c.enabled && c.live then (if c.sending then record c { work = Send 0 } else counted c)
     else c
 

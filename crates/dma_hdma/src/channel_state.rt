@@ -99,7 +99,7 @@ fn joined(bank: u8, offset: u16) -> u32
 
 impl Channel {
     ghost use Rattle.std.specs.Prelude.{◌≡◌, ◌<◌, Some, None};
-    ghost use Rattle.dma_hdma.specs.Channel.{first_channel, register_of, written, port_of, source_of, is_working, work_move, stepped, counted, loaded, lined, framed, worked, dma_move, run_on, started, enabled_as};
+    ghost use Rattle.dma_hdma.specs.Channel.{first_channel, register_of, written, port_of, source_of, is_working, work_move, stepped, counted, loaded, line_begun, frame_begun, worked, dma_move, run_on, started, enabled_as};
 
     /// A channel at the start: every register FF, and nothing to do.
     pub(crate) fn new() -> Channel
@@ -259,9 +259,9 @@ impl Channel {
     }
 
     /// Begins HDMA of a frame.
-    #[tactic(auto, unfolding(crate::specs::Channel::framed))]
+    #[tactic(auto, unfolding(crate::specs::Channel::frame_begun))]
     pub(crate) fn begin_frame(&mut self)
-        ensures { self.new ≡ framed self.old }
+        ensures { self.new ≡ frame_begun self.old }
     {
         self.live = true;
         self.sending = false;
@@ -274,9 +274,9 @@ impl Channel {
     }
 
     /// Begins HDMA of a line.
-    #[tactic(auto, unfolding(crate::specs::Channel::lined))]
+    #[tactic(auto, unfolding(crate::specs::Channel::line_begun))]
     pub(crate) fn begin_line(&mut self)
-        ensures { self.new ≡ lined self.old }
+        ensures { self.new ≡ line_begun self.old }
     {
         if self.enabled && self.live {
             if self.sending {

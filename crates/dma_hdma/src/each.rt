@@ -1,5 +1,5 @@
 ghost use Rattle.std.specs.Prelude.{◌≡◌, map};
-ghost use Rattle.dma_hdma.specs.Channel.{started, enabled_as, framed, lined};
+ghost use Rattle.dma_hdma.specs.Channel.{started, enabled_as, frame_begun, line_begun};
 ghost use Rattle.dma_hdma.specs.Channels.{by_bits};
 
 use crate::channel_state::Channel;
@@ -28,7 +28,7 @@ pub(crate) fn enable_each(channels: &mut [Channel], mask: u8)
 
 /// Begins HDMA of a frame on every channel.
 pub(crate) fn begin_frame(channels: &mut [Channel])
-    ensures { channels.new ≡ map framed channels.old }
+    ensures { channels.new ≡ map frame_begun channels.old }
 {
     for channel in channels.iter_mut() {
         channel.begin_frame();
@@ -37,7 +37,7 @@ pub(crate) fn begin_frame(channels: &mut [Channel])
 
 /// Begins HDMA of a line on every channel.
 pub(crate) fn begin_line(channels: &mut [Channel])
-    ensures { channels.new ≡ map lined channels.old }
+    ensures { channels.new ≡ map line_begun channels.old }
 {
     for channel in channels.iter_mut() {
         channel.begin_line();

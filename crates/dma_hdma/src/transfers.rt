@@ -30,7 +30,7 @@ impl Model for Dma {
 
 impl Dma {
     ghost use Rattle.std.specs.Prelude.{◌≡◌, ◌<◌, ◌≤◌, map, replicate, slice_set, IsSome};
-    ghost use Rattle.dma_hdma.specs.Channel.{first_channel, register_of, written, started, enabled_as, framed, lined};
+    ghost use Rattle.dma_hdma.specs.Channel.{first_channel, register_of, written, started, enabled_as, frame_begun, line_begun};
     ghost use Rattle.dma_hdma.specs.Channels.{channel_at, channel_number, register_number, due_of, after_byte, by_bits};
 
     /// Channels at the start, of which none has anything to do.
@@ -88,7 +88,7 @@ impl Dma {
 
     /// Begins HDMA of a frame.
     pub fn frame(&mut self)
-        ensures { self.new ≡ map framed self.old }
+        ensures { self.new ≡ map frame_begun self.old }
     {
         begin_frame(&mut self.channels);
         let (turn, due) = decided(&self.channels);
@@ -98,7 +98,7 @@ impl Dma {
 
     /// Begins HDMA of a line.
     pub fn line(&mut self)
-        ensures { self.new ≡ map lined self.old }
+        ensures { self.new ≡ map line_begun self.old }
     {
         begin_line(&mut self.channels);
         let (turn, due) = decided(&self.channels);

@@ -1,5 +1,5 @@
 ghost use Rattle.std.specs.Prelude.{◌^◌};
-ghost use Rattle.cpu65816.specs.Instruction.{Standing};
+ghost use Rattle.cpu65816.specs.Instruction.{CpuState};
 ghost use Rattle.cpu65816.specs.Stands.{Stands};
 ghost use Rattle.flat_memory.specs.FlatCpu.{after_access};
 
@@ -8,7 +8,7 @@ use cpu_tables::Access;
 use cpu65816::Cpu;
 
 impl Processor for Cpu {
-    ghost State = { Standing };
+    ghost State = { CpuState };
 
     ghost size = { 2 ^ 24 };
 

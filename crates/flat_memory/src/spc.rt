@@ -1,5 +1,5 @@
 ghost use Rattle.std.specs.Prelude.{◌^◌};
-ghost use Rattle.spc700.specs.Instruction.{Standing};
+ghost use Rattle.spc700.specs.Instruction.{SpcState};
 ghost use Rattle.spc700.specs.Stands.{Stands};
 ghost use Rattle.flat_memory.specs.FlatSpc.{after_access};
 
@@ -7,7 +7,7 @@ use crate::Processor;
 use spc700::{Spc, SpcAccess};
 
 impl Processor for Spc {
-    ghost State = { Standing };
+    ghost State = { SpcState };
 
     ghost size = { 2 ^ 16 };
 

@@ -7,7 +7,7 @@ use Rattle.clock_ratio.specs.Stamp.{end_stamp_of}
 use Rattle.side_law.specs.Serial.{serial_of}
 use Rattle.side_law.proofs.SerialKeeps.{serving_at_first}
 use Rattle.side_law.proofs.SerialRuns.{run_ends}
-use Rattle.console_steps.specs.World.{console_moves}
+use Rattle.console_steps.specs.ConsoleState.{console_moves}
 use Rattle.console_machine.specs.Side.{IsConsoleOf}
 use Rattle.console_machine.specs.SideLaws.{console_is_lawful}
 use Rattle.audio_side.specs.Sound.{IsSound, sound_moves}

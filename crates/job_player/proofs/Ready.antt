@@ -6,7 +6,7 @@ use Rattle.snes_defs.specs.declared.ports.Side.TheVariants as side
 use Rattle.snes_defs.specs.declared.region.Region.{Region}
 use Rattle.snes_defs.specs.declared.region.Region.TheVariants.{Ntsc, Pal}
 use Rattle.clock_ratio.specs.Stamp.{rate_of, end_stamp_of}
-use Rattle.console_steps.specs.World.{World, console_moves}
+use Rattle.console_steps.specs.ConsoleState.{ConsoleState, console_moves}
 use Rattle.console_machine.specs.Side.{ConsoleValue}
 use Rattle.console_machine.specs.Side as console_side
 use Rattle.audio_side.specs.Sound.{AudioValue, SoundState, IsSound, sound_moves}
@@ -42,16 +42,16 @@ steps_by_cycle region = λ m got valid byte.
     valid (cycle_rises m.clock.region m.clock.cycle)
 
 module _ (holds : Side → List ℕ → Type 0) (c : ConsoleValue) (s : AudioValue) (ports : PortsKnown) (both : WholeValue) (end size : ℕ) where
-  pub ready_whole : ((m : World) (n : SoundState) → console_side.StandsAt c m → sound_side.StandsAt s n → TookRun console_moves sound_moves m n end holds)
+  pub ready_whole : ((m : ConsoleState) (n : SoundState) → console_side.StandsAt c m → sound_side.StandsAt s n → TookRun console_moves sound_moves m n end holds)
       → (job : Job) → IsReady c s ports both end size job → PlayedWhole (Emits job) holds
   ready_whole took job h = played_whole holds c s end size took job h.start
 
-  pub ready_first : ((m : World) (n : SoundState) → console_side.StandsAt c m → sound_side.StandsAt s n → TookFirst console_moves sound_moves m n end holds)
+  pub ready_first : ((m : ConsoleState) (n : SoundState) → console_side.StandsAt c m → sound_side.StandsAt s n → TookFirst console_moves sound_moves m n end holds)
       → (job : Job) → IsReady c s ports both end size job → PlayedFirst (Emits job) holds
   ready_first took job h = played_first holds c s end size took job h.start
 
 module _ (c : ConsoleValue) (s : AudioValue) (ports : PortsKnown) (both : WholeValue) (end size turns : ℕ) where
-  pub ready_bounded : ((m : World) (n : SoundState) (frames : ℕ) → console_side.StandsAt c m → sound_side.StandsAt s n → console_moves.stamp m ≡ 0 → sound_moves.stamp n ≡ 0
+  pub ready_bounded : ((m : ConsoleState) (n : SoundState) (frames : ℕ) → console_side.StandsAt c m → sound_side.StandsAt s n → console_moves.stamp m ≡ 0 → sound_moves.stamp n ≡ 0
       → StepsByCycle ports.region (IsSound ports.region) sound_moves → end ≡ end_stamp_of ports.region frames → turns ≤ most_turns ports.region frames)
       → (job : Job) → IsReady c s ports both end size job → turns ≤ most_turns job.region job.frames
   ready_bounded bound job h =

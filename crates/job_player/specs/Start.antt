@@ -6,14 +6,14 @@ use Rattle.side_law.specs.Serial.{serial_of}
 use Rattle.side_law.specs.SerialRun.{IsOutput}
 use Rattle.port_lock.specs.PortsKnown.{PortsKnown}
 use Rattle.port_lock.specs.Wholes.{WholeValue, new_whole}
-use Rattle.console_steps.specs.World.{World, console_start, console_moves}
+use Rattle.console_steps.specs.ConsoleState.{ConsoleState, console_start, console_moves}
 use Rattle.console_machine.specs.Side.{ConsoleValue}
 use Rattle.console_machine.specs.Side as console_side
 use Rattle.audio_side.specs.Sound.{AudioValue, SoundState, sound_start, sound_moves}
 use Rattle.audio_side.specs.Sound as sound_side
 
 -- the console side before its first step: the job's cartridge and script, in the job's region
-abbrev pub console_of : Job → World
+abbrev pub console_of : Job → ConsoleState
 console_of job = console_start job.cart job.script job.region
 
 -- the sound side before its first step: the job's boot ROM and table, and the resets of its script, in

@@ -16,7 +16,7 @@ pub struct Planned {
 impl PlanPlayer for Console {
     ghost use Rattle.std.specs.Prelude.{◌≡◌, ◌≤◌, vec_len};
     ghost use Rattle.plan_drive.specs.Paths.{no_paths, goes_of, slots_of};
-    ghost use Rattle.snapshot.specs.Standing.{IsRested, slot_count};
+    ghost use Rattle.snapshot.specs.Positions.{IsRested, slot_count};
 
     type Planned = Planned;
 

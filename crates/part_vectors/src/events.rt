@@ -52,7 +52,7 @@ fn passes(beam: &mut Beam, mut words: SplitWhitespace<'_>) -> Option<bool> {
         let mut rest = clocks;
         // At most one place a clock.
         for _ in 0..clocks {
-            let left = beam.left();
+            let left = beam.clocks_left();
             if rest < left {
                 break;
             }
@@ -63,7 +63,7 @@ fn passes(beam: &mut Beam, mut words: SplitWhitespace<'_>) -> Option<bool> {
                 None => same = false,
             }
         }
-        if rest < beam.left() {
+        if rest < beam.clocks_left() {
             beam.go_on(rest);
         }
     }

@@ -17,7 +17,7 @@ pub struct Screen {
 }
 
 impl Model for Screen {
-    ghost use Rattle.tile_cache.specs.Planes.{IsInStep};
+    ghost use Rattle.tile_cache.specs.Bitplanes.{IsInStep};
     ghost use Rattle.ppu_regs.specs.Picture.{Picture};
 
     ghost Value = { Picture };

@@ -1,6 +1,6 @@
 ghost use Rattle.std.specs.Prelude.{◌≡◌, ◌<◌, IfOk, length};
 ghost use Rattle.ppu_regs.specs.Picture.{picture_start};
-ghost use Rattle.tile_cache.specs.Planes.{IsInStep};
+ghost use Rattle.tile_cache.specs.Bitplanes.{IsInStep};
 
 use ppu_regs::{Dot, Ppu};
 use ppu_tiles::{bg_row, depth};

@@ -38,9 +38,9 @@ fn put_object(p: &mut Ppu, x: u8, y: u8) {
     writes(p, &[(0x04, x), (0x04, y), (0x04, 0), (0x04, 0)]);
 }
 
-/// Objects 0 to 2 of eight pixels and 3 to 6 of 64 on one row have 35 pieces, so the first object loses its one.
+/// Objects 0 to 2 of eight pixels and 3 to 6 of 64 on one row have 35 slivers, so the first object loses its one.
 #[test]
-fn thirty_five_pieces_lose_the_first_object(rt: HostRuntime) -> Result<(), Fail> {
+fn thirty_five_slivers_lose_the_first_object(rt: HostRuntime) -> Result<(), Fail> {
     let mut p = unit(rt.alloc())?;
     writes(&mut p, &[(0x01, 0x40), (0x02, 0), (0x03, 0)]);
     put_object(&mut p, 200, 0);

@@ -1,7 +1,7 @@
 -- A cache that is brought in step word by word.
 use Rattle.std.proofs.Common.{◌≡◌, ◌≢◌, ℕ, ◌+◌, ◌<◌, ◌≤◌, List, slice_index, inl, inr, sym, subst, arith, ◌∙◌}
 use Rattle.std.proofs.lemmas.Bool.{cases_eq}
-use Rattle.tile_cache.specs.Planes.{pixel_of, packed, IsInStepAt, IsInStep}
+use Rattle.tile_cache.specs.Bitplanes.{pixel_of, packed, IsInStepAt, IsInStep}
 
 -- the words before one are in step
 pub record IsRenewed (cache vram : List ℕ) (word : ℕ) : Type 0 where

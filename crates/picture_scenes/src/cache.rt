@@ -1,6 +1,6 @@
 //! A cache brought in step with the whole of VRAM.
 
-ghost use Rattle.tile_cache.specs.Planes.{IsInStep};
+ghost use Rattle.tile_cache.specs.Bitplanes.{IsInStep};
 
 use ppu_regs::Ppu;
 use tile_cache::TileCache;

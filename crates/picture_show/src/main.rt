@@ -7,7 +7,7 @@
 #![tactic(auto)]
 
 ghost use Rattle.std.specs.Prelude.{◌<◌};
-ghost use Rattle.tile_cache.specs.Planes.{IsInStep};
+ghost use Rattle.tile_cache.specs.Bitplanes.{IsInStep};
 
 use picture_scenes::{acts, renew};
 use ppu_line::draw;

@@ -5,7 +5,7 @@ ghost use Rattle.std.specs.Prelude.{◌≡◌, ◌<◌, ◌≤◌};
 use crate::memory::{Seen, palette_colour, tile_pixel};
 use ppu_regs::{Over, Ppu};
 
-/// The most objects of a row, and the most pieces of eight pixels.
+/// The most objects of a row, and the most slivers of eight pixels.
 const MOST_OBJECTS: usize = 32;
 
 const MOST_PIECES: u32 = 34;
@@ -103,41 +103,41 @@ fn line_on(object: &Object, row: u32) -> Option<u32>
     }
 }
 
-/// Whether a piece of eight pixels has one on the screen.
-fn is_on_screen(object: &Object, piece: u32) -> bool
+/// Whether a sliver of eight pixels has one on the screen.
+fn is_on_screen(object: &Object, sliver: u32) -> bool
     requires x { object.now.x < 512 }
-    requires piece { piece < 8 }
+    requires sliver { sliver < 8 }
 {
-    let left = object.x + 8 * piece;
+    let left = object.x + 8 * sliver;
     left < 256 || object.x >= 256 && left + 7 >= 512
 }
 
-/// How many of the first pieces of an object are on the screen.
-fn pieces_before(object: &Object, piece: u32) -> u32
+/// How many of the first slivers of an object are on the screen.
+fn slivers_before(object: &Object, sliver: u32) -> u32
     requires x { object.now.x < 512 }
-    requires piece { piece ≤ 8 }
+    requires sliver { sliver ≤ 8 }
 {
     let mut count = 0u32;
     for earlier in 0..8u32 {
-        if earlier < piece && is_on_screen(object, earlier) {
+        if earlier < sliver && is_on_screen(object, earlier) {
             count = count.saturating_add(1);
         }
     }
     count
 }
 
-fn pieces_of(object: &Object) -> u32
+fn slivers_of(object: &Object) -> u32
     requires x { object.now.x < 512 }
     requires width { object.now.size.width ≤ 64 }
 {
-    pieces_before(object, object.size.width / 8)
+    slivers_before(object, object.size.width / 8)
 }
 
-/// An object that a row shows, and how many of its pieces on the screen, from the left.
+/// An object that a row shows, and how many of its slivers on the screen, from the left.
 #[derive(Clone, Copy)]
 struct Shown {
     number: u32,
-    pieces: u32,
+    slivers: u32,
 }
 
 /// The objects of a row, the first one in front of all.
@@ -162,7 +162,7 @@ fn standing(p: &Ppu, row: u32) -> Objects
     let mut objects = Objects {
         shown: [Shown {
             number: 0,
-            pieces: 0,
+            slivers: 0,
         }; MOST_OBJECTS],
         count: 0,
         over: Over {
@@ -175,10 +175,10 @@ fn standing(p: &Ppu, row: u32) -> Objects
     for turn in 0..128u32 {
         let number = (first + turn) % 128;
         let object = object_of(p, number);
-        let pieces = pieces_of(&object);
-        if line_on(&object, row).is_some() && pieces > 0 {
+        let slivers = slivers_of(&object);
+        if line_on(&object, row).is_some() && slivers > 0 {
             if objects.count < MOST_OBJECTS {
-                objects.shown[objects.count] = Shown { number, pieces };
+                objects.shown[objects.count] = Shown { number, slivers };
                 objects.count += 1;
             } else {
                 objects.over.range = true;
@@ -188,7 +188,7 @@ fn standing(p: &Ppu, row: u32) -> Objects
     objects
 }
 
-/// The objects of a row with the pieces that are left to each: the last object is the first to take its own.
+/// The objects of a row with the slivers that are left to each: the last object is the first to take its own.
 fn objects_of(p: &Ppu, row: u16) -> Objects
     requires { row < 239 }
 {
@@ -197,9 +197,9 @@ fn objects_of(p: &Ppu, row: u16) -> Objects
     for back in 0..MOST_OBJECTS {
         let place = MOST_OBJECTS - 1 - back;
         if place < objects.count {
-            let wanted = objects.shown[place].pieces;
+            let wanted = objects.shown[place].slivers;
             let taken = wanted.min(left);
-            objects.shown[place].pieces = taken;
+            objects.shown[place].slivers = taken;
             left = left.saturating_sub(taken);
             if taken < wanted {
                 objects.over.time = true;
@@ -247,7 +247,7 @@ fn shown_at(p: &Ppu, shown: Shown, row: u32, x: u32) -> Option<Seen>
     let object = object_of(p, shown.number);
     let column = (x + 512 - object.x) % 512;
     let line = line_on(&object, row)?;
-    if column >= object.size.width || pieces_before(&object, column / 8) >= shown.pieces {
+    if column >= object.size.width || slivers_before(&object, column / 8) >= shown.slivers {
         return None;
     }
     if line >= object.size.height {

@@ -16,7 +16,7 @@ use Rattle.port_lock.specs.Sums.{count_of}
 use Rattle.port_lock.specs.LockRule.{part_in, holding, missed_once}
 use Rattle.port_lock.specs.ListRule.{list_in, clock_in, IsTrueHalf, logged, half_by, told_by, without_book}
 use Rattle.port_lock.specs.Seating.{no_half, half_option, half_in, MissesOnce}
-use Rattle.port_lock.specs.Called.{IsTold, IfHeld, IfTold}
+use Rattle.port_lock.specs.PassCalls.{IsTold, IfHeld, IfTold}
 use Rattle.port_lock.specs.Passes.{shown, ports_of, StandFor}
 use Rattle.port_wire.specs.declared.counts.Counts.{Counts}
 use Rattle.port_lock.specs.declared.seats.Seats.{Seats}

@@ -21,7 +21,7 @@ use Rattle.port_lock.specs.Sums.{count_of}
 use Rattle.port_lock.specs.LockRule.{holding}
 use Rattle.port_lock.specs.ListRule.{list_in, clock_in, IsTrueHalf, logged, half_by}
 use Rattle.port_lock.specs.Seating.{AreIdle, MissesOnce, half_in}
-use Rattle.port_lock.specs.Called.{IsTold, IfHeld, IfTold, logged_by, clock_by, ReadAnswers, ClearAnswers, WriteAnswers}
+use Rattle.port_lock.specs.PassCalls.{IsTold, IfHeld, IfTold, logged_by, clock_by, ReadAnswers, ClearAnswers, WriteAnswers}
 use Rattle.port_lock.specs.Lateness.{IsAsOfLog}
 use Rattle.port_lock.specs.Passes.{shown, ports_of}
 use Rattle.port_lock.specs.Wholes.{WholeValue, whole_of, both_of, AreKnown, StandForBoth}

@@ -6,7 +6,7 @@ pub mod ListRule
 pub mod KeptBook
 pub mod Events
 pub mod Seating
-pub mod Called
+pub mod PassCalls
 pub mod Lateness
 pub mod Passes
 pub mod Wholes

@@ -1,6 +1,6 @@
 // Refusals of the log, and of a call over a pass.
 ghost use Rattle.std.specs.Prelude.{◌≡◌};
-ghost use Rattle.port_lock.specs.Called.{IfHeld};
+ghost use Rattle.port_lock.specs.PassCalls.{IfHeld};
 ghost use Rattle.port_lock.specs.Lateness.{over_pass_of, IsAsOfLog};
 
 use port_log::Late;

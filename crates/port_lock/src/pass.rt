@@ -2,7 +2,7 @@
 ghost use Rattle.std.specs.Prelude.{◌≡◌, ◌+◌, ◌<◌, ◌≤◌};
 ghost use Rattle.clock_ratio.specs.Stamp.{least_of, window_of};
 ghost use Rattle.port_wire.specs.Answers.{HearsOn, EndsRead, EndsClear, EndsWrite, EndsAdvance};
-ghost use Rattle.port_lock.specs.Called.{IfHeld, IfTold};
+ghost use Rattle.port_lock.specs.PassCalls.{IfHeld, IfTold};
 ghost use Rattle.port_lock.specs.Passes.{IsPassOf, IsMissed, WasTold};
 
 use crate::ports::Ports;

@@ -7,7 +7,7 @@ ghost use Rattle.port_lock.specs.ListRule.{clock_in, IsOrderly, logged, told_by,
 ghost use Rattle.port_lock.specs.KeptBook.{StandsForBook};
 ghost use Rattle.port_lock.specs.Events.{entries_of};
 ghost use Rattle.port_lock.specs.Seating.{AreSeatsOf, AreIdle, AreOut, MissesOnce, Enters, Leaves, half_option, half_in};
-ghost use Rattle.port_lock.specs.Called.{IsTold, IfHeld, IfTold, ReadAnswers, ClearAnswers, WriteAnswers, AdvanceAnswers, logged_by, clock_by};
+ghost use Rattle.port_lock.specs.PassCalls.{IsTold, IfHeld, IfTold, ReadAnswers, ClearAnswers, WriteAnswers, AdvanceAnswers, logged_by, clock_by};
 ghost use Rattle.clock_ratio.specs.Stamp.{least_of, window_of};
 ghost use Rattle.port_entries.specs.Entry.{WriteAt, ClearAt};
 ghost use Rattle.port_log.specs.Kept.{other_side};

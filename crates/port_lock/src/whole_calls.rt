@@ -4,7 +4,7 @@ ghost use Rattle.std.specs.Prelude.{◌≡◌, ◌+◌, ◌<◌, ◌≤◌, []};
 ghost use Rattle.clock_ratio.specs.Stamp.{least_of, window_of};
 ghost use Rattle.port_entries.specs.Entry.{WriteAt, ClearAt};
 ghost use Rattle.port_wire.specs.Whole.{HearBoth};
-ghost use Rattle.port_lock.specs.Called.{logged_by, clock_by};
+ghost use Rattle.port_lock.specs.PassCalls.{logged_by, clock_by};
 ghost use Rattle.port_lock.specs.Wholes.{IsWholeOf, both_of};
 ghost use Rattle.port_lock.specs.WholeCalls.{own_half, other_half, whole_after, ReadsWhole, ClearsWhole, WritesWhole, console_clocks, sound_clocks};
 

@@ -3,5 +3,5 @@ pub mod Looking
 pub mod Moving
 pub mod Holding
 pub mod Reading
-pub mod Standing
+pub mod ReadsAfter
 pub mod Stands

@@ -10,7 +10,7 @@ use Rattle.port_log.specs.declared.written.Written.{Written}
 use Rattle.port_log.specs.Kept.{LogValue, clock_of, other_clock, published, with_clear, with_write}
 use Rattle.port_log.specs.Held.{IsKept}
 use Rattle.port_log.specs.Entries.{Entries, made_by, with_entry, WritesRiseBelow, IsWrittenAfter, IsSettledClear, AnswersBy, StandsFor}
-use Rattle.port_log.proofs.Standing.{Reads, reads-published, reads-own-write, reads-other-clear, reads-other-write, reads-own-clear}
+use Rattle.port_log.proofs.ReadsAfter.{Reads, reads-published, reads-own-write, reads-other-clear, reads-other-write, reads-own-clear}
 
 -- the stamps of the writes stay below a later clock
 rise-from : (clock next : ℕ) (es : List Entry) → clock ≤ next → WritesRiseBelow clock es

@@ -1,22 +1,22 @@
--- Painted layers as inks.
+-- Painted layers as ranked pixels.
 use Rattle.std.proofs.Common.{◌≡◌, ◌≢◌, ℕ, zero, suc, ◌+◌, ◌*◌, ◌/◌, ◌<◌, ◌≤◌, ◌==◌, ◌&&◌, not, nat_lt, Bool, true, false, [], ◌∷◌, get_or, refl, sym, ap, ◌∙◌, if◌then◌else◌, ⊎_elim, arith}
 use Rattle.std.proofs.lemmas.Bool.{le-ltb}
 use Rattle.std.proofs.lemmas.Bool.Decides.{eqb_tells}
-use Rattle.ppu_regs.specs.declared.dots.Candidate.{Candidate}
+use Rattle.ppu_regs.specs.declared.dots.LayerDot.{LayerDot}
 use Rattle.ppu_regs.specs.Picture.{Picture, screens_of}
 use Rattle.ppu_regs.specs.Dots.{rank_of}
 use Rattle.ppu_regs.specs.Reads.{bit_of}
 use Rattle.ppu_tiles.specs.Modes.{is_hires}
-use Rattle.ppu_tiles.specs.Backgrounds.{background_candidate, candidate_at, candidate_of}
-use Rattle.ppu_mode7.specs.Rotated.{rotated_candidate}
+use Rattle.ppu_tiles.specs.Backgrounds.{background_layer_dot, layer_dot_at, layer_dot_of}
+use Rattle.ppu_mode7.specs.Rotated.{rotated_layer_dot}
 use Rattle.ppu_mode7.specs.Rotated as rotated
-use Rattle.ppu_objects.specs.Pieces.{nothing, object_candidate}
+use Rattle.ppu_objects.specs.Slivers.{nothing, object_layer_dot}
 use Rattle.ppu_objects.specs.Ranks.{object_rank, rank_byte, IsOfObjects}
-use Rattle.row_passes.specs.Inks.{Ink, nearest, is_nearer, chosen}
+use Rattle.scanline_ops.specs.RankedPixels.{RankedPixel, nearest, is_nearer, chosen}
 use Rattle.ppu_screens.specs.Order.{layer_rank, rank_base}
 use Rattle.ppu_screens.specs.Screens.{standing, on_main, on_sub}
-use Rattle.ppu_screens.proofs.FrontLemmas.{ink_is, nearest_unseen}
-use Rattle.ppu_line.specs.Line.{ink_of, plane_candidate, layer_candidate, has_background, main_ink, sub_ink}
+use Rattle.ppu_screens.proofs.FrontLemmas.{ranked_pixel_is, nearest_unseen}
+use Rattle.ppu_line.specs.Line.{ranked_pixel_of, plane_layer_dot, any_layer_dot, has_background, main_pixel, sub_pixel}
 
 either_zero : (b : Bool) (n : ℕ) → n ≡ 0 → (if b then n else 0) ≡ 0
 either_zero true n h = h
@@ -31,54 +31,54 @@ base_is rank true (suc zero) h = refl
 base_is rank false (suc zero) h = refl
 base_is rank named (suc (suc n)) h = absurd (omega arith)
 
--- a background's two bytes at a pixel are its ink
-pub painted_ink : (p : Picture) (layer : ℕ) (c : Candidate) (key number low high : ℕ) → c.priority < 2 → c.math ≡ true →
+-- a background's two bytes at a pixel are its ranked pixel
+pub painted_pixel : (p : Picture) (layer : ℕ) (c : LayerDot) (key number low high : ℕ) → c.priority < 2 → c.math ≡ true →
     low ≡ rank_base (layer_rank p.registers layer 0) (screens_of p.registers layer).arithmetic →
     high ≡ rank_base (layer_rank p.registers layer 1) (screens_of p.registers layer).arithmetic →
-    key ≡ rank_of (if c.priority == 1 then high else low) c → number ≡ c.number → record { key = key; number = number } ≡ ink_of p layer c
-unfolding ink_of
-painted_ink p layer c key number low high priority math l h k n =
+    key ≡ rank_of (if c.priority == 1 then high else low) c → number ≡ c.number → record { key = key; number = number } ≡ ranked_pixel_of p layer c
+unfolding ranked_pixel_of
+painted_pixel p layer c key number low high priority math l h k n =
     let named : Bool = (screens_of p.registers layer).arithmetic in
     let same : (if c.priority == 1 then high else low) ≡ rank_base (layer_rank p.registers layer c.priority) (named && c.math) =
     ap (λ (v : ℕ). if c.priority == 1 then v else low) h
     ∙ ap (λ (v : ℕ). if c.priority == 1 then rank_base (layer_rank p.registers layer 1) named else v) l
     ∙ base_is (layer_rank p.registers layer) named c.priority priority
     ∙ ap (λ (b : Bool). rank_base (layer_rank p.registers layer c.priority) (named && b)) (sym math) in
-    ink_is key number _ (k ∙ ap (λ (v : ℕ). rank_of v c) same) n
+    ranked_pixel_is key number _ (k ∙ ap (λ (v : ℕ). rank_of v c) same) n
 
--- what is always so of a background's candidate
-pub tiles_math : (p : Picture) (layer row e : ℕ) → (background_candidate p layer row e).math ≡ true
-unfolding background_candidate candidate_at candidate_of
+-- what is always so of a background's layer dot
+pub tiles_math : (p : Picture) (layer row e : ℕ) → (background_layer_dot p layer row e).math ≡ true
+unfolding background_layer_dot layer_dot_at layer_dot_of
 tiles_math p layer row e = refl
 
-pub tiles_priority : (p : Picture) (layer row e : ℕ) → (background_candidate p layer row e).priority < 2
-unfolding background_candidate candidate_at candidate_of
+pub tiles_priority : (p : Picture) (layer row e : ℕ) → (background_layer_dot p layer row e).priority < 2
+unfolding background_layer_dot layer_dot_at layer_dot_of
 tiles_priority p layer row e = omega arith
 
-either_math : (b : Bool) (c d : Candidate) → c.math ≡ true → d.math ≡ true → (if b then c else d).math ≡ true
+either_math : (b : Bool) (c d : LayerDot) → c.math ≡ true → d.math ≡ true → (if b then c else d).math ≡ true
 either_math true c d hc hd = hc
 either_math false c d hc hd = hd
 
-either_priority : (b : Bool) (c d : Candidate) → c.priority < 2 → d.priority < 2 → (if b then c else d).priority < 2
+either_priority : (b : Bool) (c d : LayerDot) → c.priority < 2 → d.priority < 2 → (if b then c else d).priority < 2
 either_priority true c d hc hd = hc
 either_priority false c d hc hd = hd
 
-pub rotated_math : (p : Picture) (layer row x : ℕ) → (rotated_candidate p layer row x).math ≡ true
-unfolding rotated_candidate rotated.candidate_of
+pub rotated_math : (p : Picture) (layer row x : ℕ) → (rotated_layer_dot p layer row x).math ≡ true
+unfolding rotated_layer_dot rotated.layer_dot_of
 rotated_math p layer row x = either_math (layer == 2) _ _ refl refl
 
-pub rotated_priority : (p : Picture) (layer row x : ℕ) → (rotated_candidate p layer row x).priority < 2
-unfolding rotated_candidate rotated.candidate_of
+pub rotated_priority : (p : Picture) (layer row x : ℕ) → (rotated_layer_dot p layer row x).priority < 2
+unfolding rotated_layer_dot rotated.layer_dot_of
 rotated_priority p layer row x = either_priority (layer == 2) _ _ (omega arith) (omega arith)
 
 -- a background's plane by the mode
-pub plane_tiles : (p : Picture) (layer row e : ℕ) → (p.registers.mode == 7) ≡ false → plane_candidate p layer row e ≡ background_candidate p layer row e
-unfolding plane_candidate
+pub plane_tiles : (p : Picture) (layer row e : ℕ) → (p.registers.mode == 7) ≡ false → plane_layer_dot p layer row e ≡ background_layer_dot p layer row e
+unfolding plane_layer_dot
 plane_tiles p layer row e h = rw h refl
 
-pub plane_rotated : (p : Picture) (layer row e x : ℕ) → (p.registers.mode == 7) ≡ true → e / 2 ≡ x → plane_candidate p layer row e ≡ rotated_candidate p layer row x
-unfolding plane_candidate
-plane_rotated p layer row e x h place = rw h (ap (rotated_candidate p layer row) place)
+pub plane_rotated : (p : Picture) (layer row e x : ℕ) → (p.registers.mode == 7) ≡ true → e / 2 ≡ x → plane_layer_dot p layer row e ≡ rotated_layer_dot p layer row x
+unfolding plane_layer_dot
+plane_rotated p layer row e x h place = rw h (ap (rotated_layer_dot p layer row) place)
 
 -- the pixel of a dot
 pub half_of : (x : ℕ) (odd : Bool) → (2 * x + bit_of odd) / 2 ≡ x
@@ -87,23 +87,23 @@ half_of x false = omega arith
 
 -- outside of modes 5 and 6 both dots of a pixel are alike
 pub tiles_pair : (p : Picture) (layer row x : ℕ) → is_hires p.registers.mode ≡ false →
-    background_candidate p layer row (2 * x + 1) ≡ background_candidate p layer row (2 * x)
-unfolding background_candidate candidate_at
+    background_layer_dot p layer row (2 * x + 1) ≡ background_layer_dot p layer row (2 * x)
+unfolding background_layer_dot layer_dot_at
 tiles_pair p layer row x h =
     let even : 2 * x / 2 ≡ x = omega arith in
     let odd : (2 * x + 1) / 2 ≡ x = omega arith in
     rw h (rw even (rw odd refl))
 
-pair_by : (b : Bool) (one two three four : Candidate) → one ≡ two → three ≡ four → (if b then one else three) ≡ (if b then two else four)
+pair_by : (b : Bool) (one two three four : LayerDot) → one ≡ two → three ≡ four → (if b then one else three) ≡ (if b then two else four)
 pair_by true one two three four e f = e
 pair_by false one two three four e f = f
 
 pub plane_pair : (p : Picture) (layer row x : ℕ) → is_hires p.registers.mode ≡ false →
-    plane_candidate p layer row (2 * x + 1) ≡ plane_candidate p layer row (2 * x)
-unfolding plane_candidate
+    plane_layer_dot p layer row (2 * x + 1) ≡ plane_layer_dot p layer row (2 * x)
+unfolding plane_layer_dot
 plane_pair p layer row x h =
     let halves : (2 * x + 1) / 2 ≡ 2 * x / 2 = omega arith in
-    pair_by (p.registers.mode == 7) _ _ _ _ (ap (rotated_candidate p layer row) halves) (tiles_pair p layer row x h)
+    pair_by (p.registers.mode == 7) _ _ _ _ (ap (rotated_layer_dot p layer row) halves) (tiles_pair p layer row x h)
 
 not_five : (layer : ℕ) → layer ≤ 4 → (layer == 5) ≡ false
 not_five layer h =
@@ -112,59 +112,59 @@ not_five layer h =
     (λ (f : ((layer == 5) ≡ false) × (layer ≢ 5)). f.0)
     (eqb_tells layer 5)
 
--- a background's candidate, where the mode has it, and where not
+-- a background's layer dot, where the mode has it, and where not
 pub layer_plane : (p : Picture) (layer row e : ℕ) → layer ≤ 4 → has_background p.registers.mode layer ≡ true →
-    layer_candidate p layer row e ≡ plane_candidate p layer row e
-unfolding layer_candidate
+    any_layer_dot p layer row e ≡ plane_layer_dot p layer row e
+unfolding any_layer_dot
 layer_plane p layer row e h has = rw (not_five layer h) (rw has refl)
 
 layer_nothing : (p : Picture) (layer row e : ℕ) → layer ≤ 4 → has_background p.registers.mode layer ≡ false →
-    layer_candidate p layer row e ≡ nothing
-unfolding layer_candidate
+    any_layer_dot p layer row e ≡ nothing
+unfolding any_layer_dot
 layer_nothing p layer row e h has = rw (not_five layer h) (rw has refl)
 
-pub layer_objects : (p : Picture) (row e x : ℕ) → e / 2 ≡ x → layer_candidate p 5 row e ≡ object_candidate p row x
-unfolding layer_candidate
-layer_objects p row e x h = ap (object_candidate p row) h
+pub layer_objects : (p : Picture) (row e x : ℕ) → e / 2 ≡ x → any_layer_dot p 5 row e ≡ object_layer_dot p row x
+unfolding any_layer_dot
+layer_objects p row e x h = ap (object_layer_dot p row) h
 
 -- nothing leaves what stands in front
 not_below_zero : (n : ℕ) → nat_lt n 0 ≡ false
 not_below_zero n = le-ltb n 0 (omega arith)
 
-nearest_keyless : (front ink : Ink) → ink.key ≡ 0 → nearest front ink ≡ front
+nearest_keyless : (front ranked_pixel : RankedPixel) → ranked_pixel.key ≡ 0 → nearest front ranked_pixel ≡ front
 unfolding nearest is_nearer chosen
-nearest_keyless front ink h = rw h (rw (not_below_zero (front.key / 16)) refl)
+nearest_keyless front ranked_pixel h = rw h (rw (not_below_zero (front.key / 16)) refl)
 
-standing_keyless : (on masked inside : Bool) (ink : Ink) → ink.key ≡ 0 → (standing on masked inside ink).key ≡ 0
+standing_keyless : (on masked inside : Bool) (ranked_pixel : RankedPixel) → ranked_pixel.key ≡ 0 → (standing on masked inside ranked_pixel).key ≡ 0
 unfolding standing
-standing_keyless on masked inside ink h = either_zero (on && not (masked && inside)) ink.key h
+standing_keyless on masked inside ranked_pixel h = either_zero (on && not (masked && inside)) ranked_pixel.key h
 
-ink_of_nothing : (p : Picture) (layer : ℕ) → (ink_of p layer nothing).key ≡ 0
-unfolding ink_of rank_of
-ink_of_nothing p layer = refl
+pixel_of_nothing : (p : Picture) (layer : ℕ) → (ranked_pixel_of p layer nothing).key ≡ 0
+unfolding ranked_pixel_of rank_of
+pixel_of_nothing p layer = refl
 
-pub absent_main : (front : Ink) (p : Picture) (row x layer : ℕ) → layer ≤ 4 → has_background p.registers.mode layer ≡ false →
-    nearest front (main_ink p row x layer) ≡ front
-unfolding main_ink on_main
+pub absent_main : (front : RankedPixel) (p : Picture) (row x layer : ℕ) → layer ≤ 4 → has_background p.registers.mode layer ≡ false →
+    nearest front (main_pixel p row x layer) ≡ front
+unfolding main_pixel on_main
 absent_main front p row x layer h has =
-    nearest_keyless front _ (standing_keyless _ _ _ _ (rw (layer_nothing p layer row (2 * x + 1) h has) (ink_of_nothing p layer)))
+    nearest_keyless front _ (standing_keyless _ _ _ _ (rw (layer_nothing p layer row (2 * x + 1) h has) (pixel_of_nothing p layer)))
 
-pub absent_sub : (front : Ink) (p : Picture) (row x layer : ℕ) → layer ≤ 4 → has_background p.registers.mode layer ≡ false →
-    nearest front (sub_ink p row x layer) ≡ front
-unfolding sub_ink on_sub
+pub absent_sub : (front : RankedPixel) (p : Picture) (row x layer : ℕ) → layer ≤ 4 → has_background p.registers.mode layer ≡ false →
+    nearest front (sub_pixel p row x layer) ≡ front
+unfolding sub_pixel on_sub
 absent_sub front p row x layer h has =
-    nearest_keyless front _ (standing_keyless _ _ _ _ (rw (layer_nothing p layer row (2 * x) h has) (ink_of_nothing p layer)))
+    nearest_keyless front _ (standing_keyless _ _ _ _ (rw (layer_nothing p layer row (2 * x) h has) (pixel_of_nothing p layer)))
 
 pub ruleset absent = (absent_main, absent_sub)
 
-pub unshown_main : (front : Ink) (p : Picture) (row x layer : ℕ) → (screens_of p.registers layer).main ≡ false →
-    nearest front (main_ink p row x layer) ≡ front
-unfolding main_ink on_main
+pub unshown_main : (front : RankedPixel) (p : Picture) (row x layer : ℕ) → (screens_of p.registers layer).main ≡ false →
+    nearest front (main_pixel p row x layer) ≡ front
+unfolding main_pixel on_main
 unshown_main front p row x layer h = rw h (nearest_unseen _ _ front _)
 
-pub unshown_sub : (front : Ink) (p : Picture) (row x layer : ℕ) → (screens_of p.registers layer).sub ≡ false →
-    nearest front (sub_ink p row x layer) ≡ front
-unfolding sub_ink on_sub
+pub unshown_sub : (front : RankedPixel) (p : Picture) (row x layer : ℕ) → (screens_of p.registers layer).sub ≡ false →
+    nearest front (sub_pixel p row x layer) ≡ front
+unfolding sub_pixel on_sub
 unshown_sub front p row x layer h = rw h (nearest_unseen _ _ front _)
 
 pub ruleset unshown = (unshown_main, unshown_sub)
@@ -193,15 +193,15 @@ on_same b u v h = ap (λ (w : ℕ). if b then w else 0) h
 bit_same : (one other math : Bool) (bit : ℕ) → one ≡ other → (if one && math then bit else 0) ≡ (if other && math then bit else 0)
 bit_same one other math bit h = ap (λ (t : Bool). if t && math then bit else 0) h
 
--- an object's two bytes at a pixel are its ink
-pub object_ink : (p : Picture) (o : Candidate) (key number a b c d : ℕ) (named : Bool) → IsOfObjects o →
+-- an object's two bytes at a pixel are its ranked pixel
+pub object_pixel : (p : Picture) (o : LayerDot) (key number a b c d : ℕ) (named : Bool) → IsOfObjects o →
     a ≡ rank_base (layer_rank p.registers 5 0) false → b ≡ rank_base (layer_rank p.registers 5 1) false →
     c ≡ rank_base (layer_rank p.registers 5 2) false → d ≡ rank_base (layer_rank p.registers 5 3) false →
     named ≡ (screens_of p.registers 5).arithmetic → key ≡ object_rank (a ∷ b ∷ c ∷ d ∷ []) named o → number ≡ o.number →
-    record { key = key; number = number } ≡ ink_of p 5 o
-unfolding ink_of object_rank rank_byte rank_of rank_base
-object_ink p o key number a b c d named of ea eb ec ed en k n =
+    record { key = key; number = number } ≡ ranked_pixel_of p 5 o
+unfolding ranked_pixel_of object_rank rank_byte rank_of rank_base
+object_pixel p o key number a b c d named of ea eb ec ed en k n =
     let at : get_or (a ∷ b ∷ c ∷ d ∷ []) o.priority 0 ≡ 16 * layer_rank p.registers 5 o.priority =
     base_at (layer_rank p.registers 5) a b c d o.priority ea eb ec ed of.priority in
     let bit = bit_same named (screens_of p.registers 5).arithmetic o.math 8 en in
-    ink_is key number _ (k ∙ on_same o.on _ _ (omega (arith, at, bit, of.palette))) n
+    ranked_pixel_is key number _ (k ∙ on_same o.on _ _ (omega (arith, at, bit, of.palette))) n

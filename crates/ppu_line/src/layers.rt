@@ -1,20 +1,20 @@
 //! The layers of a row, each painted and laid over both screens.
 
 ghost use Rattle.std.specs.Prelude.{◌≡◌, ℕ, ◌+◌, ◌*◌, ◌<◌, ◌≤◌, ◌==◌, true, false};
-ghost use Rattle.row_passes.specs.Inks.{nearest};
-ghost use Rattle.tile_cache.specs.Planes.{IsInStep};
+ghost use Rattle.scanline_ops.specs.RankedPixels.{nearest};
+ghost use Rattle.tile_cache.specs.Bitplanes.{IsInStep};
 ghost use Rattle.ppu_regs.specs.Reads.{bit_of};
 ghost use Rattle.ppu_tiles.specs.Modes.{is_hires, depth_of};
 ghost use Rattle.ppu_objects.specs.Objects.{passes_range};
-ghost use Rattle.ppu_objects.specs.Pieces.{passes_time, object_candidate};
-ghost use Rattle.ppu_screens.specs.Screens.{ink_at};
-ghost use Rattle.ppu_line.specs.Line.{has_background, has_depth, plane_candidate, ink_of, main_ink, sub_ink};
+ghost use Rattle.ppu_objects.specs.Slivers.{passes_time, object_layer_dot};
+ghost use Rattle.ppu_screens.specs.Screens.{ranked_pixel_at};
+ghost use Rattle.ppu_line.specs.Line.{has_background, has_depth, plane_layer_dot, ranked_pixel_of, main_pixel, sub_pixel};
 
 use ppu_mode7::m7_planes;
 use ppu_objects::obj_planes;
-use ppu_regs::{Over, Planes, Ppu};
+use ppu_regs::{Over, Ppu, RankedRow};
 use ppu_screens::{base, lay_layer};
-use ppu_tiles::{depth, ink_row};
+use ppu_tiles::{depth, ranked_row};
 use tile_cache::TileCache;
 
 #[inline(always)]
@@ -47,20 +47,20 @@ fn rotates(mode: u8) -> bool
 
 /// Paints a background of modes 0 to 6.
 #[inline(always)]
-fn paint_tiles(p: &Ppu, tiles: &TileCache, layer: u8, row: u16, odd: bool, out: &mut Planes)
+fn paint_tiles(p: &Ppu, tiles: &TileCache, layer: u8, row: u16, odd: bool, out: &mut RankedRow)
     requires first { 1 ≤ layer }
     requires last { layer ≤ 4 }
     requires row { row < 239 }
     requires step { IsInStep tiles.now p.now.vram }
     requires mode { (p.now.registers.mode == 7) ≡ false }
     requires has { has_depth (depth_of p.now.registers.mode layer) ≡ true }
-    ensures { (x : ℕ) → x < 256 → ink_at out.new x ≡ ink_of p.now layer (plane_candidate p.now layer row (2 * x + bit_of odd)) }
+    ensures { (x : ℕ) → x < 256 → ranked_pixel_at out.new x ≡ ranked_pixel_of p.now layer (plane_layer_dot p.now layer row (2 * x + bit_of odd)) }
 {
     let r = p.registers();
     let named = r.screens(layer).arithmetic;
     let low = base(r, layer, 0, named);
     let high = base(r, layer, 1, named);
-    ink_row(
+    ranked_row(
         p,
         tiles,
         layer,
@@ -75,12 +75,12 @@ fn paint_tiles(p: &Ppu, tiles: &TileCache, layer: u8, row: u16, odd: bool, out: 
 
 /// Paints a background of mode 7.
 #[inline(always)]
-fn paint_rotated(p: &Ppu, layer: u8, row: u16, odd: bool, out: &mut Planes)
+fn paint_rotated(p: &Ppu, layer: u8, row: u16, odd: bool, out: &mut RankedRow)
     requires first { 1 ≤ layer }
     requires last { layer ≤ 4 }
     requires row { row < 239 }
     requires mode { (p.now.registers.mode == 7) ≡ true }
-    ensures { (x : ℕ) → x < 256 → ink_at out.new x ≡ ink_of p.now layer (plane_candidate p.now layer row (2 * x + bit_of odd)) }
+    ensures { (x : ℕ) → x < 256 → ranked_pixel_at out.new x ≡ ranked_pixel_of p.now layer (plane_layer_dot p.now layer row (2 * x + bit_of odd)) }
 {
     let r = p.registers();
     let named = r.screens(layer).arithmetic;
@@ -91,13 +91,13 @@ fn paint_rotated(p: &Ppu, layer: u8, row: u16, odd: bool, out: &mut Planes)
 
 /// Paints a background that the mode has: its dots 2x, or 2x + 1 where `odd`.
 #[tactic(auto, unfolding(crate::specs::Line::has_background))]
-fn paint_background(p: &Ppu, tiles: &TileCache, layer: u8, row: u16, odd: bool, out: &mut Planes)
+fn paint_background(p: &Ppu, tiles: &TileCache, layer: u8, row: u16, odd: bool, out: &mut RankedRow)
     requires first { 1 ≤ layer }
     requires last { layer ≤ 4 }
     requires row { row < 239 }
     requires step { IsInStep tiles.now p.now.vram }
     requires has { has_background p.now.registers.mode layer ≡ true }
-    ensures { (x : ℕ) → x < 256 → ink_at out.new x ≡ ink_of p.now layer (plane_candidate p.now layer row (2 * x + bit_of odd)) }
+    ensures { (x : ℕ) → x < 256 → ranked_pixel_at out.new x ≡ ranked_pixel_of p.now layer (plane_layer_dot p.now layer row (2 * x + bit_of odd)) }
 {
     if rotates(p.registers().mode) {
         paint_rotated(p, layer, row, odd, out);
@@ -120,18 +120,18 @@ fn lay_both(
     tiles: &TileCache,
     layer: u8,
     row: u16,
-    odd: &mut Planes,
-    even: &mut Planes,
-    main: &mut Planes,
-    sub: &mut Planes,
+    odd: &mut RankedRow,
+    even: &mut RankedRow,
+    main: &mut RankedRow,
+    sub: &mut RankedRow,
 )
     requires first { 1 ≤ layer }
     requires last { layer ≤ 4 }
     requires row { row < 239 }
     requires step { IsInStep tiles.now p.now.vram }
     requires has { has_background p.now.registers.mode layer ≡ true }
-    ensures main { (x : ℕ) → x < 256 → ink_at main.new x ≡ nearest (ink_at main.old x) (main_ink p.now row x layer) }
-    ensures sub { (x : ℕ) → x < 256 → ink_at sub.new x ≡ nearest (ink_at sub.old x) (sub_ink p.now row x layer) }
+    ensures main { (x : ℕ) → x < 256 → ranked_pixel_at main.new x ≡ nearest (ranked_pixel_at main.old x) (main_pixel p.now row x layer) }
+    ensures sub { (x : ℕ) → x < 256 → ranked_pixel_at sub.new x ≡ nearest (ranked_pixel_at sub.old x) (sub_pixel p.now row x layer) }
 {
     paint_background(p, tiles, layer, row, true, odd);
     paint_background(p, tiles, layer, row, false, even);
@@ -144,9 +144,9 @@ fn lay_same(
     tiles: &TileCache,
     layer: u8,
     row: u16,
-    odd: &mut Planes,
-    main: &mut Planes,
-    sub: &mut Planes,
+    odd: &mut RankedRow,
+    main: &mut RankedRow,
+    sub: &mut RankedRow,
 )
     requires first { 1 ≤ layer }
     requires last { layer ≤ 4 }
@@ -154,8 +154,8 @@ fn lay_same(
     requires step { IsInStep tiles.now p.now.vram }
     requires has { has_background p.now.registers.mode layer ≡ true }
     requires alike { is_hires p.now.registers.mode ≡ false }
-    ensures main { (x : ℕ) → x < 256 → ink_at main.new x ≡ nearest (ink_at main.old x) (main_ink p.now row x layer) }
-    ensures sub { (x : ℕ) → x < 256 → ink_at sub.new x ≡ nearest (ink_at sub.old x) (sub_ink p.now row x layer) }
+    ensures main { (x : ℕ) → x < 256 → ranked_pixel_at main.new x ≡ nearest (ranked_pixel_at main.old x) (main_pixel p.now row x layer) }
+    ensures sub { (x : ℕ) → x < 256 → ranked_pixel_at sub.new x ≡ nearest (ranked_pixel_at sub.old x) (sub_pixel p.now row x layer) }
 {
     paint_background(p, tiles, layer, row, true, odd);
     lay_layer(p, layer, odd, odd, main, sub);
@@ -168,18 +168,18 @@ fn lay_background(
     tiles: &TileCache,
     layer: u8,
     row: u16,
-    odd: &mut Planes,
-    even: &mut Planes,
-    main: &mut Planes,
-    sub: &mut Planes,
+    odd: &mut RankedRow,
+    even: &mut RankedRow,
+    main: &mut RankedRow,
+    sub: &mut RankedRow,
 )
     requires first { 1 ≤ layer }
     requires last { layer ≤ 4 }
     requires row { row < 239 }
     requires step { IsInStep tiles.now p.now.vram }
     requires has { has_background p.now.registers.mode layer ≡ true }
-    ensures main { (x : ℕ) → x < 256 → ink_at main.new x ≡ nearest (ink_at main.old x) (main_ink p.now row x layer) }
-    ensures sub { (x : ℕ) → x < 256 → ink_at sub.new x ≡ nearest (ink_at sub.old x) (sub_ink p.now row x layer) }
+    ensures main { (x : ℕ) → x < 256 → ranked_pixel_at main.new x ≡ nearest (ranked_pixel_at main.old x) (main_pixel p.now row x layer) }
+    ensures sub { (x : ℕ) → x < 256 → ranked_pixel_at sub.new x ≡ nearest (ranked_pixel_at sub.old x) (sub_pixel p.now row x layer) }
 {
     if hires(p.registers().mode) {
         lay_both(p, tiles, layer, row, odd, even, main, sub);
@@ -196,18 +196,18 @@ fn lay_shown(
     tiles: &TileCache,
     layer: u8,
     row: u16,
-    odd: &mut Planes,
-    even: &mut Planes,
-    main: &mut Planes,
-    sub: &mut Planes,
+    odd: &mut RankedRow,
+    even: &mut RankedRow,
+    main: &mut RankedRow,
+    sub: &mut RankedRow,
 )
     requires first { 1 ≤ layer }
     requires last { layer ≤ 4 }
     requires row { row < 239 }
     requires step { IsInStep tiles.now p.now.vram }
     requires has { has_background p.now.registers.mode layer ≡ true }
-    ensures main { (x : ℕ) → x < 256 → ink_at main.new x ≡ nearest (ink_at main.old x) (main_ink p.now row x layer) }
-    ensures sub { (x : ℕ) → x < 256 → ink_at sub.new x ≡ nearest (ink_at sub.old x) (sub_ink p.now row x layer) }
+    ensures main { (x : ℕ) → x < 256 → ranked_pixel_at main.new x ≡ nearest (ranked_pixel_at main.old x) (main_pixel p.now row x layer) }
+    ensures sub { (x : ℕ) → x < 256 → ranked_pixel_at sub.new x ≡ nearest (ranked_pixel_at sub.old x) (sub_pixel p.now row x layer) }
 {
     let screens = *p.registers().screens(layer);
     if screens.main || screens.sub {
@@ -222,17 +222,17 @@ pub fn add_background(
     tiles: &TileCache,
     layer: u8,
     row: u16,
-    odd: &mut Planes,
-    even: &mut Planes,
-    main: &mut Planes,
-    sub: &mut Planes,
+    odd: &mut RankedRow,
+    even: &mut RankedRow,
+    main: &mut RankedRow,
+    sub: &mut RankedRow,
 )
     requires first { 1 ≤ layer }
     requires last { layer ≤ 4 }
     requires row { row < 239 }
     requires step { IsInStep tiles.now p.now.vram }
-    ensures main { (x : ℕ) → x < 256 → ink_at main.new x ≡ nearest (ink_at main.old x) (main_ink p.now row x layer) }
-    ensures sub { (x : ℕ) → x < 256 → ink_at sub.new x ≡ nearest (ink_at sub.old x) (sub_ink p.now row x layer) }
+    ensures main { (x : ℕ) → x < 256 → ranked_pixel_at main.new x ≡ nearest (ranked_pixel_at main.old x) (main_pixel p.now row x layer) }
+    ensures sub { (x : ℕ) → x < 256 → ranked_pixel_at sub.new x ≡ nearest (ranked_pixel_at sub.old x) (sub_pixel p.now row x layer) }
 {
     if has(p.registers().mode, layer) {
         lay_shown(p, tiles, layer, row, odd, even, main, sub);
@@ -241,9 +241,9 @@ pub fn add_background(
 
 /// Paints the objects.
 #[inline(always)]
-fn paint_objects(p: &Ppu, row: u16, out: &mut Planes) -> Over
+fn paint_objects(p: &Ppu, row: u16, out: &mut RankedRow) -> Over
     requires row { row < 239 }
-    ensures inks { (x : ℕ) → x < 256 → ink_at out.new x ≡ ink_of p.now 5 (object_candidate p.now row x) }
+    ensures ranked_pixels { (x : ℕ) → x < 256 → ranked_pixel_at out.new x ≡ ranked_pixel_of p.now 5 (object_layer_dot p.now row x) }
     ensures range { result.range ≡ passes_range p.now row }
     ensures time { result.time ≡ passes_time p.now row }
 {
@@ -260,13 +260,13 @@ fn paint_objects(p: &Ppu, row: u16, out: &mut Planes) -> Over
 pub fn add_objects(
     p: &Ppu,
     row: u16,
-    work: &mut Planes,
-    main: &mut Planes,
-    sub: &mut Planes,
+    work: &mut RankedRow,
+    main: &mut RankedRow,
+    sub: &mut RankedRow,
 ) -> Over
     requires row { row < 239 }
-    ensures main { (x : ℕ) → x < 256 → ink_at main.new x ≡ nearest (ink_at main.old x) (main_ink p.now row x 5) }
-    ensures sub { (x : ℕ) → x < 256 → ink_at sub.new x ≡ nearest (ink_at sub.old x) (sub_ink p.now row x 5) }
+    ensures main { (x : ℕ) → x < 256 → ranked_pixel_at main.new x ≡ nearest (ranked_pixel_at main.old x) (main_pixel p.now row x 5) }
+    ensures sub { (x : ℕ) → x < 256 → ranked_pixel_at sub.new x ≡ nearest (ranked_pixel_at sub.old x) (sub_pixel p.now row x 5) }
     ensures range { result.range ≡ passes_range p.now row }
     ensures time { result.time ≡ passes_time p.now row }
 {

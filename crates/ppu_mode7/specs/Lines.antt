@@ -4,7 +4,7 @@ use Rattle.std.specs.Prelude.{◌≡◌, ℕ, ◌+◌, ◌*◌, ◌/◌, ◌%◌
 use Rattle.ppu_regs.specs.declared.registers.Registers.{Registers}
 use Rattle.ppu_regs.specs.Dots.{rank_of}
 use Rattle.ppu_mode7.specs.declared.places.Line.{Line}
-use Rattle.ppu_mode7.specs.Rotated.{start_x, start_y, signed_16, line_of, pixel_of, is_outside, candidate_of}
+use Rattle.ppu_mode7.specs.Rotated.{start_x, start_y, signed_16, line_of, pixel_of, is_outside, layer_dot_of}
 
 -- the numbers of a line are those of a layer's row
 pub record IsLine (r : Registers) (layer row : ℕ) (line : Line) : Type 0 where
@@ -27,4 +27,4 @@ outside_mark x y = if is_outside x || is_outside y then 1 else 0
 -- the byte of a value in the plane of ranks
 unfoldable pub rank_at : Bool → ℕ → ℕ → ℕ → ℕ → ℕ
 rank_at is_direct layer low high value =
-    rank_of (if (candidate_of is_direct layer value).priority == 1 then high else low) (candidate_of is_direct layer value)
+    rank_of (if (layer_dot_of is_direct layer value).priority == 1 then high else low) (layer_dot_of is_direct layer value)

@@ -5,7 +5,7 @@ use Rattle.ppu_regs.specs.declared.registers.Registers.{Registers}
 use Rattle.ppu_regs.specs.declared.registers.Rotation.{Rotation}
 use Rattle.ppu_regs.specs.declared.registers.Outside.{Outside}
 use Rattle.ppu_regs.specs.declared.registers.Outside.TheVariants.{Wrap, Nothing, TileZero}
-use Rattle.ppu_regs.specs.declared.dots.Candidate.{Candidate}
+use Rattle.ppu_regs.specs.declared.dots.LayerDot.{LayerDot}
 use Rattle.ppu_regs.specs.Picture.{Picture, background_of}
 
 -- Numbers here are modulo 2 ^ 32, a negative one as its complement. None of them needs more than 28 bits.
@@ -104,12 +104,12 @@ rotated_value p layer row x =
 
 -- Layer 1 shows the whole byte, by CGRAM or as a direct colour. Layer 2, of EXTBG, has bit 7 as its priority and the low seven bits as
 -- its colour.
-unfoldable pub candidate_of : Bool → ℕ → ℕ → Candidate
-candidate_of is_direct layer value =
+unfoldable pub layer_dot_of : Bool → ℕ → ℕ → LayerDot
+layer_dot_of is_direct layer value =
     if layer == 2
     then (record { on = not (value % 128 == 0); priority = value / 128 % 2; number = value % 128; direct = false; palette = 0; math = true })
     else (record { on = not (value == 0); priority = 0; number = value; direct = is_direct; palette = 0; math = true })
 
 -- what a layer of mode 7 has at the pixel x of a row
-unfoldable pub rotated_candidate : Picture → ℕ → ℕ → ℕ → Candidate
-rotated_candidate p layer row x = candidate_of p.registers.colour.direct layer (rotated_value p layer row x)
+unfoldable pub rotated_layer_dot : Picture → ℕ → ℕ → ℕ → LayerDot
+rotated_layer_dot p layer row x = layer_dot_of p.registers.colour.direct layer (rotated_value p layer row x)

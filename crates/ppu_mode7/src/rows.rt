@@ -2,13 +2,13 @@
 
 ghost use Rattle.std.specs.Prelude.{◌≡◌, ℕ, ◌+◌, ◌*◌, ◌/◌, ◌%◌, ◌<◌, ◌≤◌, ◌-◌, ◌⊎◌, ◌==◌, not, Bool, length, slice_index, slice_index_or, if◌then◌else◌};
 ghost use Rattle.ppu_regs.specs.Dots.{no_dot, dot_of, rank_of};
-ghost use Rattle.ppu_mode7.specs.Rotated.{place_at, value_at, turned, rotated_value, candidate_of, rotated_candidate};
+ghost use Rattle.ppu_mode7.specs.Rotated.{place_at, value_at, turned, rotated_value, layer_dot_of, rotated_layer_dot};
 ghost use Rattle.ppu_mode7.specs.Lines.{rank_at};
 
 use crate::places::{Line, line_at};
 use crate::texels::values;
-use ppu_regs::{Candidate, Dot, Planes, Ppu};
-use row_passes::spread_blocks;
+use ppu_regs::{Dot, LayerDot, Ppu, RankedRow};
+use scanline_ops::spread_blocks;
 
 /// A row the other way round.
 fn turn_row(from: &[u8; 256], out: &mut [u8; 256])
@@ -52,14 +52,14 @@ fn row_values(p: &Ppu, layer: u8, row: u16, out: &mut [u8; 256])
 }
 
 #[inline(always)]
-#[tactic(auto, unfolding(crate::specs::Rotated::candidate_of))]
-fn candidate(is_direct: bool, layer: u8, value: u8) -> Candidate
-    ensures value { result ≡ candidate_of is_direct layer value }
+#[tactic(auto, unfolding(crate::specs::Rotated::layer_dot_of))]
+fn layer_dot(is_direct: bool, layer: u8, value: u8) -> LayerDot
+    ensures value { result ≡ layer_dot_of is_direct layer value }
     ensures palette { result.palette ≡ 0 }
     ensures priority { result.priority < 2 }
 {
     if layer == 2 {
-        Candidate {
+        LayerDot {
             on: value % 128 != 0,
             priority: value / 128 % 2,
             number: value % 128,
@@ -68,7 +68,7 @@ fn candidate(is_direct: bool, layer: u8, value: u8) -> Candidate
             math: true,
         }
     } else {
-        Candidate {
+        LayerDot {
             on: value != 0,
             priority: 0,
             number: value,
@@ -80,15 +80,15 @@ fn candidate(is_direct: bool, layer: u8, value: u8) -> Candidate
 }
 
 #[inline(always)]
-#[tactic(auto, unfolding(crate::specs::Rotated::rotated_candidate))]
-fn candidate_in(p: &Ppu, is_direct: bool, layer: u8, row: u16, x: usize, value: u8) -> Candidate
+#[tactic(auto, unfolding(crate::specs::Rotated::rotated_layer_dot))]
+fn layer_dot_in(p: &Ppu, is_direct: bool, layer: u8, row: u16, x: usize, value: u8) -> LayerDot
     requires direct { is_direct ≡ p.now.registers.colour.direct }
     requires value { value ≡ rotated_value p.now layer row x }
-    ensures value { result ≡ rotated_candidate p.now layer row x }
+    ensures value { result ≡ rotated_layer_dot p.now layer row x }
     ensures palette { result.palette ≡ 0 }
     ensures priority { result.priority < 2 }
 {
-    candidate(is_direct, layer, value)
+    layer_dot(is_direct, layer, value)
 }
 
 /// Writes the dots of a layer's row: layer 1, or 2 of EXTBG.
@@ -97,19 +97,19 @@ pub fn m7_row(p: &Ppu, layer: u8, row: u16, out: &mut [Dot])
     requires layer { (layer ≡ 1) ⊎ (layer ≡ 2) }
     requires row { row < 239 }
     requires room { length out.old ≡ 256 }
-    ensures { (x : ℕ) → x < 256 → slice_index_or out.new x no_dot ≡ dot_of p.now.cgram (rotated_candidate p.now layer row x) }
+    ensures { (x : ℕ) → x < 256 → slice_index_or out.new x no_dot ≡ dot_of p.now.cgram (rotated_layer_dot p.now layer row x) }
 {
     let mut values = [0u8; 256];
     row_values(p, layer, row, &mut values);
     let direct = p.registers().colour.direct;
     for x in 0..256usize {
-        out[x] = candidate_in(p, direct, layer, row, x, values[x]).dot(p.cgram());
+        out[x] = layer_dot_in(p, direct, layer, row, x, values[x]).dot(p.cgram());
     }
 }
 
 #[inline(always)]
 #[tactic(auto, unfolding(ppu_regs::specs::Dots::rank_of))]
-fn rank_byte(c: &Candidate, low: u8, high: u8) -> u8
+fn rank_byte(c: &LayerDot, low: u8, high: u8) -> u8
     requires { c.now.palette ≡ 0 }
     ensures { result ≡ rank_of (if c.now.priority == 1 then high else low) c.now }
 {
@@ -120,24 +120,24 @@ fn rank_byte(c: &Candidate, low: u8, high: u8) -> u8
 /// The planes of a row's values.
 #[inline(always)]
 #[tactic(auto, unfolding(crate::specs::Lines::rank_at))]
-fn planes_of(is_direct: bool, layer: u8, values: &[u8; 256], low: u8, high: u8, out: &mut Planes)
+fn planes_of(is_direct: bool, layer: u8, values: &[u8; 256], low: u8, high: u8, out: &mut RankedRow)
     ensures ranks { (x : ℕ) → x < 256 → slice_index out.new.ranks x ≡ rank_at is_direct layer low high (slice_index values.now x) }
-    ensures numbers { (x : ℕ) → x < 256 → slice_index out.new.numbers x ≡ (candidate_of is_direct layer (slice_index values.now x)).number }
+    ensures numbers { (x : ℕ) → x < 256 → slice_index out.new.numbers x ≡ (layer_dot_of is_direct layer (slice_index values.now x)).number }
 {
     for x in 0..256usize {
-        let c = candidate(is_direct, layer, values[x]);
+        let c = layer_dot(is_direct, layer, values[x]);
         out.ranks[x] = rank_byte(&c, low, high);
         out.numbers[x] = c.number;
     }
 }
 
 /// Writes a layer's row as planes: `low` and `high` are the rank bytes of the two priorities.
-#[tactic(auto, unfolding(crate::specs::Rotated::rotated_candidate, crate::specs::Lines::rank_at))]
-pub fn m7_planes(p: &Ppu, layer: u8, row: u16, low: u8, high: u8, out: &mut Planes)
+#[tactic(auto, unfolding(crate::specs::Rotated::rotated_layer_dot, crate::specs::Lines::rank_at))]
+pub fn m7_planes(p: &Ppu, layer: u8, row: u16, low: u8, high: u8, out: &mut RankedRow)
     requires { row < 239 }
     ensures ranks { (x : ℕ) → x < 256 → slice_index out.new.ranks x ≡
-        rank_of (if (rotated_candidate p.now layer row x).priority == 1 then high else low) (rotated_candidate p.now layer row x) }
-    ensures numbers { (x : ℕ) → x < 256 → slice_index out.new.numbers x ≡ (rotated_candidate p.now layer row x).number }
+        rank_of (if (rotated_layer_dot p.now layer row x).priority == 1 then high else low) (rotated_layer_dot p.now layer row x) }
+    ensures numbers { (x : ℕ) → x < 256 → slice_index out.new.numbers x ≡ (rotated_layer_dot p.now layer row x).number }
 {
     let mut values = [0u8; 256];
     row_values(p, layer, row, &mut values);

@@ -6,7 +6,7 @@ ghost use Rattle.ppu_mode7.specs.Lines.{map_word, fine_of, outside_mark};
 
 use crate::places::{Line, place};
 use ppu_regs::Outside;
-use row_passes::choose;
+use scanline_ops::choose;
 
 #[inline(always)]
 fn pixel(place: u32) -> u32
@@ -97,7 +97,7 @@ fn take_values(vram: &[u16], tiles: &[u8; 256], fine: &[u8; 256], out: &mut [u8;
 }
 
 #[inline(always)]
-#[tactic(auto, unfolding(row_passes::specs::Inks::chosen))]
+#[tactic(auto, unfolding(scanline_ops::specs::RankedPixels::chosen))]
 fn unless_marked(mark: u8, v: u8) -> u8
     ensures { result ≡ (if mark == 0 then v else 0) }
 {

@@ -6,9 +6,9 @@ use Rattle.std.proofs.lemmas.Grind.{common_steps}
 use Rattle.std.proofs.Math.Seq.{drop-cons}
 use Rattle.ppu_regs.specs.Picture.{Picture}
 use Rattle.ppu_objects.specs.declared.objects.Object.{Object}
-use Rattle.ppu_objects.specs.declared.pieces.Piece.{Piece}
+use Rattle.ppu_objects.specs.declared.slivers.Sliver.{Sliver}
 use Rattle.ppu_objects.specs.Objects.{grown, on_row, object_in_turn, stands_on}
-use Rattle.ppu_objects.specs.Pieces.{first_pieces, is_on_screen, piece_left, pieces_of, all_pieces}
+use Rattle.ppu_objects.specs.Slivers.{first_slivers, is_on_screen, sliver_left, slivers_of, all_slivers}
 
 -- with room, the new element is among the first
 pub take_push_room : {A : Type 0} (m : ℕ) (xs : List A) (x : A) → length (take m xs) < m → take m (xs ++ x ∷ []) ≡ take m xs ++ x ∷ []
@@ -49,28 +49,28 @@ unfolding grown
 grown-append true x xs ys = append_assoc xs ys (x ∷ [])
 grown-append false x xs ys = refl
 
--- one more object, and one more piece
+-- one more object, and one more sliver
 pub on_row_more : (p : Picture) (row k : ℕ) → on_row p row (k + 1) ≡
     grown (stands_on p.registers.object_tiles.size (object_in_turn p k) row) (object_in_turn p k) (on_row p row k)
 unfolding on_row
 on_row_more p row k = rw add-one refl
 
-pub pieces_more : (o : Object) (k : ℕ) (xs : List Piece) → xs ++ first_pieces o (k + 1) ≡
-    grown (is_on_screen (piece_left o k)) (record { object = o; column = k }) (xs ++ first_pieces o k)
-unfolding first_pieces
-pieces_more o k xs = rw add-one (sym (grown-append (is_on_screen (piece_left o k)) (record { object = o; column = k }) xs (first_pieces o k)))
+pub slivers_more : (o : Object) (k : ℕ) (xs : List Sliver) → xs ++ first_slivers o (k + 1) ≡
+    grown (is_on_screen (sliver_left o k)) (record { object = o; column = k }) (xs ++ first_slivers o k)
+unfolding first_slivers
+slivers_more o k xs = rw add-one (sym (grown-append (is_on_screen (sliver_left o k)) (record { object = o; column = k }) xs (first_slivers o k)))
 
--- the pieces from an object on
-pieces_from : (code : ℕ) (list : List Object) (d : Object) (i from next : ℕ) → from ≡ i → next ≡ suc i → i < length list →
-    all_pieces code (drop from list) ≡ all_pieces code (drop next list) ++ pieces_of code (get_or list i d)
-unfolding all_pieces
-pieces_from code list d i from next f n below = rw f (rw n (rw (drop-cons list i d below) refl))
+-- the slivers from an object on
+slivers_from : (code : ℕ) (list : List Object) (d : Object) (i from next : ℕ) → from ≡ i → next ≡ suc i → i < length list →
+    all_slivers code (drop from list) ≡ all_slivers code (drop next list) ++ slivers_of code (get_or list i d)
+unfolding all_slivers
+slivers_from code list d i from next f n below = rw f (rw n (rw (drop-cons list i d below) refl))
 
--- the pieces of the last objects, and of one more
-pub all_pieces_more : (code : ℕ) (list : List Object) (j : ℕ) (d : Object) → j < length list →
-    all_pieces code (drop (length list - (j + 1)) list) ≡
-    all_pieces code (drop (length list - j) list) ++ pieces_of code (get_or list (length list - 1 - j) d)
-all_pieces_more code list j d h =
-    pieces_from code list d (length list - 1 - j) (length list - (j + 1)) (length list - j) (omega arith) (omega arith) (omega arith)
+-- the slivers of the last objects, and of one more
+pub all_slivers_more : (code : ℕ) (list : List Object) (j : ℕ) (d : Object) → j < length list →
+    all_slivers code (drop (length list - (j + 1)) list) ≡
+    all_slivers code (drop (length list - j) list) ++ slivers_of code (get_or list (length list - 1 - j) d)
+all_slivers_more code list j d h =
+    slivers_from code list d (length list - 1 - j) (length list - (j + 1)) (length list - j) (omega arith) (omega arith) (omega arith)
 
-pub ruleset turns = all_pieces_more
+pub ruleset turns = all_slivers_more

@@ -1,5 +1,5 @@
 pub mod Covering
 pub mod Near
 pub mod Objects
-pub mod Pieces
+pub mod Slivers
 pub mod Ranks

@@ -1,6 +1,6 @@
 -- The objects: what OAM says of one, how large it is, and which ones stand on a row (2101 to 2104; nocash
--- fullsnes, "SNES PPU Sprites (OBJs)"). Their pieces, the limit of 34 with its flag, and what stands at a pixel
--- are in `Pieces`.
+-- fullsnes, "SNES PPU Sprites (OBJs)"). Their slivers, the limit of 34 with its flag, and what stands at a pixel
+-- are in `Slivers`.
 use Rattle.std.specs.Prelude.{ℕ, zero, suc, ◌+◌, ◌-◌, ◌*◌, ◌/◌, ◌%◌, ◌==◌, Bool, ◌&&◌, ◌||◌, nat_lt, nat_le, List, [], ◌∷◌, ◌++◌, length, take, slice_index, if◌then◌else◌}
 use Rattle.ppu_regs.specs.Picture.{Picture}
 use Rattle.ppu_objects.specs.declared.objects.Object.{Object}

@@ -1,16 +1,16 @@
 //! The objects of a picture row.
 //!
 //! The crate stands on `ppu_regs`. `obj_row` writes the row's dots, `obj_planes` the same as two byte
-//! planes; both answer which of the two limits were passed (32 objects, 34 pieces of eight pixels). What
-//! stands at a pixel is `object_candidate` of `specs/Pieces.antt`: of the drawn pieces the one of the earliest
+//! planes; both answer which of the two limits were passed (32 objects, 34 slivers of eight pixels). What
+//! stands at a pixel is `object_layer_dot` of `specs/Slivers.antt`: of the drawn slivers the one of the earliest
 //! object with a value there. Which objects stand on a row is in `specs/Objects.antt`.
 #![tactic(auto)]
 
 mod objects;
 mod painting;
-mod pieces;
 mod rows;
+mod slivers;
 
 pub use objects::Object;
-pub use pieces::Piece;
 pub use rows::{obj_planes, obj_row};
+pub use slivers::Sliver;

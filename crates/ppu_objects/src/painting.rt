@@ -1,19 +1,19 @@
-//! Painting pieces over a row.
+//! Painting slivers over a row.
 
 ghost use Rattle.std.specs.Prelude.{◌≡◌, ℕ, ◌+◌, ◌-◌, ◌*◌, ◌/◌, ◌%◌, ◌<◌, ◌≤◌, ◌==◌, nat_le, length, slice_index, slice_index_or, if◌then◌else◌};
-ghost use Rattle.tile_cache.specs.Planes.{eight};
-ghost use Rattle.ppu_objects.specs.Covering.{covers, no_piece, piece_pixel};
-ghost use Rattle.ppu_objects.specs.Pieces.{shown_line, shown_column, tile_number, tile_word, piece_word, pixel_value, piece_candidate};
+ghost use Rattle.tile_cache.specs.Bitplanes.{eight};
+ghost use Rattle.ppu_objects.specs.Covering.{covers, no_sliver, sliver_pixel};
+ghost use Rattle.ppu_objects.specs.Slivers.{shown_line, shown_column, tile_number, tile_word, sliver_word, pixel_value, sliver_layer_dot};
 ghost use Rattle.ppu_objects.specs.Ranks.{rank_byte, object_rank};
 
 use crate::objects::{Object, height, line_of_object, width};
-use crate::pieces::{Piece, left_of, on_screen};
+use crate::slivers::{Sliver, left_of, on_screen};
 use ppu_regs::{ObjectTiles, Ppu};
-use row_passes::choose;
+use scanline_ops::choose;
 use tile_cache::line_of_words;
 
 #[inline(always)]
-#[tactic(auto, unfolding(crate::specs::Pieces::shown_line))]
+#[tactic(auto, unfolding(crate::specs::Slivers::shown_line))]
 fn line_shown(code: u8, o: &Object, row: u16) -> u16
     requires { row < 239 }
     ensures { result ≡ shown_line code o.now row }
@@ -24,7 +24,7 @@ fn line_shown(code: u8, o: &Object, row: u16) -> u16
 }
 
 #[inline(always)]
-#[tactic(auto, unfolding(crate::specs::Pieces::shown_column))]
+#[tactic(auto, unfolding(crate::specs::Slivers::shown_column))]
 fn column_shown(code: u8, o: &Object, column: u8) -> u16
     ensures { result ≡ shown_column code o.now column }
 {
@@ -33,7 +33,7 @@ fn column_shown(code: u8, o: &Object, column: u8) -> u16
 }
 
 #[inline(always)]
-#[tactic(auto, unfolding(crate::specs::Pieces::tile_number))]
+#[tactic(auto, unfolding(crate::specs::Slivers::tile_number))]
 fn tile(tile: u8, column: u16, line: u16) -> u32
     ensures value { result ≡ tile_number tile column line }
     ensures small { result < 256 }
@@ -43,7 +43,7 @@ fn tile(tile: u8, column: u16, line: u16) -> u32
 }
 
 #[inline(always)]
-#[tactic(auto, unfolding(crate::specs::Pieces::tile_word))]
+#[tactic(auto, unfolding(crate::specs::Slivers::tile_word))]
 fn word(tiles: &ObjectTiles, table: u8, tile: u32, line: u16) -> usize
     requires { tile < 256 }
     ensures value { result ≡ tile_word tiles.now table tile line }
@@ -54,15 +54,15 @@ fn word(tiles: &ObjectTiles, table: u8, tile: u32, line: u16) -> usize
 }
 
 #[inline(always)]
-#[tactic(auto, unfolding(crate::specs::Pieces::piece_word))]
-fn word_of_piece(tiles: &ObjectTiles, piece: &Piece, row: u16) -> usize
+#[tactic(auto, unfolding(crate::specs::Slivers::sliver_word))]
+fn word_of_sliver(tiles: &ObjectTiles, sliver: &Sliver, row: u16) -> usize
     requires { row < 239 }
-    ensures value { result ≡ piece_word tiles.now piece.now.object piece.now.column row }
+    ensures value { result ≡ sliver_word tiles.now sliver.now.object sliver.now.column row }
     ensures small { result < 32768 }
 {
-    let o = &piece.object;
+    let o = &sliver.object;
     let line = line_shown(tiles.size, o, row);
-    let column = column_shown(tiles.size, o, piece.column);
+    let column = column_shown(tiles.size, o, sliver.column);
     word(tiles, o.table, tile(o.tile, column, line), line)
 }
 
@@ -78,15 +78,15 @@ fn rank_of_object(bases: &[u8; 4], named: bool, o: &Object) -> u8
     base + bit
 }
 
-/// The eight pixels of a piece on a row, left to right on the screen.
+/// The eight pixels of a sliver on a row, left to right on the screen.
 #[inline(always)]
-fn line_of_piece(p: &Ppu, row: u16, piece: &Piece) -> [u8; 8]
+fn line_of_sliver(p: &Ppu, row: u16, sliver: &Sliver) -> [u8; 8]
     requires row { row < 239 }
-    ensures { result ≡ eight (pixel_value p.now.vram p.now.registers.object_tiles piece.now.object piece.now.column row) }
+    ensures { result ≡ eight (pixel_value p.now.vram p.now.registers.object_tiles sliver.now.object sliver.now.column row) }
 {
     let vram = p.vram();
-    let at = word_of_piece(&p.registers().object_tiles, piece, row);
-    line_of_words(vram[at], vram[(at + 8) % 32768], piece.object.flip_x)
+    let at = word_of_sliver(&p.registers().object_tiles, sliver, row);
+    line_of_words(vram[at], vram[(at + 8) % 32768], sliver.object.flip_x)
 }
 
 /// Puts eight bytes.
@@ -101,24 +101,24 @@ fn put_bytes(lines: &mut [u8; 272], at: usize, bytes: &[u8; 8])
     }
 }
 
-/// Puts the pixels of pieces side by side, so that they are read from memory where they are drawn: taken from a number's
+/// Puts the pixels of slivers side by side, so that they are read from memory where they are drawn: taken from a number's
 /// bytes at once they would be handled one by one.
 #[inline(always)]
-pub fn put_lines(p: &Ppu, row: u16, pieces: &[Piece], lines: &mut [u8; 272])
+pub fn put_lines(p: &Ppu, row: u16, slivers: &[Sliver], lines: &mut [u8; 272])
     requires row { row < 239 }
-    requires most { length pieces.now ≤ 34 }
-    ensures { (i k : ℕ) → i < length pieces.now → k < 8 →
-        slice_index lines.new (8 * i + k) ≡ piece_pixel p.now row (slice_index_or pieces.now i no_piece) k }
+    requires most { length slivers.now ≤ 34 }
+    ensures { (i k : ℕ) → i < length slivers.now → k < 8 →
+        slice_index lines.new (8 * i + k) ≡ sliver_pixel p.now row (slice_index_or slivers.now i no_sliver) k }
 {
-    for i in 0..pieces.len() {
-        let line = line_of_piece(p, row, &pieces[i]);
+    for i in 0..slivers.len() {
+        let line = line_of_sliver(p, row, &slivers[i]);
         put_bytes(lines, 8 * i, &line);
     }
 }
 
 /// A pixel's byte over another, where its value isn't 0.
 #[inline(always)]
-#[tactic(auto, unfolding(row_passes::specs::Inks::chosen))]
+#[tactic(auto, unfolding(scanline_ops::specs::RankedPixels::chosen))]
 fn over(value: u8, taken: u8, under: u8) -> u8
     ensures { result ≡ (if value == 0 then under else taken) }
 {
@@ -151,13 +151,13 @@ fn cover(
     }
 }
 
-/// Draws a piece over a row in two planes, whose pixel x stands at place x + 8: its rank bytes by the bases of the four
+/// Draws a sliver over a row in two planes, whose pixel x stands at place x + 8: its rank bytes by the bases of the four
 /// priorities, and bit 3 where `named` and its palette may take part in arithmetic. Its pixels stand in `lines`.
 #[inline(always)]
 pub fn paint(
     p: &Ppu,
     row: u16,
-    piece: &Piece,
+    sliver: &Sliver,
     lines: &[u8; 272],
     from: usize,
     bases: &[u8; 4],
@@ -168,16 +168,16 @@ pub fn paint(
     requires row { row < 239 }
     requires bases { (k : ℕ) → slice_index bases.now k ≤ 240 }
     requires room { from + 8 ≤ 272 }
-    requires line { (k : ℕ) → k < 8 → slice_index lines.now (from + k) ≡ piece_pixel p.now row piece.now k }
+    requires line { (k : ℕ) → k < 8 → slice_index lines.now (from + k) ≡ sliver_pixel p.now row sliver.now k }
     ensures ranks { (x : ℕ) → x < 256 → slice_index ranks.new (x + 8) ≡
-        (if (piece_candidate p.now row piece.now x).on then object_rank bases.now named (piece_candidate p.now row piece.now x)
+        (if (sliver_layer_dot p.now row sliver.now x).on then object_rank bases.now named (sliver_layer_dot p.now row sliver.now x)
         else slice_index ranks.old (x + 8)) }
     ensures numbers { (x : ℕ) → x < 256 → slice_index numbers.new (x + 8) ≡
-        (if (piece_candidate p.now row piece.now x).on then (piece_candidate p.now row piece.now x).number
+        (if (sliver_layer_dot p.now row sliver.now x).on then (sliver_layer_dot p.now row sliver.now x).number
         else slice_index numbers.old (x + 8)) }
 {
-    let o = &piece.object;
-    let left = left_of(o, piece.column);
+    let o = &sliver.object;
+    let left = left_of(o, sliver.column);
     if on_screen(left) {
         let rank = rank_of_object(bases, named, o);
         let colours = 128 + 16 * (o.palette % 8);

@@ -3,19 +3,19 @@
 ghost use Rattle.std.specs.Prelude.{◌≡◌, ℕ, ◌+◌, ◌*◌, ◌/◌, ◌%◌, ◌<◌, ◌≤◌, ◌==◌, [], fold, true, length, slice_index, slice_index_or};
 ghost use Rattle.ppu_regs.specs.Dots.{no_dot, dot_of};
 ghost use Rattle.ppu_objects.specs.Objects.{passes_range};
-ghost use Rattle.ppu_objects.specs.Pieces.{drawn_pieces, passes_time, nothing, painted, object_candidate};
+ghost use Rattle.ppu_objects.specs.Slivers.{drawn_slivers, passes_time, nothing, painted, object_layer_dot};
 ghost use Rattle.ppu_objects.specs.Ranks.{object_rank, row_bases, IsOfObjects};
-ghost use Rattle.ppu_regs.specs.declared.dots.Candidate.{Candidate};
+ghost use Rattle.ppu_regs.specs.declared.dots.LayerDot.{LayerDot};
 ghost use Rattle.ppu_regs.specs.Dots.{no_dot, dot_of};
 
 use crate::objects::{Object, gather};
 use crate::painting::{paint, put_lines};
-use crate::pieces::{Piece, gather_pieces};
+use crate::slivers::{Sliver, gather_slivers};
 use arrayvec::ArrayVec;
-use ppu_regs::{Dot, Over, Planes, Ppu};
+use ppu_regs::{Dot, Over, Ppu, RankedRow};
 
 #[inline(always)]
-fn clear(out: &mut Planes)
+fn clear(out: &mut RankedRow)
     ensures ranks { (x : ℕ) → x < 256 → slice_index out.new.ranks x ≡ 0 }
     ensures numbers { (x : ℕ) → x < 256 → slice_index out.new.numbers x ≡ 0 }
 {
@@ -25,46 +25,46 @@ fn clear(out: &mut Planes)
     }
 }
 
-/// Gathers the drawn pieces of a row in an empty list, and answers which limits were passed.
-#[tactic(auto, unfolding(crate::specs::Pieces::drawn_pieces, crate::specs::Pieces::passes_time))]
-fn gather_row(p: &Ppu, row: u16, pieces: &mut ArrayVec<Piece, 34>) -> Over
+/// Gathers the drawn slivers of a row in an empty list, and answers which limits were passed.
+#[tactic(auto, unfolding(crate::specs::Slivers::drawn_slivers, crate::specs::Slivers::passes_time))]
+fn gather_row(p: &Ppu, row: u16, slivers: &mut ArrayVec<Sliver, 34>) -> Over
     requires row { row < 239 }
-    requires empty { pieces.old.items ≡ [] }
-    ensures pieces { pieces.new.items ≡ drawn_pieces p.now row }
+    requires empty { slivers.old.items ≡ [] }
+    ensures slivers { slivers.new.items ≡ drawn_slivers p.now row }
     ensures range { result.range ≡ passes_range p.now row }
     ensures time { result.time ≡ passes_time p.now row }
 {
     let mut objects: ArrayVec<Object, 32> = ArrayVec::new();
     let range = gather(p, row, &mut objects);
-    let time = gather_pieces(p.registers().object_tiles.size, objects.as_slice(), pieces);
+    let time = gather_slivers(p.registers().object_tiles.size, objects.as_slice(), slivers);
     Over { range, time }
 }
 
-/// Draws pieces in turn over a row in which nothing stands, and whose pixel x stands at place x + 8.
+/// Draws slivers in turn over a row in which nothing stands, and whose pixel x stands at place x + 8.
 #[inline(always)]
-#[tactic(auto, unfolding(crate::specs::Pieces::painted, crate::specs::Ranks::object_rank), using(std::proofs::lemmas::List::Sums::fold_more))]
+#[tactic(auto, unfolding(crate::specs::Slivers::painted, crate::specs::Ranks::object_rank), using(std::proofs::lemmas::List::Sums::fold_more))]
 fn paint_all(
     p: &Ppu,
     row: u16,
-    pieces: &[Piece],
+    slivers: &[Sliver],
     bases: &[u8; 4],
     named: bool,
     ranks: &mut [u8; 272],
     numbers: &mut [u8; 272],
 )
     requires row { row < 239 }
-    requires most { length pieces.now ≤ 34 }
+    requires most { length slivers.now ≤ 34 }
     requires bases { (k : ℕ) → slice_index bases.now k ≤ 240 }
     requires ranks_clear { (x : ℕ) → x < 256 → slice_index ranks.old (x + 8) ≡ 0 }
     requires numbers_clear { (x : ℕ) → x < 256 → slice_index numbers.old (x + 8) ≡ 0 }
-    ensures ranks { (x : ℕ) → x < 256 → slice_index ranks.new (x + 8) ≡ object_rank bases.now named (fold (painted p.now row x) nothing pieces.now) }
-    ensures numbers { (x : ℕ) → x < 256 → slice_index numbers.new (x + 8) ≡ (fold (painted p.now row x) nothing pieces.now).number }
+    ensures ranks { (x : ℕ) → x < 256 → slice_index ranks.new (x + 8) ≡ object_rank bases.now named (fold (painted p.now row x) nothing slivers.now) }
+    ensures numbers { (x : ℕ) → x < 256 → slice_index numbers.new (x + 8) ≡ (fold (painted p.now row x) nothing slivers.now).number }
 {
     let mut lines = [0u8; 272];
-    put_lines(p, row, pieces, &mut lines);
-    for i in 0..pieces.len() {
-        let piece = pieces[i];
-        paint(p, row, &piece, &lines, 8 * i, bases, named, ranks, numbers);
+    put_lines(p, row, slivers, &mut lines);
+    for i in 0..slivers.len() {
+        let sliver = slivers[i];
+        paint(p, row, &sliver, &lines, 8 * i, bases, named, ranks, numbers);
     }
 }
 
@@ -86,22 +86,29 @@ fn cut(from: &[u8; 272], out: &mut [u8; 256])
     }
 }
 
-/// Draws the pieces of a row, if there are any.
+/// Draws the slivers of a row, if there are any.
 #[inline(always)]
 #[tactic(auto, unfolding(crate::specs::Ranks::object_rank))]
-fn paint_row(p: &Ppu, row: u16, pieces: &[Piece], bases: &[u8; 4], named: bool, out: &mut Planes)
+fn paint_row(
+    p: &Ppu,
+    row: u16,
+    slivers: &[Sliver],
+    bases: &[u8; 4],
+    named: bool,
+    out: &mut RankedRow,
+)
     requires row { row < 239 }
-    requires most { length pieces.now ≤ 34 }
+    requires most { length slivers.now ≤ 34 }
     requires bases { (k : ℕ) → slice_index bases.now k ≤ 240 }
-    ensures ranks { (x : ℕ) → x < 256 → slice_index out.new.ranks x ≡ object_rank bases.now named (fold (painted p.now row x) nothing pieces.now) }
-    ensures numbers { (x : ℕ) → x < 256 → slice_index out.new.numbers x ≡ (fold (painted p.now row x) nothing pieces.now).number }
+    ensures ranks { (x : ℕ) → x < 256 → slice_index out.new.ranks x ≡ object_rank bases.now named (fold (painted p.now row x) nothing slivers.now) }
+    ensures numbers { (x : ℕ) → x < 256 → slice_index out.new.numbers x ≡ (fold (painted p.now row x) nothing slivers.now).number }
 {
-    if pieces.is_empty() {
+    if slivers.is_empty() {
         clear(out);
     } else {
         let mut ranks = clear_row();
         let mut numbers = clear_row();
-        paint_all(p, row, pieces, bases, named, &mut ranks, &mut numbers);
+        paint_all(p, row, slivers, bases, named, &mut ranks, &mut numbers);
         cut(&ranks, &mut out.ranks);
         cut(&numbers, &mut out.numbers);
     }
@@ -109,18 +116,18 @@ fn paint_row(p: &Ppu, row: u16, pieces: &[Piece], bases: &[u8; 4], named: bool, 
 
 /// Writes the objects of a row as planes, and answers which limits were passed: `bases` are the rank bytes of the
 /// four priorities, and bit 3 is set where `named` and the palette may take part in arithmetic.
-#[tactic(auto, unfolding(crate::specs::Pieces::object_candidate))]
-pub fn obj_planes(p: &Ppu, row: u16, bases: &[u8; 4], named: bool, out: &mut Planes) -> Over
+#[tactic(auto, unfolding(crate::specs::Slivers::object_layer_dot))]
+pub fn obj_planes(p: &Ppu, row: u16, bases: &[u8; 4], named: bool, out: &mut RankedRow) -> Over
     requires row { row < 239 }
     requires bases { (k : ℕ) → slice_index bases.now k ≤ 240 }
-    ensures ranks { (x : ℕ) → x < 256 → slice_index out.new.ranks x ≡ object_rank bases.now named (object_candidate p.now row x) }
-    ensures numbers { (x : ℕ) → x < 256 → slice_index out.new.numbers x ≡ (object_candidate p.now row x).number }
+    ensures ranks { (x : ℕ) → x < 256 → slice_index out.new.ranks x ≡ object_rank bases.now named (object_layer_dot p.now row x) }
+    ensures numbers { (x : ℕ) → x < 256 → slice_index out.new.numbers x ≡ (object_layer_dot p.now row x).number }
     ensures range { result.range ≡ passes_range p.now row }
     ensures time { result.time ≡ passes_time p.now row }
 {
-    let mut pieces: ArrayVec<Piece, 34> = ArrayVec::new();
-    let over = gather_row(p, row, &mut pieces);
-    paint_row(p, row, pieces.as_slice(), bases, named, out);
+    let mut slivers: ArrayVec<Sliver, 34> = ArrayVec::new();
+    let over = gather_row(p, row, &mut slivers);
+    paint_row(p, row, slivers.as_slice(), bases, named, out);
     over
 }
 
@@ -128,7 +135,7 @@ pub fn obj_planes(p: &Ppu, row: u16, bases: &[u8; 4], named: bool, out: &mut Pla
 #[inline(always)]
 #[tactic(auto, unfolding(crate::specs::Ranks::object_rank, crate::specs::Ranks::rank_byte, ppu_regs::specs::Dots::dot_of, ppu_regs::specs::Dots::colour_of))]
 fn dot_at(cgram: &[u16; 256], rank: u8, number: u8) -> Dot
-    ensures { (c : Candidate) → IsOfObjects c → rank ≡ object_rank row_bases true c → number ≡ c.number → result ≡ dot_of cgram.now c }
+    ensures { (c : LayerDot) → IsOfObjects c → rank ≡ object_rank row_bases true c → number ≡ c.number → result ≡ dot_of cgram.now c }
 {
     if rank == 0 {
         Dot {
@@ -149,9 +156,9 @@ fn dot_at(cgram: &[u16; 256], rank: u8, number: u8) -> Dot
 
 #[inline(always)]
 fn dot_in_row(p: &Ppu, row: u16, x: usize, rank: u8, number: u8) -> Dot
-    requires rank { rank ≡ object_rank row_bases true (object_candidate p.now row x) }
-    requires number { number ≡ (object_candidate p.now row x).number }
-    ensures { result ≡ dot_of p.now.cgram (object_candidate p.now row x) }
+    requires rank { rank ≡ object_rank row_bases true (object_layer_dot p.now row x) }
+    requires number { number ≡ (object_layer_dot p.now row x).number }
+    ensures { result ≡ dot_of p.now.cgram (object_layer_dot p.now row x) }
 {
     dot_at(p.cgram(), rank, number)
 }
@@ -160,11 +167,11 @@ fn dot_in_row(p: &Ppu, row: u16, x: usize, rank: u8, number: u8) -> Dot
 pub fn obj_row(p: &Ppu, row: u16, out: &mut [Dot]) -> Over
     requires row { row < 239 }
     requires room { length out.old ≡ 256 }
-    ensures dots { (x : ℕ) → x < 256 → slice_index_or out.new x no_dot ≡ dot_of p.now.cgram (object_candidate p.now row x) }
+    ensures dots { (x : ℕ) → x < 256 → slice_index_or out.new x no_dot ≡ dot_of p.now.cgram (object_layer_dot p.now row x) }
     ensures range { result.range ≡ passes_range p.now row }
     ensures time { result.time ≡ passes_time p.now row }
 {
-    let mut planes = Planes {
+    let mut planes = RankedRow {
         ranks: [0; 256],
         numbers: [0; 256],
     };

@@ -1,7 +1,7 @@
--- What a layer has at a dot: a candidate, its colour, and its bytes in the two planes of a row.
+-- What a layer has at a dot: a layer dot, its colour, and its bytes in the two planes of a row.
 use Rattle.std.specs.Prelude.{ℕ, Bool, true, false, ◌+◌, ◌*◌, ◌/◌, ◌%◌, List, slice_index, if◌then◌else◌}
 use Rattle.ppu_regs.specs.declared.dots.Dot.{Dot}
-use Rattle.ppu_regs.specs.declared.dots.Candidate.{Candidate}
+use Rattle.ppu_regs.specs.declared.dots.LayerDot.{LayerDot}
 
 -- the dot of a layer that has nothing there
 abbrev pub no_dot : Dot
@@ -16,16 +16,16 @@ direct_colour_of value palette =
     let blue = 8 * (value / 64) + 4 * (palette / 4) in
     red + 32 * green + 1024 * blue
 
--- the colour of a candidate: CGRAM at its number, or a direct one
-unfoldable pub colour_of : List ℕ → Candidate → ℕ
+-- the colour of a layer dot: CGRAM at its number, or a direct one
+unfoldable pub colour_of : List ℕ → LayerDot → ℕ
 colour_of cgram c = if c.direct then direct_colour_of c.number c.palette else slice_index cgram c.number
 
--- the dot of a candidate
-unfoldable pub dot_of : List ℕ → Candidate → Dot
+-- the dot of a layer dot
+unfoldable pub dot_of : List ℕ → LayerDot → Dot
 dot_of cgram c =
     if c.on then (record { on = true; prio = c.priority; colour = colour_of cgram c; math = c.math }) else no_dot
 
--- the byte of a candidate in the plane of ranks, where `base` is the byte of its layer and priority: its
+-- the byte of a layer dot in the plane of ranks, where `base` is the byte of its layer and priority: its
 -- rank in bits 7-4 and whether arithmetic names it in bit 3
-unfoldable pub rank_of : ℕ → Candidate → ℕ
+unfoldable pub rank_of : ℕ → LayerDot → ℕ
 rank_of base c = if c.on then base + c.palette else 0

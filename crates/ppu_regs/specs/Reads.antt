@@ -32,7 +32,7 @@ counters_latched c spot = record c { h = spot.h / 4; v = spot.v; latched = true 
 abbrev pub count_byte : ℕ → Bool → ℕ
 count_byte count high = if high then count / 256 % 2 else count % 256
 
--- 213E STAT77: 7 more pieces than 34, 6 more objects than 32, 3-0 the number 1
+-- 213E STAT77: 7 more slivers than 34, 6 more objects than 32, 3-0 the number 1
 unfoldable pub status_one : Over → ℕ
 status_one o = 128 * bit_of o.time + 64 * bit_of o.range + 1
 

@@ -16,7 +16,7 @@ pub struct Dot {
 
 /// What a layer has at a dot, before its colour is looked up.
 #[derive(Clone, Copy)]
-pub struct Candidate {
+pub struct LayerDot {
     /// Whether the layer has anything there: its value isn't 0.
     pub on: bool,
     /// 0 or 1 of a background, 0 to 3 of an object.
@@ -38,7 +38,7 @@ pub struct Candidate {
 /// the number of the colour in CGRAM, or the value of a direct colour. So the front of two dots is
 /// that of the greater byte in `ranks`.
 #[derive(Clone, Copy)]
-pub struct Planes {
+pub struct RankedRow {
     pub ranks: [u8; 256],
     pub numbers: [u8; 256],
 }
@@ -58,7 +58,7 @@ pub fn direct_colour(value: u8, palette: u8) -> u16
     red + 32 * green + 1024 * blue
 }
 
-impl Candidate {
+impl LayerDot {
     /// Its colour.
     #[inline(always)]
     #[tactic(auto, unfolding(crate::specs::Dots::colour_of))]

@@ -17,7 +17,7 @@ mod start;
 mod vram;
 mod writes;
 
-pub use dots::{Candidate, Dot, Planes, direct_colour};
+pub use dots::{Dot, LayerDot, RankedRow, direct_colour};
 pub use ppu::Ppu;
 pub use registers::{
     Background, CgramPort, ColourMath, Combine, Counters, Display, LayerScreens, LayerWindows,

@@ -225,7 +225,7 @@ pub struct Counters {
 pub struct Over {
     /// More than 32 objects stood on a row.
     pub range: bool,
-    /// More than 34 pieces of eight pixels did.
+    /// More than 34 slivers of eight pixels did.
     pub time: bool,
 }
 

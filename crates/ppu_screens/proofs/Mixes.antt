@@ -3,7 +3,7 @@ use Rattle.std.proofs.Common.{◌≡◌, ℕ, zero, suc, ◌<◌, Bool, true, fa
 use Rattle.std.proofs.lemmas.Bool.{cases_lt}
 use Rattle.ppu_regs.specs.declared.registers.ColourMath.{ColourMath}
 use Rattle.ppu_regs.specs.declared.registers.WindowPart.TheVariants.{Never}
-use Rattle.row_passes.specs.Inks.{is_named, is_any_named}
+use Rattle.scanline_ops.specs.RankedPixels.{is_named, is_any_named}
 use Rattle.color_window.specs.Mixing.{holds_at, mixed, fixed_colour}
 
 -- where none is named, each isn't

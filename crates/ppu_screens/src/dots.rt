@@ -2,15 +2,15 @@
 
 ghost use Rattle.std.specs.Prelude.{◌≡◌, ℕ, ◌+◌, ◌*◌, ◌<◌, true, false, length, slice_index};
 ghost use Rattle.ppu_regs.specs.declared.registers.WindowPart.TheVariants.{Never};
-ghost use Rattle.row_passes.specs.Inks.{is_named, is_found};
-ghost use Rattle.row_passes.specs.Colours.{dimmed};
+ghost use Rattle.scanline_ops.specs.RankedPixels.{is_named, is_found};
+ghost use Rattle.scanline_ops.specs.Colours.{dimmed};
 ghost use Rattle.color_window.specs.Mixing.{fixed_colour};
-ghost use Rattle.ppu_screens.specs.Screens.{ink_at, has_direct, front_ink_colour, main_colour, sub_colour, is_halved, even_dot, odd_dot};
+ghost use Rattle.ppu_screens.specs.Screens.{ranked_pixel_at, has_direct, front_pixel_colour, main_colour, sub_colour, is_halved, even_dot, odd_dot};
 
 use crate::order::rank;
 use color_window::{fixed, mix_row};
-use ppu_regs::{Planes, Ppu, Registers, WindowPart};
-use row_passes::{any_named, dim_row, is_found_key, look_up, write_dots, write_twice};
+use ppu_regs::{Ppu, RankedRow, Registers, WindowPart};
+use scanline_ops::{any_named, dim_row, is_found_key, look_up, write_dots, write_twice};
 
 #[inline(always)]
 #[tactic(auto, unfolding(crate::specs::Screens::has_direct))]
@@ -21,9 +21,9 @@ fn direct(r: &Registers) -> bool
 }
 
 /// The colours of what stands in front.
-#[tactic(auto, unfolding(crate::specs::Screens::front_ink_colour))]
-fn front_colours(p: &Ppu, front: &Planes, out: &mut [u16; 256])
-    ensures { (x : ℕ) → x < 256 → slice_index out.new x ≡ front_ink_colour p.now (ink_at front.now x) }
+#[tactic(auto, unfolding(crate::specs::Screens::front_pixel_colour))]
+fn front_colours(p: &Ppu, front: &RankedRow, out: &mut [u16; 256])
+    ensures { (x : ℕ) → x < 256 → slice_index out.new x ≡ front_pixel_colour p.now (ranked_pixel_at front.now x) }
 {
     let r = p.registers();
     look_up(
@@ -37,11 +37,11 @@ fn front_colours(p: &Ppu, front: &Planes, out: &mut [u16; 256])
     );
 }
 
-/// Whether the main screen's colours may differ from those in front: main may be black, or arithmetic is named for an
-/// ink of the row.
+/// Whether the main screen's colours may differ from those in front: main may be black, or arithmetic is named for a
+/// ranked pixel of the row.
 #[inline(always)]
 #[tactic(auto, using(crate::proofs::Mixes::named))]
-fn mixes(p: &Ppu, main: &Planes) -> bool
+fn mixes(p: &Ppu, main: &RankedRow) -> bool
     ensures black { result ≡ false → p.now.registers.colour.black ≡ Never }
     ensures names { (x : ℕ) → x < 256 → result ≡ false → is_named (slice_index main.now.ranks x) ≡ false }
 {
@@ -53,9 +53,15 @@ fn mixes(p: &Ppu, main: &Planes) -> bool
 
 /// The main screen's colours before brightness. The sub screen's count only where they are asked for.
 #[tactic(auto, unfolding(crate::specs::Screens::main_colour), using(crate::proofs::Mixes::apart))]
-fn mixed_colours(p: &Ppu, main: &Planes, sub: &Planes, subs: &[u16; 256], out: &mut [u16; 256])
-    requires subs { p.now.registers.colour.sub_screen ≡ true → (x : ℕ) → x < 256 → slice_index subs.now x ≡ front_ink_colour p.now (ink_at sub.now x) }
-    ensures { (x : ℕ) → x < 256 → slice_index out.new x ≡ main_colour p.now x (ink_at main.now x) (ink_at sub.now x) }
+fn mixed_colours(
+    p: &Ppu,
+    main: &RankedRow,
+    sub: &RankedRow,
+    subs: &[u16; 256],
+    out: &mut [u16; 256],
+)
+    requires subs { p.now.registers.colour.sub_screen ≡ true → (x : ℕ) → x < 256 → slice_index subs.now x ≡ front_pixel_colour p.now (ranked_pixel_at sub.now x) }
+    ensures { (x : ℕ) → x < 256 → slice_index out.new x ≡ main_colour p.now x (ranked_pixel_at main.now x) (ranked_pixel_at sub.now x) }
 {
     front_colours(p, main, out);
     mix_row(p, &main.ranks, out, &sub.ranks, subs);
@@ -63,10 +69,10 @@ fn mixed_colours(p: &Ppu, main: &Planes, sub: &Planes, subs: &[u16; 256], out: &
 
 /// The same where nothing is mixed.
 #[tactic(auto, unfolding(crate::specs::Screens::main_colour), using(crate::proofs::Mixes::unmixed))]
-fn unmixed_colours(p: &Ppu, main: &Planes, sub: &Planes, out: &mut [u16; 256])
+fn unmixed_colours(p: &Ppu, main: &RankedRow, sub: &RankedRow, out: &mut [u16; 256])
     requires black { p.now.registers.colour.black ≡ Never }
     requires names { (x : ℕ) → x < 256 → is_named (slice_index main.now.ranks x) ≡ false }
-    ensures { (x : ℕ) → x < 256 → slice_index out.new x ≡ main_colour p.now x (ink_at main.now x) (ink_at sub.now x) }
+    ensures { (x : ℕ) → x < 256 → slice_index out.new x ≡ main_colour p.now x (ranked_pixel_at main.now x) (ranked_pixel_at sub.now x) }
 {
     front_colours(p, main, out);
 }
@@ -75,16 +81,16 @@ fn unmixed_colours(p: &Ppu, main: &Planes, sub: &Planes, out: &mut [u16; 256])
 #[tactic(auto, unfolding(crate::specs::Screens::sub_colour))]
 fn or_fixed(p: &Ppu, fixed: u16, key: u8, number: u8, colour: u16) -> u16
     requires fixed { fixed ≡ fixed_colour p.now.registers.colour }
-    requires colour { colour ≡ front_ink_colour p.now (record { key = key; number = number }) }
+    requires colour { colour ≡ front_pixel_colour p.now (record { key = key; number = number }) }
     ensures { result ≡ sub_colour p.now (record { key = key; number = number }) }
 {
     if is_found_key(key) { colour } else { fixed }
 }
 
 /// The sub screen's colours, for the even dots.
-fn sub_colours(p: &Ppu, sub: &Planes, subs: &[u16; 256], out: &mut [u16; 256])
-    requires { (x : ℕ) → x < 256 → slice_index subs.now x ≡ front_ink_colour p.now (ink_at sub.now x) }
-    ensures { (x : ℕ) → x < 256 → slice_index out.new x ≡ sub_colour p.now (ink_at sub.now x) }
+fn sub_colours(p: &Ppu, sub: &RankedRow, subs: &[u16; 256], out: &mut [u16; 256])
+    requires { (x : ℕ) → x < 256 → slice_index subs.now x ≡ front_pixel_colour p.now (ranked_pixel_at sub.now x) }
+    ensures { (x : ℕ) → x < 256 → slice_index out.new x ≡ sub_colour p.now (ranked_pixel_at sub.now x) }
 {
     let fixed = fixed(p);
     for x in 0..256usize {
@@ -110,8 +116,8 @@ fn clear(out: &mut [u16])
 }
 
 /// The main screen's colours, where the even dots aren't the sub screen's.
-fn whole_colours(p: &Ppu, main: &Planes, sub: &Planes, out: &mut [u16; 256])
-    ensures { (x : ℕ) → x < 256 → slice_index out.new x ≡ main_colour p.now x (ink_at main.now x) (ink_at sub.now x) }
+fn whole_colours(p: &Ppu, main: &RankedRow, sub: &RankedRow, out: &mut [u16; 256])
+    ensures { (x : ℕ) → x < 256 → slice_index out.new x ≡ main_colour p.now x (ranked_pixel_at main.now x) (ranked_pixel_at sub.now x) }
 {
     if mixes(p, main) {
         let mut subs = [0u16; 256];
@@ -126,12 +132,12 @@ fn whole_colours(p: &Ppu, main: &Planes, sub: &Planes, out: &mut [u16; 256])
 
 /// Writes the dots of a row whose dots are whole pixels.
 #[tactic(auto, unfolding(crate::specs::Screens::even_dot, crate::specs::Screens::odd_dot))]
-fn finish_whole(p: &Ppu, main: &Planes, sub: &Planes, out: &mut [u16])
+fn finish_whole(p: &Ppu, main: &RankedRow, sub: &RankedRow, out: &mut [u16])
     requires room { length out.old ≡ 512 }
     requires shown { p.now.registers.display.blanked ≡ false }
     requires whole { is_halved p.now.registers ≡ false }
-    ensures even { (x : ℕ) → x < 256 → slice_index out.new (2 * x) ≡ even_dot p.now x (ink_at main.now x) (ink_at sub.now x) }
-    ensures odd { (x : ℕ) → x < 256 → slice_index out.new (2 * x + 1) ≡ odd_dot p.now x (ink_at main.now x) (ink_at sub.now x) }
+    ensures even { (x : ℕ) → x < 256 → slice_index out.new (2 * x) ≡ even_dot p.now x (ranked_pixel_at main.now x) (ranked_pixel_at sub.now x) }
+    ensures odd { (x : ℕ) → x < 256 → slice_index out.new (2 * x + 1) ≡ odd_dot p.now x (ranked_pixel_at main.now x) (ranked_pixel_at sub.now x) }
 {
     p.in_range();
     let mut row = [0u16; 256];
@@ -142,12 +148,12 @@ fn finish_whole(p: &Ppu, main: &Planes, sub: &Planes, out: &mut [u16])
 
 /// Writes the dots of a row whose even dots are the sub screen's.
 #[tactic(auto, unfolding(crate::specs::Screens::even_dot, crate::specs::Screens::odd_dot))]
-fn finish_halved(p: &Ppu, main: &Planes, sub: &Planes, out: &mut [u16])
+fn finish_halved(p: &Ppu, main: &RankedRow, sub: &RankedRow, out: &mut [u16])
     requires room { length out.old ≡ 512 }
     requires shown { p.now.registers.display.blanked ≡ false }
     requires halved { is_halved p.now.registers ≡ true }
-    ensures even { (x : ℕ) → x < 256 → slice_index out.new (2 * x) ≡ even_dot p.now x (ink_at main.now x) (ink_at sub.now x) }
-    ensures odd { (x : ℕ) → x < 256 → slice_index out.new (2 * x + 1) ≡ odd_dot p.now x (ink_at main.now x) (ink_at sub.now x) }
+    ensures even { (x : ℕ) → x < 256 → slice_index out.new (2 * x) ≡ even_dot p.now x (ranked_pixel_at main.now x) (ranked_pixel_at sub.now x) }
+    ensures odd { (x : ℕ) → x < 256 → slice_index out.new (2 * x + 1) ≡ odd_dot p.now x (ranked_pixel_at main.now x) (ranked_pixel_at sub.now x) }
 {
     p.in_range();
     let brightness = p.registers().display.brightness;
@@ -169,10 +175,10 @@ fn finish_halved(p: &Ppu, main: &Planes, sub: &Planes, out: &mut [u16])
 /// Writes the row's 512 dots from what stands in front on the main and on the sub screen: dots 2x and 2x + 1 are those
 /// of the pixel x.
 #[tactic(auto, unfolding(crate::specs::Screens::even_dot, crate::specs::Screens::odd_dot))]
-pub fn finish(p: &Ppu, main: &Planes, sub: &Planes, out: &mut [u16])
+pub fn finish(p: &Ppu, main: &RankedRow, sub: &RankedRow, out: &mut [u16])
     requires { length out.old ≡ 512 }
-    ensures even { (x : ℕ) → x < 256 → slice_index out.new (2 * x) ≡ even_dot p.now x (ink_at main.now x) (ink_at sub.now x) }
-    ensures odd { (x : ℕ) → x < 256 → slice_index out.new (2 * x + 1) ≡ odd_dot p.now x (ink_at main.now x) (ink_at sub.now x) }
+    ensures even { (x : ℕ) → x < 256 → slice_index out.new (2 * x) ≡ even_dot p.now x (ranked_pixel_at main.now x) (ranked_pixel_at sub.now x) }
+    ensures odd { (x : ℕ) → x < 256 → slice_index out.new (2 * x + 1) ≡ odd_dot p.now x (ranked_pixel_at main.now x) (ranked_pixel_at sub.now x) }
 {
     let r = p.registers();
     if r.display.blanked {

@@ -1,18 +1,18 @@
 //! What stands in front on the main and on the sub screen.
 
 ghost use Rattle.std.specs.Prelude.{◌≡◌, ℕ, ◌<◌, ◌≤◌, true, false, slice_index};
-ghost use Rattle.row_passes.specs.Inks.{no_ink, nearest};
+ghost use Rattle.scanline_ops.specs.RankedPixels.{no_pixel, nearest};
 ghost use Rattle.color_window.specs.Windows.{is_inside};
-ghost use Rattle.ppu_screens.specs.Screens.{ink_at, standing, on_main, on_sub, backdrop};
+ghost use Rattle.ppu_screens.specs.Screens.{ranked_pixel_at, standing, on_main, on_sub, backdrop};
 
 use color_window::mask_row;
-use ppu_regs::{Planes, Ppu};
-use row_passes::{fill_row, lay, lay_unmasked};
+use ppu_regs::{Ppu, RankedRow};
+use scanline_ops::{fill_row, lay, lay_unmasked};
 
 #[inline(always)]
-#[tactic(auto, using(crate::proofs::FrontLemmas::inks))]
-fn fill(key: u8, planes: &mut Planes)
-    ensures { (x : ℕ) → x < 256 → ink_at planes.new x ≡ record { key = key; number = 0 } }
+#[tactic(auto, using(crate::proofs::FrontLemmas::ranked_pixels))]
+fn fill(key: u8, planes: &mut RankedRow)
+    ensures { (x : ℕ) → x < 256 → ranked_pixel_at planes.new x ≡ record { key = key; number = 0 } }
 {
     fill_row(key, &mut planes.ranks);
     fill_row(0, &mut planes.numbers);
@@ -20,9 +20,9 @@ fn fill(key: u8, planes: &mut Planes)
 
 /// Begins a row: the backdrop on the main screen, nothing on the sub screen.
 #[tactic(auto, unfolding(crate::specs::Screens::backdrop))]
-pub fn start(p: &Ppu, main: &mut Planes, sub: &mut Planes)
-    ensures main { (x : ℕ) → x < 256 → ink_at main.new x ≡ backdrop p.now.registers }
-    ensures sub { (x : ℕ) → x < 256 → ink_at sub.new x ≡ no_ink }
+pub fn start(p: &Ppu, main: &mut RankedRow, sub: &mut RankedRow)
+    ensures main { (x : ℕ) → x < 256 → ranked_pixel_at main.new x ≡ backdrop p.now.registers }
+    ensures sub { (x : ℕ) → x < 256 → ranked_pixel_at sub.new x ≡ no_pixel }
 {
     let key = if p.registers().colour.backdrop { 8 } else { 0 };
     fill(key, main);
@@ -31,11 +31,11 @@ pub fn start(p: &Ppu, main: &mut Planes, sub: &mut Planes)
 
 /// Lays a layer that is masked by its windows over a screen.
 #[tactic(auto, using(crate::proofs::FrontLemmas::lays))]
-fn lay_masked(p: &Ppu, layer: u8, row: &Planes, front: &mut Planes)
+fn lay_masked(p: &Ppu, layer: u8, row: &RankedRow, front: &mut RankedRow)
     requires first { 1 ≤ layer }
     requires last { layer ≤ 5 }
-    ensures { (x : ℕ) → x < 256 → ink_at front.new x ≡
-        nearest (ink_at front.old x) (standing true true (is_inside p.now.registers layer x) (ink_at row.now x)) }
+    ensures { (x : ℕ) → x < 256 → ranked_pixel_at front.new x ≡
+        nearest (ranked_pixel_at front.old x) (standing true true (is_inside p.now.registers layer x) (ranked_pixel_at row.now x)) }
 {
     let mut hidden = [0u8; 256];
     mask_row(p, layer, &mut hidden);
@@ -50,9 +50,9 @@ fn lay_masked(p: &Ppu, layer: u8, row: &Planes, front: &mut Planes)
 
 /// Lays a layer that is seen everywhere over a screen.
 #[tactic(auto, using(crate::proofs::FrontLemmas::lays_open))]
-fn lay_open(p: &Ppu, layer: u8, row: &Planes, front: &mut Planes)
-    ensures { (x : ℕ) → x < 256 → ink_at front.new x ≡
-        nearest (ink_at front.old x) (standing true false (is_inside p.now.registers layer x) (ink_at row.now x)) }
+fn lay_open(p: &Ppu, layer: u8, row: &RankedRow, front: &mut RankedRow)
+    ensures { (x : ℕ) → x < 256 → ranked_pixel_at front.new x ≡
+        nearest (ranked_pixel_at front.old x) (standing true false (is_inside p.now.registers layer x) (ranked_pixel_at row.now x)) }
 {
     lay_unmasked(
         &row.ranks,
@@ -64,11 +64,11 @@ fn lay_open(p: &Ppu, layer: u8, row: &Planes, front: &mut Planes)
 
 /// Lays a layer that is on over a screen.
 #[inline(always)]
-fn lay_seen(p: &Ppu, layer: u8, masked: bool, row: &Planes, front: &mut Planes)
+fn lay_seen(p: &Ppu, layer: u8, masked: bool, row: &RankedRow, front: &mut RankedRow)
     requires first { 1 ≤ layer }
     requires last { layer ≤ 5 }
-    ensures { (x : ℕ) → x < 256 → ink_at front.new x ≡
-        nearest (ink_at front.old x) (standing true masked (is_inside p.now.registers layer x) (ink_at row.now x)) }
+    ensures { (x : ℕ) → x < 256 → ranked_pixel_at front.new x ≡
+        nearest (ranked_pixel_at front.old x) (standing true masked (is_inside p.now.registers layer x) (ranked_pixel_at row.now x)) }
 {
     if masked {
         lay_masked(p, layer, row, front);
@@ -79,11 +79,11 @@ fn lay_seen(p: &Ppu, layer: u8, masked: bool, row: &Planes, front: &mut Planes)
 
 #[inline(always)]
 #[tactic(auto, using(crate::proofs::FrontLemmas::unseen))]
-fn lay_on(p: &Ppu, layer: u8, on: bool, masked: bool, row: &Planes, front: &mut Planes)
+fn lay_on(p: &Ppu, layer: u8, on: bool, masked: bool, row: &RankedRow, front: &mut RankedRow)
     requires first { 1 ≤ layer }
     requires last { layer ≤ 5 }
-    ensures { (x : ℕ) → x < 256 → ink_at front.new x ≡
-        nearest (ink_at front.old x) (standing on masked (is_inside p.now.registers layer x) (ink_at row.now x)) }
+    ensures { (x : ℕ) → x < 256 → ranked_pixel_at front.new x ≡
+        nearest (ranked_pixel_at front.old x) (standing on masked (is_inside p.now.registers layer x) (ranked_pixel_at row.now x)) }
 {
     if on {
         lay_seen(p, layer, masked, row, front);
@@ -97,15 +97,15 @@ fn lay_on(p: &Ppu, layer: u8, on: bool, masked: bool, row: &Planes, front: &mut 
 pub fn lay_layer(
     p: &Ppu,
     layer: u8,
-    odd_dots: &Planes,
-    even_dots: &Planes,
-    main: &mut Planes,
-    sub: &mut Planes,
+    odd_dots: &RankedRow,
+    even_dots: &RankedRow,
+    main: &mut RankedRow,
+    sub: &mut RankedRow,
 )
     requires first { 1 ≤ layer }
     requires last { layer ≤ 5 }
-    ensures main { (x : ℕ) → x < 256 → ink_at main.new x ≡ nearest (ink_at main.old x) (on_main p.now.registers layer x (ink_at odd_dots.now x)) }
-    ensures sub { (x : ℕ) → x < 256 → ink_at sub.new x ≡ nearest (ink_at sub.old x) (on_sub p.now.registers layer x (ink_at even_dots.now x)) }
+    ensures main { (x : ℕ) → x < 256 → ranked_pixel_at main.new x ≡ nearest (ranked_pixel_at main.old x) (on_main p.now.registers layer x (ranked_pixel_at odd_dots.now x)) }
+    ensures sub { (x : ℕ) → x < 256 → ranked_pixel_at sub.new x ≡ nearest (ranked_pixel_at sub.old x) (on_sub p.now.registers layer x (ranked_pixel_at even_dots.now x)) }
 {
     let screens = *p.registers().screens(layer);
     lay_on(p, layer, screens.main, screens.main_masked, odd_dots, main);

@@ -5,10 +5,10 @@ use Rattle.ppu_regs.specs.declared.registers.Registers.{Registers}
 use Rattle.ppu_regs.specs.declared.registers.Background.{Background}
 use Rattle.ppu_regs.specs.Picture.{Picture, background_of}
 use Rattle.ppu_regs.specs.Dots.{rank_of}
-use Rattle.tile_cache.specs.Planes.{pixel_of, value_of, eight}
+use Rattle.tile_cache.specs.Bitplanes.{pixel_of, value_of, eight}
 use Rattle.ppu_tiles.specs.declared.scrolls.Scroll.{Scroll}
 use Rattle.ppu_tiles.specs.Modes.{depth_of, is_hires, tile_width}
-use Rattle.ppu_tiles.specs.Backgrounds.{own_scroll, two_offsets, one_offset, column_scroll, entry_at, turned, line_word, pixel_at, number_of, candidate_of, candidate_at, block_start, background_candidate}
+use Rattle.ppu_tiles.specs.Backgrounds.{own_scroll, two_offsets, one_offset, column_scroll, entry_at, turned, line_word, pixel_at, number_of, layer_dot_of, layer_dot_at, block_start, background_layer_dot}
 use Rattle.ppu_tiles.specs.Columns.{half_word, half_value, column_start, column_place, column_entry, column_value, column_base, column_first, base_of}
 
 -- within an eight of pixels, the places in a tile are those of one half of it
@@ -170,8 +170,8 @@ place_is false x fine across odd h = omega arith
 column_is :
     (p : Picture) (layer y x odd : ℕ) → odd < 2 →
     (let n = x + (background_of p.registers layer).scroll_x % 8 in
-    candidate_at p layer y x odd ≡ candidate_of p.registers layer (column_entry p layer y (n / 8)) (column_value p layer y odd (n / 8) (n % 8)))
-unfolding candidate_at column_value
+    layer_dot_at p layer y x odd ≡ layer_dot_of p.registers layer (column_entry p layer y (n / 8)) (column_value p layer y odd (n / 8) (n % 8)))
+unfolding layer_dot_at column_value
 column_is p layer y x odd ho =
     let b = background_of p.registers layer in
     let n = x + b.scroll_x % 8 in
@@ -189,14 +189,14 @@ rank_of_value :
     (r : Registers) (layer entry value low high : ℕ) →
     (if value == 0 then 0
     else (if entry / 8192 % 2 == 1 then high else low) + (if (depth_of r.mode layer == 8) && r.colour.direct then entry / 1024 % 8 else 0)) ≡
-    rank_of (base_of low high (candidate_of r layer entry value)) (candidate_of r layer entry value)
-unfolding rank_of candidate_of
+    rank_of (base_of low high (layer_dot_of r layer entry value)) (layer_dot_of r layer entry value)
+unfolding rank_of layer_dot_of
 rank_of_value r layer entry value low high = rank_by_value (value == 0) _
 
 pub column_rank :
     (p : Picture) (layer y x odd low high : ℕ) → odd < 2 →
     (let n = x + (background_of p.registers layer).scroll_x % 8 in
-    let c = candidate_at p layer y x odd in
+    let c = layer_dot_at p layer y x odd in
     (if column_value p layer y odd (n / 8) (n % 8) == 0 then 0 else column_base p layer y low high (n / 8)) ≡ rank_of (base_of low high c) c)
 unfolding column_base
 column_rank p layer y x odd low high ho =
@@ -236,14 +236,14 @@ number_is mode layer depth palette value hl hp hv = grind arith
 number_of_value :
     (r : Registers) (layer entry value : ℕ) → layer ≤ 4 →
     value < (if depth_of r.mode layer == 2 then 4 else if depth_of r.mode layer == 4 then 16 else 256) →
-    (number_of r.mode layer (depth_of r.mode layer) (entry / 1024 % 8) 0 + value) % 256 ≡ (candidate_of r layer entry value).number
-unfolding candidate_of
+    (number_of r.mode layer (depth_of r.mode layer) (entry / 1024 % 8) 0 + value) % 256 ≡ (layer_dot_of r layer entry value).number
+unfolding layer_dot_of
 number_of_value r layer entry value hl hv = number_is r.mode layer (depth_of r.mode layer) (entry / 1024 % 8) value hl (omega arith) hv
 
 pub column_number :
     (p : Picture) (layer y x odd : ℕ) → odd < 2 → layer ≤ 4 →
     (let n = x + (background_of p.registers layer).scroll_x % 8 in
-    (column_first p layer y (n / 8) + column_value p layer y odd (n / 8) (n % 8)) % 256 ≡ (candidate_at p layer y x odd).number)
+    (column_first p layer y (n / 8) + column_value p layer y odd (n / 8) (n % 8)) % 256 ≡ (layer_dot_at p layer y x odd).number)
 unfolding column_first
 column_number p layer y x odd ho hl =
     let n = x + (background_of p.registers layer).scroll_x % 8 in
@@ -251,12 +251,12 @@ column_number p layer y x odd ho hl =
     (number_of_value p.registers layer (column_entry p layer y (n / 8)) (column_value p layer y odd (n / 8) (n % 8)) hl (column_small p layer y odd (n / 8) (n % 8)))
 
 -- the dot of a pair
-pub candidate_is :
+pub layer_dot_is :
     (p : Picture) (layer row x odd : ℕ) → odd < 2 →
     (let b = background_of p.registers layer in
-    candidate_at p layer (block_start p.registers b row) (block_start p.registers b x) odd ≡ background_candidate p layer row (2 * x + odd))
-unfolding background_candidate
-candidate_is p layer row x odd ho =
+    layer_dot_at p layer (block_start p.registers b row) (block_start p.registers b x) odd ≡ background_layer_dot p layer row (2 * x + odd))
+unfolding background_layer_dot
+layer_dot_is p layer row x odd ho =
     let pair : (2 * x + odd) / 2 ≡ x = omega arith in
     let dot : (2 * x + odd) % 2 ≡ odd = omega arith in
     rw (pair, dot) refl
@@ -271,7 +271,7 @@ pub row_rank :
     from ≡ (background_of p.registers layer).scroll_x % 8 →
     slice_index values (x + from) ≡ column_value p layer y odd ((x + from) / 8) ((x + from) % 8) →
     slice_index bases (x + from) ≡ column_base p layer y low high ((x + from) / 8) →
-    (let c = candidate_at p layer y x odd in
+    (let c = layer_dot_at p layer y x odd in
     (if slice_index values (x + from) == 0 then 0 else slice_index bases (x + from)) ≡ rank_of (base_of low high c) c)
 row_rank p layer y odd low high x from values bases ho hf hv hb = rw (hv, hb) (rw hf (column_rank p layer y x odd low high ho))
 
@@ -280,15 +280,15 @@ pub row_number :
     from ≡ (background_of p.registers layer).scroll_x % 8 →
     slice_index values (x + from) ≡ column_value p layer y odd ((x + from) / 8) ((x + from) % 8) →
     slice_index firsts (x + from) ≡ column_first p layer y ((x + from) / 8) →
-    (slice_index firsts (x + from) + slice_index values (x + from)) % 256 ≡ (candidate_at p layer y x odd).number
+    (slice_index firsts (x + from) + slice_index values (x + from)) % 256 ≡ (layer_dot_at p layer y x odd).number
 row_number p layer y odd x from values firsts ho hl hf hv hb = rw (hv, hb) (rw hf (column_number p layer y x odd ho hl))
 
 pub odd_small : (odd : Bool) → (if odd then 1 else 0) < 2
 odd_small true = omega arith
 odd_small false = omega arith
 
--- the candidate of a row that stands at its blocks' first
-pub row_candidate :
+-- the layer dot of a row that stands at its blocks' first
+pub row_layer_dot :
     (p : Picture) (layer row x odd y : ℕ) (r : Registers) (b : Background) → odd < 2 → r ≡ p.registers → b ≡ background_of r layer →
-    y ≡ block_start r b row → candidate_at p layer y (block_start r b x) odd ≡ background_candidate p layer row (2 * x + odd)
-row_candidate p layer row x odd y r b ho hr hb hy = let e = candidate_is p layer row x odd ho in cc
+    y ≡ block_start r b row → layer_dot_at p layer y (block_start r b x) odd ≡ background_layer_dot p layer row (2 * x + odd)
+row_layer_dot p layer row x odd y r b ho hr hb hy = let e = layer_dot_is p layer row x odd ho in cc

@@ -4,10 +4,10 @@
 use Rattle.std.specs.Prelude.{ℕ, Bool, true, not, ◌+◌, ◌-◌, ◌*◌, ◌/◌, ◌%◌, ◌==◌, ◌||◌, ◌&&◌, slice_index, if◌then◌else◌}
 use Rattle.ppu_regs.specs.declared.registers.Registers.{Registers}
 use Rattle.ppu_regs.specs.declared.registers.Background.{Background}
-use Rattle.ppu_regs.specs.declared.dots.Candidate.{Candidate}
+use Rattle.ppu_regs.specs.declared.dots.LayerDot.{LayerDot}
 use Rattle.ppu_regs.specs.Picture.{Picture, background_of}
 use Rattle.ppu_tiles.specs.declared.scrolls.Scroll.{Scroll}
-use Rattle.tile_cache.specs.Planes.{value_of}
+use Rattle.tile_cache.specs.Bitplanes.{value_of}
 use Rattle.ppu_tiles.specs.Modes.{depth_of, is_hires, has_offsets, tile_width, tile_height}
 
 -- the first row or column of the mosaic block in which one lies
@@ -103,10 +103,10 @@ number_of mode layer depth palette value =
     else if depth == 4 then 16 * palette + value
     else value
 
--- the candidate of a map entry and a value; value 0 is none. Direct colour is that of 8 bits where 2130 bit
+-- the layer dot of a map entry and a value; value 0 is none. Direct colour is that of 8 bits where 2130 bit
 -- 0 is set.
-unfoldable pub candidate_of : Registers → ℕ → ℕ → ℕ → Candidate
-candidate_of r layer entry value =
+unfoldable pub layer_dot_of : Registers → ℕ → ℕ → ℕ → LayerDot
+layer_dot_of r layer entry value =
     let depth = depth_of r.mode layer in
     let palette = entry / 1024 % 8 in
     let direct = (depth == 8) && r.colour.direct in
@@ -119,21 +119,21 @@ candidate_of r layer entry value =
       math = true;
     }
 
--- the candidate of a layer at pixel x of row y, both after mosaic; `odd` is the dot of the pixel's pair, which
+-- the layer dot of a layer at pixel x of row y, both after mosaic; `odd` is the dot of the pixel's pair, which
 -- counts in modes 5 and 6, where each dot is a pixel of the map
-unfoldable pub candidate_at : Picture → ℕ → ℕ → ℕ → ℕ → Candidate
-candidate_at p layer y x odd =
+unfoldable pub layer_dot_at : Picture → ℕ → ℕ → ℕ → ℕ → LayerDot
+layer_dot_at p layer y x odd =
     let r = p.registers in
     let b = background_of r layer in
     let s = column_scroll p layer (column_of b x) in
     let px = if is_hires r.mode then 2 * (x + s.across) + odd else x + s.across in
     let py = y + 1 + s.down in
     let entry = entry_at p b px py in
-    candidate_of r layer entry (pixel_at p b (depth_of r.mode layer) entry px py)
+    layer_dot_of r layer entry (pixel_at p b (depth_of r.mode layer) entry px py)
 
--- the candidate of a layer at dot e, 0 to 511, of a row; pixel x is the dots 2x and 2x + 1
-unfoldable pub background_candidate : Picture → ℕ → ℕ → ℕ → Candidate
-background_candidate p layer row e =
+-- the layer dot of a layer at dot e, 0 to 511, of a row; pixel x is the dots 2x and 2x + 1
+unfoldable pub background_layer_dot : Picture → ℕ → ℕ → ℕ → LayerDot
+background_layer_dot p layer row e =
     let r = p.registers in
     let b = background_of r layer in
-    candidate_at p layer (block_start r b row) (block_start r b (e / 2)) (e % 2)
+    layer_dot_at p layer (block_start r b row) (block_start r b (e / 2)) (e % 2)

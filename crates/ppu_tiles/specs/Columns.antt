@@ -1,17 +1,17 @@
 -- How a row of a background is cut into columns of one tile: column c is the pixels x whose place from the
 -- scroll's low three bits on, x + scroll % 8, is 8c to 8c + 7. A column has one scroll and one map entry. These
--- words are for the steps below `ink_row`; a reader of its contract needs none of them but `base_of`.
+-- words are for the steps below `ranked_row`; a reader of its contract needs none of them but `base_of`.
 use Rattle.std.specs.Prelude.{ℕ, Bool, true, not, ◌+◌, ◌-◌, ◌*◌, ◌/◌, ◌%◌, ◌==◌, ◌||◌, ◌&&◌, List, IsTrue, if◌then◌else◌}
 use Rattle.ppu_regs.specs.declared.registers.Registers.{Registers}
 use Rattle.ppu_regs.specs.declared.registers.Background.{Background}
-use Rattle.ppu_regs.specs.declared.dots.Candidate.{Candidate}
+use Rattle.ppu_regs.specs.declared.dots.LayerDot.{LayerDot}
 use Rattle.ppu_regs.specs.Picture.{Picture, background_of}
-use Rattle.tile_cache.specs.Planes.{value_of}
+use Rattle.tile_cache.specs.Bitplanes.{value_of}
 use Rattle.ppu_tiles.specs.Modes.{depth_of, is_hires, tile_height}
 use Rattle.ppu_tiles.specs.Backgrounds.{column_scroll, entry_at, pixel_at, number_of, turned, tile_of, line_word}
 
--- the byte in the plane of ranks for a candidate's priority
-abbrev pub base_of : ℕ → ℕ → Candidate → ℕ
+-- the byte in the plane of ranks for a layer dot's priority
+abbrev pub base_of : ℕ → ℕ → LayerDot → ℕ
 base_of low high c = if c.priority == 1 then high else low
 
 -- a depth that a layer of modes 0 to 6 has
@@ -68,9 +68,9 @@ unfoldable pub column_first : Picture → ℕ → ℕ → ℕ → ℕ
 column_first p layer y c =
     number_of p.registers.mode layer (depth_of p.registers.mode layer) (column_entry p layer y c / 1024 % 8) 0
 
--- the candidate that two bytes of a row stand for, where the byte of priority 1 is 32 and that of 0 is 16
-unfoldable pub planes_candidate : ℕ → ℕ → Bool → Candidate
-planes_candidate rank number direct = record {
+-- the layer dot that two bytes of a row stand for, where the byte of priority 1 is 32 and that of 0 is 16
+unfoldable pub planes_layer_dot : ℕ → ℕ → Bool → LayerDot
+planes_layer_dot rank number direct = record {
   on = not (rank == 0);
   priority = rank / 32;
   number = number;

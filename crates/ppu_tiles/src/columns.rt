@@ -1,6 +1,6 @@
 ghost use Rattle.std.specs.Prelude.{◌≡◌, ℕ, List, IsTrue, ◌<◌, ◌≤◌, ◌+◌, ◌*◌, ◌/◌, ◌%◌, ◌==◌, ◌||◌, ◌&&◌, ◌-◌, slice_index, if◌then◌else◌};
 ghost use Rattle.ppu_regs.specs.Reads.{bit_of};
-ghost use Rattle.tile_cache.specs.Planes.{IsInStep, eight};
+ghost use Rattle.tile_cache.specs.Bitplanes.{IsInStep, eight};
 ghost use Rattle.ppu_regs.specs.Picture.{background_of};
 ghost use Rattle.ppu_tiles.specs.Modes.{depth_of, is_hires};
 ghost use Rattle.ppu_tiles.specs.Backgrounds.{own_scroll, entry_at, pixel_at, number_of, tile_of, line_word};

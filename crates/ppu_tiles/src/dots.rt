@@ -1,13 +1,13 @@
 ghost use Rattle.std.specs.Prelude.{◌≡◌, ℕ, IsTrue, ◌<◌, ◌≤◌, ◌+◌, ◌*◌, ◌/◌, ◌%◌, ◌==◌, ◌||◌, ◌&&◌, ◌≢◌, length, slice_index, slice_index_or};
 ghost use Rattle.ppu_regs.specs.Dots.{dot_of, no_dot};
-ghost use Rattle.tile_cache.specs.Planes.{IsInStep};
+ghost use Rattle.tile_cache.specs.Bitplanes.{IsInStep};
 ghost use Rattle.ppu_tiles.specs.Modes.{depth_of};
-ghost use Rattle.ppu_tiles.specs.Backgrounds.{background_candidate};
-ghost use Rattle.ppu_tiles.specs.Columns.{IsDepth, planes_candidate};
+ghost use Rattle.ppu_tiles.specs.Backgrounds.{background_layer_dot};
+ghost use Rattle.ppu_tiles.specs.Columns.{IsDepth, planes_layer_dot};
 
 use crate::modes::depth;
-use crate::rows::ink_row;
-use ppu_regs::{Candidate, Dot, Ppu};
+use crate::rows::ranked_row;
+use ppu_regs::{Dot, LayerDot, Ppu};
 use tile_cache::TileCache;
 
 /// The byte in the plane of ranks for priority 0.
@@ -27,11 +27,11 @@ fn is_direct(p: &Ppu, layer: u8) -> bool
 
 /// The dot that two bytes of a row stand for.
 #[inline(always)]
-#[tactic(auto, unfolding(crate::specs::Columns::planes_candidate))]
+#[tactic(auto, unfolding(crate::specs::Columns::planes_layer_dot))]
 fn dot(rank: u8, number: u8, direct: bool, cgram: &[u16; 256]) -> Dot
-    ensures { result ≡ dot_of cgram.now (planes_candidate rank number direct) }
+    ensures { result ≡ dot_of cgram.now (planes_layer_dot rank number direct) }
 {
-    let candidate = Candidate {
+    let layer_dot = LayerDot {
         on: rank != 0,
         priority: rank / HIGH,
         number,
@@ -39,7 +39,7 @@ fn dot(rank: u8, number: u8, direct: bool, cgram: &[u16; 256]) -> Dot
         palette: rank % 8,
         math: true,
     };
-    candidate.dot(cgram)
+    layer_dot.dot(cgram)
 }
 
 /// The dots of two byte planes take every second place, from the first or the second.
@@ -54,7 +54,7 @@ fn fill(
     requires half { half < 2 }
     requires dots { length out.old ≡ 512 }
     ensures size { length out.new ≡ 512 }
-    ensures filled { (x : ℕ) → x < 256 → slice_index_or out.new (2 * x + half) no_dot ≡ dot_of cgram.now (planes_candidate (slice_index ranks.now x) (slice_index numbers.now x) direct) }
+    ensures filled { (x : ℕ) → x < 256 → slice_index_or out.new (2 * x + half) no_dot ≡ dot_of cgram.now (planes_layer_dot (slice_index ranks.now x) (slice_index numbers.now x) direct) }
     ensures others { (e : ℕ) → e % 2 ≢ half → slice_index_or out.new e no_dot ≡ slice_index_or out.old e no_dot }
 {
     for x in 0..256usize {
@@ -71,13 +71,13 @@ pub fn bg_row(p: &Ppu, tiles: &TileCache, layer: u8, row: u16, out: &mut [Dot])
     requires row { row < 239 }
     requires dots { length out.old ≡ 512 }
     requires step { IsInStep tiles.now p.now.vram }
-    ensures { (e : ℕ) → e < 512 → slice_index_or out.new e no_dot ≡ dot_of p.now.cgram (background_candidate p.now layer row e) }
+    ensures { (e : ℕ) → e < 512 → slice_index_or out.new e no_dot ≡ dot_of p.now.cgram (background_layer_dot p.now layer row e) }
 {
     let direct = is_direct(p, layer);
     let cgram = p.cgram();
     let mut ranks = [0u8; 256];
     let mut numbers = [0u8; 256];
-    ink_row(
+    ranked_row(
         p,
         tiles,
         layer,
@@ -89,7 +89,7 @@ pub fn bg_row(p: &Ppu, tiles: &TileCache, layer: u8, row: u16, out: &mut [Dot])
         &mut numbers,
     );
     fill(&ranks, &numbers, direct, cgram, 0, out);
-    ink_row(
+    ranked_row(
         p,
         tiles,
         layer,

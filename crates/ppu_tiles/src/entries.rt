@@ -1,5 +1,5 @@
 ghost use Rattle.std.specs.Prelude.{◌≡◌, ◌<◌, ◌≤◌, ◌-◌, ◌%◌, ◌/◌, ◌==◌, ◌*◌, ◌+◌};
-ghost use Rattle.ppu_tiles.specs.Backgrounds.{map_word, entry_at, turned, tile_of, line_word, number_of, candidate_of, block_start};
+ghost use Rattle.ppu_tiles.specs.Backgrounds.{map_word, entry_at, turned, tile_of, line_word, number_of, layer_dot_of, block_start};
 
 use crate::modes::{height, width};
 use ppu_regs::{Background, Ppu, Registers};

@@ -1,8 +1,8 @@
 //! The backgrounds of the picture modes 0 to 6.
 //!
 //! The crate stands on `ppu_regs` and `tile_cache`. What a background has at a dot is a function of the
-//! picture, `background_candidate` in `specs/Backgrounds.antt`. `bg_row` gives a row of it as dots with
-//! their colours, `ink_row` as two byte planes, in which a caller compares layers before it looks colours
+//! picture, `background_layer_dot` in `specs/Backgrounds.antt`. `bg_row` gives a row of it as dots with
+//! their colours, `ranked_row` as two byte planes, in which a caller compares layers before it looks colours
 //! up. Both take decoded tiles that are in step with VRAM, and neither takes memory.
 #![tactic(auto)]
 
@@ -15,4 +15,4 @@ mod scrolls;
 
 pub use dots::bg_row;
 pub use modes::depth;
-pub use rows::ink_row;
+pub use rows::ranked_row;

@@ -2,9 +2,9 @@ ghost use Rattle.std.specs.Prelude.{◌≡◌, ℕ, ◌<◌, ◌≤◌, ◌+◌,
 ghost use Rattle.ppu_regs.specs.Reads.{bit_of};
 ghost use Rattle.ppu_regs.specs.Dots.{rank_of};
 ghost use Rattle.ppu_regs.specs.Picture.{background_of};
-ghost use Rattle.tile_cache.specs.Planes.{IsInStep};
+ghost use Rattle.tile_cache.specs.Bitplanes.{IsInStep};
 ghost use Rattle.ppu_tiles.specs.Modes.{depth_of};
-ghost use Rattle.ppu_tiles.specs.Backgrounds.{block_start, candidate_at, background_candidate};
+ghost use Rattle.ppu_tiles.specs.Backgrounds.{block_start, layer_dot_at, background_layer_dot};
 ghost use Rattle.ppu_tiles.specs.Columns.{IsDepth, base_of, column_value, column_base, column_first};
 
 use crate::columns::put_column;
@@ -12,7 +12,7 @@ use crate::entries::block;
 use crate::modes::depth;
 use crate::scrolls::own;
 use ppu_regs::{Background, Ppu, Registers};
-use row_passes::spread_blocks;
+use scanline_ops::spread_blocks;
 use tile_cache::TileCache;
 
 /// The 33 columns of a row, side by side: their values, and what they are counted from in both planes. `b` is the
@@ -146,7 +146,7 @@ fn rank(value: u8, base: u8) -> u8
 
 /// The two planes from a painted row, from one of its first eight pixels on.
 #[inline(always)]
-fn ink(
+fn rank_pixels(
     values: &[u8; 264],
     bases: &[u8; 264],
     firsts: &[u8; 264],
@@ -197,8 +197,8 @@ fn plain_row(
     requires low { low ≤ 248 }
     requires high { high ≤ 248 }
     requires step { IsInStep tiles.now p.now.vram }
-    ensures ranks { (x : ℕ) → x < 256 → slice_index ranks.new x ≡ (let c = candidate_at p.now layer y x (bit_of odd) in rank_of (base_of low high c) c) }
-    ensures numbers { (x : ℕ) → x < 256 → slice_index numbers.new x ≡ (candidate_at p.now layer y x (bit_of odd)).number }
+    ensures ranks { (x : ℕ) → x < 256 → slice_index ranks.new x ≡ (let c = layer_dot_at p.now layer y x (bit_of odd) in rank_of (base_of low high c) c) }
+    ensures numbers { (x : ℕ) → x < 256 → slice_index numbers.new x ≡ (layer_dot_at p.now layer y x (bit_of odd)).number }
 {
     let mut values = [0u8; 264];
     let mut bases = [0u8; 264];
@@ -216,13 +216,13 @@ fn plain_row(
         &mut firsts,
     );
     let from = (p.registers().background(layer).scroll_x % 8) as usize;
-    ink(&values, &bases, &firsts, from, ranks, numbers);
+    rank_pixels(&values, &bases, &firsts, from, ranks, numbers);
 }
 
 /// A row of a layer in two byte planes: `ranks` has 0 where the layer has nothing, else `low` or `high` by the
 /// dot's priority, plus the palette of a direct colour; `numbers` has the number of the colour. Dot x is
 /// dot 2x of the row, or 2x + 1 where `odd`.
-pub fn ink_row(
+pub fn ranked_row(
     p: &Ppu,
     tiles: &TileCache,
     layer: u8,
@@ -240,8 +240,8 @@ pub fn ink_row(
     requires low { low ≤ 248 }
     requires high { high ≤ 248 }
     requires step { IsInStep tiles.now p.now.vram }
-    ensures ranks { (x : ℕ) → x < 256 → slice_index ranks.new x ≡ (let c = background_candidate p.now layer row (2 * x + bit_of odd) in rank_of (base_of low high c) c) }
-    ensures numbers { (x : ℕ) → x < 256 → slice_index numbers.new x ≡ (background_candidate p.now layer row (2 * x + bit_of odd)).number }
+    ensures ranks { (x : ℕ) → x < 256 → slice_index ranks.new x ≡ (let c = background_layer_dot p.now layer row (2 * x + bit_of odd) in rank_of (base_of low high c) c) }
+    ensures numbers { (x : ℕ) → x < 256 → slice_index numbers.new x ≡ (background_layer_dot p.now layer row (2 * x + bit_of odd)).number }
 {
     p.in_range();
     let r = p.registers();

@@ -2,7 +2,7 @@ use file_shelf::Shelf;
 use job_player::Console;
 use run_drive::Host;
 use run_io::Argv;
-use snes_call::{Status, snes};
+use snes_program::{Status, snes};
 use std::thread::Threads;
 
 /// What the program answers to words over a shelf. It is the one function here that names the console.

@@ -1,8 +1,8 @@
 // Rows over real files.
 use crate::answer::answer;
-use crate::rows::{Outcome, Rows, called, words_of};
+use crate::rows::{Outcome, Rows, performed, words_of};
 use file_shelf::{FileShelf, Out};
-use snes_call::Status;
+use snes_program::Status;
 use std::rt::Files;
 use std::thread::Threads;
 use std::{fs, io};
@@ -67,8 +67,10 @@ pub fn disk<R: AllocGlobal + Threads + Print + Files>(
     rows: &Rows,
     words: &str,
 ) -> io::Result<()> {
-    let (Some(row), Some(argv)) = (called(rt, rows, words, None), words_of(rt.alloc(), words))
-    else {
+    let (Some(row), Some(argv)) = (
+        performed(rt, rows, words, None),
+        words_of(rt.alloc(), words),
+    ) else {
         return println!(rt; "  no memory, or no row");
     };
     lay(rt, rows, words)?;

@@ -1,9 +1,9 @@
 use crate::compare::{are_alike, is_begun, is_same};
 use crate::disk::disk;
-use crate::rows::{Failure, Outcome, Rows, called};
+use crate::rows::{Failure, Outcome, Rows, performed};
 use crate::show::{Detail, show_answer, show_outputs};
 use file_shelf::{Out, ShelfCall};
-use snes_call::Status;
+use snes_program::Status;
 use std::alloc::Global;
 use std::rt::Files;
 use std::thread::Threads;
@@ -26,7 +26,7 @@ fn keep(rows: &mut Rows, outcome: &Outcome) -> Option<()> {
 
 /// A row of words: prints the answer and all that was written.
 fn row<R: AllocGlobal + Threads + Print>(rt: &R, rows: &mut Rows, words: &str) -> io::Result<()> {
-    let Some(outcome) = called(rt, rows, words, None) else {
+    let Some(outcome) = performed(rt, rows, words, None) else {
         return println!(rt; "{NO_ROW}");
     };
     show_answer(rt, &outcome)?;
@@ -39,7 +39,7 @@ fn row<R: AllocGlobal + Threads + Print>(rt: &R, rows: &mut Rows, words: &str) -
 
 /// A row of words of which two numbers of the line are not known from outside: prints the line up to them.
 fn opening<R: AllocGlobal + Threads + Print>(rt: &R, rows: &Rows, words: &str) -> io::Result<()> {
-    let Some(outcome) = called(rt, rows, words, None) else {
+    let Some(outcome) = performed(rt, rows, words, None) else {
         return println!(rt; "{NO_ROW}");
     };
     let exit = outcome.status.exit();
@@ -60,8 +60,8 @@ fn by_both<R: AllocGlobal + Threads>(
     let by_turns = format!(in alloc; "run {words}").ok()?;
     let serially = format!(in alloc; "serial {words}").ok()?;
     Some((
-        called(rt, rows, by_turns.as_str(), None)?,
-        called(rt, rows, serially.as_str(), None)?,
+        performed(rt, rows, by_turns.as_str(), None)?,
+        performed(rt, rows, serially.as_str(), None)?,
     ))
 }
 
@@ -130,7 +130,7 @@ fn fail_put<R: AllocGlobal + Threads + Print>(
         call: ShelfCall::Put(None),
         nth,
     };
-    let Some(part) = called(rt, rows, words, Some(here)) else {
+    let Some(part) = performed(rt, rows, words, Some(here)) else {
         println!(rt; "{NO_ROW}")?;
         return Ok(false);
     };
@@ -167,7 +167,7 @@ fn fail_each<R: AllocGlobal + Threads + Print>(
 
 /// A row whose puts fail in turn.
 fn each<R: AllocGlobal + Threads + Print>(rt: &R, rows: &Rows, words: &str) -> io::Result<()> {
-    match called(rt, rows, words, None) {
+    match performed(rt, rows, words, None) {
         Some(whole) => fail_each(rt, rows, words, &whole),
         None => println!(rt; "{NO_ROW}"),
     }
@@ -176,11 +176,11 @@ fn each<R: AllocGlobal + Threads + Print>(rt: &R, rows: &Rows, words: &str) -> i
 /// A row of words some put of which fails: prints the answer, and whether first bytes are left, at least one of the
 /// output that failed, of what the row leaves without a failure. How many depends on where the two workers met.
 fn part<R: AllocGlobal + Threads + Print>(rt: &R, rows: &mut Rows, words: &str) -> io::Result<()> {
-    let Some(part) = called(rt, rows, words, None) else {
+    let Some(part) = performed(rt, rows, words, None) else {
         return println!(rt; "{NO_ROW}");
     };
     rows.mend();
-    match called(rt, rows, words, None) {
+    match performed(rt, rows, words, None) {
         Some(whole) => show_part(rt, &part, &whole),
         None => println!(rt; "{NO_ROW}"),
     }

@@ -2,7 +2,7 @@ use crate::answer::answer;
 use crate::files::Files;
 use file_shelf::{MemShelf, Out, ShelfCall};
 use run_io::Argv;
-use snes_call::Status;
+use snes_program::Status;
 use std::alloc::Global;
 use std::str;
 use std::thread::Threads;
@@ -115,7 +115,7 @@ pub fn words_of(alloc: Global, line: &str) -> Option<Argv> {
 
 /// Calls the program with the words of a line, over a shelf that fails where it is planned, and here.
 /// Nothing where there is no memory for the shelf and the words.
-pub fn called<R: AllocGlobal + Threads>(
+pub fn performed<R: AllocGlobal + Threads>(
     rt: &R,
     rows: &Rows,
     line: &str,

@@ -13,12 +13,12 @@ use Rattle.beam.specs.Events.{BeamValue, one_if, events_of, happens_at, happens_
 use Rattle.io_math.specs.declared.registers.IoRegisters.{IoRegisters}
 use Rattle.io_math.specs.Registers.{framed, blanked, timed, nmi_level, irq_level}
 use Rattle.io_math.specs.Words.{with_words}
-use Rattle.cpu65816.specs.Instruction.{Standing, signalled}
+use Rattle.cpu65816.specs.Instruction.{CpuState, signalled}
 use Rattle.ppu_regs.specs.Writes.{after_over}
-use Rattle.console_bus.specs.Rest.{Rest, with_pads, next_frame}
+use Rattle.console_bus.specs.BusState.{BusState, with_pads, next_frame}
 use Rattle.console_bus.specs.Happenings.{happened, emitted_at, frame_begun, blank_begun, row_drawn, row_bytes, row_over, shown_dot, is_shown}
 use Rattle.console_bus.specs.Playing.{told}
-use Rattle.console_steps.specs.World.{World, moved, events_next, after_event, after_events, bytes_of_events, after_clocks, bytes_in, overscan_of, with_lines}
+use Rattle.console_steps.specs.ConsoleState.{ConsoleState, moved, events_next, after_event, after_events, bytes_of_events, after_clocks, bytes_in, overscan_of, with_interrupt_levels}
 use Rattle.console_steps.proofs.Beams.{happened_beam}
 use Rattle.console_steps.proofs.EventLists.{events_joined, bytes_joined}
 
@@ -39,11 +39,11 @@ words_timed io a b = refl
 pub words_harmless : (a b : ℕ) → IsHarmless (λ io. with_words io a b)
 words_harmless a b = record { timer = λ io. words_timed io a b; nmi = λ io. refl; irq = λ io. refl }
 
-abbrev pub put : Script → (IoRegisters → IoRegisters) → Rest → Rest
+abbrev pub put : Script → (IoRegisters → IoRegisters) → BusState → BusState
 put s g r = record r { script = s; io = g r.io }
 
-abbrev pub world_put : Script → (IoRegisters → IoRegisters) → World → World
-world_put s g w = record w { rest = put s g w.rest }
+abbrev pub console_put : Script → (IoRegisters → IoRegisters) → ConsoleState → ConsoleState
+console_put s g w = record w { rest = put s g w.rest }
 
 -- events other than a line's start and vertical blank
 abbrev IsLater : Event → Type 0
@@ -56,15 +56,15 @@ IsLater HdmaLine = Unit {0}
 IsLater Timer = Unit {0}
 
 module _ (s : Script) (g : IoRegisters → IoRegisters) (h : IsHarmless g) where
-  either_put : (b : Bool) (x y x' y' : Rest) → x' ≡ put s g x → y' ≡ put s g y → (if b then x' else y') ≡ put s g (if b then x else y)
+  either_put : (b : Bool) (x y x' y' : BusState) → x' ≡ put s g x → y' ≡ put s g y → (if b then x' else y') ≡ put s g (if b then x else y)
   either_put true x y x' y' e f = e
   either_put false x y x' y' e f = f
 
-  drawn_put : (r : Rest) → row_drawn (put s g r) ≡ put s g (row_drawn r)
+  drawn_put : (r : BusState) → row_drawn (put s g r) ≡ put s g (row_drawn r)
   unfolding row_drawn is_shown
   drawn_put r = either_put (is_shown r) (record r { picture = after_over r.picture (row_over r.picture (r.beam.v - 1)) }) r _ _ refl refl
 
-  happened_put : (r : Rest) (e : Event) → IsLater e → happened (put s g r) e ≡ put s g (happened r e)
+  happened_put : (r : BusState) (e : Event) → IsLater e → happened (put s g r) e ≡ put s g (happened r e)
   happened_put r Line l = absurd l
   happened_put r Blank l = absurd l
   happened_put r HdmaFrame l = refl
@@ -73,11 +73,11 @@ module _ (s : Script) (g : IoRegisters → IoRegisters) (h : IsHarmless g) where
   happened_put r HdmaLine l = refl
   happened_put r Timer l = ap (λ io. record r { script = s; io = io }) (h.timer r.io)
 
-  row_put : (r : Rest) → row_bytes (put s g r) ≡ row_bytes r
+  row_put : (r : BusState) → row_bytes (put s g r) ≡ row_bytes r
   unfolding row_bytes shown_dot is_shown
   row_put r = refl
 
-  pub emitted_put : (r : Rest) (e : Event) → emitted_at (put s g r) e ≡ emitted_at r e
+  pub emitted_put : (r : BusState) (e : Event) → emitted_at (put s g r) e ≡ emitted_at r e
   emitted_put r Line = refl
   emitted_put r Blank = refl
   emitted_put r HdmaFrame = refl
@@ -86,22 +86,22 @@ module _ (s : Script) (g : IoRegisters → IoRegisters) (h : IsHarmless g) where
   emitted_put r HdmaLine = refl
   emitted_put r Timer = refl
 
-  pub lines_put : (p : Standing) (r : Rest) → with_lines p (put s g r) ≡ with_lines p r
+  pub lines_put : (p : CpuState) (r : BusState) → with_interrupt_levels p (put s g r) ≡ with_interrupt_levels p r
   lines_put p r = ap (λ n. signalled p n (irq_level (g r.io))) (h.nmi r.io) ∙ ap (λ i. signalled p (nmi_level r.io) i) (h.irq r.io)
 
   -- what an event leads to, where it does the same
-  pub event_by : (w : World) (e : Event) → happened (put s g w.rest) e ≡ put s g (happened w.rest e)
-      → after_event (world_put s g w) e ≡ world_put s g (after_event w e)
+  pub event_by : (w : ConsoleState) (e : Event) → happened (put s g w.rest) e ≡ put s g (happened w.rest e)
+      → after_event (console_put s g w) e ≡ console_put s g (after_event w e)
   event_by w e same =
-      ap (λ q. record w { processor = with_lines w.processor q; rest = q }) same
+      ap (λ q. record w { processor = with_interrupt_levels w.processor q; rest = q }) same
       ∙ ap (λ p. record w { processor = p; rest = put s g (happened w.rest e) }) (lines_put w.processor (happened w.rest e))
 
-  later_put : (w : World) (e : Event) → IsLater e → after_event (world_put s g w) e ≡ world_put s g (after_event w e)
+  later_put : (w : ConsoleState) (e : Event) → IsLater e → after_event (console_put s g w) e ≡ console_put s g (after_event w e)
   later_put w e l = event_by w e (happened_put w.rest e l)
 
 -- ---- frame and beam over events
 
-drawn_frame : (r : Rest) → (row_drawn r).frame ≡ r.frame
+drawn_frame : (r : BusState) → (row_drawn r).frame ≡ r.frame
 unfolding row_drawn
 drawn_frame r = go (is_shown r)
   where
@@ -109,11 +109,11 @@ drawn_frame r = go (is_shown r)
     go true = refl
     go false = refl
 
-blank_frame : (r : Rest) → (blank_begun r).frame ≡ r.frame
+blank_frame : (r : BusState) → (blank_begun r).frame ≡ r.frame
 unfolding blank_begun
 blank_frame r = refl
 
-begun_frame : (r : Rest) → (frame_begun r).frame ≡ next_frame r.frame
+begun_frame : (r : BusState) → (frame_begun r).frame ≡ next_frame r.frame
 unfolding frame_begun
 begun_frame r = refl
 
@@ -128,7 +128,7 @@ NoLine (Draw ∷ es) = NoLine es
 NoLine (HdmaLine ∷ es) = NoLine es
 NoLine (Timer ∷ es) = NoLine es
 
-pub same_frame : (w : World) (es : List Event) → NoLine es → (after_events w es).rest.frame ≡ w.rest.frame
+pub same_frame : (w : ConsoleState) (es : List Event) → NoLine es → (after_events w es).rest.frame ≡ w.rest.frame
 same_frame w [] n = refl
 same_frame w (Line ∷ es) n = absurd n
 same_frame w (Blank ∷ es) n = same_frame (after_event w Blank) es n ∙ blank_frame w.rest
@@ -138,11 +138,11 @@ same_frame w (Draw ∷ es) n = same_frame (after_event w Draw) es n ∙ drawn_fr
 same_frame w (HdmaLine ∷ es) n = same_frame (after_event w HdmaLine) es n
 same_frame w (Timer ∷ es) n = same_frame (after_event w Timer) es n
 
-pub events_beam : (w : World) (es : List Event) → (after_events w es).rest.beam ≡ w.rest.beam
+pub events_beam : (w : ConsoleState) (es : List Event) → (after_events w es).rest.beam ≡ w.rest.beam
 events_beam w [] = refl
 events_beam w (e ∷ es) = events_beam (after_event w e) es ∙ happened_beam w.rest e
 
-pub events_clock : (w : World) (es : List Event) → (after_events w es).clock ≡ w.clock
+pub events_clock : (w : ConsoleState) (es : List Event) → (after_events w es).clock ≡ w.clock
 events_clock w [] = refl
 events_clock w (e ∷ es) = events_clock (after_event w e) es
 
@@ -157,14 +157,14 @@ abbrev pub words_of : Script → ℕ → IoRegisters → IoRegisters
 words_of t f io = with_words io (pads_at t.spans f).0 (pads_at t.spans f).1
 
 -- a console in a frame before f, or in frame f, and the one that plays the other script
-pub record Alike (f : ℕ) (t : Script) (w x : World) : Type 0 where
-  pub before : w.rest.frame < f → x ≡ world_put t (λ io. io) w
-  pub begun : w.rest.frame ≡ f → x ≡ world_put t (words_of t f) w
+pub record Alike (f : ℕ) (t : Script) (w x : ConsoleState) : Type 0 where
+  pub before : w.rest.frame < f → x ≡ console_put t (λ io. io) w
+  pub begun : w.rest.frame ≡ f → x ≡ console_put t (words_of t f) w
   pub within : w.rest.frame ≤ f
 
 module _ (f : ℕ) (small : f < 65535) (s t : Script) (agree : Agree f s t) where
   -- which events may come: in frame f no line begins, and no vertical blank
-  abbrev May : World → Event → Type 0
+  abbrev May : ConsoleState → Event → Type 0
   May w Line = (w.rest.frame < f) × (w.rest.script ≡ s)
   May w Blank = (w.rest.frame < f) × (w.rest.script ≡ s)
   May w HdmaFrame = Unit {0}
@@ -174,7 +174,7 @@ module _ (f : ℕ) (small : f < 65535) (s t : Script) (agree : Agree f s t) wher
   May w Timer = Unit {0}
 
   -- a later event
-  later_alike : (w x : World) (e : Event) → IsLater e → (happened w.rest e).frame ≡ w.rest.frame → Alike f t w x → Alike f t (after_event w e) (after_event x e)
+  later_alike : (w x : ConsoleState) (e : Event) → IsLater e → (happened w.rest e).frame ≡ w.rest.frame → Alike f t w x → Alike f t (after_event w e) (after_event x e)
   later_alike w x e l same h = record {
     before = λ lt. ap (λ y. after_event y e) (h.before (subst (λ n. n < f) same lt)) ∙ later_put t (λ io. io) nothing_harmless w e l;
     begun = λ is. ap (λ y. after_event y e) (h.begun (sym same ∙ is)) ∙ later_put t (words_of t f) (words_harmless (pads_at t.spans f).0 (pads_at t.spans f).1) w e l;
@@ -182,55 +182,55 @@ module _ (f : ℕ) (small : f < 65535) (s t : Script) (agree : Agree f s t) wher
   }
 
   -- a frame begins: the words are those of the frame
-  frame_put : (r : Rest) → r.script ≡ s → frame_begun (put t (λ io. io) r) ≡ put t (words_of t (next_frame r.frame)) (frame_begun r)
+  frame_put : (r : BusState) → r.script ≡ s → frame_begun (put t (λ io. io) r) ≡ put t (words_of t (next_frame r.frame)) (frame_begun r)
   unfolding frame_begun framed
   frame_put r is =
       ap (λ v. record r { script = t; frame = next_frame r.frame; io = framed r.io (pads_at t.spans (next_frame r.frame)).0 (pads_at t.spans (next_frame r.frame)).1; picture = (frame_begun r).picture; reset = r.reset || is_reset v (next_frame r.frame) })
       (agree.resets ∙ ap (λ v. v.resets) (sym is))
 
-  own_words : (r : Rest) → r.script ≡ s → next_frame r.frame < f → put t (words_of t (next_frame r.frame)) (frame_begun r) ≡ put t (λ io. io) (frame_begun r)
+  own_words : (r : BusState) → r.script ≡ s → next_frame r.frame < f → put t (words_of t (next_frame r.frame)) (frame_begun r) ≡ put t (λ io. io) (frame_begun r)
   unfolding frame_begun framed
   own_words r is lt =
       ap (λ p. put t (λ io. with_words io p.0 p.1) (frame_begun r)) (agree.pads (next_frame r.frame) lt ∙ ap (λ v. pads_at v.spans (next_frame r.frame)) (sym is))
 
-  frame_alike : (w x : World) → (w.rest.frame < f) → w.rest.script ≡ s → Alike f t w x → Alike f t (record w { processor = with_lines w.processor (frame_begun w.rest); rest = frame_begun w.rest }) (record x { processor = with_lines x.processor (frame_begun x.rest); rest = frame_begun x.rest })
+  frame_alike : (w x : ConsoleState) → (w.rest.frame < f) → w.rest.script ≡ s → Alike f t w x → Alike f t (record w { processor = with_interrupt_levels w.processor (frame_begun w.rest); rest = frame_begun w.rest }) (record x { processor = with_interrupt_levels x.processor (frame_begun x.rest); rest = frame_begun x.rest })
   frame_alike w x lt is h =
       let n = next_frame w.rest.frame in
       let same : n ≡ w.rest.frame + 1 = grind (arith, nat_tests) in
-      let go : World → World = λ y. record y { processor = with_lines y.processor (frame_begun y.rest); rest = frame_begun y.rest } in
-      let told_so : go x ≡ world_put t (words_of t n) (go w) = ap go (h.before lt)
-      ∙ ap (λ q. record w { processor = with_lines w.processor q; rest = q }) (frame_put w.rest is)
+      let go : ConsoleState → ConsoleState = λ y. record y { processor = with_interrupt_levels y.processor (frame_begun y.rest); rest = frame_begun y.rest } in
+      let told_so : go x ≡ console_put t (words_of t n) (go w) = ap go (h.before lt)
+      ∙ ap (λ q. record w { processor = with_interrupt_levels w.processor q; rest = q }) (frame_put w.rest is)
       ∙ ap (λ p. record w { processor = p; rest = put t (words_of t n) (frame_begun w.rest) }) (lines_put t (words_of t n) (words_harmless (pads_at t.spans n).0 (pads_at t.spans n).1) w.processor (frame_begun w.rest)) in
       record {
-        before = λ early. told_so ∙ ap (λ q. record w { processor = with_lines w.processor (frame_begun w.rest); rest = q }) (own_words w.rest is (subst (λ m. m < f) (begun_frame w.rest) early));
-        begun = λ there. subst (λ m. go x ≡ world_put t (words_of t m) (go w)) (sym (begun_frame w.rest) ∙ there) told_so;
+        before = λ early. told_so ∙ ap (λ q. record w { processor = with_interrupt_levels w.processor (frame_begun w.rest); rest = q }) (own_words w.rest is (subst (λ m. m < f) (begun_frame w.rest) early));
+        begun = λ there. subst (λ m. go x ≡ console_put t (words_of t m) (go w)) (sym (begun_frame w.rest) ∙ there) told_so;
         within = subst (λ m. m ≤ f) (sym (begun_frame w.rest)) (omega (arith, same, lt));
       }
 
-  line_alike : (w x : World) → (w.rest.frame < f) → w.rest.script ≡ s → Alike f t w x → Alike f t (after_event w Line) (after_event x Line)
+  line_alike : (w x : ConsoleState) → (w.rest.frame < f) → w.rest.script ≡ s → Alike f t w x → Alike f t (after_event w Line) (after_event x Line)
   line_alike w x lt is h = subst (λ y. Alike f t (after_event w Line) (after_event y Line)) (sym (h.before lt)) (go (w.rest.beam.v == 0))
     where
-      here : Alike f t w (world_put t (λ io. io) w)
+      here : Alike f t w (console_put t (λ io. io) w)
       here = record { before = λ l. refl; begun = λ e. absurd (omega (arith, lt, e)); within = h.within }
 
-      go : (b : Bool) → Alike f t (record w { processor = with_lines w.processor (if b then frame_begun w.rest else w.rest); rest = if b then frame_begun w.rest else w.rest })
-          (record w { processor = with_lines w.processor (if b then frame_begun (put t (λ io. io) w.rest) else put t (λ io. io) w.rest); rest = if b then frame_begun (put t (λ io. io) w.rest) else put t (λ io. io) w.rest })
-      go true = frame_alike w (world_put t (λ io. io) w) lt is here
+      go : (b : Bool) → Alike f t (record w { processor = with_interrupt_levels w.processor (if b then frame_begun w.rest else w.rest); rest = if b then frame_begun w.rest else w.rest })
+          (record w { processor = with_interrupt_levels w.processor (if b then frame_begun (put t (λ io. io) w.rest) else put t (λ io. io) w.rest); rest = if b then frame_begun (put t (λ io. io) w.rest) else put t (λ io. io) w.rest })
+      go true = frame_alike w (console_put t (λ io. io) w) lt is here
       go false = record { before = λ l. refl; begun = λ e. absurd (omega (arith, lt, e)); within = h.within }
 
-  blank_put : (r : Rest) → r.script ≡ s → r.frame < f → blank_begun (put t (λ io. io) r) ≡ put t (λ io. io) (blank_begun r)
+  blank_put : (r : BusState) → r.script ≡ s → r.frame < f → blank_begun (put t (λ io. io) r) ≡ put t (λ io. io) (blank_begun r)
   unfolding blank_begun
   blank_put r is lt =
       ap (λ p. record r { script = t; io = blanked r.io p.0 p.1; picture = (blank_begun r).picture }) (agree.pads r.frame lt ∙ ap (λ v. pads_at v.spans r.frame) (sym is))
 
-  blank_alike : (w x : World) → (w.rest.frame < f) → w.rest.script ≡ s → Alike f t w x → Alike f t (after_event w Blank) (after_event x Blank)
+  blank_alike : (w x : ConsoleState) → (w.rest.frame < f) → w.rest.script ≡ s → Alike f t w x → Alike f t (after_event w Blank) (after_event x Blank)
   blank_alike w x lt is h = record {
     before = λ l. ap (λ y. after_event y Blank) (h.before lt) ∙ event_by t (λ io. io) nothing_harmless w Blank (blank_put w.rest is lt);
     begun = λ e. absurd (omega (arith, lt, e, blank_frame w.rest));
     within = subst (λ n. n ≤ f) (sym (blank_frame w.rest)) h.within;
   }
 
-  event_alike : (w x : World) (e : Event) → May w e → Alike f t w x → Alike f t (after_event w e) (after_event x e)
+  event_alike : (w x : ConsoleState) (e : Event) → May w e → Alike f t w x → Alike f t (after_event w e) (after_event x e)
   event_alike w x Line m h = line_alike w x m.0 m.1 h
   event_alike w x Blank m h = blank_alike w x m.0 m.1 h
   event_alike w x HdmaFrame m h = later_alike w x HdmaFrame tt refl h
@@ -240,35 +240,35 @@ module _ (f : ℕ) (small : f < 65535) (s t : Script) (agree : Agree f s t) wher
   event_alike w x Timer m h = later_alike w x Timer tt refl h
 
   -- two that are alike emit the same
-  pub alike_emits : (w x : World) (e : Event) → Alike f t w x → emitted_at x.rest e ≡ emitted_at w.rest e
+  pub alike_emits : (w x : ConsoleState) (e : Event) → Alike f t w x → emitted_at x.rest e ≡ emitted_at w.rest e
   alike_emits w x e h =
       ⊎_elim (λ lt. ap (λ y. emitted_at y.rest e) (h.before lt) ∙ emitted_put t (λ io. io) nothing_harmless w.rest e)
       (λ ge. ap (λ y. emitted_at y.rest e) (h.begun (omega (arith, ge, h.within))) ∙ emitted_put t (words_of t f) (words_harmless (pads_at t.spans f).0 (pads_at t.spans f).1) w.rest e)
       (cases_lt w.rest.frame f)
 
   -- a list of events, each of which may come
-  abbrev pub Fits : World → List Event → Type 0
+  abbrev pub Fits : ConsoleState → List Event → Type 0
   Fits w [] = Unit {0}
   Fits w (e ∷ es) = May w e × Fits (after_event w e) es
 
-  pub events_alike : (es : List Event) (w x : World) → Fits w es → Alike f t w x
+  pub events_alike : (es : List Event) (w x : ConsoleState) → Fits w es → Alike f t w x
       → Alike f t (after_events w es) (after_events x es) × (bytes_of_events x es ≡ bytes_of_events w es)
   events_alike [] w x fits h = (h, refl)
   events_alike (e ∷ es) w x (may, fits) h =
       let rest = events_alike es (after_event w e) (after_event x e) fits (event_alike w x e may h) in
       (rest.0, ap (λ v. v ++ bytes_of_events (after_event x e) es) (alike_emits w x e h) ∙ ap (λ v. emitted_at w.rest e ++ v) rest.1)
 
-  pub fits_joined : (w : World) (xs ys : List Event) → Fits w xs → Fits (after_events w xs) ys → Fits w (xs ++ ys)
+  pub fits_joined : (w : ConsoleState) (xs ys : List Event) → Fits w xs → Fits (after_events w xs) ys → Fits w (xs ++ ys)
   fits_joined w [] ys a b = b
   fits_joined w (e ∷ xs) ys (may, a) b = (may, fits_joined (after_event w e) xs ys a b)
 
-  pub fits_one : (w : World) (b : Bool) (e : Event) → (b ≡ true → May w e) → Fits w (one_if b e)
+  pub fits_one : (w : ConsoleState) (b : Bool) (e : Event) → (b ≡ true → May w e) → Fits w (one_if b e)
   fits_one w true e may = (may refl, tt)
   fits_one w false e may = tt
 
 -- ---- the clock, the frame and the place of the beam
 
-pub record IsTimed (w : World) : Type 0 where
+pub record IsTimed (w : ConsoleState) : Type 0 where
   pub region : w.rest.beam.region ≡ Ntsc
   pub clock : w.clock ≡ 357368 * w.rest.frame + 1364 * w.rest.beam.v + w.rest.beam.h
   pub line : w.rest.beam.v < 262
@@ -289,14 +289,14 @@ no_lines (HdmaLine ∷ xs) ys a b = no_lines xs ys a b
 no_lines (Timer ∷ xs) ys a b = no_lines xs ys a b
 
 -- the frame after more events, of which none begins a line
-frame_on : (w : World) (xs ys : List Event) (n : ℕ) → NoLine ys → (after_events w xs).rest.frame ≡ n → (after_events w (xs ++ ys)).rest.frame ≡ n
+frame_on : (w : ConsoleState) (xs ys : List Event) (n : ℕ) → NoLine ys → (after_events w xs).rest.frame ≡ n → (after_events w (xs ++ ys)).rest.frame ≡ n
 frame_on w xs ys n none is =
-    ap (λ (x : World). x.rest.frame) (events_joined w xs ys) ∙ same_frame (after_events w xs) ys none ∙ is
+    ap (λ (x : ConsoleState). x.rest.frame) (events_joined w xs ys) ∙ same_frame (after_events w xs) ys none ∙ is
 
-abbrev pub frame_if : Bool → World → ℕ
+abbrev pub frame_if : Bool → ConsoleState → ℕ
 frame_if begins w = if begins then (if w.rest.beam.v == 0 then next_frame w.rest.frame else w.rest.frame) else w.rest.frame
 
-pub line_frame : (w : World) (b : Bool) → (after_events w (one_if b Line)).rest.frame ≡ frame_if b w
+pub line_frame : (w : ConsoleState) (b : Bool) → (after_events w (one_if b Line)).rest.frame ≡ frame_if b w
 line_frame w true = go (w.rest.beam.v == 0)
   where
     go : (b : Bool) → (if b then frame_begun w.rest else w.rest).frame ≡ (if b then next_frame w.rest.frame else w.rest.frame)
@@ -305,7 +305,7 @@ line_frame w true = go (w.rest.beam.v == 0)
 line_frame w false = refl
 
 -- the frame after the events of a place
-pub place_frame : (w : World) (h : Happens) → (after_events w (events_of h)).rest.frame ≡ frame_if h.line w
+pub place_frame : (w : ConsoleState) (h : Happens) → (after_events w (events_of h)).rest.frame ≡ frame_if h.line w
 unfolding events_of
 place_frame w h =
     let n = frame_if h.line w in

@@ -8,17 +8,17 @@ use Rattle.snes_defs.specs.declared.script.Span.{Span}
 use Rattle.snes_defs.specs.Script.{frames_of}
 use Rattle.side_law.specs.Serial.{SerialState}
 use Rattle.console_bus.specs.Playing.{with_room}
-use Rattle.console_bus.specs.Rest.{Rest, board_of}
-use Rattle.console_steps.specs.World.{World}
+use Rattle.console_bus.specs.BusState.{BusState, board_of}
+use Rattle.console_steps.specs.ConsoleState.{ConsoleState}
 use Rattle.console_machine.specs.Side.{ConsoleValue, StandsAt}
 use Rattle.console_machine.specs.Playing.{rest_with_room, value_with_room}
-use Rattle.audio_side.specs.Board.{table_of}
+use Rattle.audio_side.specs.HardwareState.{table_of}
 use Rattle.audio_side.specs.Sound.{SoundState}
 use Rattle.snapshot.specs.declared.run.Run.{Run}
 use Rattle.plan_drive.specs.Paths.{Paths, path_script, kept, back}
 use Rattle.snapshot.specs.Path.{start_of, end_of_path}
 use Rattle.snapshot.specs.declared.rewind.Rewind.{Rewind}
-use Rattle.snapshot.specs.Standing.{IsDone, IsRested, CanCopy, HoldsPath, copy_of}
+use Rattle.snapshot.specs.Positions.{IsDone, IsRested, CanCopy, HoldsPath, copy_of}
 use Rattle.snapshot.proofs.Effects.{rom_of}
 use Rattle.snapshot.proofs.Runs.{IsOf, own_at, starts_own, turns_keep}
 
@@ -31,7 +31,7 @@ done_own job n path r video audio d =
 pub done_script : (job : Job) (n : ℕ) (path : List Span) (r : Run) (video audio : List ℕ) → IsDone job n path r video audio → r.serial.console.rest.script ≡ path_script n path
 done_script job n path r video audio d = ap (λ q. q.script) d.stands.console.at.rest ∙ (done_own job n path r video audio d).own.script_is
 
--- a value that stands for a world has its cartridge and script
+-- a value that stands for a console state has its cartridge and script
 module _ (job : Job) (n : ℕ) (p q : List Span) (a b : Run) (va aa vb ab : List ℕ) (x : IsDone job n p a va aa) (y : IsDone job n q b vb ab) where
   rest_a : a.serial.console.rest ≡ x.at.console.rest
   rest_a = x.stands.console.at.rest
@@ -60,13 +60,13 @@ module _ (job : Job) (n : ℕ) (p q : List Span) (a b : Run) (va aa vb ab : List
         room = subst (λ m. length a.serial.console.rest.script.spans ≤ m) (sym (ap (λ s. s.room) script_b)) (subst (λ s. length s.spans ≤ n) (sym script_a) x.room);
         no_resets = ap (λ s. s.resets) script_a;
         none_there = ap (λ s. s.resets) script_b;
-        boot = ap (λ m. m.boot) sound_a.board ∙ own_a.boot_is ∙ sym (ap (λ m. m.boot) sound_b.board ∙ own_b.boot_is);
-        table = ap (λ m. m.table) sound_a.board ∙ own_a.table_is ∙ sym (ap (λ m. m.table) sound_b.board ∙ own_b.table_is);
+        boot = ap (λ m. m.boot) sound_a.hardware ∙ own_a.boot_is ∙ sym (ap (λ m. m.boot) sound_b.hardware ∙ own_b.boot_is);
+        table = ap (λ m. m.table) sound_a.hardware ∙ own_a.table_is ∙ sym (ap (λ m. m.table) sound_b.hardware ∙ own_b.table_is);
         no_sound_resets = ap (λ m. m.resets) sound_a.clock ∙ own_a.no_resets;
         none_there_either = ap (λ m. m.resets) sound_b.clock ∙ own_b.no_resets;
       }
 
-  same_room : (r : Rest) → r.script ≡ path_script n p → rest_with_room r n ≡ r
+  same_room : (r : BusState) → r.script ≡ path_script n p → rest_with_room r n ≡ r
   same_room r is = ap (λ m. rest_with_room r m) (sym (ap (λ s. s.room) is))
 
   room_b : b.serial.console.rest.script.room ≡ n

@@ -14,17 +14,17 @@ use Rattle.serial_console.specs.declared.serial.Serial.{Serial}
 use Rattle.serial_console.specs.Serial.{IsAt}
 use Rattle.serial_console.specs.Lead.{IsLead, IsLed}
 use Rattle.serial_console.proofs.Lead.{lead_console_turn, lead_sound_turn, console_gives, sound_gives}
-use Rattle.console_steps.specs.World.{World, console_moves}
+use Rattle.console_steps.specs.ConsoleState.{ConsoleState, console_moves}
 use Rattle.console_machine.specs.Side.{ConsoleValue}
 use Rattle.console_machine.specs.Side as console_side
-use Rattle.console_machine.specs.Playing.{world_played}
+use Rattle.console_machine.specs.Playing.{console_played}
 use Rattle.audio_side.specs.Sound.{AudioValue, SoundState, sound_moves}
 use Rattle.audio_side.specs.Sound as sound_side
 use Rattle.snapshot.specs.declared.run.Run.{Run}
 use Rattle.snapshot.specs.declared.rewind.Rewind.{Rewind}
 use Rattle.plan_drive.specs.Paths.{Paths, gone, path_script}
 use Rattle.snapshot.specs.Path.{start_of, end_of_path}
-use Rattle.snapshot.specs.Standing.{IsDone, IsRested, IsGoing}
+use Rattle.snapshot.specs.Positions.{IsDone, IsRested, IsGoing}
 use Rattle.snapshot.proofs.Runs.{goes_on, frames_more}
 use Rattle.snapshot.proofs.Copying.{done_script}
 
@@ -52,7 +52,7 @@ still v w none = sym (append-nil v) ∙ sym (append-nil (v ++ [])) ∙ ap (λ x.
 
 pub begun : (job : Job) (n : ℕ) (paths : Paths) (r : Rewind) (span : Span) (x : ConsoleValue)
     → length r.run.serial.console.rest.script.spans < r.run.serial.console.rest.script.room → frames_of r.run.serial.console.rest.script.spans + span.count ≤ 36000
-    → ((w : World) → console_side.StandsAt r.run.serial.console w → console_side.StandsAt x (world_played w span)) → x.waiting ≡ r.run.serial.console.waiting
+    → ((w : ConsoleState) → console_side.StandsAt r.run.serial.console w → console_side.StandsAt x (console_played w span)) → x.waiting ≡ r.run.serial.console.waiting
     → IsRested job n paths r
     → IsGoing job n (gone paths span) paths.path [] []
     (record { run = record { serial = record { console = x; sound = r.run.serial.sound; to_sound = r.run.serial.to_sound; to_console = r.run.serial.to_console }; end = r.run.end + 2012696576 * span.count }; slots = r.slots })
@@ -69,9 +69,9 @@ begun job n paths r span x room few stands waits h =
       first_audio = audio;
       first = run_is_over console_moves sound_moves (start_of job n paths.path) (end_of_path paths.path) d.at video audio d.underway d.past;
       led = record {
-        at = record d.at { console = world_played d.at.console span };
+        at = record d.at { console = console_played d.at.console span };
         stands = record { console = stands d.at.console d.stands.console; sound = d.stands.sound; to_sound = d.stands.to_sound; to_console = d.stands.to_console };
-        lead = lead_at console_moves sound_moves (end_of_path (gone paths span).path) (start_of job n (gone paths span).path) (record d.at { console = world_played d.at.console span }) video audio
+        lead = lead_at console_moves sound_moves (end_of_path (gone paths span).path) (start_of job n (gone paths span).path) (record d.at { console = console_played d.at.console span }) video audio
             ((video ++ []) ++ x.waiting) ((audio ++ []) ++ r.run.serial.sound.waiting)
             (goes_on job n paths.path span d.at video audio fits d.underway d.past) (still video x.waiting (waits ∙ d.no_video)) (still audio r.run.serial.sound.waiting d.no_audio);
       };
@@ -83,14 +83,14 @@ begun job n paths r span x room few stands waits h =
 
 -- ---- a turn
 
-pub not_past_early : (end : ℕ) (w : SerialState World SoundState) → ¬ IsPast console_moves sound_moves end w
+pub not_past_early : (end : ℕ) (w : SerialState ConsoleState SoundState) → ¬ IsPast console_moves sound_moves end w
     → (console_moves.stamp w.console ≤ sound_moves.stamp w.sound → console_moves.stamp w.console < end) × (sound_moves.stamp w.sound < console_moves.stamp w.console → sound_moves.stamp w.sound < end)
 not_past_early end w short = (
   λ le. ⊎_elim (λ lt. lt) (λ ge. absurd (short (record { console = ge; sound = omega (arith, ge, le) }))) (cases_lt (console_moves.stamp w.console) end),
   λ lt. ⊎_elim (λ l. l) (λ ge. absurd (short (record { console = omega (arith, ge, lt); sound = ge }))) (cases_lt (sound_moves.stamp w.sound) end),
 )
 
-lead_turn : (end : ℕ) (from at : SerialState World SoundState) (video audio : List ℕ) → IsLead console_moves sound_moves end from at video audio → ¬ IsPast console_moves sound_moves end at
+lead_turn : (end : ℕ) (from at : SerialState ConsoleState SoundState) (video audio : List ℕ) → IsLead console_moves sound_moves end from at video audio → ¬ IsPast console_moves sound_moves end at
     → IsLead console_moves sound_moves end from (turn console_moves sound_moves at) (video ++ console_emits console_moves sound_moves at) (audio ++ sound_emits console_moves sound_moves at)
 lead_turn end from at video audio lead short = go (turn_of console_moves sound_moves at)
   where
@@ -111,10 +111,10 @@ lead_turn end from at video audio lead short = go (turn_of console_moves sound_m
         (lead_sound_turn console_moves sound_moves end from at video audio lead lt early)))
 
 pub turned : (job : Job) (n : ℕ) (paths : Paths) (before : List Span) (video audio : List ℕ) (r : Rewind) (s : Serial ConsoleValue AudioValue)
-    → ((w : SerialState World SoundState) → IsAt console_side.StandsAt sound_side.StandsAt r.run.serial w → ¬ IsPast console_moves sound_moves r.run.end w)
-    → ((w : SerialState World SoundState) → IsAt console_side.StandsAt sound_side.StandsAt r.run.serial w → IsAt console_side.StandsAt sound_side.StandsAt s (turn console_moves sound_moves w))
-    → ((w : SerialState World SoundState) → IsAt console_side.StandsAt sound_side.StandsAt r.run.serial w → s.console.waiting ≡ r.run.serial.console.waiting ++ console_emits console_moves sound_moves w)
-    → ((w : SerialState World SoundState) → IsAt console_side.StandsAt sound_side.StandsAt r.run.serial w → s.sound.waiting ≡ r.run.serial.sound.waiting ++ sound_emits console_moves sound_moves w)
+    → ((w : SerialState ConsoleState SoundState) → IsAt console_side.StandsAt sound_side.StandsAt r.run.serial w → ¬ IsPast console_moves sound_moves r.run.end w)
+    → ((w : SerialState ConsoleState SoundState) → IsAt console_side.StandsAt sound_side.StandsAt r.run.serial w → IsAt console_side.StandsAt sound_side.StandsAt s (turn console_moves sound_moves w))
+    → ((w : SerialState ConsoleState SoundState) → IsAt console_side.StandsAt sound_side.StandsAt r.run.serial w → s.console.waiting ≡ r.run.serial.console.waiting ++ console_emits console_moves sound_moves w)
+    → ((w : SerialState ConsoleState SoundState) → IsAt console_side.StandsAt sound_side.StandsAt r.run.serial w → s.sound.waiting ≡ r.run.serial.sound.waiting ++ sound_emits console_moves sound_moves w)
     → IsGoing job n paths before video audio r
     → IsGoing job n paths before video audio (record { run = record { serial = s; end = r.run.end }; slots = r.slots })
 turned job n paths before video audio r s short turns console_out sound_out h =

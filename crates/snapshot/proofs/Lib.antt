@@ -1,6 +1,6 @@
 pub mod Effects
 pub mod Clocks
-pub mod Worlds
+pub mod ConsoleStates
 pub mod Sounding
 pub mod Arrives
 pub mod Runs

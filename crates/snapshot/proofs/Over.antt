@@ -10,10 +10,10 @@ use Rattle.side_law.specs.SerialRun.{IsPast}
 use Rattle.side_law.proofs.SerialRuns.{run_is_over}
 use Rattle.serial_console.specs.Lead.{IsLead, IsLed}
 use Rattle.serial_console.specs.declared.serial.Serial.{Serial}
-use Rattle.console_steps.specs.World.{World, console_moves}
+use Rattle.console_steps.specs.ConsoleState.{ConsoleState, console_moves}
 use Rattle.console_machine.specs.Side.{ConsoleValue}
 use Rattle.console_machine.specs.Side as console_side
-use Rattle.console_machine.specs.Standing.{stamp_stands as console_stamp}
+use Rattle.console_machine.specs.AfterStep.{stamp_stands as console_stamp}
 use Rattle.audio_side.specs.Sound.{AudioValue, SoundState, sound_moves}
 use Rattle.audio_side.specs.Clock.{stamp_now}
 use Rattle.audio_side.specs.Sound as sound_side
@@ -22,7 +22,7 @@ use Rattle.snapshot.specs.declared.run.Run.{Run}
 use Rattle.snapshot.specs.declared.rewind.Rewind.{Rewind}
 use Rattle.plan_drive.specs.Paths.{Paths}
 use Rattle.snapshot.specs.Path.{start_of, end_of_path}
-use Rattle.snapshot.specs.Standing.{IsDone, IsRested, IsGoing, IsBeyond}
+use Rattle.snapshot.specs.Positions.{IsDone, IsRested, IsGoing, IsBeyond}
 use Rattle.snes_defs.specs.declared.region.Region.TheVariants.{Ntsc}
 use Rattle.side_law.specs.SerialRun.{IsOutput}
 use Rattle.side_law.proofs.SerialRuns.{run_ends}
@@ -68,7 +68,7 @@ handed f v w k =
     ap (λ x. (f ++ v) ++ x) (sym (take-append-drop {A = ℕ} k w)) ∙ sym (append_assoc (f ++ v) (take k w) (drop k w)) ∙ ap (λ x. x ++ drop k w) (append_assoc f v (take k w))
 
 pub video_handed : (job : Job) (n : ℕ) (paths : Paths) (before : List Span) (video audio : List ℕ) (r : Rewind) (x : ConsoleValue) (k : ℕ)
-    → ((w : World) → console_side.StandsAt r.run.serial.console w → console_side.StandsAt x w) → x.waiting ≡ drop k r.run.serial.console.waiting
+    → ((w : ConsoleState) → console_side.StandsAt r.run.serial.console w → console_side.StandsAt x w) → x.waiting ≡ drop k r.run.serial.console.waiting
     → IsGoing job n paths before video audio r
     → IsGoing job n paths before (video ++ take k r.run.serial.console.waiting) audio
     (record { run = record { serial = record { console = x; sound = r.run.serial.sound; to_sound = r.run.serial.to_sound; to_console = r.run.serial.to_console }; end = r.run.end }; slots = r.slots })

@@ -17,46 +17,46 @@ use Rattle.snes_defs.specs.declared.cart.Cart.{Cart}
 use Rattle.io_math.specs.declared.registers.IoRegisters.{IoRegisters}
 use Rattle.io_math.specs.Registers.{framed, registers_start}
 use Rattle.io_math.specs.Words.{with_words}
-use Rattle.console_bus.specs.declared.board.Board.{Board}
-use Rattle.console_bus.specs.Rest.{board_of, memory_start}
+use Rattle.console_bus.specs.declared.cart_board.CartBoard.{CartBoard}
+use Rattle.console_bus.specs.BusState.{board_of, memory_start}
 use Rattle.console_bus.specs.Playing.{lengthened, played}
-use Rattle.console_steps.specs.World.{World, act_of, due_of, due_clocks, world_after, bytes_after, console_moves}
+use Rattle.console_steps.specs.ConsoleState.{ConsoleState, act_of, due_of, due_clocks, console_after, bytes_after, console_moves}
 use Rattle.console_machine.specs.SideLaws.{due_step, step_keeps}
-use Rattle.console_machine.specs.Playing.{world_played}
-use Rattle.audio_side.specs.Board.{table_of, board_at_start}
+use Rattle.console_machine.specs.Playing.{console_played}
+use Rattle.audio_side.specs.HardwareState.{table_of, hardware_at_start}
 use Rattle.audio_side.specs.Clock.{reset_frames}
 use Rattle.audio_side.specs.Sound.{SoundState, sound_moves}
 use Rattle.plan_drive.specs.Paths.{path_script}
 use Rattle.snapshot.specs.Path.{start_of, end_of_path, console_of_path}
 use Rattle.snapshot.proofs.Effects.{rom_of}
-use Rattle.snapshot.proofs.Clocks.{IsTimed, Agree, Alike, world_put, words_of}
-use Rattle.snapshot.proofs.Worlds.{IsOwn, step_own, step_alike, step_act, clocks_timed, effect_timed}
+use Rattle.snapshot.proofs.Clocks.{IsTimed, Agree, Alike, console_put, words_of}
+use Rattle.snapshot.proofs.ConsoleStates.{IsOwn, step_own, step_alike, step_act, clocks_timed, effect_timed}
 use Rattle.snapshot.proofs.Sounding.{SameRoms, step_roms}
 
 -- ---- what a serial run keeps
 
-pub record IsOf (board : Board) (script : Script) (rom boot table : List ℕ) (w : SerialState World SoundState) : Type 0 where
+pub record IsOf (board : CartBoard) (script : Script) (rom boot table : List ℕ) (w : SerialState ConsoleState SoundState) : Type 0 where
   pub own : IsOwn board script rom w.console.rest
   pub timed : IsTimed w.console
-  pub boot_is : w.sound.board.boot ≡ boot
-  pub table_is : w.sound.board.table ≡ table
+  pub boot_is : w.sound.hardware.boot ≡ boot
+  pub table_is : w.sound.hardware.table ≡ table
   pub no_resets : w.sound.clock.resets ≡ []
 
 -- the clock of a console whose stamp is not past the longest run's
 early_clock : (clock : ℕ) → 5632 * clock < 2012696576 * 36000 → clock + 40 < 357368 * 65535
 early_clock clock lt = omega (arith, lt)
 
-stamp_is : (w : World) → IsTimed w → console_moves.stamp w ≡ 5632 * w.clock
+stamp_is : (w : ConsoleState) → IsTimed w → console_moves.stamp w ≡ 5632 * w.clock
 stamp_is w t = ap (λ r. rate_of r Console * w.clock) t.region
 
-step_timed : (w : World) (got : ℕ) → IsTimed w → 5632 * w.clock < 2012696576 * 36000 → IsTimed (world_after w (due_of w) got)
+step_timed : (w : ConsoleState) (got : ℕ) → IsTimed w → 5632 * w.clock < 2012696576 * 36000 → IsTimed (console_after w (due_of w) got)
 step_timed w got t lt =
     let few = (due_step (due_of w) w.rest.io.fast).most in
     let early = early_clock w.clock lt in
     clocks_timed (due_clocks (due_of w) w.rest.io.fast) _ (effect_timed w (due_of w) got t) (omega (arith, few, early))
 
-module _ (board : Board) (script : Script) (rom boot table : List ℕ) where
-  console_of : (w : SerialState World SoundState) → IsOf board script rom boot table w → 5632 * w.console.clock < 2012696576 * 36000
+module _ (board : CartBoard) (script : Script) (rom boot table : List ℕ) where
+  console_of : (w : SerialState ConsoleState SoundState) → IsOf board script rom boot table w → 5632 * w.console.clock < 2012696576 * 36000
       → IsOf board script rom boot table (console_step console_moves sound_moves w)
   console_of w h lt =
       let got = got_of (act_of w.console.rest (due_of w.console)) w.to_console in
@@ -68,17 +68,17 @@ module _ (board : Board) (script : Script) (rom boot table : List ℕ) where
         no_resets = h.no_resets;
       }
 
-  sound_of : (w : SerialState World SoundState) → IsOf board script rom boot table w → IsOf board script rom boot table (sound_step console_moves sound_moves w)
+  sound_of : (w : SerialState ConsoleState SoundState) → IsOf board script rom boot table w → IsOf board script rom boot table (sound_step console_moves sound_moves w)
   sound_of w h =
       let k = step_roms w.sound (got_of (sound_moves.act w.sound) w.to_sound) in
       record { own = h.own; timed = h.timed; boot_is = k.boot ∙ h.boot_is; table_is = k.table ∙ h.table_is; no_resets = h.no_resets }
 
   -- the console steps before the end alone
-  pub console_early : (end : ℕ) (w : SerialState World SoundState) → ¬ IsPast console_moves sound_moves end w → console_moves.stamp w.console ≤ sound_moves.stamp w.sound → console_moves.stamp w.console < end
+  pub console_early : (end : ℕ) (w : SerialState ConsoleState SoundState) → ¬ IsPast console_moves sound_moves end w → console_moves.stamp w.console ≤ sound_moves.stamp w.sound → console_moves.stamp w.console < end
   console_early end w short le =
       ⊎_elim (λ lt. lt) (λ ge. absurd (short (record { console = ge; sound = omega (arith, ge, le) }))) (cases_lt (console_moves.stamp w.console) end)
 
-  pub turn_keeps : (end : ℕ) (w : SerialState World SoundState) → end ≤ 2012696576 * 36000 → IsOf board script rom boot table w → ¬ IsPast console_moves sound_moves end w
+  pub turn_keeps : (end : ℕ) (w : SerialState ConsoleState SoundState) → end ≤ 2012696576 * 36000 → IsOf board script rom boot table w → ¬ IsPast console_moves sound_moves end w
       → IsOf board script rom boot table (turn console_moves sound_moves w)
   turn_keeps end w few h short = go (turn_of console_moves sound_moves w)
     where
@@ -89,7 +89,7 @@ module _ (board : Board) (script : Script) (rom boot table : List ℕ) where
           subst (IsOf board script rom boot table) (sym (turn_console console_moves sound_moves w e)) (console_of w h (omega (arith, early, is, few)))
       go (by_sound lt e) = subst (IsOf board script rom boot table) (sym (turn_sound console_moves sound_moves w e)) (sound_of w h)
 
-  pub turns_keep : (end : ℕ) (w : SerialState World SoundState) (n : ℕ) → end ≤ 2012696576 * 36000 → IsOf board script rom boot table w
+  pub turns_keep : (end : ℕ) (w : SerialState ConsoleState SoundState) (n : ℕ) → end ≤ 2012696576 * 36000 → IsOf board script rom boot table w
       → ((k : ℕ) → k < n → ¬ IsPast console_moves sound_moves end (after_turns console_moves sound_moves w k))
       → IsOf board script rom boot table (after_turns console_moves sound_moves w n)
   turns_keep end w zero few h short = h
@@ -102,28 +102,28 @@ module _ (f : ℕ) (small : f ≤ 36000) (s t : Script) (agree : Agree f s t) wh
   fewer : f < 65535
   fewer = omega (arith, small)
 
-  pub record SameRun (a b : SerialState World SoundState) : Type 0 where
+  pub record SameRun (a b : SerialState ConsoleState SoundState) : Type 0 where
     pub console : Alike f t a.console b.console
     pub else_same : b ≡ record a { console = b.console }
 
-  pub alike_stamp : (w x : World) → Alike f t w x → console_moves.stamp x ≡ console_moves.stamp w
+  pub alike_stamp : (w x : ConsoleState) → Alike f t w x → console_moves.stamp x ≡ console_moves.stamp w
   alike_stamp w x h =
       ⊎_elim (λ lt. ap console_moves.stamp (h.before lt)) (λ ge. ap console_moves.stamp (h.begun (omega (arith, ge, h.within)))) (cases_lt w.rest.frame f)
 
   -- frame f begins at the end
-  pub frame_early : (w : World) → IsTimed w → console_moves.stamp w < 2012696576 * f → w.rest.frame < f
+  pub frame_early : (w : ConsoleState) → IsTimed w → console_moves.stamp w < 2012696576 * f → w.rest.frame < f
   frame_early w timed lt = let is = stamp_is w timed in let clock = timed.clock in omega (arith, is, clock, lt)
 
-  console_case : (a : SerialState World SoundState) → IsTimed a.console → a.console.rest.script ≡ s → a.console.rest.frame < f → 5632 * a.console.clock < 2012696576 * 36000
-      → SameRun (console_step console_moves sound_moves a) (console_step console_moves sound_moves (record a { console = world_put t (λ io. io) a.console }))
-      × (bytes_after (world_put t (λ io. io) a.console) (due_of a.console) (got_of (act_of a.console.rest (due_of a.console)) a.to_console) ≡ bytes_after a.console (due_of a.console) (got_of (act_of a.console.rest (due_of a.console)) a.to_console))
+  console_case : (a : SerialState ConsoleState SoundState) → IsTimed a.console → a.console.rest.script ≡ s → a.console.rest.frame < f → 5632 * a.console.clock < 2012696576 * 36000
+      → SameRun (console_step console_moves sound_moves a) (console_step console_moves sound_moves (record a { console = console_put t (λ io. io) a.console }))
+      × (bytes_after (console_put t (λ io. io) a.console) (due_of a.console) (got_of (act_of a.console.rest (due_of a.console)) a.to_console) ≡ bytes_after a.console (due_of a.console) (got_of (act_of a.console.rest (due_of a.console)) a.to_console))
   console_case a timed is early lt =
-      let c = world_put t (λ io. io) a.console in
+      let c = console_put t (λ io. io) a.console in
       let act = act_of a.console.rest (due_of a.console) in
       let got = got_of act a.to_console in
       let all = step_alike f fewer s t agree a.console got ((due_step (due_of a.console) a.console.rest.io.fast).most) timed (early_clock a.console.clock lt) is early in
-      let step : Act → SerialState World SoundState = λ x. record {
-        console = world_after c (due_of a.console) (got_of x a.to_console);
+      let step : Act → SerialState ConsoleState SoundState = λ x. record {
+        console = console_after c (due_of a.console) (got_of x a.to_console);
         sound = a.sound;
         to_sound = outgoing_after x a.to_sound;
         to_console = incoming_after x a.to_console;
@@ -133,12 +133,12 @@ module _ (f : ℕ) (small : f ≤ 36000) (s t : Script) (agree : Agree f s t) wh
         all.1,
       )
 
-  pub record SameTurn (a b : SerialState World SoundState) : Type 0 where
+  pub record SameTurn (a b : SerialState ConsoleState SoundState) : Type 0 where
     pub after : SameRun (turn console_moves sound_moves a) (turn console_moves sound_moves b)
     pub video : console_emits console_moves sound_moves b ≡ console_emits console_moves sound_moves a
     pub audio : sound_emits console_moves sound_moves b ≡ sound_emits console_moves sound_moves a
 
-  emits_so : (a : SerialState World SoundState) (x : World) → (is_console_first console_moves sound_moves (record a { console = x }) ≡ true)
+  emits_so : (a : SerialState ConsoleState SoundState) (x : ConsoleState) → (is_console_first console_moves sound_moves (record a { console = x }) ≡ true)
       → is_console_first console_moves sound_moves a ≡ true
       → console_moves.bytes x (got_of (console_moves.act x) a.to_console) ≡ console_moves.bytes a.console (got_of (console_moves.act a.console) a.to_console)
       → console_emits console_moves sound_moves (record a { console = x }) ≡ console_emits console_moves sound_moves a
@@ -146,18 +146,18 @@ module _ (f : ℕ) (small : f ≤ 36000) (s t : Script) (agree : Agree f s t) wh
       ap (λ b. if b then console_moves.bytes x (got_of (console_moves.act x) a.to_console) else []) e ∙ same
       ∙ sym (ap (λ b. if b then console_moves.bytes a.console (got_of (console_moves.act a.console) a.to_console) else []) g)
 
-  silent_so : (a : SerialState World SoundState) (first : Bool) → is_console_first console_moves sound_moves a ≡ first
+  silent_so : (a : SerialState ConsoleState SoundState) (first : Bool) → is_console_first console_moves sound_moves a ≡ first
       → (first ≡ true → sound_emits console_moves sound_moves a ≡ []) × (first ≡ false → console_emits console_moves sound_moves a ≡ [])
   silent_so a first e = (
     λ is. ap (λ b. if b then [] else sound_moves.bytes a.sound (got_of (sound_moves.act a.sound) a.to_sound)) (e ∙ is),
     λ is. ap (λ b. if b then console_moves.bytes a.console (got_of (console_moves.act a.console) a.to_console) else []) (e ∙ is),
   )
 
-  by_the_console : (a : SerialState World SoundState) → IsTimed a.console → a.console.rest.script ≡ s → a.console.rest.frame < f → 5632 * a.console.clock < 2012696576 * 36000
-      → is_console_first console_moves sound_moves a ≡ true → SameTurn a (record a { console = world_put t (λ io. io) a.console })
+  by_the_console : (a : SerialState ConsoleState SoundState) → IsTimed a.console → a.console.rest.script ≡ s → a.console.rest.frame < f → 5632 * a.console.clock < 2012696576 * 36000
+      → is_console_first console_moves sound_moves a ≡ true → SameTurn a (record a { console = console_put t (λ io. io) a.console })
   by_the_console a timed is early lt e =
-      let c = world_put t (λ io. io) a.console in
-      let b : SerialState World SoundState = record a { console = c } in
+      let c = console_put t (λ io. io) a.console in
+      let b : SerialState ConsoleState SoundState = record a { console = c } in
       let all = console_case a timed is early lt in
       let act = step_act f fewer s t agree a.console in
       record {
@@ -167,10 +167,10 @@ module _ (f : ℕ) (small : f ≤ 36000) (s t : Script) (agree : Agree f s t) wh
         audio = (silent_so b true e).0 refl ∙ sym ((silent_so a true e).0 refl);
       }
 
-  by_the_sound : (a : SerialState World SoundState) (x : World) → Alike f t a.console x → is_console_first console_moves sound_moves a ≡ false
+  by_the_sound : (a : SerialState ConsoleState SoundState) (x : ConsoleState) → Alike f t a.console x → is_console_first console_moves sound_moves a ≡ false
       → is_console_first console_moves sound_moves (record a { console = x }) ≡ false → SameTurn a (record a { console = x })
   by_the_sound a x alike e g =
-      let b : SerialState World SoundState = record a { console = x } in
+      let b : SerialState ConsoleState SoundState = record a { console = x } in
       record {
         after = subst (λ y. SameRun y (turn console_moves sound_moves b)) (sym (turn_sound console_moves sound_moves a e))
             (subst (λ y. SameRun (sound_step console_moves sound_moves a) y) (sym (turn_sound console_moves sound_moves b g)) (record { console = alike; else_same = refl }));
@@ -178,7 +178,7 @@ module _ (f : ℕ) (small : f ≤ 36000) (s t : Script) (agree : Agree f s t) wh
         audio = ap (λ c. if c then [] else sound_moves.bytes a.sound (got_of (sound_moves.act a.sound) a.to_sound)) (g ∙ sym e);
       }
 
-  pub same_turn : (board : Board) (rom boot table : List ℕ) (a b : SerialState World SoundState) → IsOf board s rom boot table a → SameRun a b
+  pub same_turn : (board : CartBoard) (rom boot table : List ℕ) (a b : SerialState ConsoleState SoundState) → IsOf board s rom boot table a → SameRun a b
       → ¬ IsPast console_moves sound_moves (2012696576 * f) a → SameTurn a b
   same_turn board rom boot table a b own h short =
       subst (SameTurn a) (sym h.else_same) (go (turn_of console_moves sound_moves a))
@@ -194,12 +194,12 @@ module _ (f : ℕ) (small : f ≤ 36000) (s t : Script) (agree : Agree f s t) wh
           by_the_sound a b.console h.console e (ap (λ n. nat_le n (sound_moves.stamp a.sound)) (alike_stamp a.console b.console h.console) ∙ e)
 
   -- so are their runs, up to the first that is past the end of frame f
-  pub record SameRuns (a b : SerialState World SoundState) (n : ℕ) : Type 0 where
+  pub record SameRuns (a b : SerialState ConsoleState SoundState) (n : ℕ) : Type 0 where
     pub now : SameRun (after_turns console_moves sound_moves a n) (after_turns console_moves sound_moves b n)
     pub video : console_output console_moves sound_moves b n ≡ console_output console_moves sound_moves a n
     pub audio : sound_output console_moves sound_moves b n ≡ sound_output console_moves sound_moves a n
 
-  pub same_runs : (board : Board) (rom boot table : List ℕ) (a b : SerialState World SoundState) (n : ℕ) → IsOf board s rom boot table a → SameRun a b
+  pub same_runs : (board : CartBoard) (rom boot table : List ℕ) (a b : SerialState ConsoleState SoundState) (n : ℕ) → IsOf board s rom boot table a → SameRun a b
       → ((k : ℕ) → k < n → ¬ IsPast console_moves sound_moves (2012696576 * f) (after_turns console_moves sound_moves a k)) → SameRuns a b n
   same_runs board rom boot table a b zero own h short = record { now = h; video = refl; audio = refl }
   same_runs board rom boot table a b (suc n) own h short =
@@ -232,7 +232,7 @@ goes_agree n path span = record { pads = pads_before path span; resets = refl }
 
 -- ---- a run that was finished goes on under the longer path
 
-abbrev pub own_at : Job → ℕ → List Span → SerialState World SoundState → Type 0
+abbrev pub own_at : Job → ℕ → List Span → SerialState ConsoleState SoundState → Type 0
 own_at job n path w = IsOf (board_of job.cart) (path_script n path) job.cart.rom job.boot (table_of job.table) w
 
 no_reset_frames : (n : ℕ) → reset_frames [] n ≡ []
@@ -248,8 +248,8 @@ rom_at_start : (ram : ℕ) (rom : List ℕ) → drop (131072 + ram) (memory_star
 unfolding memory_start
 rom_at_start ram rom = replicate_dropped (131072 + ram) rom
 
-board_roms : (boot table : List ℕ) → ((board_at_start boot table).boot ≡ boot) × ((board_at_start boot table).table ≡ table_of table)
-unfolding board_at_start
+board_roms : (boot table : List ℕ) → ((hardware_at_start boot table).boot ≡ boot) × ((hardware_at_start boot table).table ≡ table_of table)
+unfolding hardware_at_start
 board_roms boot table = (refl, refl)
 
 pub starts_own : (job : Job) (n : ℕ) (path : List Span) → own_at job n path (start_of job n path)
@@ -284,7 +284,7 @@ frames_more [] span = omega arith
 frames_more (p ∷ path) span = omega (arith, frames_more path span)
 
 -- the frame at the end of the path
-ended_frame : (f : ℕ) (w : World) → IsTimed w → 2012696576 * f ≤ console_moves.stamp w → f ≤ w.rest.frame
+ended_frame : (f : ℕ) (w : ConsoleState) → IsTimed w → 2012696576 * f ≤ console_moves.stamp w → f ≤ w.rest.frame
 ended_frame f w t past =
     let is = stamp_is w t in
     let clock = t.clock in
@@ -292,9 +292,9 @@ ended_frame f w t past =
     let dot = t.dot in
     omega (arith, is, clock, line, dot, past)
 
-pub goes_on : (job : Job) (n : ℕ) (path : List Span) (span : Span) (w : SerialState World SoundState) (video audio : List ℕ) → frames_of path + span.count ≤ 36000
+pub goes_on : (job : Job) (n : ℕ) (path : List Span) (span : Span) (w : SerialState ConsoleState SoundState) (video audio : List ℕ) → frames_of path + span.count ≤ 36000
     → IsUnderway console_moves sound_moves (start_of job n path) (end_of_path path) w video audio → IsPast console_moves sound_moves (end_of_path path) w
-    → IsUnderway console_moves sound_moves (start_of job n (path ++ span ∷ [])) (end_of_path (path ++ span ∷ [])) (record w { console = world_played w.console span }) video audio
+    → IsUnderway console_moves sound_moves (start_of job n (path ++ span ∷ [])) (end_of_path (path ++ span ∷ [])) (record w { console = console_played w.console span }) video audio
 goes_on job n path span w video audio few under past =
     let f = frames_of path in
     let s = path_script n path in
@@ -310,17 +310,17 @@ goes_on job n path span w video audio few under past =
     let script = subst (λ x. x.console.rest.script ≡ s) under.now_is kept.own.script_is in
     let alike = subst (λ x. Alike f t x.console (after_turns console_moves sound_moves b under.turns).console) under.now_is runs.now.console in
     let there : w.console.rest.frame ≡ f = (let ended = ended_frame f w.console timed past.console in omega (arith, ended, alike.within)) in
-    let told_is : world_put t (words_of t f) w.console ≡ world_played w.console span =
-    ap (λ m. world_put t (words_of t m) w.console) (sym there) ∙ ap (λ v. world_put (lengthened v span) (words_of (lengthened v span) w.console.rest.frame) w.console) (sym script) in
+    let told_is : console_put t (words_of t f) w.console ≡ console_played w.console span =
+    ap (λ m. console_put t (words_of t m) w.console) (sym there) ∙ ap (λ v. console_put (lengthened v span) (words_of (lengthened v span) w.console.rest.frame) w.console) (sym script) in
     let more = frames_more path span in
     record {
       turns = under.turns;
-      now_is = runs.now.else_same ∙ ap (λ (x : SerialState World SoundState). record x { console = (after_turns console_moves sound_moves b under.turns).console }) under.now_is
-          ∙ ap (λ (c : World). record w { console = c }) (alike.begun there ∙ told_is);
+      now_is = runs.now.else_same ∙ ap (λ (x : SerialState ConsoleState SoundState). record x { console = (after_turns console_moves sound_moves b under.turns).console }) under.now_is
+          ∙ ap (λ (c : ConsoleState). record w { console = c }) (alike.begun there ∙ told_is);
       not_past = λ k lt later.
           let r = same_runs f small s t agree (board_of job.cart) job.cart.rom job.boot (table_of job.table) a b k own (record { console = starts_alike job.cart n path span; else_same = refl }) (λ j l. under.not_past j (omega (arith, l, lt))) in
           let stamp = alike_stamp f small s t agree (after_turns console_moves sound_moves a k).console (after_turns console_moves sound_moves b k).console r.now.console in
-          let sound = ap (λ (x : SerialState World SoundState). sound_moves.stamp x.sound) r.now.else_same in
+          let sound = ap (λ (x : SerialState ConsoleState SoundState). sound_moves.stamp x.sound) r.now.else_same in
           under.not_past k lt (record { console = omega (arith, later.console, stamp, more); sound = omega (arith, later.sound, sound, more) });
       video_is = runs.video ∙ under.video_is;
       audio_is = runs.audio ∙ under.audio_is;

@@ -6,7 +6,7 @@ use Rattle.std.proofs.Math.Seq.{get_or-append_seam}
 use Rattle.snes_defs.specs.declared.cart.Job.{Job}
 use Rattle.snes_defs.specs.declared.script.Span.{Span}
 use Rattle.snapshot.specs.declared.run.Run.{Run}
-use Rattle.snapshot.specs.Standing.{HoldsPath}
+use Rattle.snapshot.specs.Positions.{HoldsPath}
 
 pub one_more : (job : Job) (n : ℕ) (path : List Span) (runs : List Run) (run : Run)
     → ((k : ℕ) (other : Run) → k < length runs → HoldsPath job n path (slice_index_or runs k other)) → HoldsPath job n path run

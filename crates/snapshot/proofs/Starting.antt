@@ -8,22 +8,22 @@ use Rattle.side_law.specs.Serial.{SerialState, serial_of}
 use Rattle.side_law.proofs.SerialRuns.{run_begins}
 use Rattle.serial_console.specs.declared.serial.Serial.{Serial}
 use Rattle.serial_console.specs.Serial.{IsAt}
-use Rattle.console_steps.specs.World.{World, console_start, console_moves}
+use Rattle.console_steps.specs.ConsoleState.{ConsoleState, console_start, console_moves}
 use Rattle.console_machine.specs.Side.{ConsoleValue}
 use Rattle.console_machine.specs.Side as console_side
-use Rattle.console_machine.specs.Playing.{world_with_room}
+use Rattle.console_machine.specs.Playing.{console_with_room}
 use Rattle.audio_side.specs.Sound.{AudioValue, SoundState, sound_start, sound_moves}
 use Rattle.audio_side.specs.Sound as sound_side
 use Rattle.plan_drive.specs.Paths.{path_script}
 use Rattle.snapshot.specs.Path.{start_of, end_of_path, console_of_path, sound_of_path}
-use Rattle.snapshot.specs.Standing.{IsDone}
+use Rattle.snapshot.specs.Positions.{IsDone}
 
 pub first_done : (job : Job) (spans : ℕ) (s : Serial ConsoleValue AudioValue) (old new : ConsoleValue) (sound : AudioValue)
     → job.script ≡ path_script job.script.room [] → job.region ≡ Ntsc
     → console_side.StandsAt old (console_start job.cart job.script job.region)
-    → ((w : World) → console_side.StandsAt old w → console_side.StandsAt new (world_with_room w (max old.rest.script.room (length old.rest.script.spans + spans))))
+    → ((w : ConsoleState) → console_side.StandsAt old w → console_side.StandsAt new (console_with_room w (max old.rest.script.room (length old.rest.script.spans + spans))))
     → sound_side.StandsAt sound (sound_start job.region job.script.resets job.boot job.table)
-    → ((c : World) (m : SoundState) → console_side.StandsAt new c → sound_side.StandsAt sound m → IsAt console_side.StandsAt sound_side.StandsAt s (serial_of c m))
+    → ((c : ConsoleState) (m : SoundState) → console_side.StandsAt new c → sound_side.StandsAt sound m → IsAt console_side.StandsAt sound_side.StandsAt s (serial_of c m))
     → s.console.waiting ≡ [] → s.sound.waiting ≡ []
     → IsDone job (max job.script.room spans) [] (record { serial = s; end = 0 }) [] []
 first_done job spans s old new sound script region starts roomy sounds joins no_video no_audio =
@@ -31,10 +31,10 @@ first_done job spans s old new sound script region starts roomy sounds joins no_
     let old_script : old.rest.script ≡ job.script = ap (λ r. r.script) starts.at.rest in
     let room : max old.rest.script.room (length old.rest.script.spans + spans) ≡ n =
     ap (λ v. max v.room (length v.spans + spans)) old_script ∙ ap (λ v. max job.script.room (length v.spans + spans)) script ∙ ap (max job.script.room) (omega arith) in
-    let world : (v : Script) (r : Region) → v ≡ path_script job.script.room [] → r ≡ Ntsc → world_with_room (console_start job.cart v r) n ≡ console_of_path job.cart n [] =
-    λ v r e f. ap (λ x. world_with_room (console_start job.cart x r) n) e ∙ ap (λ x. world_with_room (console_start job.cart (path_script job.script.room []) x) n) f in
-    let console = subst (λ w. console_side.StandsAt new w) (world job.script job.region script region)
-    (subst (λ m. console_side.StandsAt new (world_with_room (console_start job.cart job.script job.region) m)) room (roomy (console_start job.cart job.script job.region) starts)) in
+    let console_state : (v : Script) (r : Region) → v ≡ path_script job.script.room [] → r ≡ Ntsc → console_with_room (console_start job.cart v r) n ≡ console_of_path job.cart n [] =
+    λ v r e f. ap (λ x. console_with_room (console_start job.cart x r) n) e ∙ ap (λ x. console_with_room (console_start job.cart (path_script job.script.room []) x) n) f in
+    let console = subst (λ w. console_side.StandsAt new w) (console_state job.script job.region script region)
+    (subst (λ m. console_side.StandsAt new (console_with_room (console_start job.cart job.script job.region) m)) room (roomy (console_start job.cart job.script job.region) starts)) in
     let there = subst (λ m. sound_side.StandsAt sound m)
     (ap (λ r. sound_start r job.script.resets job.boot job.table) region ∙ ap (λ (v : Script). sound_start Ntsc v.resets job.boot job.table) script) sounds in
     record {

@@ -10,7 +10,7 @@ use Rattle.snes_defs.specs.Script.{frames_of}
 use Rattle.side_law.specs.Serial.{SerialState}
 use Rattle.side_law.specs.SerialRun.{IsOutput, IsUnderway, IsPast, after_turns}
 use Rattle.side_law.proofs.SerialRuns.{output_begins}
-use Rattle.console_steps.specs.World.{World, console_moves}
+use Rattle.console_steps.specs.ConsoleState.{ConsoleState, console_moves}
 use Rattle.audio_side.specs.Sound.{SoundState, sound_moves}
 use Rattle.input_files.specs.declared.plan.PlanStep.{PlanStep}
 use Rattle.input_files.specs.declared.plan.PlanStep.TheVariants.{Go, Keep, Back}
@@ -20,7 +20,7 @@ use Rattle.plan_drive.specs.Paths.{Paths, no_paths, kept, after_step, after_step
 use Rattle.plan_drive.specs.Joins.{Joins}
 use Rattle.snapshot.specs.declared.rewind.Rewind.{Rewind}
 use Rattle.snapshot.specs.Path.{PathEmits, start_of, end_of_path}
-use Rattle.snapshot.specs.Standing.{IsRested, IsBeyond}
+use Rattle.snapshot.specs.Positions.{IsRested, IsBeyond}
 use Rattle.snapshot.specs.Driven.{by_side}
 use Rattle.snapshot.specs.Handed.{Gave, GaveSome}
 use Rattle.snapshot.proofs.Runs.{frames_more, goes_on}
@@ -29,12 +29,12 @@ use Rattle.snapshot.proofs.Over.{path_ends}
 -- ---- what a longer path has beyond a shorter one
 
 -- an output is that of a run that is past the end
-pub record Ended (from : SerialState World SoundState) (end : ℕ) (video audio : List ℕ) : Type 0 where
-  pub now : SerialState World SoundState
+pub record Ended (from : SerialState ConsoleState SoundState) (end : ℕ) (video audio : List ℕ) : Type 0 where
+  pub now : SerialState ConsoleState SoundState
   pub underway : IsUnderway console_moves sound_moves from end now video audio
   pub past : IsPast console_moves sound_moves end now
 
-ended : (from : SerialState World SoundState) (end : ℕ) (video audio : List ℕ) → IsOutput console_moves sound_moves from end video audio → Ended from end video audio
+ended : (from : SerialState ConsoleState SoundState) (end : ℕ) (video audio : List ℕ) → IsOutput console_moves sound_moves from end video audio → Ended from end video audio
 ended from end video audio h = record {
   now = after_turns console_moves sound_moves from h.turns;
   underway = record { turns = h.turns; now_is = refl; not_past = h.runs.first; video_is = h.video_is; audio_is = h.audio_is };

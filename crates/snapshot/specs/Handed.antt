@@ -7,7 +7,7 @@ use Rattle.snes_defs.specs.declared.script.Span.{Span}
 use Rattle.snapshot.specs.declared.rewind.Rewind.{Rewind}
 use Rattle.plan_drive.specs.Paths.{Paths}
 use Rattle.snapshot.specs.Path.{PathEmits}
-use Rattle.snapshot.specs.Standing.{IsRested, IsBeyond}
+use Rattle.snapshot.specs.Positions.{IsRested, IsBeyond}
 
 module _ (job : Job) (n : ℕ) (paths : Paths) (before : List Span) (base : Side → List ℕ) (holds : Side → List ℕ → Type 0) where
   -- the whole of what the path emits beyond the path before it, and the rewinder stands at the end of the path

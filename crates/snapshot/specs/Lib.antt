@@ -1,4 +1,4 @@
 pub mod Path
-pub mod Standing
+pub mod Positions
 pub mod Driven
 pub mod Handed

@@ -2,7 +2,7 @@
 //!
 //! Stands on the two machines and on the serial console. A `Rewind` is on a path, the spans that its console has played
 //! since the start of its job, and its machines stand where the serial run of that path's job ends (`specs/Path.antt`,
-//! `specs/Standing.antt`): however it went back, what a span hands out is what the run of the longer path has beyond that
+//! `specs/Positions.antt`): however it went back, what a span hands out is what the run of the longer path has beyond that
 //! of the shorter one. That a script which goes on leaves the run so far as it was is `proofs/Runs.antt`.
 //!
 //! A caller begins a span, makes its steps and takes their bytes until both stamps have come to the end, and keeps or

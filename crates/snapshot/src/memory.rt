@@ -3,7 +3,7 @@ ghost use Rattle.std.specs.Prelude.{◌≡◌, ◌<◌, ℕ, [], length, max, sl
 ghost use Rattle.snes_defs.specs.declared.region.Region.TheVariants.{Ntsc};
 ghost use Rattle.snapshot.specs.declared.run.Run.{Run};
 ghost use Rattle.plan_drive.specs.Paths.{path_script, goes_of, slots_of};
-ghost use Rattle.snapshot.specs.Standing.{HoldsPath};
+ghost use Rattle.snapshot.specs.Positions.{HoldsPath};
 
 use crate::run::{Run, first_run};
 use input_files::PlanStep;

@@ -5,12 +5,12 @@ ghost use Rattle.snes_defs.specs.declared.region.Region.TheVariants.{Ntsc};
 ghost use Rattle.snes_defs.specs.Script.{frames_of};
 ghost use Rattle.plan_drive.specs.Paths.{Paths, no_paths, gone, kept, back, path_script, goes_of, slots_of};
 ghost use Rattle.side_law.specs.Serial.{SerialState, turn};
-ghost use Rattle.console_steps.specs.World.{World, console_moves};
+ghost use Rattle.console_steps.specs.ConsoleState.{ConsoleState, console_moves};
 ghost use Rattle.audio_side.specs.Sound.{SoundState, sound_moves};
 ghost use Rattle.run_drive.specs.Played.{IsPlayable};
 ghost use Rattle.plan_drive.specs.Joins.{Joins};
 ghost use Rattle.snapshot.specs.Path.{PathEmits};
-ghost use Rattle.snapshot.specs.Standing.{IsRested, IsGoing, StandsIn, HasEnded, next_side, slot_count, video_waiting, audio_waiting};
+ghost use Rattle.snapshot.specs.Positions.{IsRested, IsGoing, StandsIn, HasEnded, next_side, slot_count, video_waiting, audio_waiting};
 
 use crate::memory::{count_goes, count_slots, first_runs};
 use crate::run::{Run, copy_run, first_run};
@@ -74,7 +74,7 @@ impl Rewind {
         ensures ended { IsNone result ↔ HasEnded self.old }
         ensures stays { IsNone result → self.new ≡ self.old }
         ensures side { IfSome result (λ side. side ≡ next_side self.old) }
-        ensures step { IsSome result → (w : SerialState World SoundState) → StandsIn self.old w → StandsIn self.new (turn console_moves sound_moves w) }
+        ensures step { IsSome result → (w : SerialState ConsoleState SoundState) → StandsIn self.old w → StandsIn self.new (turn console_moves sound_moves w) }
         ensures few_video { length (video_waiting self.new) ≤ length (video_waiting self.old) + 1024 }
         ensures few_audio { length (audio_waiting self.new) ≤ length (audio_waiting self.old) + 4 }
         ensures slots { slot_count self.new ≡ slot_count self.old }

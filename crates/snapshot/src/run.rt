@@ -2,7 +2,7 @@
 ghost use Rattle.std.specs.Prelude.{◌≡◌, ◌+◌, [], length, max, IfOk};
 ghost use Rattle.snes_defs.specs.declared.region.Region.TheVariants.{Ntsc};
 ghost use Rattle.plan_drive.specs.Paths.{path_script};
-ghost use Rattle.snapshot.specs.Standing.{CanCopy, IsDone, copy_of};
+ghost use Rattle.snapshot.specs.Positions.{CanCopy, IsDone, copy_of};
 
 use audio_side::AudioSide;
 use console_machine::ConsoleSide;

@@ -1,7 +1,7 @@
 // The program: a cartridge, a boot ROM, an interpolation table, a script and a number of frames become
 // raw frames and raw samples.
 //
-// `snes_call::snes` does all that the program does, and its contract is the theorem. `main` only hands it
+// `snes_program::snes` does all that the program does, and its contract is the theorem. `main` only hands it
 // the words and the files of the system, names the console that plays a job, and ends with the exit
 // status of the answer. Stands on all other crates of the program.
 #![tactic(auto)]
@@ -9,7 +9,7 @@
 use job_player::Console;
 use run_drive::Host;
 use run_io::{Argv, FileShelf};
-use snes_call::{Status, snes};
+use snes_program::{Status, snes};
 use std::process::ExitCode;
 use std::{env, io};
 

@@ -4,10 +4,10 @@ use Rattle.cpu_tables.specs.declared.access.Access.{Access}
 use Rattle.cpu_tables.specs.declared.access.Access.TheVariants.{Fetch, Read, Write, Inner}
 use Rattle.dma_hdma.specs.declared.moves.Move.{Move}
 use Rattle.dma_hdma.specs.declared.moves.Move.TheVariants.{ToB, ToA, Load}
-use Rattle.console_steps.specs.World.{Due, Resets, Refreshes, Moves_byte, Accesses}
+use Rattle.console_steps.specs.ConsoleState.{Due, Resets, Refreshes, Moves_byte, Accesses}
 use Rattle.spc_tables.specs.declared.access.SpcAccess.{SpcAccess}
 use Rattle.spc_tables.specs.declared.access.SpcAccess.TheVariants as spc
-use Rattle.audio_side.specs.Board.{Board}
+use Rattle.audio_side.specs.HardwareState.{Board}
 use Rattle.audio_side.specs.Effect.{loaded}
 use Rattle.cpu_tables.specs.declared.regs.Regs.{Regs}
 use Rattle.snes_trace.specs.declared.step.Instruction.{Instruction}

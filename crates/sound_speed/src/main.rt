@@ -76,7 +76,7 @@ fn fill(ram: &mut [u8])
 #[derive(Clone, Copy, PartialEq, Eq, Debug)]
 enum Scene {
     /// Nothing, as after power on.
-    Rest,
+    BusState,
     /// They are released and silent, and have a pitch; there is no echo.
     Quiet,
     /// They play, with echo.
@@ -92,7 +92,7 @@ fn samples(ram: &mut [u8], scene: Scene, count: u64) -> u64 {
     let mut voices = Voices::new();
     let mut echo = Echo::new();
     let table = Table::of([1024; 512]);
-    if scene != Scene::Rest {
+    if scene != Scene::BusState {
         fill(ram);
         set_voices(&mut voices);
     }
@@ -196,7 +196,7 @@ fn measured(alloc: Global, what: &str, count: u64) -> io::Result<Option<u64>> {
         }
         "play" => Scene::Play,
         "quiet" => Scene::Quiet,
-        "rest" => Scene::Rest,
+        "rest" => Scene::BusState,
         _ => return Ok(None),
     };
     let mut ram = zeros(alloc, 65536)?;

@@ -14,7 +14,7 @@ pub struct Spc {
 
 impl Spc {
     ghost use Rattle.spc700.specs.Instruction.{
-      Standing,
+      SpcState,
       at_reset,
       between,
       moved_on,
@@ -61,7 +61,7 @@ impl Spc {
     #[inline(always)]
     pub fn next(&self) -> SpcAccess
         ensures now { result ≡ access_of self.now }
-        ensures standing { (s : Standing) → Stands self.now s → result ≡ next_of s }
+        ensures standing { (s : SpcState) → Stands self.now s → result ≡ next_of s }
     {
         next(&self.micro)
     }
@@ -71,7 +71,7 @@ impl Spc {
     #[inline(always)]
     pub fn is_halted(&self) -> bool
         ensures inner { IsTrue result → access_of self.now ≡ Inner }
-        ensures stays { IsTrue result → (s : Standing) (byte : ℕ) → Stands self.now s → Stands self.now (moved_on s byte) }
+        ensures stays { IsTrue result → (s : SpcState) (byte : ℕ) → Stands self.now s → Stands self.now (moved_on s byte) }
     {
         match self.micro.place {
             Place::Halted => true,
@@ -110,7 +110,7 @@ impl Spc {
     #[inline(always)]
     pub fn took(&mut self, byte: u8)
         requires { IsTrue (gets_byte (access_of self.old)) }
-        ensures { (s : Standing) → Stands self.old s → Stands self.new (moved_on s byte) }
+        ensures { (s : SpcState) → Stands self.old s → Stands self.new (moved_on s byte) }
     {
         self.advance_by(byte);
     }
@@ -119,7 +119,7 @@ impl Spc {
     #[inline(always)]
     pub fn wrote(&mut self)
         requires { IsTrue (is_write (access_of self.old)) }
-        ensures { (s : Standing) → Stands self.old s → Stands self.new (moved_on s 0) }
+        ensures { (s : SpcState) → Stands self.old s → Stands self.new (moved_on s 0) }
     {
         self.advance_written();
     }
@@ -128,7 +128,7 @@ impl Spc {
     #[inline(always)]
     pub fn idle(&mut self)
         requires { IsTrue (is_inner (access_of self.old)) }
-        ensures { (s : Standing) → Stands self.old s → Stands self.new (moved_on s 0) }
+        ensures { (s : SpcState) → Stands self.old s → Stands self.new (moved_on s 0) }
     {
         self.advance_idle();
     }
@@ -149,7 +149,7 @@ impl Spc {
     /// after it.
     #[inline(always)]
     pub fn regs(&self) -> SpcRegs
-        ensures { (s : Standing) → Stands self.now s → result ≡ registers_of s }
+        ensures { (s : SpcState) → Stands self.now s → result ≡ registers_of s }
     {
         match self.micro.place {
             Place::Between => self.micro.here,

@@ -3,7 +3,7 @@ use Rattle.std.specs.Prelude.{ℕ, List, [], ◌∷◌}
 use Rattle.spc_tables.specs.declared.access.SpcAccess.{SpcAccess}
 use Rattle.spc_tables.specs.declared.regs.SpcRegs.{SpcRegs}
 use Rattle.spc_modes.specs.Orders.{instruction}
-use Rattle.spc_modes.specs.Plan.{Plan, first_access, after, follow}
+use Rattle.spc_modes.specs.Plan.{Plan, first_access, after, plan_after}
 
 -- the accesses that a plan makes, as many as there are bytes; where an access gets none, its entry counts for nothing
 abbrev pub accesses_along : Plan → List ℕ → List SpcAccess
@@ -16,4 +16,4 @@ accesses_of r bytes = accesses_along (instruction r) bytes
 
 -- what it has still to do after them
 abbrev pub left_after : SpcRegs → List ℕ → Plan
-left_after r bytes = follow (instruction r) bytes
+left_after r bytes = plan_after (instruction r) bytes

@@ -58,6 +58,6 @@ after stops _ = stops
 after (ends r) _ = ends r
 
 -- what is left after as many accesses as there are bytes; where an access got none, its entry counts for nothing
-abbrev pub follow : Plan → List ℕ → Plan
-follow plan [] = plan
-follow plan (byte ∷ bytes) = follow (after plan byte) bytes
+abbrev pub plan_after : Plan → List ℕ → Plan
+plan_after plan [] = plan
+plan_after plan (byte ∷ bytes) = plan_after (after plan byte) bytes

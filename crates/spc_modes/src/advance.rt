@@ -12,7 +12,7 @@ use spc_alu::{inside, load, load_word, pop, step_word, word_after_step};
 impl Micro {
     ghost use Rattle.spc_modes.specs.Orders.{idles_for, step_word_high, x_grown};
     ghost use Rattle.spc_modes.specs.Plan.{after, ends, idles};
-    ghost use Rattle.spc_modes.specs.Rest.{rest};
+    ghost use Rattle.spc_modes.specs.Remaining.{remaining};
 
     /// A byte of the program was fetched.
     #[inline(always)]
@@ -41,7 +41,7 @@ impl Micro {
     /// The byte that an operation reads last is there.
     #[inline(never)]
     pub(crate) fn pass_load(&mut self, byte: u8)
-        ensures left { rest self.new ≡ ends (loaded self.old.row.op self.old.here byte) }
+        ensures left { remaining self.new ≡ ends (loaded self.old.row.op self.old.here byte) }
         ensures start { self.new.start ≡ self.old.start }
     {
         load(&mut self.here, self.row.op, byte);
@@ -51,7 +51,7 @@ impl Micro {
     /// `(X)+`: the byte was read, and X grows by 1.
     #[inline(never)]
     pub(crate) fn pass_increment(&mut self, byte: u8)
-        ensures left { rest self.new ≡ idles (ends (x_grown (loaded self.old.row.op self.old.here byte))) }
+        ensures left { remaining self.new ≡ idles (ends (x_grown (loaded self.old.row.op self.old.here byte))) }
         ensures start { self.new.start ≡ self.old.start }
     {
         load(&mut self.here, self.row.op, byte);
@@ -63,7 +63,7 @@ impl Micro {
     /// A word's high byte was read.
     #[inline(never)]
     pub(crate) fn pass_word(&mut self, high: u8)
-        ensures left { rest self.new ≡ ends (word_loaded self.old.row.op self.old.here (join self.old.byte high)) }
+        ensures left { remaining self.new ≡ ends (word_loaded self.old.row.op self.old.here (join self.old.byte high)) }
         ensures start { self.new.start ≡ self.old.start }
     {
         load_word(&mut self.here, self.row.op, join_bytes(self.byte, high));
@@ -73,7 +73,7 @@ impl Micro {
     /// INCW and DECW: the high byte was read.
     #[inline(never)]
     pub(crate) fn pass_word_step(&mut self, high: u8)
-        ensures left { rest self.new ≡ after (step_word_high self.old.row self.old.here self.old.base self.old.byte) high }
+        ensures left { remaining self.new ≡ after (step_word_high self.old.row self.old.here self.old.base self.old.byte) high }
         ensures start { self.new.start ≡ self.old.start }
     {
         let word = join_bytes(self.byte, high);
@@ -85,7 +85,7 @@ impl Micro {
     /// A register's byte was pulled.
     #[inline(never)]
     pub(crate) fn pass_pop(&mut self, byte: u8)
-        ensures left { rest self.new ≡ ends (popped self.old.row.op (pulled self.old.here) byte) }
+        ensures left { remaining self.new ≡ ends (popped self.old.row.op (pulled self.old.here) byte) }
         ensures start { self.new.start ≡ self.old.start }
     {
         self.pass_pull();
@@ -96,7 +96,7 @@ impl Micro {
     /// What happens inside the processor, before its cycles.
     #[inline(never)]
     pub(crate) fn pass_inside(&mut self, cycles: u8)
-        ensures left { rest self.new ≡ idles_for cycles (ends (internal self.old.row.op self.old.row.mode self.old.here)) }
+        ensures left { remaining self.new ≡ idles_for cycles (ends (internal self.old.row.op self.old.row.mode self.old.here)) }
         ensures start { self.new.start ≡ self.old.start }
     {
         inside(&mut self.here, self.row.op, self.row.mode);

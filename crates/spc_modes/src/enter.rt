@@ -21,12 +21,12 @@ fn vector_place(mode: SpcMode) -> u16
 
 impl Micro {
     ghost use Rattle.spc_modes.specs.Orders.{by_mode, order, order_by};
-    ghost use Rattle.spc_modes.specs.Rest.{rest};
+    ghost use Rattle.spc_modes.specs.Remaining.{remaining};
 
     /// An operation with operands begins.
     #[inline(always)]
     pub(crate) fn enter_mode(&mut self)
-        ensures left { rest self.new ≡ by_mode self.old.row.mode self.old.row self.old.here }
+        ensures left { remaining self.new ≡ by_mode self.old.row.mode self.old.row self.old.here }
         ensures start { self.new.start ≡ self.old.start }
     {
         match self.row.mode {
@@ -54,7 +54,7 @@ impl Micro {
     /// The row's accesses after the opcode begin.
     #[inline(always)]
     pub fn enter(&mut self)
-        ensures left { rest self.new ≡ order self.old.row self.old.here }
+        ensures left { remaining self.new ≡ order self.old.row self.old.here }
         ensures start { self.new.start ≡ self.old.start }
     {
         match use_of(self.row.op) {

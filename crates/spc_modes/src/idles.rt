@@ -5,13 +5,13 @@ use crate::place::{Place, PointerKind};
 
 impl Micro {
     ghost use Rattle.spc_modes.specs.Plan.{after, first_access, is_inner};
-    ghost use Rattle.spc_modes.specs.Rest.{ahead, rest, start_of};
+    ghost use Rattle.spc_modes.specs.Remaining.{ahead, remaining, start_of};
 
     /// The next access, an internal cycle, was made.
     #[inline(always)]
     pub fn idle(&mut self)
-        requires { IsTrue (is_inner (first_access (ahead (rest self.old)))) }
-        ensures left { rest self.new ≡ after (ahead (rest self.old)) 0 }
+        requires { IsTrue (is_inner (first_access (ahead (remaining self.old)))) }
+        ensures left { remaining self.new ≡ after (ahead (remaining self.old)) 0 }
         ensures start { self.new.start ≡ start_of self.old }
     {
         match self.place {

@@ -1,6 +1,6 @@
 ghost use Rattle.std.specs.Prelude.{◌≡◌};
 ghost use Rattle.spc_modes.specs.Plan.{first_access};
-ghost use Rattle.spc_modes.specs.Rest.{ahead, rest};
+ghost use Rattle.spc_modes.specs.Remaining.{ahead, remaining};
 
 use crate::address::{pull_place, stack_place};
 use crate::micro::Micro;
@@ -11,7 +11,7 @@ use spc_tables::SpcAccess;
 /// The next access of an instruction; where it has ended, the opcode fetch of the next one.
 #[inline(always)]
 pub fn next(m: &Micro) -> SpcAccess
-    ensures { result ≡ first_access (ahead (rest m.now)) }
+    ensures { result ≡ first_access (ahead (remaining m.now)) }
 {
     match m.place {
         Place::Between

@@ -8,13 +8,13 @@ use spc_tables::row;
 
 impl Micro {
     ghost use Rattle.spc_modes.specs.Plan.{after, first_access, gets_byte};
-    ghost use Rattle.spc_modes.specs.Rest.{ahead, rest, start_of};
+    ghost use Rattle.spc_modes.specs.Remaining.{ahead, remaining, start_of};
 
     /// The next access, a fetch or a read, got a byte.
     #[inline(always)]
     pub fn took(&mut self, got: u8)
-        requires { IsTrue (gets_byte (first_access (ahead (rest self.old)))) }
-        ensures left { rest self.new ≡ after (ahead (rest self.old)) got }
+        requires { IsTrue (gets_byte (first_access (ahead (remaining self.old)))) }
+        ensures left { remaining self.new ≡ after (ahead (remaining self.old)) got }
         ensures start { self.new.start ≡ start_of self.old }
     {
         match self.place {

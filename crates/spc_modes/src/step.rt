@@ -33,14 +33,14 @@ impl Micro {
     };
     ghost use Rattle.spc_alu.specs.Results.{changed, changed_by_a, combined};
     ghost use Rattle.spc_modes.specs.Plan.{ends};
-    ghost use Rattle.spc_modes.specs.Rest.{rest};
+    ghost use Rattle.spc_modes.specs.Remaining.{remaining};
     ghost use Rattle.spc_modes.specs.Uses.{use_of};
 
     /// Some internal cycles are left, and then the instruction ends.
     #[inline(always)]
     #[tactic(auto, using(crate::proofs::Cycles::idles_for_less))]
     pub(crate) fn end_after(&mut self, cycles: u8)
-        ensures left { rest self.new ≡ idles_for cycles (ends self.old.here) }
+        ensures left { remaining self.new ≡ idles_for cycles (ends self.old.here) }
         ensures start { self.new.start ≡ self.old.start }
     {
         if cycles == 0 {
@@ -54,7 +54,7 @@ impl Micro {
     /// A changed byte is written back at once.
     #[inline(always)]
     fn write_back(&mut self, changed: Changed)
-        ensures left { rest self.new ≡ written_back self.old.here self.old.base changed }
+        ensures left { remaining self.new ≡ written_back self.old.here self.old.base changed }
         ensures start { self.new.start ≡ self.old.start }
     {
         self.here.psw = changed.psw;
@@ -65,7 +65,7 @@ impl Micro {
     /// The byte that is changed was read.
     #[inline(never)]
     pub(crate) fn pass_change(&mut self, byte: u8)
-        ensures left { rest self.new ≡ written_back self.old.here self.old.base (changed self.old.row.op self.old.row.mode self.old.here.psw byte) }
+        ensures left { remaining self.new ≡ written_back self.old.here self.old.base (changed self.old.row.op self.old.row.mode self.old.here.psw byte) }
         ensures start { self.new.start ≡ self.old.start }
     {
         let changed = change(self.row.op, self.row.mode, self.here.psw, byte);
@@ -75,7 +75,7 @@ impl Micro {
     /// The byte that is changed by the bits of A was read.
     #[inline(never)]
     pub(crate) fn pass_change_by_a(&mut self, byte: u8)
-        ensures left { rest self.new ≡ written_back_slowly self.old.here self.old.base (changed_by_a self.old.row.op self.old.here byte) }
+        ensures left { remaining self.new ≡ written_back_slowly self.old.here self.old.base (changed_by_a self.old.row.op self.old.here byte) }
         ensures start { self.new.start ≡ self.old.start }
     {
         let changed = change_by_a(self.row.op, self.here, byte);
@@ -87,7 +87,7 @@ impl Micro {
     /// The data is next, at an address.
     #[inline(always)]
     pub(crate) fn reach_data(&mut self, at: u16)
-        ensures left { rest self.new ≡ data_at self.old.row self.old.here at }
+        ensures left { remaining self.new ≡ data_at self.old.row self.old.here at }
         ensures start { self.new.start ≡ self.old.start }
     {
         self.base = at;
@@ -111,7 +111,7 @@ impl Micro {
     /// The byte of a bit was read.
     #[inline(never)]
     pub(crate) fn pass_bit(&mut self, byte: u8)
-        ensures left { rest self.new ≡ bit_end (use_of self.old.row.op) self.old.row self.old.here self.old.base self.old.byte byte }
+        ensures left { remaining self.new ≡ bit_end (use_of self.old.row.op) self.old.row self.old.here self.old.base self.old.byte byte }
         ensures start { self.new.start ≡ self.old.start }
     {
         match use_of(self.row.op) {
@@ -138,7 +138,7 @@ impl Micro {
     /// A pointer's two bytes were read.
     #[inline(always)]
     pub(crate) fn pass_pointer(&mut self, kind: PointerKind, word: u16)
-        ensures left { rest self.new ≡ after_pointer kind self.old.row self.old.here word }
+        ensures left { remaining self.new ≡ after_pointer kind self.old.row self.old.here word }
         ensures start { self.new.start ≡ self.old.start }
     {
         match kind {
@@ -153,7 +153,7 @@ impl Micro {
     /// The data at X is next, and X grows by 1.
     #[inline(always)]
     pub(crate) fn reach_increment(&mut self)
-        ensures left { rest self.new ≡ increment_at (use_of self.old.row.op) self.old.row self.old.here self.old.base }
+        ensures left { remaining self.new ≡ increment_at (use_of self.old.row.op) self.old.row self.old.here self.old.base }
         ensures start { self.new.start ≡ self.old.start }
     {
         match use_of(self.row.op) {
@@ -169,7 +169,7 @@ impl Micro {
     /// Both operands in memory were read.
     #[inline(never)]
     pub(crate) fn pass_pair(&mut self, first: u8)
-        ensures left { rest self.new ≡ pair_end (use_of self.old.row.op) self.old.here self.old.base (combined self.old.row.op self.old.here.psw first self.old.byte) }
+        ensures left { remaining self.new ≡ pair_end (use_of self.old.row.op) self.old.here self.old.base (combined self.old.row.op self.old.here.psw first self.old.byte) }
         ensures start { self.new.start ≡ self.old.start }
     {
         let changed = combine(self.row.op, self.here.psw, first, self.byte);
@@ -186,7 +186,7 @@ impl Micro {
     /// `d,#`: the place that takes the result is next.
     #[inline(always)]
     pub(crate) fn reach_immediate_pair(&mut self, at: u16)
-        ensures left { rest self.new ≡ immediate_pair_at (use_of self.old.row.op) self.old.row self.old.here at self.old.byte }
+        ensures left { remaining self.new ≡ immediate_pair_at (use_of self.old.row.op) self.old.row self.old.here at self.old.byte }
         ensures start { self.new.start ≡ self.old.start }
     {
         self.base = at;
@@ -199,7 +199,7 @@ impl Micro {
     /// `d,d`: the place that takes the result is next.
     #[inline(always)]
     pub(crate) fn reach_direct_pair(&mut self, at: u16)
-        ensures left { rest self.new ≡ direct_pair_at (use_of self.old.row.op) self.old.row self.old.here at self.old.byte }
+        ensures left { remaining self.new ≡ direct_pair_at (use_of self.old.row.op) self.old.row self.old.here at self.old.byte }
         ensures start { self.new.start ≡ self.old.start }
     {
         self.base = at;
@@ -212,7 +212,7 @@ impl Micro {
     /// A branch's distance was fetched.
     #[inline(always)]
     pub(crate) fn pass_distance(&mut self, is_taken: bool, distance: u8)
-        ensures left { rest self.new ≡ branched is_taken self.old.here distance }
+        ensures left { remaining self.new ≡ branched is_taken self.old.here distance }
         ensures start { self.new.start ≡ self.old.start }
     {
         if is_taken {
@@ -227,7 +227,7 @@ impl Micro {
     /// The byte that a branch is taken by was read.
     #[inline(always)]
     pub(crate) fn pass_test(&mut self, byte: u8)
-        ensures left { rest self.new ≡ tested (use_of self.old.row.op) self.old.row self.old.here self.old.base byte }
+        ensures left { remaining self.new ≡ tested (use_of self.old.row.op) self.old.row self.old.here self.old.base byte }
         ensures start { self.new.start ≡ self.old.start }
     {
         let is_taken = is_taken_by(self.row.op, self.row.mode, self.here.a, byte);
@@ -243,7 +243,7 @@ impl Micro {
     /// The program counter was pushed.
     #[inline(always)]
     pub(crate) fn pass_pushes(&mut self)
-        ensures left { rest self.new ≡ after_pushes (use_of self.old.row.op) self.old.here self.old.base }
+        ensures left { remaining self.new ≡ after_pushes (use_of self.old.row.op) self.old.here self.old.base }
         ensures start { self.new.start ≡ self.old.start }
     {
         match use_of(self.row.op) {
@@ -265,7 +265,7 @@ impl Micro {
     /// What is pulled first.
     #[inline(always)]
     pub(crate) fn reach_pulls(&mut self)
-        ensures left { rest self.new ≡ pulls (use_of self.old.row.op) self.old.row self.old.here }
+        ensures left { remaining self.new ≡ pulls (use_of self.old.row.op) self.old.row self.old.here }
         ensures start { self.new.start ≡ self.old.start }
     {
         self.place = match use_of(self.row.op) {
@@ -278,7 +278,7 @@ impl Micro {
     /// An absolute address was fetched.
     #[inline(always)]
     pub(crate) fn pass_absolute(&mut self, word: u16)
-        ensures left { rest self.new ≡ absolute (use_of self.old.row.op) self.old.row self.old.here word }
+        ensures left { remaining self.new ≡ absolute (use_of self.old.row.op) self.old.row self.old.here word }
         ensures start { self.new.start ≡ self.old.start }
     {
         match use_of(self.row.op) {
@@ -297,7 +297,7 @@ impl Micro {
     /// An operand's two bytes were fetched.
     #[inline(always)]
     pub(crate) fn pass_operand(&mut self, word: u16)
-        ensures left { rest self.new ≡ after_operand self.old.row.mode self.old.row self.old.here word }
+        ensures left { remaining self.new ≡ after_operand self.old.row.mode self.old.row self.old.here word }
         ensures start { self.new.start ≡ self.old.start }
     {
         match self.row.mode {
@@ -326,7 +326,7 @@ impl Micro {
     /// The first byte after the opcode was fetched.
     #[inline(always)]
     pub(crate) fn pass_first(&mut self, byte: u8)
-        ensures left { rest self.new ≡ after_first self.old.row.mode self.old.row self.old.here byte }
+        ensures left { remaining self.new ≡ after_first self.old.row.mode self.old.row self.old.here byte }
         ensures start { self.new.start ≡ self.old.start }
     {
         let offset = byte as u16;

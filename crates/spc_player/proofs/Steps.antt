@@ -8,10 +8,10 @@ use Rattle.snes_defs.specs.declared.region.Region.{Region}
 use Rattle.snes_defs.specs.declared.region.Region.TheVariants.{Ntsc}
 use Rattle.snes_defs.specs.declared.ports.Side.TheVariants.{Sound}
 use Rattle.clock_ratio.specs.Stamp.{rate_of}
-use Rattle.audio_side.specs.Board.{Board}
+use Rattle.audio_side.specs.HardwareState.{HardwareState}
 use Rattle.audio_side.specs.Clock.{Clock}
 use Rattle.audio_side.specs.Effect.{emitted, sample_bytes}
-use Rattle.audio_side.specs.Sound.{AudioValue, SoundState, StandsAt, board_before_end}
+use Rattle.audio_side.specs.Sound.{AudioValue, SoundState, StandsAt, hardware_before_end}
 use Rattle.spc_player.specs.Play.{Playing, after_steps, output, step_emits, stepped, to_sample}
 use Rattle.spc_player.specs.Player.{PlayerValue, IsPlaying, stamp_of}
 
@@ -49,13 +49,13 @@ region_after w zero = refl
 region_after w (suc n) = region_after w n
 
 -- a sample comes with the last of 32 cycles, and only there
-pub emits_none : (n : ℕ) (b : Board) → n % 32 < 31 → emitted n b ≡ []
+pub emits_none : (n : ℕ) (b : HardwareState) → n % 32 < 31 → emitted n b ≡ []
 unfolding emitted
 emits_none n b before =
     let none : (n % 32 == 31) ≡ false = ne_eqb (n % 32) 31 (λ e. omega (arith, e, before)) in
     rw none refl
 
-pub emits_four : (n : ℕ) (b : Board) → n % 32 ≡ 31 → length (emitted n b) ≡ 4
+pub emits_four : (n : ℕ) (b : HardwareState) → n % 32 ≡ 31 → length (emitted n b) ≡ 4
 unfolding emitted sample_bytes
 emits_four n b is = rw is refl
 
@@ -65,14 +65,14 @@ silent w zero before = refl
 silent w (suc n) before =
     let v = after_steps w n in
     let now : cycle_of v % 32 < 31 = omega (arith, cycle_after w n, before) in
-    ap (λ (l : List ℕ). l ++ step_emits v) (silent w n (omega (arith, before))) ∙ emits_none (cycle_of v) (board_before_end v.sound) now
+    ap (λ (l : List ℕ). l ++ step_emits v) (silent w n (omega (arith, before))) ∙ emits_none (cycle_of v) (hardware_before_end v.sound) now
 
 -- and those up to it a pair of two numbers of two bytes
 one_pair : (w : Playing) (n : ℕ) → cycle_of w % 32 + n ≡ 31 → length (output w (suc n)) ≡ 4
 one_pair w n last =
     let v = after_steps w n in
     let now : cycle_of v % 32 ≡ 31 = omega (arith, cycle_after w n, last) in
-    ap (λ (l : List ℕ). length (l ++ step_emits v)) (silent w n (omega (arith, last))) ∙ emits_four (cycle_of v) (board_before_end v.sound) now
+    ap (λ (l : List ℕ). length (l ++ step_emits v)) (silent w n (omega (arith, last))) ∙ emits_four (cycle_of v) (hardware_before_end v.sound) now
 
 pub pair : (w : Playing) → length (output w (to_sample w)) ≡ 4
 pair w =

@@ -1,11 +1,11 @@
--- A board with another RAM and boot ROM, where the processor doesn't see the difference: a cycle does the same to it.
+-- A hardware with another RAM and boot ROM, where the processor doesn't see the difference: a cycle does the same to it.
 use Rattle.std.proofs.Common.{◌≡◌, ℕ, Bool, true, false, ◌-◌, ◌<◌, ◌≤◌, ◌==◌, ◌&&◌, ◌||◌, nat_le, nat_lt, if◌then◌else◌, List, length, slice_index, slice_set, refl, ap, sym, subst, ◌∙◌, ⊎_elim, arith}
 use Rattle.std.proofs.lemmas.Bool.{cases_eq, cases_lt}
 use Rattle.std.proofs.lemmas.Grind.{common_steps, get_or-set_at}
 use Rattle.std.proofs.lemmas.List.{get_or_past, get_or-set_other, length-set}
 use Rattle.spc_tables.specs.declared.access.SpcAccess.{SpcAccess}
 use Rattle.spc_tables.specs.declared.access.SpcAccess.TheVariants as Access
-use Rattle.audio_side.specs.Board.{Board}
+use Rattle.audio_side.specs.HardwareState.{HardwareState}
 use Rattle.audio_side.specs.Effect.{register_shown, loaded, after_load, controlled, dsp_written, register_stored, stored, given, effect, timed}
 use Rattle.spc_player_laws.specs.PlaysOn.{is_register, is_hidden, IsAlike, with_memory}
 
@@ -33,7 +33,7 @@ nine : (seen : Bool) → is_hidden seen 0xF9 ≡ false
 nine true = refl
 nine false = refl
 
-module _ (seen : Bool) (b : Board) (ram' boot' : List ℕ) (is : b.boot_seen ≡ seen) (alike : IsAlike seen ram' b.ram) (boot_same : seen ≡ true → boot' ≡ b.boot) where
+module _ (seen : Bool) (b : HardwareState) (ram' boot' : List ℕ) (is : b.boot_seen ≡ seen) (alike : IsAlike seen ram' b.ram) (boot_same : seen ≡ true → boot' ≡ b.boot) where
   register_same : (at got : ℕ) → register_shown (with_memory b ram' boot') at got ≡ register_shown b at got
   unfolding register_shown
   register_same at got = rw (alike.same 0xF8 (eight seen), alike.same 0xF9 (nine seen)) refl
@@ -75,17 +75,17 @@ stored_alike seen other one i v h = record {
   same = λ at shown. stored_at other one i v at h.size (h.same at shown);
 }
 
--- a board is another but for its RAM and boot ROM, and the RAMs are alike
-pub record Follows (seen : Bool) (boot' : List ℕ) (b other : Board) : Type 0 where
+-- a hardware is another but for its RAM and boot ROM, and the RAMs are alike
+pub record Follows (seen : Bool) (boot' : List ℕ) (b other : HardwareState) : Type 0 where
   pub ram' : List ℕ
   pub alike : IsAlike seen ram' b.ram
   pub is : other ≡ with_memory b ram' boot'
 
-if_follows : (seen : Bool) (boot' : List ℕ) (c : Bool) (x y x' y' : Board) → Follows seen boot' x x' → Follows seen boot' y y' → Follows seen boot' (if c then x else y) (if c then x' else y')
+if_follows : (seen : Bool) (boot' : List ℕ) (c : Bool) (x y x' y' : HardwareState) → Follows seen boot' x x' → Follows seen boot' y y' → Follows seen boot' (if c then x else y) (if c then x' else y')
 if_follows seen boot' true x y x' y' h k = h
 if_follows seen boot' false x y x' y' h k = k
 
-module _ (seen : Bool) (b : Board) (ram' boot' : List ℕ) (alike : IsAlike seen ram' b.ram) where
+module _ (seen : Bool) (b : HardwareState) (ram' boot' : List ℕ) (alike : IsAlike seen ram' b.ram) where
   load_follows : (at : ℕ) → Follows seen boot' (after_load b at) (after_load (with_memory b ram' boot') at)
   unfolding after_load
   load_follows at =
@@ -122,6 +122,6 @@ module _ (seen : Bool) (b : Board) (ram' boot' : List ℕ) (alike : IsAlike seen
   effect_follows Access.Inner = record { ram' = ram'; alike = alike; is = refl }
 
 -- the timers are none of memory's
-pub timed_follows : (seen : Bool) (boot' : List ℕ) (n : ℕ) (b other : Board) → Follows seen boot' b other → Follows seen boot' (timed n b) (timed n other)
+pub timed_follows : (seen : Bool) (boot' : List ℕ) (n : ℕ) (b other : HardwareState) → Follows seen boot' b other → Follows seen boot' (timed n b) (timed n other)
 unfolding timed
 timed_follows seen boot' n b other h = record { ram' = h.ram'; alike = h.alike; is = ap (timed n) h.is }

@@ -2,21 +2,21 @@
 -- apart: they emit the same.
 use Rattle.std.proofs.Common.{◌≡◌, ℕ, Bool, true, false, zero, suc, ◌+◌, ◌*◌, ◌/◌, ◌%◌, ◌==◌, ◌&&◌, if◌then◌else◌, List, [], ◌++◌, refl, ap, sym, subst, ◌∙◌, arith}
 use Rattle.snes_defs.specs.declared.region.Region.TheVariants.{Ntsc}
-use Rattle.spc700.specs.Instruction.{Standing, moved_on, next_of}
+use Rattle.spc700.specs.Instruction.{SpcState, moved_on, next_of}
 use Rattle.side_law.specs.Serial.{got_of, incoming_after}
-use Rattle.audio_side.specs.Board.{Board}
+use Rattle.audio_side.specs.HardwareState.{HardwareState}
 use Rattle.audio_side.specs.Clock.{is_reset_due}
 use Rattle.audio_side.specs.Effect.{act_of, effect, emitted, given, passed, sampled, sample_bytes, timed}
-use Rattle.audio_side.specs.Sound.{SoundState, sound_act, processor_after, board_before_end}
+use Rattle.audio_side.specs.Sound.{SoundState, sound_act, processor_after, hardware_before_end}
 use Rattle.spc_player.specs.Play.{Playing, after_steps, output, step_emits, stepped}
 use Rattle.spc_player_laws.specs.PlaysOn.{IsAlike, IsBlind, StaysBlind, with_memory, at_end}
 use Rattle.spc_player_laws.proofs.Memory.{Follows, effect_follows, given_same, timed_follows}
 use Rattle.spc_player_laws.proofs.Rates.{sample_again, bytes_again}
 
-abbrev state : Standing → Board → ℕ → SoundState
-state s b n = record { processor = s; board = b; clock = record { region = Ntsc; resets = []; cycle = n } }
+abbrev state : SpcState → HardwareState → ℕ → SoundState
+state s b n = record { processor = s; hardware = b; clock = record { region = Ntsc; resets = []; cycle = n } }
 
-abbrev playing : Standing → Board → ℕ → List ℕ → Playing
+abbrev playing : SpcState → HardwareState → ℕ → List ℕ → Playing
 playing s b n ports' = record { sound = state s b n; ports = ports' }
 
 and_false : (c : Bool) → c && false ≡ false
@@ -27,29 +27,29 @@ and_false false = refl
 not_due : (n : ℕ) → is_reset_due (record { region = Ntsc; resets = []; cycle = n }) ≡ false
 not_due n = and_false _
 
-act_is : (s : Standing) (b : Board) (n : ℕ) → sound_act (state s b n) ≡ act_of (next_of s)
+act_is : (s : SpcState) (b : HardwareState) (n : ℕ) → sound_act (state s b n) ≡ act_of (next_of s)
 unfolding sound_act
 act_is s b n = rw (not_due n) refl
 
-processor_is : (s : Standing) (b : Board) (n got' : ℕ) → processor_after (state s b n) got' ≡ moved_on s (given b (next_of s) got')
+processor_is : (s : SpcState) (b : HardwareState) (n got' : ℕ) → processor_after (state s b n) got' ≡ moved_on s (given b (next_of s) got')
 unfolding processor_after
 processor_is s b n got' = rw (not_due n) refl
 
-board_is : (s : Standing) (b : Board) (n : ℕ) → board_before_end (state s b n) ≡ effect b (next_of s)
-unfolding board_before_end
-board_is s b n = rw (not_due n) refl
+hardware_is : (s : SpcState) (b : HardwareState) (n : ℕ) → hardware_before_end (state s b n) ≡ effect b (next_of s)
+unfolding hardware_before_end
+hardware_is s b n = rw (not_due n) refl
 
 -- what a step makes, and emits
-got_is : Standing → List ℕ → ℕ
+got_is : SpcState → List ℕ → ℕ
 got_is s ports' = got_of (act_of (next_of s)) ports'
 
-step_is : (s : Standing) (b : Board) (n : ℕ) (ports' : List ℕ) → stepped (playing s b n ports')
+step_is : (s : SpcState) (b : HardwareState) (n : ℕ) (ports' : List ℕ) → stepped (playing s b n ports')
     ≡ playing (moved_on s (given b (next_of s) (got_is s ports'))) (passed n (effect b (next_of s))) (n + 1) (incoming_after (act_of (next_of s)) ports')
 unfolding got_is
-step_is s b n ports' = rw (act_is s b n, processor_is s b n (got_of (act_of (next_of s)) ports'), board_is s b n) refl
+step_is s b n ports' = rw (act_is s b n, processor_is s b n (got_of (act_of (next_of s)) ports'), hardware_is s b n) refl
 
-emits_is : (s : Standing) (b : Board) (n : ℕ) (ports' : List ℕ) → step_emits (playing s b n ports') ≡ emitted n (effect b (next_of s))
-emits_is s b n ports' = ap (emitted n) (board_is s b n)
+emits_is : (s : SpcState) (b : HardwareState) (n : ℕ) (ports' : List ℕ) → step_emits (playing s b n ports') ≡ emitted n (effect b (next_of s))
+emits_is s b n ports' = ap (emitted n) (hardware_is s b n)
 
 -- cycles that are periods apart come at the same time for timers and samples
 module _ (n k : ℕ) where
@@ -65,20 +65,20 @@ module _ (n k : ℕ) where
   fast_again : (n + 983040 * k + 1) % 16 ≡ (n + 1) % 16
   fast_again = omega arith
 
-  pub timed_again : (b : Board) → timed (n + 983040 * k) b ≡ timed n b
+  pub timed_again : (b : HardwareState) → timed (n + 983040 * k) b ≡ timed n b
   unfolding timed
   timed_again b = rw (slow_again, fast_again) refl
 
-  pub passed_again : (b : Board) → passed (n + 983040 * k) b ≡ passed n b
+  pub passed_again : (b : HardwareState) → passed (n + 983040 * k) b ≡ passed n b
   unfolding passed
   passed_again b = rw (sampling_again, number_again, timed_again b, sample_again (n / 32) k (timed n b)) refl
 
-  pub emitted_again : (b : Board) → emitted (n + 983040 * k) b ≡ emitted n b
+  pub emitted_again : (b : HardwareState) → emitted (n + 983040 * k) b ≡ emitted n b
   unfolding emitted
   emitted_again b = rw (sampling_again, number_again, timed_again b, bytes_again (n / 32) k (timed n b)) refl
 
 -- the end of a cycle whose sample, if there is one, looks at no hidden byte
-passed_follows : (seen : Bool) (boot' : List ℕ) (n : ℕ) (b other : Board) → IsBlind seen (n / 32) (timed n b) → Follows seen boot' b other
+passed_follows : (seen : Bool) (boot' : List ℕ) (n : ℕ) (b other : HardwareState) → IsBlind seen (n / 32) (timed n b) → Follows seen boot' b other
     → Follows seen boot' (passed n b) (passed n other)
 unfolding passed
 passed_follows seen boot' n b other blind h =
@@ -89,7 +89,7 @@ passed_follows seen boot' n b other blind h =
       | false ↦ t
     ]
 
-emitted_follows : (seen : Bool) (boot' : List ℕ) (n : ℕ) (b other : Board) → IsBlind seen (n / 32) (timed n b) → Follows seen boot' b other
+emitted_follows : (seen : Bool) (boot' : List ℕ) (n : ℕ) (b other : HardwareState) → IsBlind seen (n / 32) (timed n b) → Follows seen boot' b other
     → emitted n other ≡ emitted n b
 unfolding emitted
 emitted_follows seen boot' n b other blind h =
@@ -101,8 +101,8 @@ emitted_follows seen boot' n b other blind h =
 
 -- two that play: they are the same but for memory that nobody looks at, and the other stands some periods earlier
 pub record IsBeside (seen : Bool) (k : ℕ) (w other : Playing) : Type 0 where
-  pub s : Standing
-  pub b : Board
+  pub s : SpcState
+  pub b : HardwareState
   pub n : ℕ
   pub ports' : List ℕ
   pub ram' : List ℕ
@@ -118,7 +118,7 @@ same_memory seen one = record { size = refl; same = λ at shown. refl }
 module _ (seen : Bool) (k : ℕ) (w other : Playing) (h : IsBeside seen k w other) (blind : IsBlind seen (w.sound.clock.cycle / 32) (at_end w.sound)) where
   blind_here : IsBlind seen ((h.n + 983040 * k) / 32) (timed (h.n + 983040 * k) (effect h.b (next_of h.s)))
   blind_here =
-      subst (λ (x : Board). IsBlind seen ((h.n + 983040 * k) / 32) (timed (h.n + 983040 * k) x)) (board_is h.s h.b (h.n + 983040 * k))
+      subst (λ (x : HardwareState). IsBlind seen ((h.n + 983040 * k) / 32) (timed (h.n + 983040 * k) x)) (hardware_is h.s h.b (h.n + 983040 * k))
       (subst (λ (v : Playing). IsBlind seen (v.sound.clock.cycle / 32) (at_end v.sound)) h.w_is blind)
 
   pub emits_same : step_emits other ≡ step_emits w
@@ -134,9 +134,9 @@ module _ (seen : Bool) (k : ℕ) (w other : Playing) (h : IsBeside seen k w othe
   boot_kept =
       let f = passed_follows seen h.b.boot (h.n + 983040 * k) (effect h.b (next_of h.s)) (effect h.b (next_of h.s)) blind_here
       (effect_follows seen h.b h.b.ram h.b.boot (same_memory seen h.b.ram) (next_of h.s)) in
-      ap (λ (x : Board). x.boot) f.is
+      ap (λ (x : HardwareState). x.boot) f.is
 
-  pub beside_next : w.sound.board.boot_seen ≡ seen → IsBeside seen k (stepped w) (stepped other)
+  pub beside_next : w.sound.hardware.boot_seen ≡ seen → IsBeside seen k (stepped w) (stepped other)
   beside_next seen_here =
       let a = next_of h.s in
       let here = effect h.b a in
@@ -146,7 +146,7 @@ module _ (seen : Bool) (k : ℕ) (w other : Playing) (h : IsBeside seen k w othe
       let left = incoming_after (act_of a) h.ports' in
       let f : Follows seen h.boot' (passed late here) (passed late there)
       = passed_follows seen h.boot' late here there blind_here (effect_follows seen h.b h.ram' h.boot' h.alike a) in
-      let is : h.b.boot_seen ≡ seen = subst (λ (v : Playing). v.sound.board.boot_seen ≡ seen) h.w_is seen_here in
+      let is : h.b.boot_seen ≡ seen = subst (λ (v : Playing). v.sound.hardware.boot_seen ≡ seen) h.w_is seen_here in
       let given_is = given_same seen h.b h.ram' h.boot' is h.alike h.boot_same a byte in
       let next : moved_on h.s (given (with_memory h.b h.ram' h.boot') a byte) ≡ moved_on h.s (given h.b a byte) = ap (moved_on h.s) given_is in
       let number : late + 1 ≡ (h.n + 1) + 983040 * k = omega arith in
@@ -160,8 +160,8 @@ module _ (seen : Bool) (k : ℕ) (w other : Playing) (h : IsBeside seen k w othe
         w_is = ap stepped h.w_is ∙ step_is h.s h.b late h.ports' ∙ ap (λ (c : ℕ). playing (moved_on h.s (given h.b a byte)) (passed late here) c left) number;
         other_is =
             ap stepped h.other_is ∙ step_is h.s (with_memory h.b h.ram' h.boot') h.n h.ports'
-            ∙ ap (λ (s : Standing). playing s (passed h.n there) (h.n + 1) left) next
-            ∙ ap (λ (x : Board). playing (moved_on h.s (given h.b a byte)) x (h.n + 1) left) (sym (passed_again h.n k there) ∙ f.is);
+            ∙ ap (λ (s : SpcState). playing s (passed h.n there) (h.n + 1) left) next
+            ∙ ap (λ (x : HardwareState). playing (moved_on h.s (given h.b a byte)) x (h.n + 1) left) (sym (passed_again h.n k there) ∙ f.is);
         alike = f.alike;
         boot_same = λ e. h.boot_same e ∙ sym boot_kept;
       }

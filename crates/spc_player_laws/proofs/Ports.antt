@@ -2,7 +2,7 @@
 use Rattle.std.proofs.Common.{◌≡◌, ℕ, zero, suc, ◌+◌, ◌<◌, ◌≤◌, true, false, if◌then◌else◌, List, [], ◌∷◌, length, slice_index, slice_set, refl, ◌∙◌, arith}
 use Rattle.std.proofs.lemmas.Grind.{get_or-set_at}
 use Rattle.std.proofs.lemmas.List.{get_or-set_other, length-set}
-use Rattle.audio_side.specs.Board.{Board}
+use Rattle.audio_side.specs.HardwareState.{HardwareState}
 use Rattle.audio_side.specs.Kept.{control_of, kept_ram, ports_kept, seen_ram, timers_kept, under_boot}
 
 length_under : (ram' boot' : List ℕ) (n : ℕ) → length (under_boot ram' boot' n) ≡ length ram'
@@ -10,7 +10,7 @@ unfolding under_boot
 length_under ram' boot' zero = refl
 length_under ram' boot' (suc n) = length-set (under_boot ram' boot' n) (0xFFC0 + n) (slice_index boot' n) ∙ length_under ram' boot' n
 
-length_seen : (b : Board) → length (seen_ram b) ≡ length b.ram
+length_seen : (b : HardwareState) → length (seen_ram b) ≡ length b.ram
 unfolding seen_ram
 length_seen b = elim b.boot_seen as (λ c. length (if c then under_boot b.ram b.boot 64 else b.ram) ≡ length b.ram) [
   | true ↦ length_under b.ram b.boot 64
@@ -18,7 +18,7 @@ length_seen b = elim b.boot_seen as (λ c. length (if c then under_boot b.ram b.
 ]
 
 -- the timers' bytes stand behind those of the ports
-timers_behind : (b : Board) (l : List ℕ) (at : ℕ) → at < 0xFA → slice_index (timers_kept b l) at ≡ slice_index l at
+timers_behind : (b : HardwareState) (l : List ℕ) (at : ℕ) → at < 0xFA → slice_index (timers_kept b l) at ≡ slice_index l at
 unfolding timers_kept
 timers_behind b l at lt =
     get_or-set_other _ 0xFF at _ 0 (λ e. omega (arith, lt, e)) ∙ get_or-set_other _ 0xFE at _ 0 (λ e. omega (arith, lt, e))
@@ -71,7 +71,7 @@ four (a ∷ (b ∷ (c ∷ []))) h = absurd (omega (arith, h))
 four (a ∷ (b ∷ (c ∷ (d ∷ [])))) h = refl
 four (a ∷ (b ∷ (c ∷ (d ∷ (e ∷ rest))))) h = absurd (omega (arith, h))
 
-pub ports_come_back : (b : Board) (ports : List ℕ) → length b.ram ≡ 65536 → length ports ≡ 4 → under_ports (kept_ram b ports) ≡ ports
+pub ports_come_back : (b : HardwareState) (ports : List ℕ) → length b.ram ≡ 65536 → length ports ≡ 4 → under_ports (kept_ram b ports) ≡ ports
 unfolding kept_ram
 ports_come_back b ports size count =
     let l = slice_set (slice_set (seen_ram b) 0xF1 (control_of b)) 0xF2 b.address in

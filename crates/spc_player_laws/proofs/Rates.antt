@@ -11,7 +11,7 @@ use Rattle.sdsp_voice.specs.declared.voice.Phase.TheVariants.{Attack, Decay, Sus
 use Rattle.sdsp_voice.specs.declared.setting.Setting.{Setting}
 use Rattle.sdsp_voice.specs.declared.voice.Voice.{Voice}
 use Rattle.sdsp_voice.specs.declared.voices.Voices.{Voices}
-use Rattle.audio_side.specs.Board.{Board}
+use Rattle.audio_side.specs.HardwareState.{HardwareState}
 use Rattle.audio_side.specs.Effect.{sampled, sample_bytes}
 
 Divides : ℕ → Type 0
@@ -102,10 +102,10 @@ module _ (s k : ℕ) where
       ap (λ (x : Voices). (turns ram table (s + 30720 * k) x 8).sums) (prepared_again ram d)
       ∙ ap (λ (q : Pass). q.sums) (turns_again ram table (prepared ram s d) 8)
 
-  pub sample_again : (b : Board) → sampled (s + 30720 * k) b ≡ sampled s b
+  pub sample_again : (b : HardwareState) → sampled (s + 30720 * k) b ≡ sampled s b
   unfolding sampled
   sample_again b = rw (voices_again b.ram b.table b.voices, sums_again b.ram b.table b.voices) refl
 
-  pub bytes_again : (b : Board) → sample_bytes (s + 30720 * k) b ≡ sample_bytes s b
+  pub bytes_again : (b : HardwareState) → sample_bytes (s + 30720 * k) b ≡ sample_bytes s b
   unfolding sample_bytes
   bytes_again b = rw (voices_again b.ram b.table b.voices, sums_again b.ram b.table b.voices) refl

@@ -3,7 +3,7 @@ use Rattle.std.proofs.Common.{◌≡◌, ℕ, zero, suc, ◌+◌, ◌-◌, ◌*�
 use Rattle.std.specs.Int.{w64, to_le_bytes, from_le_bytes, from_be_bytes, swap_bytes}
 use Rattle.std.proofs.lemmas.Nat.{le_bytes_8}
 use Rattle.tile_cache.specs.declared.eights.TheConstants.{EIGHTS}
-use Rattle.tile_cache.specs.Planes.{bit_of, pixel_of, value_of, packed, eight}
+use Rattle.tile_cache.specs.Bitplanes.{bit_of, pixel_of, value_of, packed, eight}
 
 -- numbers of equal pixels are equal
 pub packed_ext : (f g : ℕ → ℕ) → ((k : ℕ) → k < 8 → f k ≡ g k) → packed f ≡ packed g

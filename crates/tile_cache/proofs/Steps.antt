@@ -3,7 +3,7 @@ use Rattle.std.proofs.Common.{◌≡◌, ℕ, ◌+◌, ◌*◌, ◌%◌, ◌<◌
 use Rattle.std.proofs.lemmas.Bool.{cases_lt}
 use Rattle.std.proofs.lemmas.List.{get_or_past, get_or-replicate, length-replicate}
 use Rattle.ppu_regs.specs.Picture.{zeros, vram_words, picture_start}
-use Rattle.tile_cache.specs.Planes.{pixel_of, value_of, packed, IsInStep}
+use Rattle.tile_cache.specs.Bitplanes.{pixel_of, value_of, packed, IsInStep}
 
 -- a list of zeros has 0 everywhere
 zero_at : (xs : List ℕ) (i : ℕ) → All (λ b. b ≡ 0) xs → slice_index xs i ≡ 0

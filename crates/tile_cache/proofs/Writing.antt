@@ -6,7 +6,7 @@ use Rattle.std.proofs.lemmas.List.{get_or-set_other}
 use Rattle.ppu_regs.specs.Picture.{Picture}
 use Rattle.ppu_regs.specs.Ports.{vram_place, vram_low_written, vram_high_written}
 use Rattle.ppu_regs.specs.Writes.{after_write, word_written, oam_written, vram_low_set, vram_high_set, vram_low_put, vram_high_put, colour_put}
-use Rattle.tile_cache.specs.Planes.{pixel_of, packed, IsInStepAt, IsInStep}
+use Rattle.tile_cache.specs.Bitplanes.{pixel_of, packed, IsInStepAt, IsInStep}
 
 -- VRAM after a write, by the two data registers
 vram_after :

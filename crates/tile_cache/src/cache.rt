@@ -1,7 +1,7 @@
 ghost use Rattle.std.specs.Prelude.{◌≡◌, ◌≢◌, ℕ, ◌⊎◌, ◌+◌, ◌*◌, ◌/◌, ◌%◌, ◌<◌, ◌≤◌, ◌^◌, ◌==◌, List, length, slice_index, slice_set, All, IfOk, IsTrue, ◌||◌, ◌-◌, if◌then◌else◌};
 ghost use Rattle.ppu_regs.specs.Picture.{picture_start};
 ghost use Rattle.ppu_regs.specs.Writes.{after_write, word_written};
-ghost use Rattle.tile_cache.specs.Planes.{value_of, packed, IsInStepAt, IsInStep, eight};
+ghost use Rattle.tile_cache.specs.Bitplanes.{value_of, packed, IsInStepAt, IsInStep, eight};
 
 use crate::eights::{bytes_of, pixels_of};
 use ppu_regs::Ppu;

@@ -1,7 +1,7 @@
 //! Eight pixels as one number, the left one in its lowest byte.
 
 ghost use Rattle.std.specs.Prelude.{◌≡◌, ℕ, ◌+◌, ◌-◌, ◌*◌, ◌<◌, ◌≤◌, slice_index, if◌then◌else◌};
-ghost use Rattle.tile_cache.specs.Planes.{bit_of, pixel_of, packed, eight};
+ghost use Rattle.tile_cache.specs.Bitplanes.{bit_of, pixel_of, packed, eight};
 
 /// The bits of a byte, each in a byte of its own: bit 7 in the lowest.
 static EIGHTS: [u64; 256] = [

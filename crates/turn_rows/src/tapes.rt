@@ -26,7 +26,7 @@ enum Traffic {
     /// Clears between reads and writes.
     Clears,
     /// Nothing at the ports.
-    Rest,
+    BusState,
 }
 
 /// What the tapes of a pair are like.
@@ -75,7 +75,7 @@ fn some_traffic(dice: &mut Dice) -> Traffic {
         1 => Traffic::Burst,
         2 => Traffic::Polls,
         3 => Traffic::Clears,
-        _ => Traffic::Rest,
+        _ => Traffic::BusState,
     }
 }
 
@@ -88,7 +88,7 @@ fn beats_of(dice: &mut Dice, traffic: Traffic) -> u64
         Traffic::Burst => 200 + dice.below(300),
         Traffic::Polls => 50 + dice.below(200),
         Traffic::Clears => 20 + dice.below(100),
-        Traffic::Rest => 1 + dice.below(300),
+        Traffic::BusState => 1 + dice.below(300),
     }
 }
 
@@ -126,7 +126,7 @@ fn act(dice: &mut Dice, traffic: Traffic, first: bool) -> Act
             1 => write(dice, port),
             _ => read(port),
         },
-        Traffic::Rest => Act::Quiet,
+        Traffic::BusState => Act::Quiet,
     }
 }
 

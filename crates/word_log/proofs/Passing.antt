@@ -18,7 +18,7 @@ use Rattle.port_wire.specs.Counts.{tally_of, tally_after}
 use Rattle.word_log.specs.Sums.{count_of}
 use Rattle.word_log.specs.Known.{Half, Known, half_option, half_in, has}
 use Rattle.word_log.specs.Desks.{IsReady, Listens}
-use Rattle.word_log.specs.Called.{ReadAnswers, ClearAnswers, WriteAnswers, logged_by, clock_by}
+use Rattle.word_log.specs.PassCalls.{ReadAnswers, ClearAnswers, WriteAnswers, logged_by, clock_by}
 use Rattle.word_log.specs.Passes.{shown, StandFor, IsNeverHeld}
 use Rattle.word_log.specs.declared.desk.Desk.{Desk}
 

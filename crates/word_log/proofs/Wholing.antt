@@ -22,7 +22,7 @@ use Rattle.word_log.specs.Known.{Half, Known, no_half, half_of, half_option, hal
 use Rattle.word_log.specs.Rule.{Follows}
 use Rattle.word_log.specs.Steps.{TellsAll}
 use Rattle.word_log.specs.Desks.{IsReady, Listens}
-use Rattle.word_log.specs.Called.{IsLateLook, IsLateWrite, ReadAnswers, ClearAnswers, WriteAnswers}
+use Rattle.word_log.specs.PassCalls.{IsLateLook, IsLateWrite, ReadAnswers, ClearAnswers, WriteAnswers}
 use Rattle.word_log.specs.Passes.{shown}
 use Rattle.word_log.specs.Wholes.{WholeValue, whole_of, both_of, StandForBoth, own_half, other_half, whole_after}
 use Rattle.word_log.specs.WholeCalls.{Meets, ReadsWhole, ClearsWhole, WritesWhole}

@@ -5,7 +5,7 @@ pub mod Rule
 pub mod Steps
 pub mod WordsKnown
 pub mod Desks
-pub mod Called
+pub mod PassCalls
 pub mod Passes
 pub mod Wholes
 pub mod WholeCalls

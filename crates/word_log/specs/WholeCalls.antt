@@ -9,7 +9,7 @@ use Rattle.port_wire.specs.Seen.{writes_of}
 use Rattle.port_wire.specs.declared.late.PassLate.{PassLate}
 use Rattle.word_log.specs.Known.{Known, half_in}
 use Rattle.word_log.specs.Desks.{Listens}
-use Rattle.word_log.specs.Called.{IsLateLook, IsLateWrite}
+use Rattle.word_log.specs.PassCalls.{IsLateLook, IsLateWrite}
 use Rattle.word_log.specs.Wholes.{WholeValue, own_half, other_half}
 
 -- a side has listened where no other seat stands for the other one: it has all that the other wrote, and its clock

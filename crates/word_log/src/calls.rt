@@ -12,7 +12,7 @@ ghost use Rattle.word_log.specs.Layout.{end_of_stamps};
 ghost use Rattle.word_log.specs.Known.{half_in, has, changed};
 ghost use Rattle.word_log.specs.Steps.{after_put, after_count, after_publish, MayCount};
 ghost use Rattle.word_log.specs.Desks.{clears_of, ReadsBy, IsDesk, IsReady, Listens, nothing_at};
-ghost use Rattle.word_log.specs.Called.{ReadAnswers, ClearAnswers, WriteAnswers, logged_by, clock_by};
+ghost use Rattle.word_log.specs.PassCalls.{ReadAnswers, ClearAnswers, WriteAnswers, logged_by, clock_by};
 
 use crate::desk::Desk;
 use crate::layout::{clock_place, count_place, entry_place, packed};

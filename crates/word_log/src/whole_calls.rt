@@ -7,7 +7,7 @@ ghost use Rattle.port_wire.specs.Whole.{HearBoth};
 ghost use Rattle.word_log.specs.Layout.{end_of_stamps};
 ghost use Rattle.word_log.specs.Known.{half_in, has};
 ghost use Rattle.word_log.specs.Desks.{IsReady};
-ghost use Rattle.word_log.specs.Called.{ReadAnswers, ClearAnswers, WriteAnswers, logged_by, clock_by};
+ghost use Rattle.word_log.specs.PassCalls.{ReadAnswers, ClearAnswers, WriteAnswers, logged_by, clock_by};
 ghost use Rattle.word_log.specs.Wholes.{IsWholeOf, both_of, own_half, other_half, whole_after};
 ghost use Rattle.word_log.specs.WholeCalls.{Meets, ReadsWhole, ClearsWhole, WritesWhole};
 

@@ -3,7 +3,7 @@ use file_shelf::Out;
 use job_player::Console;
 use run_drive::{Host, Watch};
 use run_io::Argv;
-use snes_call::{Status, snes};
+use snes_program::{Status, snes};
 use std::alloc::Global;
 use std::thread::Threads;
 use std::{io, str};

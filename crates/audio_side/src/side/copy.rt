@@ -3,11 +3,11 @@ ghost use Rattle.std.specs.Prelude.{◌≡◌, []};
 ghost use Rattle.audio_side.specs.Sound.{SoundState, StandsAt};
 
 use super::AudioSide;
-use crate::board::Hardware;
+use crate::hardware::Hardware;
 use side_law::copy_waiting;
 
-/// Makes the other board the same one, where both have one boot ROM and one table.
-fn copy_board(from: &Hardware, into: &mut Hardware)
+/// Makes the other hardware the same one, where both have one boot ROM and one table.
+fn copy_hardware(from: &Hardware, into: &mut Hardware)
     requires boot { from.now.boot ≡ into.old.boot }
     requires table { from.now.table ≡ into.old.table }
     ensures { into.new ≡ from.now }
@@ -26,15 +26,15 @@ impl AudioSide {
     /// Makes the other sound side the same one, with an instruction under way, the echo, the timers and the bytes
     /// that wait. Both need one boot ROM and one table, and no resets. No memory is taken.
     pub fn copy_into(&self, into: &mut AudioSide)
-        requires boot { self.now.board.boot ≡ into.old.board.boot }
-        requires table { self.now.board.table ≡ into.old.board.table }
+        requires boot { self.now.hardware.boot ≡ into.old.hardware.boot }
+        requires table { self.now.hardware.table ≡ into.old.hardware.table }
         requires no_resets { self.now.clock.resets ≡ [] }
         requires none_there { into.old.clock.resets ≡ [] }
         ensures same { into.new ≡ self.now }
         ensures stands { (m : SoundState) → StandsAt self.now m → StandsAt into.new m }
     {
         into.parts.spc = self.parts.spc;
-        copy_board(&self.parts.board, &mut into.parts.board);
+        copy_hardware(&self.parts.hardware, &mut into.parts.hardware);
         self.parts.clock.copy_into(&mut into.parts.clock);
         copy_waiting(&self.parts.waiting, &mut into.parts.waiting);
     }

@@ -1,9 +1,9 @@
 // A console side taken over whole into another one, and a script that goes on.
 ghost use Rattle.std.specs.Prelude.{◌≡◌, ◌+◌, ◌<◌, ◌≤◌, [], length, max, drop, OnOk, OnErr};
 ghost use Rattle.snes_defs.specs.Script.{frames_of};
-ghost use Rattle.console_steps.specs.World.{World};
+ghost use Rattle.console_steps.specs.ConsoleState.{ConsoleState};
 ghost use Rattle.console_machine.specs.Side.{StandsAt};
-ghost use Rattle.console_machine.specs.Playing.{value_played, value_with_room, world_played, world_with_room};
+ghost use Rattle.console_machine.specs.Playing.{value_played, value_with_room, console_played, console_with_room};
 
 use super::ConsoleSide;
 use side_law::copy_waiting;
@@ -21,7 +21,7 @@ impl ConsoleSide {
         requires no_resets { self.now.rest.script.resets ≡ [] }
         requires none_there { into.old.rest.script.resets ≡ [] }
         ensures same { into.new ≡ value_with_room self.now into.old.rest.script.room }
-        ensures stands { (w : World) → StandsAt self.now w → StandsAt into.new (world_with_room w into.old.rest.script.room) }
+        ensures stands { (w : ConsoleState) → StandsAt self.now w → StandsAt into.new (console_with_room w into.old.rest.script.room) }
     {
         into.parts.cpu = self.parts.cpu;
         self.parts.bus.copy_into(&mut into.parts.bus);
@@ -34,7 +34,7 @@ impl ConsoleSide {
     #[tactic(auto, using(crate::proofs::Copies::copied))]
     pub fn reserve(&mut self, spans: usize) -> Result<(), NoMemory>
         ensures ok { OnOk result (self.new ≡ value_with_room self.old (max self.old.rest.script.room (length self.old.rest.script.spans + spans))) }
-        ensures stands { OnOk result ((w : World) → StandsAt self.old w → StandsAt self.new (world_with_room w (max self.old.rest.script.room (length self.old.rest.script.spans + spans)))) }
+        ensures stands { OnOk result ((w : ConsoleState) → StandsAt self.old w → StandsAt self.new (console_with_room w (max self.old.rest.script.room (length self.old.rest.script.spans + spans)))) }
         ensures err { OnErr result (self.new ≡ self.old) }
     {
         self.parts.bus.reserve(spans)
@@ -48,7 +48,7 @@ impl ConsoleSide {
         requires room { length self.old.rest.script.spans < self.old.rest.script.room }
         requires frames { frames_of self.old.rest.script.spans + span.count ≤ 36000 }
         ensures played { self.new ≡ value_played self.old span }
-        ensures stands { (w : World) → StandsAt self.old w → StandsAt self.new (world_played w span) }
+        ensures stands { (w : ConsoleState) → StandsAt self.old w → StandsAt self.new (console_played w span) }
     {
         self.parts.bus.play(span);
     }

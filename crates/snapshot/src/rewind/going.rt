@@ -4,7 +4,7 @@ ghost use Rattle.snes_defs.specs.declared.cart.Job.{Job};
 ghost use Rattle.snes_defs.specs.declared.ports.Side.{Side};
 ghost use Rattle.snes_defs.specs.declared.script.Span.{Span};
 ghost use Rattle.plan_drive.specs.Paths.{Paths};
-ghost use Rattle.snapshot.specs.Standing.{IsRested, IsGoing, IsBeyond, slot_count, video_waiting, audio_waiting};
+ghost use Rattle.snapshot.specs.Positions.{IsRested, IsGoing, IsBeyond, slot_count, video_waiting, audio_waiting};
 ghost use Rattle.snapshot.specs.Handed.{Gave, GaveSome};
 
 use super::Rewind;

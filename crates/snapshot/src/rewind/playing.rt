@@ -6,7 +6,7 @@ ghost use Rattle.run_drive.specs.Played.{PlayedWhole, PlayedFirst};
 ghost use Rattle.plan_drive.specs.Paths.{no_paths, after_steps, goes_of, slots_of};
 ghost use Rattle.plan_drive.specs.Joins.{Joins};
 ghost use Rattle.snapshot.specs.Path.{PathEmits};
-ghost use Rattle.snapshot.specs.Standing.{IsRested, slot_count};
+ghost use Rattle.snapshot.specs.Positions.{IsRested, slot_count};
 
 use super::Rewind;
 use input_files::{Plan, PlanStep};

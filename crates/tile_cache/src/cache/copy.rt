@@ -1,6 +1,6 @@
 // Decoded tiles taken over from another cache.
 ghost use Rattle.std.specs.Prelude.{◌≡◌, List, ℕ};
-ghost use Rattle.tile_cache.specs.Planes.{IsInStep};
+ghost use Rattle.tile_cache.specs.Bitplanes.{IsInStep};
 
 use super::TileCache;
 

@@ -2,7 +2,7 @@ use Rattle.std.proofs.Common.{◌∙◌, ◌≤◌, arith, lit≤, refl, slice_i
 use Rattle.std.proofs.Math.Nat.{not-suc-le-zero}
 use Rattle.std.proofs.lemmas.List.Elements.{All-replicate}
 use Rattle.std.proofs.lemmas.List.FromFn.{fill_by_all}
-use Rattle.audio_side.specs.Board.{table_of}
+use Rattle.audio_side.specs.HardwareState.{table_of}
 use Rattle.audio_side.proofs.side.copied.Goals as goal
 
 pub numbers-init : goal.numbers-init

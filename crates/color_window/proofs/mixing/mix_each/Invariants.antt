@@ -1,6 +1,6 @@
 -- Each pixel before the loop's is mixed, and each other as it was.
 use Rattle.std.proofs.Common.{◌≡◌, ℕ, ◌<◌, ◌≤◌, ◌==◌, not, get_or}
-use Rattle.row_passes.specs.Inks.{is_named, is_found}
+use Rattle.scanline_ops.specs.RankedPixels.{is_named, is_found}
 use Rattle.color_window.specs.Mixing.{mixed}
 use Rattle.color_window.proofs.mixing.mix_each.Given as goal
 

@@ -1,6 +1,6 @@
 use Rattle.std.proofs.Common.{◌≡◌, ◌+◌, [], refl, arith, sym, ap, subst, ◌∙◌}
 use Rattle.cpu65816.specs.Stands.{access_of}
-use Rattle.console_bus.specs.Rest.{Rest}
+use Rattle.console_bus.specs.BusState.{BusState}
 use Rattle.console_steps.specs.AtOnce.{gone_on, passed_in}
 use Rattle.console_steps.proofs.Wires.{wired_then}
 use Rattle.console_machine.proofs.Runs.{no_run}
@@ -50,14 +50,14 @@ returns-then-is_back-clause-run c = λ w at line.
     let same = c.is_back.ensures.stays in
     let more = c.go_rounds-more in
     let last : c.is_back.new.bus.last ≡ c.last_byte-byte.result = c.is_back.ensures.last c.if-is_back.true in
-    let P : Rest → Type 0 = λ r. passed_in r more.result ≡ [] in
+    let P : BusState → Type 0 = λ r. passed_in r more.result ≡ [] in
     rounds_run c.args.cpu.now c.look_once.new.cpu c.args.bus.now c.look_once.new.bus more.new.bus (c.looks.gone + c.in-Some.clocks) more.ensures.times.number more.result _
     (λ u here. look_on c.looks.cpu c.look_once.new.cpu c.looks.bus c.look_once.new.bus u c.looks.gone c.in-Some.clocks (c.looks.gone + c.in-Some.clocks) (was.looks u here)
     was.calm step.looks (step.made (was.wired u here)) refl)
     (c.is_back.ensures.processor c.if-is_back.true)
-    (ap (λ (r : Rest). r.last) (sym same) ∙ last ∙ c.last_byte-byte.ensures.last)
+    (ap (λ (r : BusState). r.last) (sym same) ∙ last ∙ c.last_byte-byte.ensures.last)
     more.ensures.times.times
-    (more.ensures.on ∙ ap (λ (r : Rest). gone_on r more.result) same)
+    (more.ensures.on ∙ ap (λ (r : BusState). gone_on r more.result) same)
     (subst P same more.ensures.nothing)
     refl w at line
 

@@ -6,7 +6,7 @@ use Rattle.console_steps.proofs.drawing.draw_row.Goals as goal
 pub returns-clause-row : goal.returns-clause-row
 unfolding row_bytes
 returns-clause-row c =
-    let dots = c.draw.new.dots in
+    let dots = c.draw_dots.new.dots in
     let same = list_of-same 1024 (byte_of_dots (slice_index dots)) (byte_of_dots (shown_dot c.args.bus.now))
-    (bytes-same (slice_index dots) (shown_dot c.args.bus.now) c.draw.ensures.dots) in
+    (bytes-same (slice_index dots) (shown_dot c.args.bus.now) c.draw_dots.ensures.dots) in
     c.emit_row.ensures.row ∙ ap (λ x. c.args.waiting.now.items ++ x) same

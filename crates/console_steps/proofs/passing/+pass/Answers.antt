@@ -1,6 +1,6 @@
 use Rattle.std.proofs.Common.{◌≡◌, ◌-◌, ◌++◌, List, length, sym, ap, subst, ◌∙◌, arith, append-nil, append_assoc}
 use Rattle.beam.specs.Places.{clocks_left}
-use Rattle.console_steps.specs.World.{after_events, bytes_of_events, bytes_in}
+use Rattle.console_steps.specs.ConsoleState.{after_events, bytes_of_events, bytes_in}
 use Rattle.console_steps.specs.Draws.{room_for}
 use Rattle.console_steps.specs.Stands.{IsAt}
 use Rattle.console_steps.proofs.Clocks.{arrived, arrival}
@@ -27,9 +27,9 @@ pass_place-requires-clause-last t c = λ d.
 
 pub pass_place-requires-clause-room : goal.pass_place-requires-clause-room
 pass_place-requires-clause-room t c = λ d.
-    let e = c.left-left.ensures.clocks in
-    let some = c.left-left.ensures.some in
-    let line = c.left-left.ensures.on_line in
+    let e = c.clocks_left-left.ensures.clocks in
+    let some = c.clocks_left-left.ensures.some in
+    let line = c.clocks_left-left.ensures.on_line in
     let enough = c.if-clocks-left.false in
     let left = clocks_left c.args.bus.now.beam in
     let room = room_after c.args.bus.now c.reach-happens.new.self c.reach-happens.result left c.args.clocks
@@ -38,9 +38,9 @@ pass_place-requires-clause-room t c = λ d.
 
 pub pass-requires : goal.pass-requires
 pass-requires t c =
-    let e = c.left-left.ensures.clocks in
-    let some = c.left-left.ensures.some in
-    let line = c.left-left.ensures.on_line in
+    let e = c.clocks_left-left.ensures.clocks in
+    let some = c.clocks_left-left.ensures.some in
+    let line = c.clocks_left-left.ensures.on_line in
     let enough = c.if-clocks-left.false in
     let left = clocks_left c.args.bus.now.beam in
     let step = c.requires.step in
@@ -51,11 +51,11 @@ pass-requires t c =
     let capacity = c.pass_place.ensures.capacity in
     (omega arith, (omega arith, rw (c.pass_place.ensures.beam, e) (omega arith)))
 
--- the events of the place, told of the world that has arrived there
+-- the events of the place, told of the console state that has arrived there
 pub returns-clause-at : goal.returns-clause-at
 returns-clause-at t c = λ w at.
-    let e = c.left-left.ensures.clocks in
-    let some = c.left-left.ensures.some in
+    let e = c.clocks_left-left.ensures.clocks in
+    let some = c.clocks_left-left.ensures.some in
     let enough = c.if-clocks-left.false in
     let left = clocks_left c.args.bus.now.beam in
     let there = arrives c.args.cpu.now c.args.bus.now c.reach-happens.new.self w left at c.reach-happens.ensures.moved in
@@ -69,8 +69,8 @@ returns-clause-at t c = λ w at.
 
 pub returns-clause-bytes : goal.returns-clause-bytes
 returns-clause-bytes t c = λ w at.
-    let e = c.left-left.ensures.clocks in
-    let some = c.left-left.ensures.some in
+    let e = c.clocks_left-left.ensures.clocks in
+    let some = c.clocks_left-left.ensures.some in
     let enough = c.if-clocks-left.false in
     let left = clocks_left c.args.bus.now.beam in
     let there = arrives c.args.cpu.now c.args.bus.now c.reach-happens.new.self w left at c.reach-happens.ensures.moved in
@@ -88,9 +88,9 @@ returns-clause-bytes t c = λ w at.
 
 pub returns-clause-size : goal.returns-clause-size
 returns-clause-size t c =
-    let e = c.left-left.ensures.clocks in
-    let some = c.left-left.ensures.some in
-    let line = c.left-left.ensures.on_line in
+    let e = c.clocks_left-left.ensures.clocks in
+    let some = c.clocks_left-left.ensures.some in
+    let line = c.clocks_left-left.ensures.on_line in
     let enough = c.if-clocks-left.false in
     let left = clocks_left c.args.bus.now.beam in
     let room = room_after c.args.bus.now c.reach-happens.new.self c.reach-happens.result left c.args.clocks

@@ -1,6 +1,6 @@
 use Rattle.beam.specs.declared.events.Event.TheVariants.{Line, Blank, HdmaFrame, Refresh}
 use Rattle.beam.specs.Events.{one_if}
-use Rattle.console_steps.specs.World.{after_events}
+use Rattle.console_steps.specs.ConsoleState.{after_events}
 use Rattle.console_steps.proofs.EventLists.{four_joined}
 use Rattle.console_steps.proofs.passing.pass_first.Goals as goal
 

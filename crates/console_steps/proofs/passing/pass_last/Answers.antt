@@ -1,6 +1,6 @@
 use Rattle.beam.specs.declared.events.Event.TheVariants.{HdmaLine, Timer}
 use Rattle.beam.specs.Events.{one_if}
-use Rattle.console_steps.specs.World.{after_events}
+use Rattle.console_steps.specs.ConsoleState.{after_events}
 use Rattle.console_steps.proofs.EventLists.{events_joined}
 use Rattle.console_steps.proofs.passing.pass_last.Goals as goal
 

@@ -1,7 +1,7 @@
 use Rattle.std.proofs.Common.{◌++◌, ap, sym, ◌∙◌}
 use Rattle.beam.specs.declared.events.Event.TheVariants.{Draw}
 use Rattle.beam.specs.Events.{one_if}
-use Rattle.console_steps.specs.World.{after_events}
+use Rattle.console_steps.specs.ConsoleState.{after_events}
 use Rattle.console_steps.specs.Parts.{first_of}
 use Rattle.console_steps.proofs.EventLists.{after_split, bytes_split}
 use Rattle.console_steps.proofs.passing.pass_place.Goals as goal

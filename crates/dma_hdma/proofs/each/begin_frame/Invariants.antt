@@ -1,6 +1,6 @@
 use Rattle.std.proofs.Common.{◌≡◌, ◌++◌, map, take, drop}
-use Rattle.dma_hdma.specs.Channel.{framed}
+use Rattle.dma_hdma.specs.Channel.{frame_begun}
 use Rattle.dma_hdma.proofs.each.begin_frame.Given as goal
 
 abbrev pub invariant-loop-channel : goal.invariant-loop-channel
-invariant-loop-channel l = l.channels ≡ map framed (take l.channel-index l.initial.channels) ++ drop l.channel-index l.initial.channels
+invariant-loop-channel l = l.channels ≡ map frame_begun (take l.channel-index l.initial.channels) ++ drop l.channel-index l.initial.channels

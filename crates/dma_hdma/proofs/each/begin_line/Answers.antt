@@ -1,11 +1,11 @@
 use Rattle.std.proofs.Common.{rules}
 use Rattle.std.proofs.lemmas.List.Edits.{map_over_more}
 use Rattle.std.proofs.lemmas.List.{take_all, drop_all}
-use Rattle.dma_hdma.specs.Channel.{lined}
+use Rattle.dma_hdma.specs.Channel.{line_begun}
 use Rattle.dma_hdma.proofs.each.begin_line.Goals as goal
 
 pub loop-channel-preserved : goal.loop-channel-preserved
-loop-channel-preserved c = search (rules, map_over_more lined)
+loop-channel-preserved c = search (rules, map_over_more line_begun)
 
 pub returns : goal.returns
 returns c = search (rules, take_all, drop_all)

@@ -1,10 +1,10 @@
 use Rattle.std.proofs.Common.{◌≡◌, ℕ, ◌+◌, ◌*◌, ap, sym, ◌∙◌}
 use Rattle.ppu_regs.specs.Picture.{screens_of}
 use Rattle.ppu_regs.specs.Reads.{bit_of}
-use Rattle.ppu_tiles.specs.Backgrounds.{background_candidate}
+use Rattle.ppu_tiles.specs.Backgrounds.{background_layer_dot}
 use Rattle.ppu_screens.specs.Order.{layer_rank, rank_base}
-use Rattle.ppu_line.specs.Line.{ink_of}
-use Rattle.ppu_line.proofs.Painted.{painted_ink, plane_tiles, tiles_math, tiles_priority}
+use Rattle.ppu_line.specs.Line.{ranked_pixel_of}
+use Rattle.ppu_line.proofs.Painted.{painted_pixel, plane_tiles, tiles_math, tiles_priority}
 use Rattle.ppu_line.proofs.layers.paint_tiles.Goals as goal
 
 pub returns : goal.returns
@@ -12,7 +12,7 @@ returns c x h =
     let e : ℕ = 2 * x + bit_of c.args.odd in
     let low : c.base-low.result ≡ rank_base (layer_rank c.args.p.now.registers c.args.layer 0) (screens_of c.args.p.now.registers c.args.layer).arithmetic = cc in
     let high : c.base-high.result ≡ rank_base (layer_rank c.args.p.now.registers c.args.layer 1) (screens_of c.args.p.now.registers c.args.layer).arithmetic = cc in
-    painted_ink c.args.p.now c.args.layer (background_candidate c.args.p.now c.args.layer c.args.row e) _ _ c.base-low.result
+    painted_pixel c.args.p.now c.args.layer (background_layer_dot c.args.p.now c.args.layer c.args.row e) _ _ c.base-low.result
     c.base-high.result (tiles_priority c.args.p.now c.args.layer c.args.row e) (tiles_math c.args.p.now c.args.layer c.args.row e) low
-    high (c.ink_row.ensures.ranks x h) (c.ink_row.ensures.numbers x h)
-    ∙ ap (ink_of c.args.p.now c.args.layer) (sym (plane_tiles c.args.p.now c.args.layer c.args.row e c.requires.mode))
+    high (c.ranked_row.ensures.ranks x h) (c.ranked_row.ensures.numbers x h)
+    ∙ ap (ranked_pixel_of c.args.p.now c.args.layer) (sym (plane_tiles c.args.p.now c.args.layer c.args.row e c.requires.mode))

@@ -7,6 +7,6 @@ use Rattle.ppu_objects.proofs.painting.put_lines.Goals as goal
 pub loop-i-preserved : goal.loop-i-preserved
 loop-i-preserved c j k hj hk = elim (cases_lt j c.loop-i.i) [
   | inl earlier ↦ c.put_bytes.ensures.below (8 * j + k) (omega arith) ∙ c.loop-i.invariant j k earlier hk
-  | inr here ↦ line_next c.args.p.now c.args.row c.args.pieces.now c.put_bytes.new.lines c.line_of_piece-line.result c.loop-i.i j k _
-      (omega arith) hk c.line_of_piece-line.ensures refl (c.put_bytes.ensures.put k hk)
+  | inr here ↦ line_next c.args.p.now c.args.row c.args.slivers.now c.put_bytes.new.lines c.line_of_sliver-line.result c.loop-i.i j k _
+      (omega arith) hk c.line_of_sliver-line.ensures refl (c.put_bytes.ensures.put k hk)
 ]

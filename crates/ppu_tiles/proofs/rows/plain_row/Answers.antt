@@ -13,7 +13,7 @@ returns-clause-ranks c =
     ap (λ (b : Background). b.scroll_x % 8) c.background.ensures
     ∙ ap (λ (r : Registers). (background_of r c.args.layer).scroll_x % 8) c.registers.ensures
     in
-    λ x h. c.ink.ensures.ranks x h
+    λ x h. c.rank_pixels.ensures.ranks x h
     ∙ row_rank c.args.p.now c.args.layer c.args.y (bit_of c.args.odd) c.args.low c.args.high x (c.background.result.now.scroll_x % 8)
     c.paint.new.values c.paint.new.bases (odd_small c.args.odd) from
     (c.paint.ensures.values (x + c.background.result.now.scroll_x % 8) (omega arith))
@@ -25,7 +25,7 @@ returns-clause-numbers c =
     ap (λ (b : Background). b.scroll_x % 8) c.background.ensures
     ∙ ap (λ (r : Registers). (background_of r c.args.layer).scroll_x % 8) c.registers.ensures
     in
-    λ x h. c.ink.ensures.numbers x h
+    λ x h. c.rank_pixels.ensures.numbers x h
     ∙ row_number c.args.p.now c.args.layer c.args.y (bit_of c.args.odd) x (c.background.result.now.scroll_x % 8)
     c.paint.new.values c.paint.new.firsts (odd_small c.args.odd) c.requires.last from
     (c.paint.ensures.values (x + c.background.result.now.scroll_x % 8) (omega arith))

@@ -1,6 +1,6 @@
 use Rattle.std.proofs.Common.{◌+◌, ◌∷◌, [], ℕ, length, length-append, max, slice_index_or, ◌<◌, ap, subst, sym, ◌∙◌, arith}
 use Rattle.snapshot.specs.declared.run.Run.{Run}
-use Rattle.snapshot.specs.Standing.{HoldsPath}
+use Rattle.snapshot.specs.Positions.{HoldsPath}
 use Rattle.snapshot.proofs.Slots.{one_more}
 use Rattle.snapshot.proofs.memory.first_runs.Goals as goal
 

@@ -1,7 +1,7 @@
 use Rattle.std.proofs.Common.{◌≡◌, ◌<◌, ℕ, List, [], length, max, slice_index_or}
 use Rattle.snes_defs.specs.declared.cart.Job.{Job}
 use Rattle.snapshot.specs.declared.run.Run.{Run}
-use Rattle.snapshot.specs.Standing.{HoldsPath}
+use Rattle.snapshot.specs.Positions.{HoldsPath}
 use Rattle.snapshot.proofs.memory.first_runs.Given as goal
 
 -- the first runs are made

@@ -1,6 +1,6 @@
 use Rattle.std.proofs.Common.{◌≡◌, ℕ, ◌+◌, ◌*◌, List, ap, ◌∙◌, arith}
 use Rattle.spc700.specs.Instruction.{between}
-use Rattle.audio_side.specs.Board.{Board}
+use Rattle.audio_side.specs.HardwareState.{HardwareState}
 use Rattle.audio_side.specs.Kept.{kept_ram}
 use Rattle.spc_player.specs.Play.{play_start}
 use Rattle.spc_player_laws.specs.PlaysOn.{with_memory, goes_on, file_of}
@@ -21,7 +21,7 @@ returns c = λ regs b dsp table ports times gives stays.
       boot' = gives.boot';
       w_is = ap (λ (n : ℕ). goes_on regs b n ports) number;
       other_is =
-          ap (λ (x : Board). goes_on regs x 0 (under_ports (kept_ram b ports))) gives.board ∙ ap (λ (p : List ℕ). goes_on regs (with_memory b gives.ram' gives.boot') 0 p) (ports_come_back b ports gives.ram_size gives.four_ports);
+          ap (λ (x : HardwareState). goes_on regs x 0 (under_ports (kept_ram b ports))) gives.hardware ∙ ap (λ (p : List ℕ). goes_on regs (with_memory b gives.ram' gives.boot') 0 p) (ports_come_back b ports gives.ram_size gives.four_ports);
       alike = gives.alike;
       boot_same = gives.boot_same;
     }) stays

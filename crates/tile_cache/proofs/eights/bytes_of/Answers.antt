@@ -1,6 +1,6 @@
 -- The bytes of a number are its pixels, in its order or turned over.
 use Rattle.std.proofs.Common.{◌≡◌, ◌-◌, ◌∙◌, arith}
-use Rattle.tile_cache.specs.Planes.{packed}
+use Rattle.tile_cache.specs.Bitplanes.{packed}
 use Rattle.tile_cache.proofs.Packing.{bytes_of_packed, packed_turned}
 use Rattle.tile_cache.proofs.eights.bytes_of.Goals.{then-flip, else-flip}
 use Rattle.tile_cache.proofs.eights.bytes_of.Goals as goal

@@ -1,6 +1,6 @@
 -- The pixels of two words, four times the second's.
 use Rattle.std.proofs.Common.{◌+◌, ◌*◌, arith}
-use Rattle.tile_cache.specs.Planes.{pixel_of}
+use Rattle.tile_cache.specs.Bitplanes.{pixel_of}
 use Rattle.tile_cache.proofs.Packing.{pixel_small, sum_of_four}
 use Rattle.tile_cache.proofs.eights.line_of_words.Goals as goal
 

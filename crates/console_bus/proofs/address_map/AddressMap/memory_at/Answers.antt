@@ -1,5 +1,5 @@
 use Rattle.std.proofs.Common.{◌≡◌, ℕ, ◌+◌, ◌*◌, ◌/◌, ◌%◌, IsTrue, IfSome, sym, subst, arith}
-use Rattle.console_bus.specs.declared.board.Board.{Board}
+use Rattle.console_bus.specs.declared.cart_board.CartBoard.{CartBoard}
 use Rattle.console_bus.specs.declared.address_map.Page.{Page}
 use Rattle.console_bus.specs.Memory.{IsMemoryAt, IsPageOf}
 use Rattle.console_bus.proofs.address_map.AddressMap.memory_at.Goals as goal
@@ -15,5 +15,5 @@ returns c =
     let Holds : Page → Type 0 = λ q. IsTrue q.memory → IsPageOf board number q in
     let is_page = subst Holds (sym c.index-page.ensures) (c.self.invariant.1 number page (let h = c.requires in omega arith)) in
     let At : ℕ → Type 0 = λ a. IfSome c.access.result (λ access. IsMemoryAt board c.args.fast a access.at access.clocks) in
-    let Of : Board → Type 0 = λ b. IfSome c.access.result (λ access. IsMemoryAt b c.args.fast addr access.at access.clocks) in
+    let Of : CartBoard → Type 0 = λ b. IfSome c.access.result (λ access. IsMemoryAt b c.args.fast addr access.at access.clocks) in
     subst Of c.self.view_is (subst At there (c.access.ensures board number is_page))

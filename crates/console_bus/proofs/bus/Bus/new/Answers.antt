@@ -1,5 +1,5 @@
 use Rattle.std.proofs.Common.{ℕ, List, refl, sym, ap, subst, ◌∙◌, arith}
-use Rattle.tile_cache.specs.Planes.{IsInStep}
+use Rattle.tile_cache.specs.Bitplanes.{IsInStep}
 use Rattle.console_bus.proofs.Starts.{sized, has_rom, beam_starts, same_start}
 use Rattle.console_bus.proofs.bus.Bus.new.Goals as goal
 

@@ -2,10 +2,10 @@ use Rattle.std.proofs.Common.{rules, ◌≡◌, refl, sym, ◌∙◌, ◌++◌, 
 use Rattle.std.proofs.lemmas.List.{append-nil}
 use Rattle.std.proofs.lemmas.Grind.{common_steps}
 use Rattle.side_law.proofs.QuietRuns.{IsSilent, goes_on_silently}
-use Rattle.console_steps.specs.World.{due_of, bytes_after, console_moves}
+use Rattle.console_steps.specs.ConsoleState.{due_of, bytes_after, console_moves}
 use Rattle.console_machine.specs.Parts.{value_of}
 use Rattle.console_machine.specs.Side.{ConsoleValue, StandsAt}
-use Rattle.console_machine.specs.Standing.{stamp_stands}
+use Rattle.console_machine.specs.AfterStep.{stamp_stands}
 use Rattle.console_machine.proofs.parts.Parts.creep.Goals as goal
 
 pub steps-preserved : goal.steps-preserved

@@ -3,10 +3,10 @@ use Rattle.std.proofs.lemmas.Grind.{common_steps}
 use mathlib.Core.Logic.{∥∥₁_map}
 use Rattle.side_law.specs.Moves.{taken}
 use Rattle.side_law.proofs.QuietRuns.{gone_silently, goes_on_silently, goes_on_emitting}
-use Rattle.console_steps.specs.World.{act_of, due_of, world_after, bytes_after, console_moves}
+use Rattle.console_steps.specs.ConsoleState.{act_of, due_of, console_after, bytes_after, console_moves}
 use Rattle.console_machine.specs.Parts.{value_of}
 use Rattle.console_machine.specs.Side.{StandsAt}
-use Rattle.console_machine.specs.Standing.{stamp_stands}
+use Rattle.console_machine.specs.AfterStep.{stamp_stands}
 use Rattle.console_machine.proofs.Quiets.{silent_joined}
 use Rattle.console_machine.proofs.parts.Parts.quiet.Goals as goal
 
@@ -20,7 +20,7 @@ steps-preserved c = record {
       let made = goes_on_silently console_moves c.args.before (StandsAt (value_of c.steps.self)) (StandsAt (value_of c.step.new.self))
       c.args.self.now.waiting.items c.steps.self.waiting.items c.step.new.self.waiting.items w was quiet
       (omega (arith, stamp_stands (value_of c.steps.self) was.to was.now_stands, c.steps.invariant.at, c.steps-test.true))
-      (subst (λ n. StandsAt (value_of c.step.new.self) (world_after was.to (due_of was.to) n)) none (c.step.ensures.next was.to was.now_stands))
+      (subst (λ n. StandsAt (value_of c.step.new.self) (console_after was.to (due_of was.to) n)) none (c.step.ensures.next was.to was.now_stands))
       (c.step.ensures.emits was.to was.now_stands ∙ ap (λ n. c.steps.self.waiting.items ++ bytes_after was.to (due_of was.to) n) none)
       (omega (arith, c.if-len-waited.false, c.len.ensures.len, c.len-waited.ensures.len, waits)) in
       silent_joined console_moves c.args.before (StandsAt (value_of c.step.new.self)) (StandsAt (value_of c.hurry-in-steps.new.self))
@@ -45,7 +45,7 @@ returns-then-len-waited-clause-went c = λ w h.
     goes_on_emitting console_moves c.args.before (StandsAt (value_of c.steps.self)) (StandsAt (value_of c.step.new.self))
     c.args.self.now.waiting.items c.steps.self.waiting.items c.step.new.self.waiting.items w c.steps.at was quiet
     (omega (arith, is, c.steps.invariant.at, c.steps-test.true))
-    (subst (λ n. StandsAt (value_of c.step.new.self) (world_after was.to (due_of was.to) n)) none (c.step.ensures.next was.to was.now_stands))
+    (subst (λ n. StandsAt (value_of c.step.new.self) (console_after was.to (due_of was.to) n)) none (c.step.ensures.next was.to was.now_stands))
     (c.step.ensures.emits was.to was.now_stands ∙ ap (λ n. c.steps.self.waiting.items ++ bytes_after was.to (due_of was.to) n) none)
     (omega (arith, c.if-len-waited.true, c.len.ensures.len, c.len-waited.ensures.len, waits))
     (c.steps.invariant.at ∙ sym is)

@@ -1,7 +1,7 @@
 use Rattle.std.proofs.Common.{◌++◌, ◌+◌, refl, sym, ap, ◌∙◌}
-use Rattle.console_steps.specs.World.{due_of}
+use Rattle.console_steps.specs.ConsoleState.{due_of}
 use Rattle.console_machine.specs.Parts.{value_of}
-use Rattle.console_machine.specs.Standing.{goes_on}
+use Rattle.console_machine.specs.AfterStep.{goes_on}
 use Rattle.console_machine.specs.Taken.{bytes_taken}
 use Rattle.console_machine.proofs.parts.Parts.step.Goals as goal
 

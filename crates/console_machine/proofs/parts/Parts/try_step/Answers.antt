@@ -1,17 +1,17 @@
 use Rattle.std.proofs.Common.{◌+◌, refl, ap, subst}
-use Rattle.console_steps.specs.World.{World, due_of}
+use Rattle.console_steps.specs.ConsoleState.{ConsoleState, due_of}
 use Rattle.console_machine.specs.Parts.{value_of}
 use Rattle.console_machine.specs.Side.{ConsoleValue, StandsAt}
-use Rattle.console_machine.specs.Standing.{goes_on}
-use Rattle.console_machine.specs.Taken.{world_taken}
+use Rattle.console_machine.specs.AfterStep.{goes_on}
+use Rattle.console_machine.specs.Taken.{console_step_taken}
 use mathlib.Core.Logic.{∥∥₁_map}
 use Rattle.console_machine.proofs.parts.Parts.try_step.Goals as goal
 
 next : goal.returns-in-Some-clause-next
 next c = λ made w h.
     let value : ConsoleValue = record { cpu = c.try_make.new.cpu; rest = c.try_make.new.bus; region = c.args.self.now.region; stamp = c.args.self.now.stamp + c.stamps.result; waiting = c.args.self.now.waiting.items } in
-    let P : World → Type 0 = λ x. StandsAt value x in
-    subst P (world_taken w (due_of w) 0)
+    let P : ConsoleState → Type 0 = λ x. StandsAt value x in
+    subst P (console_step_taken w (due_of w) 0)
     (goes_on (value_of c.args.self.now) value w 0 c.in-Some.clocks h (c.in-Some.ensures.at w h.at) refl (ap (λ n. c.args.self.now.stamp + n) c.stamps.ensures.value) (c.in-Some.ensures.clocks w h.at))
 
 pub returns-in-Some-clause-next : goal.returns-in-Some-clause-next

@@ -1,7 +1,7 @@
 use Rattle.std.proofs.Common.{rules, refl}
-use Rattle.console_steps.specs.World.{console_start}
+use Rattle.console_steps.specs.ConsoleState.{console_start}
 use Rattle.console_machine.specs.Side.{ConsoleValue}
-use Rattle.console_machine.specs.Standing.{starts_at}
+use Rattle.console_machine.specs.AfterStep.{starts_at}
 use Rattle.console_machine.proofs.side.ConsoleSide.new.Goals as goal
 
 pub invariant_of-result : goal.invariant_of-result

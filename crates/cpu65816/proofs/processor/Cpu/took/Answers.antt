@@ -1,11 +1,11 @@
 use Rattle.std.proofs.Common.{refl, ◌∙◌}
-use Rattle.cpu_modes.specs.Rest.{rest}
+use Rattle.cpu_modes.specs.Remaining.{remaining}
 use Rattle.cpu65816.specs.Stands.{access_of}
 use Rattle.cpu65816.proofs.Moves.{Stands-after_access, gets_byte-inner, onward-gets_byte}
 use Rattle.cpu65816.proofs.processor.Cpu.took.Goals as goal
 
 pub took-has_ended-requires : goal.took-has_ended-requires
-took-has_ended-requires c = onward-gets_byte c.args.self.now.kept c.args.self.now.irq_level (rest c.args.self.now.micro) c.requires
+took-has_ended-requires c = onward-gets_byte c.args.self.now.kept c.args.self.now.irq_level (remaining c.args.self.now.micro) c.requires
 
 pub returns : goal.returns
 returns c = λ s h. Stands-after_access c.args.self.now _ s c.args.byte (gets_byte-inner (access_of c.args.self.now) c.requires) (c.settle.ensures.left ∙ c.took-has_ended.ensures.left) (c.settle.ensures.start ∙ c.took-has_ended.ensures.start) refl refl refl h

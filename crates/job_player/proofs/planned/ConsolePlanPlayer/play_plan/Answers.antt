@@ -3,7 +3,7 @@ use Rattle.snes_defs.specs.declared.cart.Job.{Job}
 use Rattle.run_drive.specs.Played.{PlayedWhole}
 use Rattle.plan_drive.specs.Paths.{no_paths, goes_of, slots_of}
 use Rattle.plan_drive.specs.Joins.{PlanEmits}
-use Rattle.snapshot.specs.Standing.{IsRested, slot_count}
+use Rattle.snapshot.specs.Positions.{IsRested, slot_count}
 use Rattle.job_player.specs.Start.{Emits}
 use Rattle.job_player.proofs.Plays.{on_ok}
 use Rattle.job_player.proofs.planned.ConsolePlanPlayer.play_plan.Goals as goal

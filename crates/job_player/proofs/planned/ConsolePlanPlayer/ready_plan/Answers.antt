@@ -3,7 +3,7 @@ use Rattle.run_drive.specs.Played.{IsPlayable}
 use Rattle.plan_drive.specs.Paths.{no_paths, goes_of, slots_of}
 use Rattle.plan_drive.specs.Joins.{Joins}
 use Rattle.snapshot.specs.Path.{PathEmits}
-use Rattle.snapshot.specs.Standing.{IsRested, slot_count}
+use Rattle.snapshot.specs.Positions.{IsRested, slot_count}
 use Rattle.job_player.proofs.Planning.{room_for}
 use Rattle.job_player.proofs.planned.ConsolePlanPlayer.ready_plan.Goals as goal
 

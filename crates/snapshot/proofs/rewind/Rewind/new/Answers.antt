@@ -1,7 +1,7 @@
 use Rattle.std.proofs.Common.{[], ℕ, ◌<◌, length, max, slice_index_or, ap, subst, ◌∙◌}
 use Rattle.plan_drive.specs.Paths.{goes_of}
 use Rattle.snapshot.specs.declared.run.Run.{Run}
-use Rattle.snapshot.specs.Standing.{HoldsPath}
+use Rattle.snapshot.specs.Positions.{HoldsPath}
 use Rattle.snapshot.proofs.Steps.{plan_emits}
 use Rattle.snapshot.proofs.rewind.Rewind.new.Goals as goal
 

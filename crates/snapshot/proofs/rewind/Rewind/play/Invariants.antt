@@ -2,7 +2,7 @@ use Rattle.std.proofs.Common.{◌≡◌, ℕ, length, drop}
 use Rattle.snes_defs.specs.declared.cart.Job.{Job}
 use Rattle.input_files.specs.Plan.{NamesBelow}
 use Rattle.plan_drive.specs.Paths.{no_paths}
-use Rattle.snapshot.specs.Standing.{IsRested, slot_count}
+use Rattle.snapshot.specs.Positions.{IsRested, slot_count}
 use Rattle.snapshot.proofs.Steps.{Reached}
 use Rattle.snapshot.proofs.rewind.Rewind.play.Given as goal
 

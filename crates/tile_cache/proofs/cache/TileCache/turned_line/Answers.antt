@@ -1,5 +1,5 @@
 -- The bytes are those of the line.
-use Rattle.tile_cache.specs.Planes.{value_of}
+use Rattle.tile_cache.specs.Bitplanes.{value_of}
 use Rattle.tile_cache.proofs.Packing.{value_below}
 use Rattle.tile_cache.proofs.cache.TileCache.turned_line.Goals as goal
 

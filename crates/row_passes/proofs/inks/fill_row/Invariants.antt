@@ -1,6 +1,0 @@
--- Each place before the loop's has the value.
-use Rattle.std.proofs.Common.{◌≡◌, ℕ, ◌<◌, get_or}
-use Rattle.row_passes.proofs.inks.fill_row.Given as goal
-
-abbrev pub invariant-loop-x : goal.invariant-loop-x
-invariant-loop-x l = (k : ℕ) → k < l.x → get_or l.out k 0 ≡ l.value

@@ -1,2 +1,0 @@
-pub mod Inks
-pub mod Colours

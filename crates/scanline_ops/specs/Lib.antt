@@ -1,0 +1,2 @@
+pub mod RankedPixels
+pub mod Colours

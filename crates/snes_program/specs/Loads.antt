@@ -1,0 +1,45 @@
+-- How inputs are loaded and accepted, in their order.
+use Rattle.std.specs.Prelude.{◌≡◌, ℕ, List, Option, IfSome, IsSomeAnd}
+use Rattle.file_shelf.specs.declared.shelves.Input.{Input}
+use Rattle.file_shelf.specs.Told.{HasRisen}
+use Rattle.file_shelf.specs.Shown.{Shown}
+use Rattle.run_io.specs.Words.{input_name}
+use Rattle.run_io.specs.Lists.{FirstThat}
+use Rattle.snes_program.specs.declared.status.Why.{Why}
+use Rattle.snes_program.specs.declared.status.Status.{Status}
+use Rattle.snes_program.specs.declared.status.Status.TheVariants.{LoadFault, Refused, NoMemory}
+use Rattle.snes_program.specs.Kinds.{input_of, AreRefused, AreAccepted}
+
+-- the bytes that are held of each input, under the name that the words give it, if the shelf tells them
+abbrev pub told_in : Shown → List (List ℕ) → Input → Option (List ℕ)
+told_in shown pairs input = shown.held (input_name pairs input)
+
+-- what is held of an input is accepted, as far as it is told; or is refused so
+abbrev pub ShowsAccepted : (Input → Option (List ℕ)) → Input → Type 0
+ShowsAccepted told input = IfSome (told input) (AreAccepted input)
+
+abbrev pub ShowsRefused : (Input → Option (List ℕ)) → Why → Input → Type 0
+ShowsRefused told cause input = (input_of cause ≡ input) × IfSome (told input) (λ bytes. AreRefused bytes cause)
+
+-- it is told and accepted; or told and refused so
+abbrev pub TellsAccepted : (Input → Option (List ℕ)) → Input → Type 0
+TellsAccepted told input = IsSomeAnd (told input) (AreAccepted input)
+
+abbrev pub TellsRefused : (Input → Option (List ℕ)) → Why → Input → Type 0
+TellsRefused told cause input = (input_of cause ≡ input) × IsSomeAnd (told input) (λ bytes. AreRefused bytes cause)
+
+module _ (pairs : List (List ℕ)) (before after : Shown) where
+  -- a fault of loading an input was counted, under its name
+  abbrev pub HasFailed : Input → Type 0
+  HasFailed input = HasRisen (before.load_faults (input_name pairs input)) (after.load_faults (input_name pairs input))
+
+  -- why one input was not taken: its load failed, or what is held is refused, or there was no memory
+  abbrev pub EndsInput : Status → Input → Type 0
+  EndsInput (LoadFault failed) input = (failed ≡ input) × HasFailed input
+  EndsInput (Refused cause) input = ShowsRefused (told_in before pairs) cause input
+  EndsInput NoMemory input = Unit {0}
+  EndsInput _ input = ⊥
+
+  -- why the inputs were not taken: that of the first that wasn't, and those before it were accepted
+  abbrev pub EndsInputs : List Input → Status → Type 0
+  EndsInputs inputs status = FirstThat (ShowsAccepted (told_in before pairs)) (EndsInput status) inputs

@@ -1,0 +1,93 @@
+ghost use Rattle.run_io.specs.Form.{order_by, Fits};
+ghost use Rattle.snes_program.specs.Commands.{asks, asked_by, asked};
+ghost use Rattle.snes_program.specs.Ends.{EndsCall, EndsWish};
+
+use crate::command::Performs;
+use crate::demo::Demo;
+use crate::make::Make;
+use crate::perform::perform;
+use crate::play::Play;
+use crate::rewind::Rewind;
+use crate::run::{Run, Way};
+use crate::say::{refuse, say};
+use crate::status::Status;
+use file_shelf::Shelf;
+use plan_drive::PlanPlayer;
+use run_drive::Workers;
+use run_io::{Argv, Asked, Word, read_form};
+
+/// Does what a command asks for, says how it ended, and gives the answer.
+fn commanded<C: Performs, R: AllocGlobal + Workers, H: Shelf>(
+    command: &C,
+    rt: &R,
+    asked: &Asked<'_>,
+    shelf: &mut H,
+) -> Status
+    requires { Fits C.command.form (order_by asked.now) }
+    ensures { EndsCall C.command (order_by asked.now) (H.shown shelf.old) (H.shown shelf.new) result }
+{
+    let outcome = perform(command, rt, asked, shelf);
+    say(shelf, outcome)
+}
+
+/// Reads the words behind a command's name by its form, and does what they ask for.
+#[tactic(auto, using(crate::proofs::Ending::reads))]
+fn call<C: Performs, R: AllocGlobal + Workers, H: Shelf>(
+    command: &C,
+    rt: &R,
+    words: &[Word],
+    shelf: &mut H,
+) -> Status
+    ensures { EndsWish (asks C.command words.now) (H.shown shelf.old) (H.shown shelf.new) result }
+{
+    match read_form(&C::form(), words) {
+        Some(asked) => commanded(command, rt, &asked, shelf),
+        None => refuse(shelf, Status::Usage),
+    }
+}
+
+/// Calls the command of this name. THE COMMANDS are listed here, and in `asked_by`.
+#[tactic(auto, unfolding(crate::specs::Commands::asked_by))]
+fn call_named<P: PlanPlayer, R: AllocGlobal + Workers, H: Shelf>(
+    rt: &R,
+    name: &str,
+    words: &[Word],
+    shelf: &mut H,
+) -> Status
+    ensures { EndsWish (asked_by P.emits name.now words.now) (H.shown shelf.old) (H.shown shelf.new) result }
+{
+    if name == "run" {
+        return call(&Run::<P>::by(Way::Turns), rt, words, shelf);
+    }
+    if name == "serial" {
+        return call(&Run::<P>::by(Way::Serial), rt, words, shelf);
+    }
+    if name == "play" {
+        return call(&Play, rt, words, shelf);
+    }
+    if name == "make" {
+        return call(&Make, rt, words, shelf);
+    }
+    if name == "demo" {
+        return call(&Demo::<P>::new(), rt, words, shelf);
+    }
+    if name == "rewind" {
+        return call(&Rewind::<P>::new(), rt, words, shelf);
+    }
+    refuse(shelf, Status::Usage)
+}
+
+/// Does what the words ask for, says how it ended, and gives the answer.
+#[tactic(auto, using(crate::proofs::Ending::reads))]
+pub(crate) fn performed<P: PlanPlayer, R: AllocGlobal + Workers, H: Shelf>(
+    rt: &R,
+    words: &Argv,
+    shelf: &mut H,
+) -> Status
+    ensures { EndsWish (asked P.emits words.now) (H.shown shelf.old) (H.shown shelf.new) result }
+{
+    match words.all().split_first() {
+        Some((name, words)) => call_named::<P, R, H>(rt, name.text(), words, shelf),
+        None => refuse(shelf, Status::Usage),
+    }
+}

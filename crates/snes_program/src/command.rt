@@ -1,0 +1,69 @@
+ghost use Rattle.std.specs.Prelude.{◌≡◌, ℕ, List, [], true, OnOk, IfOk, IfErr, Option};
+ghost use Rattle.file_shelf.specs.Told.{Holds, HasRisen};
+ghost use Rattle.run_io.specs.Lists.{AllOf, IsOneOf};
+ghost use Rattle.run_io.specs.Form.{Order, form_by, order_by, Fits};
+ghost use Rattle.snes_program.specs.Loads.{told_in};
+ghost use Rattle.snes_program.specs.Command.{Command, CanMake, HoldsWhole, HoldsFirst};
+ghost use Rattle.snes_program.specs.Ends.{are_apart, OnlyTouches};
+
+use crate::loads::Loads;
+use file_shelf::{Out, Shelf};
+use run_drive::Workers;
+use run_io::{Asked, Form, Line};
+use snes_defs::NoMemory;
+use std::alloc::Global;
+
+/// A command: what is its own beside the words, loads, creations and lines that all commands share.
+pub(crate) trait Performs {
+    ghost use Rattle.std.specs.Prelude.{ℕ, List, Option};
+    ghost use Rattle.file_shelf.specs.declared.shelves.Input.{Input};
+
+    /// Its inputs, in their order.
+    type Inputs: Loads;
+
+    /// All that it needs to fill its outputs: no memory is taken after it.
+    type Ready: Drop;
+
+    // What it is: the form of its words, and what it makes.
+    ghost command: { Command };
+
+    // This is ready to make what the words and the told bytes of the inputs ask for.
+    ghost is_ready: { Order → (Input → Option (List ℕ)) → Self.Ready → Type 0 };
+
+    /// The form of its words.
+    fn form() -> Form
+        ensures { form_by result ≡ command.form };
+
+    /// Takes all memory.
+    fn ready(
+        &self,
+        alloc: Global,
+        asked: &Asked<'_>,
+        inputs: <Self::Inputs as Loads>::Value,
+    ) -> Result<Self::Ready, NoMemory>
+        requires { Fits command.form (order_by asked.now) }
+        ensures ready { IfOk result (λ ready. (told : Input → Option (List ℕ)) → Self.Inputs.reads told inputs → is_ready (order_by asked.now) told ready) }
+        ensures makes { OnOk result ((told : Input → Option (List ℕ)) → Self.Inputs.reads told inputs → CanMake command (order_by asked.now) told) };
+
+    /// Puts what it makes to its outputs, which were created, and gives its line. Err names the
+    /// output that was not written.
+    fn fill<R: Workers, H: Shelf>(
+        &self,
+        rt: &R,
+        asked: &Asked<'_>,
+        ready: Self::Ready,
+        shelf: &mut H,
+    ) -> Result<Line, Out>
+        requires ready { is_ready (order_by asked.now) (told_in (H.shown shelf.old) asked.now.pairs.now) ready }
+        requires fits { Fits command.form (order_by asked.now) }
+        requires created { AllOf (λ out. Holds ((H.shown shelf.old).written out) []) command.form.outputs }
+        ensures whole { IfOk result (λ line. HoldsWhole command (order_by asked.now) (told_in (H.shown shelf.old) asked.now.pairs.now) (H.shown shelf.new).written line) }
+        ensures first { AllOf (HoldsFirst command (order_by asked.now) (told_in (H.shown shelf.old) asked.now.pairs.now) (H.shown shelf.new).written) command.form.outputs }
+        ensures failed { IfErr result (λ out. IsOneOf command.form.outputs out × HasRisen ((H.shown shelf.old).write_faults out) ((H.shown shelf.new).write_faults out)) }
+        ensures named { (H.shown shelf.new).named ≡ (H.shown shelf.old).named }
+        ensures only { OnlyTouches command.form.outputs (H.shown shelf.old) (H.shown shelf.new) };
+
+    ghost inputs_are: { command.form.inputs ≡ Self.Inputs.inputs };
+
+    ghost outputs_apart: { are_apart command.form.outputs ≡ true };
+}

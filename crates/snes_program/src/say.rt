@@ -1,0 +1,74 @@
+ghost use Rattle.std.specs.Prelude.{◌≡◌, IfOk, IfErr, IfSome};
+ghost use Rattle.file_shelf.specs.Shown.{OnlyPuts};
+ghost use Rattle.run_io.specs.Line.{line_of};
+ghost use Rattle.snes_program.specs.Status.{refusal_of, refused_text};
+ghost use Rattle.snes_program.specs.Said.{IsSaid, Says};
+
+use crate::put_whole::put_whole;
+use crate::status::{Status, Why};
+use file_shelf::{Out, Shelf};
+use run_io::{
+    Line, boot_refused_line, cannot_read_line, cannot_write_line, cart_refused_line,
+    no_memory_line, plan_refused_line, script_refused_line, spc_no_text_line, spc_too_long_line,
+    spc_too_short_line, table_refused_line, usage_line,
+};
+use spc_player::SpcRefused;
+
+/// The line of an input that was refused.
+fn refused_line(cause: Why) -> Line
+    ensures { result ≡ line_of (refused_text cause) }
+{
+    match cause {
+        Why::Cart(cause) => cart_refused_line(cause),
+        Why::Boot => boot_refused_line(),
+        Why::Spc(SpcRefused::TooLong) => spc_too_long_line(),
+        Why::Spc(SpcRefused::TooShort) => spc_too_short_line(),
+        Why::Spc(SpcRefused::NoText) => spc_no_text_line(),
+        Why::Table(entry) => table_refused_line(entry),
+        Why::Script(line) => script_refused_line(line),
+        Why::Plan(line) => plan_refused_line(line),
+    }
+}
+
+/// The line of an answer, where it has one.
+fn refusal(status: Status) -> Option<Line>
+    ensures { result ≡ refusal_of status }
+{
+    match status {
+        Status::Ok => None,
+        Status::Usage => Some(usage_line()),
+        Status::LoadFault(input) => Some(cannot_read_line(input)),
+        Status::Refused(cause) => Some(refused_line(cause)),
+        Status::WriteFault(out) => cannot_write_line(out),
+        Status::NoMemory => Some(no_memory_line()),
+    }
+}
+
+/// Says the line of an answer that tells why nothing was done, and gives the answer. That it was not said is
+/// passed over.
+pub(crate) fn refuse<H: Shelf>(shelf: &mut H, status: Status) -> Status
+    ensures answer { result ≡ status }
+    ensures said { IfSome (refusal_of status) (IsSaid (H.shown shelf.old) (H.shown shelf.new)) }
+    ensures only { OnlyPuts (H.shown shelf.old) (H.shown shelf.new) Out.Say }
+{
+    if let Some(line) = refusal(status) {
+        let _ = put_whole(shelf, Out::Say, line.bytes());
+    }
+    status
+}
+
+/// Says how a command ended, and gives the answer.
+pub(crate) fn say<H: Shelf>(shelf: &mut H, outcome: Result<Line, Status>) -> Status
+    ensures done { IfOk outcome (λ line. Says (H.shown shelf.old) (H.shown shelf.new) line result) }
+    ensures not_done { IfErr outcome (λ status. result ≡ status) }
+    ensures said { IfErr outcome (λ status. IfSome (refusal_of status) (IsSaid (H.shown shelf.old) (H.shown shelf.new))) }
+    ensures only { OnlyPuts (H.shown shelf.old) (H.shown shelf.new) Out.Say }
+{
+    match outcome {
+        Ok(line) => match put_whole(shelf, Out::Say, line.bytes()) {
+            Ok(()) => Status::Ok,
+            Err(_) => Status::WriteFault(Out::Say),
+        },
+        Err(status) => refuse(shelf, status),
+    }
+}

@@ -1,0 +1,58 @@
+ghost use Rattle.std.specs.Prelude.{◌≡◌};
+ghost use Rattle.snes_program.specs.Status.{exit_of};
+
+use cart_map::CartRefused;
+use file_shelf::{Input, Out};
+use spc_player::SpcRefused;
+
+/// Why an input was not accepted.
+#[derive(Clone, Copy, Debug, PartialEq, Eq)]
+pub enum Why {
+    /// The file is no cartridge of this console.
+    Cart(CartRefused),
+    /// The boot ROM hasn't 64 bytes.
+    Boot,
+    /// The file is no sound file.
+    Spc(SpcRefused),
+    /// The interpolation table hasn't 1,024 bytes (512), or this is its first entry above 2047.
+    Table(u16),
+    /// The script has more than 1,048,576 bytes (0), or this is its first line that is in no form,
+    /// from 1.
+    Script(u32),
+    /// The plan has more than 1,048,576 bytes (0), or this is its first line that is in no form, from 1.
+    Plan(u32),
+}
+
+/// How a call of the program ended.
+#[derive(Clone, Copy, Debug, PartialEq, Eq)]
+pub enum Status {
+    /// All was done.
+    Ok,
+    /// The words are in no form.
+    Usage,
+    /// This input was not loaded, and a fault of its name was counted.
+    LoadFault(Input),
+    /// An input was loaded and not accepted.
+    Refused(Why),
+    /// This output was not written, and a fault of it was counted.
+    WriteFault(Out),
+    /// There was no memory.
+    NoMemory,
+}
+
+impl Status {
+    /// The exit status of the process: 0 Ok, 1 Usage, 2 LoadFault, 3 Refused, 4 WriteFault,
+    /// 5 NoMemory.
+    pub fn exit(&self) -> u8
+        ensures { result ≡ exit_of self.now }
+    {
+        match self {
+            Status::Ok => 0,
+            Status::Usage => 1,
+            Status::LoadFault(_) => 2,
+            Status::Refused(_) => 3,
+            Status::WriteFault(_) => 4,
+            Status::NoMemory => 5,
+        }
+    }
+}

@@ -1,0 +1,69 @@
+ghost use Rattle.std.specs.Prelude.{◌≡◌, ◌≢◌, ◌⊎◌, [], IfSome};
+ghost use Rattle.file_shelf.specs.declared.shelves.Input.{Input};
+ghost use Rattle.file_shelf.specs.declared.shelves.Out.{Out};
+ghost use Rattle.file_shelf.specs.Told.{HasRisen};
+ghost use Rattle.file_shelf.specs.Shown.{IsPassedOver, IsKept, OnlyPuts};
+ghost use Rattle.run_io.specs.Lists.{AllOf, IsOneOf};
+ghost use Rattle.snes_program.specs.declared.status.Why.{Why};
+ghost use Rattle.snes_program.specs.Loads.{EndsInputs};
+ghost use Rattle.snes_program.specs.Ends.{OnlySays, IsMade, IsLeft, IsAnswered};
+ghost use Rattle.snes_program.specs.Said.{IsSaid};
+ghost use Rattle.snes_program.specs.Status.{refusal_of};
+ghost use Rattle.snes_program.specs.Commands.{asked, IfAsks, IsNothing};
+ghost use Rattle.snes_program.specs.Snes.{OrNoMemory, IsEarly, IsLate, IsOver, IsDue, IsFaultBefore, AreBegun, IsClean};
+
+use crate::call::performed;
+use crate::status::Status;
+use file_shelf::Shelf;
+use plan_drive::PlanPlayer;
+use run_drive::Workers;
+use run_io::Argv;
+
+/// Does all that the program does: reads the words; loads and accepts the inputs of their command in
+/// their order, takes all memory, creates its outputs in their order, fills and flushes them; and says
+/// the line of its answer. Which commands there are, and what each makes, is said in
+/// `specs/Commands.antt`.
+///
+/// Each clause speaks of what the shelf tells; of a shelf that tells nothing, of the words and of counts
+/// alone. `NoMemory` is the one answer that no input and no count causes.
+pub fn snes<P: PlanPlayer, R: AllocGlobal + Workers, H: Shelf>(
+    rt: &R,
+    words: &Argv,
+    shelf: &mut H,
+) -> Status
+    // The headline: once a command is over, its inputs are accepted, and its outputs stand whole under their names.
+    ensures headline { IfAsks (asked P.emits words.now) (λ command order. IsOver result → IsAnswered command order (H.shown shelf.old) (H.shown shelf.new) result) }
+
+    // Completeness: with all inputs accepted and no fault counted it answers Ok, unless there is no memory.
+    ensures complete { IfAsks (asked P.emits words.now) (λ command order. IsClean command order (H.shown shelf.old) (H.shown shelf.new) → OrNoMemory result Status.Ok) }
+
+    // Usage: exactly where the words are in no form.
+    ensures usage { result ≡ Status.Usage → IsNothing (asked P.emits words.now) }
+    ensures usage_always { IsNothing (asked P.emits words.now) → result ≡ Status.Usage }
+    ensures formless { IsNothing (asked P.emits words.now) → OnlyPuts (H.shown shelf.old) (H.shown shelf.new) Out.Say }
+
+    // Faults: only where a count of that input's name, or of that output, rose in this call.
+    ensures load_fault { IfAsks (asked P.emits words.now) (λ command order. (input : Input) → result ≡ Status.LoadFault input → EndsInputs order.pairs (H.shown shelf.old) (H.shown shelf.new) command.form.inputs (Status.LoadFault input)) }
+    ensures write_fault { IfAsks (asked P.emits words.now) (λ command order. (out : Out) → result ≡ Status.WriteFault out → HasRisen ((H.shown shelf.old).write_faults out) ((H.shown shelf.new).write_faults out) × (IsOneOf command.form.outputs out ⊎ (out ≡ Out.Say))) }
+
+    // Refused: exactly where the first input that isn't accepted is refused so.
+    ensures refused { IfAsks (asked P.emits words.now) (λ command order. (cause : Why) → result ≡ Status.Refused cause → EndsInputs order.pairs (H.shown shelf.old) (H.shown shelf.new) command.form.inputs (Status.Refused cause)) }
+    ensures refused_always { IfAsks (asked P.emits words.now) (λ command order. (cause : Why) → IsDue command order (H.shown shelf.old) cause → (result ≡ Status.Refused cause) ⊎ IsFaultBefore command order (H.shown shelf.old) result) }
+
+    // Accepted: once an answer is later than the inputs, they are accepted, and the command makes something of them.
+    ensures accepted { IfAsks (asked P.emits words.now) (λ command order. IsLate result → IsMade command order (H.shown shelf.old)) }
+
+    // What is left in the outputs that the command creates, after any answer.
+    ensures untouched { IfAsks (asked P.emits words.now) (λ command order. IsEarly result → OnlySays (H.shown shelf.old) (H.shown shelf.new)) }
+    ensures left { IfAsks (asked P.emits words.now) (λ command order. AllOf (IsLeft command order (H.shown shelf.old) (H.shown shelf.new)) command.form.outputs) }
+    ensures begun { IfAsks (asked P.emits words.now) (λ command order. AreBegun command order (H.shown shelf.old) (H.shown shelf.new) result) }
+
+    // What stays, and what is said.
+    ensures kept { IsKept (H.shown shelf.old) (H.shown shelf.new) }
+    ensures others { IfAsks (asked P.emits words.now) (λ command order. (out : Out) → AllOf (λ one. one ≢ out) command.form.outputs → (out ≡ Out.Say) ⊎ IsPassedOver (H.shown shelf.old) (H.shown shelf.new) out) }
+    ensures loads_none { IfAsks (asked P.emits words.now) (λ command order. command.form.inputs ≡ [] → (H.shown shelf.new).load_faults ≡ (H.shown shelf.old).load_faults) }
+    ensures unnamed { (H.shown shelf.new).named Out.Say ≡ (H.shown shelf.old).named Out.Say }
+    ensures refusal { IfSome (refusal_of result) (IsSaid (H.shown shelf.old) (H.shown shelf.new)) }
+{
+    performed::<P, R, H>(rt, words, shelf)
+}
