@@ -110,13 +110,20 @@ impl Hardware {
         ensures { result ≡ register_shown self.now at got }
     {
         match at {
+            // F2 DSPADDR
             0xF2 => self.address,
+            // F3 DSPDATA
             0xF3 => self.voices.read(self.address % 128),
+            // F4 to F7 CPUIO0 to CPUIO3
             0xF4..=0xF7 => got,
+            // F8, F9: a byte of RAM each
             0xF8 => self.ram[0xF8],
             0xF9 => self.ram[0xF9],
+            // FD T0OUT
             0xFD => self.timer0.counter,
+            // FE T1OUT
             0xFE => self.timer1.counter,
+            // FF T2OUT
             0xFF => self.timer2.counter,
             _ => 0,
         }
@@ -129,10 +136,13 @@ impl Hardware {
         ensures { self.new ≡ after_load self.old at }
     {
         if at == 0xFD {
+            // FD T0OUT
             self.timer0.counter = 0;
         } else if at == 0xFE {
+            // FE T1OUT
             self.timer1.counter = 0;
         } else if at == 0xFF {
+            // FF T2OUT
             self.timer2.counter = 0;
         }
     }
@@ -175,18 +185,25 @@ impl Hardware {
         ensures { self.new ≡ register_stored self.old at byte }
     {
         if at == 0xF1 {
+            // F1 CONTROL
             self.control(byte);
         } else if at == 0xF2 {
+            // F2 DSPADDR
             self.address = byte;
         } else if at == 0xF3 {
+            // F3 DSPDATA
             self.write_dsp(byte);
         } else if at == 0xF8 || at == 0xF9 {
+            // F8, F9: a byte of RAM each
             self.write_ram(at, byte);
         } else if at == 0xFA {
+            // FA T0TARGET
             self.timer0.target = byte;
         } else if at == 0xFB {
+            // FB T1TARGET
             self.timer1.target = byte;
         } else if at == 0xFC {
+            // FC T2TARGET
             self.timer2.target = byte;
         }
     }

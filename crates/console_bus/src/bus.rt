@@ -189,16 +189,20 @@ impl Bus {
             return;
         }
         match register {
+            // 2180 WMDATA
             0x80 => {
                 self.memory[self.port as usize] = v;
                 self.port = (self.port + 1) % 0x20000;
             }
+            // 2181 WMADDL
             0x81 => {
                 self.port = self.port / 0x100 * 0x100 + v as u32;
             }
+            // 2182 WMADDM
             0x82 => {
                 self.port = self.port / 0x10000 * 0x10000 + 0x100 * v as u32 + self.port % 0x100;
             }
+            // 2183 WMADDH
             0x83 => {
                 self.port = 0x10000 * (v % 2) as u32 + self.port % 0x10000;
             }
@@ -237,7 +241,9 @@ impl Bus {
             return;
         }
         match register {
+            // 420B MDMAEN
             0x420b => self.dma.start(v),
+            // 420C HDMAEN
             0x420c => self.dma.enable(v),
             _ => self.write_io(register, v),
         }

@@ -130,17 +130,29 @@ impl Channel {
         ensures { result ≡ register_of self.now number bus }
     {
         match number {
+            // 43x0 DMAPx
             0 => self.mode,
+            // 43x1 BBADx
             1 => self.port,
+            // 43x2 A1TxL
             2 => (self.addr % 256) as u8,
+            // 43x3 A1TxH
             3 => (self.addr / 256) as u8,
+            // 43x4 A1Bx
             4 => self.bank,
+            // 43x5 DASxL
             5 => (self.count % 256) as u8,
+            // 43x6 DASxH
             6 => (self.count / 256) as u8,
+            // 43x7 DASBx
             7 => self.indirect_bank,
+            // 43x8 A2AxL
             8 => (self.table % 256) as u8,
+            // 43x9 A2AxH
             9 => (self.table / 256) as u8,
+            // 43xA NTRLx
             10 => self.line,
+            // 43xB and 43xF UNUSEDx
             11 | 15 => self.spare,
             _ => bus,
         }
@@ -153,17 +165,29 @@ impl Channel {
     {
         let byte = u16::from(v);
         match number {
+            // 43x0 DMAPx
             0 => self.mode = v,
+            // 43x1 BBADx
             1 => self.port = v,
+            // 43x2 A1TxL
             2 => self.addr = self.addr / 256 * 256 + byte,
+            // 43x3 A1TxH
             3 => self.addr = self.addr % 256 + 256 * byte,
+            // 43x4 A1Bx
             4 => self.bank = v,
+            // 43x5 DASxL
             5 => self.count = self.count / 256 * 256 + byte,
+            // 43x6 DASxH
             6 => self.count = self.count % 256 + 256 * byte,
+            // 43x7 DASBx
             7 => self.indirect_bank = v,
+            // 43x8 A2AxL
             8 => self.table = self.table / 256 * 256 + byte,
+            // 43x9 A2AxH
             9 => self.table = self.table % 256 + 256 * byte,
+            // 43xA NTRLx
             10 => self.line = v,
+            // 43xB and 43xF UNUSEDx
             11 | 15 => self.spare = v,
             12 | 13 | 14 => (),
             _ => unreachable!(),

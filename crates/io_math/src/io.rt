@@ -145,34 +145,47 @@ fn write_register(r: &mut IoRegisters, addr: u16, v: u8)
     ensures second { r.old.pad2.position ≤ 16 → r.new.pad2.position ≤ 16 }
 {
     match addr {
+        // 4016 JOYOUT
         0x4016 => write_strobe(r, v % 2 == 1),
+        // 4200 NMITIMEN
         0x4200 => write_nmitimen(&mut r.interrupts, v),
+        // 4201 WRIO
         0x4201 => {
             r.port = v;
         }
+        // 4202 WRMPYA
         0x4202 => {
             r.arithmetic.factor = v;
         }
+        // 4203 WRMPYB
         0x4203 => multiply(&mut r.arithmetic, v),
+        // 4204 WRDIVL
         0x4204 => {
             r.arithmetic.dividend = with_low(r.arithmetic.dividend, v);
         }
+        // 4205 WRDIVH
         0x4205 => {
             r.arithmetic.dividend = with_high(r.arithmetic.dividend, v);
         }
+        // 4206 WRDIVB
         0x4206 => divide(&mut r.arithmetic, v),
+        // 4207 HTIMEL
         0x4207 => {
             r.interrupts.htime = with_low(r.interrupts.htime, v);
         }
+        // 4208 HTIMEH
         0x4208 => {
             r.interrupts.htime = with_high(r.interrupts.htime, v % 2);
         }
+        // 4209 VTIMEL
         0x4209 => {
             r.interrupts.vtime = with_low(r.interrupts.vtime, v);
         }
+        // 420A VTIMEH
         0x420a => {
             r.interrupts.vtime = with_high(r.interrupts.vtime, v % 2);
         }
+        // 420D MEMSEL
         0x420d => {
             r.fast = v % 2 == 1;
         }
@@ -192,29 +205,43 @@ fn read_register(r: &mut IoRegisters, addr: u16, bus: u8, beam: Spot) -> u8
     ensures second { r.old.pad2.position ≤ 16 → r.new.pad2.position ≤ 16 }
 {
     match addr {
+        // 4016 JOYSER0
         0x4016 => bus / 4 * 4 + take_bit(&mut r.pad1, r.strobe),
+        // 4017 JOYSER1
         0x4017 => bus / 32 * 32 + 28 + take_bit(&mut r.pad2, r.strobe),
+        // 4210 RDNMI
         0x4210 => {
             let flag = r.interrupts.nmi_flag;
             r.interrupts.nmi_flag = false;
             bit_if(flag, 128) + bus / 16 % 8 * 16 + 2
         }
+        // 4211 TIMEUP
         0x4211 => {
             let flag = r.interrupts.irq_flag;
             r.interrupts.irq_flag = false;
             bit_if(flag, 128) + bus % 128
         }
+        // 4212 HVBJOY
         0x4212 => {
             bit_if(beam.blank, 128) + bit_if(beam.h < 4 || 1096 <= beam.h, 64) + bus / 2 % 32 * 2
         }
+        // 4213 RDIO
         0x4213 => r.port,
+        // 4214 RDDIVL
         0x4214 => (r.arithmetic.quotient % 256) as u8,
+        // 4215 RDDIVH
         0x4215 => (r.arithmetic.quotient / 256) as u8,
+        // 4216 RDMPYL
         0x4216 => (r.arithmetic.product % 256) as u8,
+        // 4217 RDMPYH
         0x4217 => (r.arithmetic.product / 256) as u8,
+        // 4218 JOY1L
         0x4218 => (r.pad1.kept % 256) as u8,
+        // 4219 JOY1H
         0x4219 => (r.pad1.kept / 256) as u8,
+        // 421A JOY2L
         0x421a => (r.pad2.kept % 256) as u8,
+        // 421B JOY2H
         0x421b => (r.pad2.kept / 256) as u8,
         0x421c..=0x421f => 0,
         _ => bus,

@@ -103,11 +103,17 @@ impl Ppu {
         ensures after { self.new ≡ after_write self.old reg v }
     {
         match reg {
+            // 2104 OAMDATA
             0x04 => self.write_oam(v),
+            // 2116 VMADDL
             0x16 => self.aim_vram_low(v),
+            // 2117 VMADDH
             0x17 => self.aim_vram_high(v),
+            // 2118 VMDATAL
             0x18 => return Some(self.put_vram_low(v)),
+            // 2119 VMDATAH
             0x19 => return Some(self.put_vram_high(v)),
+            // 2122 CGDATA
             0x22 => self.put_colour(v),
             _ => self.write_register(reg, v),
         }
@@ -123,20 +129,32 @@ impl Ppu {
         ensures after { self.new ≡ after_read self.old reg spot }
     {
         match reg {
+            // 2134 MPYL
             0x34 => (self.registers.rotation.product() % 256) as u8,
+            // 2135 MPYM
             0x35 => (self.registers.rotation.product() / 256 % 256) as u8,
+            // 2136 MPYH
             0x36 => (self.registers.rotation.product() / 65536) as u8,
+            // 2137 SLHV
             0x37 => {
                 self.latch(spot);
                 bus
             }
+            // 2138 OAMDATAREAD
             0x38 => self.take_oam(),
+            // 2139 VMDATALREAD
             0x39 => (self.take_vram(false) % 256) as u8,
+            // 213A VMDATAHREAD
             0x3a => (self.take_vram(true) / 256) as u8,
+            // 213B CGDATAREAD
             0x3b => self.take_colour(),
+            // 213C OPHCT
             0x3c => self.take_h(),
+            // 213D OPVCT
             0x3d => self.take_v(),
+            // 213E STAT77
             0x3e => self.registers.over.status(),
+            // 213F STAT78
             0x3f => self.take_status(),
             _ => bus,
         }
