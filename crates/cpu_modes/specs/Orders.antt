@@ -329,7 +329,7 @@ push_counter_low row r at = writes (stack r) (r.pc % 256) (push_status row (push
 abbrev pub push_counter : Row → Regs → ℕ → Plan
 push_counter row r at = writes (stack r) (r.pc / 256 % 256) (push_counter_low row (pushed r) at)
 
--- the program bank is pushed in native mode alone
+-- After the opcode and the signature of BRK and COP, or two cycles of NMI and IRQ, the seven or six accesses are: push PBR (native mode alone), push PCH, push PCL, push P, read the low byte of the vector, read its high byte.
 abbrev pub interrupted : Row → Regs → ℕ → Plan
 interrupted row r at = if r.e then push_counter row r at else writes (stack r) r.pbr (push_counter row (pushed r) at)
 
