@@ -7,7 +7,7 @@ use Rattle.dma_hdma.specs.declared.moves.Move.TheVariants.{ToB, ToA, Load}
 use Rattle.console_steps.specs.ConsoleState.{Due, Resets, Refreshes, Moves_byte, Accesses}
 use Rattle.spc_tables.specs.declared.access.SpcAccess.{SpcAccess}
 use Rattle.spc_tables.specs.declared.access.SpcAccess.TheVariants as spc
-use Rattle.audio_side.specs.HardwareState.{Board}
+use Rattle.audio_side.specs.HardwareState.{HardwareState}
 use Rattle.audio_side.specs.Effect.{loaded}
 use Rattle.cpu_tables.specs.declared.regs.Regs.{Regs}
 use Rattle.snes_trace.specs.declared.step.Instruction.{Instruction}
@@ -55,8 +55,8 @@ Tells step (Moves_byte move) = TellsMove step move
 Tells step (Accesses access) = TellsAccess step access
 
 -- an access of the sound side's processor, where an incoming port has `got`: its kind, its address and its byte
-abbrev pub TellsSpcAccess : Step → Board → SpcAccess → ℕ → Type 0
-TellsSpcAccess step board (spc.Fetch at) got = (is_fetch step.kind ≡ true) × (step.address ≡ Some at) × (step.byte ≡ Some (loaded board at got))
-TellsSpcAccess step board (spc.Read at) got = (step.kind ≡ kind.Read) × (step.address ≡ Some at) × (step.byte ≡ Some (loaded board at got))
-TellsSpcAccess step board (spc.Write at v) got = (step.kind ≡ kind.Write) × (step.address ≡ Some at) × (step.byte ≡ Some v)
-TellsSpcAccess step board spc.Inner got = (step.kind ≡ kind.Internal) × (step.address ≡ None)
+abbrev pub TellsSpcAccess : Step → HardwareState → SpcAccess → ℕ → Type 0
+TellsSpcAccess step hardware (spc.Fetch at) got = (is_fetch step.kind ≡ true) × (step.address ≡ Some at) × (step.byte ≡ Some (loaded hardware at got))
+TellsSpcAccess step hardware (spc.Read at) got = (step.kind ≡ kind.Read) × (step.address ≡ Some at) × (step.byte ≡ Some (loaded hardware at got))
+TellsSpcAccess step hardware (spc.Write at v) got = (step.kind ≡ kind.Write) × (step.address ≡ Some at) × (step.byte ≡ Some v)
+TellsSpcAccess step hardware spc.Inner got = (step.kind ≡ kind.Internal) × (step.address ≡ None)

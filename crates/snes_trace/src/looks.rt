@@ -1,7 +1,7 @@
 //! What each machine is about to do, by what it lends.
 
 ghost use Rattle.std.specs.Prelude.{◌≡◌, ◌+◌, ◌*◌, Some, None, true};
-ghost use Rattle.cpu65816.specs.Instruction.{Standing, next_of, registers_of};
+ghost use Rattle.cpu65816.specs.Instruction.{CpuState, next_of, registers_of};
 ghost use Rattle.cpu65816.specs.Stands.{Stands};
 ghost use Rattle.console_machine.specs.Dues.{due_from};
 ghost use Rattle.snes_trace.specs.Tells.{Tells, TellsAccess, TellsMove, TellsSpcAccess, HasRegs, is_fetch, is_transfer};
@@ -107,8 +107,8 @@ fn look_at_fetch(regs: Regs, address: u32, stamp: u64) -> Step
 
 /// An access of the 65C816.
 fn look_at_access(console: &ConsoleSide, stamp: u64) -> Step
-    ensures tells { (s : Standing) → Stands console.now.cpu s → TellsAccess result (next_of s) }
-    ensures regs { (s : Standing) → Stands console.now.cpu s → HasRegs result.instruction (registers_of s) }
+    ensures tells { (s : CpuState) → Stands console.now.cpu s → TellsAccess result (next_of s) }
+    ensures regs { (s : CpuState) → Stands console.now.cpu s → HasRegs result.instruction (registers_of s) }
     ensures stamp { result.stamp ≡ stamp }
 {
     let regs = console.processor().regs();
@@ -131,8 +131,8 @@ fn look_at_access(console: &ConsoleSide, stamp: u64) -> Step
 
 /// The console's next step: what it is, and at which address. Its byte is known once it is made, but for a write.
 pub fn look_at_console(console: &ConsoleSide, dma: &Dma) -> Step
-    ensures tells { (s : Standing) → Stands console.now.cpu s → Tells result (due_from s console.now.rest) }
-    ensures regs { (s : Standing) → Stands console.now.cpu s → HasRegs result.instruction (registers_of s) }
+    ensures tells { (s : CpuState) → Stands console.now.cpu s → Tells result (due_from s console.now.rest) }
+    ensures regs { (s : CpuState) → Stands console.now.cpu s → HasRegs result.instruction (registers_of s) }
     ensures stamp { result.stamp ≡ console.now.stamp }
 {
     let stamp = console.stamp();
@@ -253,7 +253,7 @@ fn look_at_spc_data(sound: &AudioSide, kind: Kind, address: u16, byte: u8) -> St
 
 /// An access of the SPC700, where an incoming port has `got`.
 fn look_at_spc(sound: &AudioSide, access: SpcAccess, got: u8) -> Step
-    ensures { TellsSpcAccess result sound.now.board access got }
+    ensures { TellsSpcAccess result sound.now.hardware access got }
 {
     match access {
         SpcAccess::Fetch(address) => {
