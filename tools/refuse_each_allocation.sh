@@ -73,7 +73,7 @@ call() {
 }
 
 bad=0
-for command in run serial; do
+for command in run serial lockless; do
   whole=0 none=0 ended=no
   for number in $(seq "${MOST:-5000}"); do
     call "$command" "$number"

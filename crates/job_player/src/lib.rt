@@ -8,4 +8,4 @@
 mod console;
 mod door;
 
-pub use console::{Console, play_by_turns};
+pub use console::{Carrier, Console, play_by_turns};

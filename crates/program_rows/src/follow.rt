@@ -50,34 +50,44 @@ fn opening<R: AllocGlobal + Threads + Print>(rt: &R, rows: &Rows, words: &str) -
     }
 }
 
-/// Runs the same files by `run` and by `serial`.
-fn by_both<R: AllocGlobal + Threads>(
-    rt: &R,
-    rows: &Rows,
-    words: &str,
-) -> Option<(Outcome, Outcome)> {
+/// The same files by the three commands that run a job.
+#[derive(Drop)]
+struct Thrice {
+    by_turns: Outcome,
+    serially: Outcome,
+    lockless: Outcome,
+}
+
+/// Runs the same files by `run`, by `serial` and by `lockless`.
+fn by_each<R: AllocGlobal + Threads>(rt: &R, rows: &Rows, words: &str) -> Option<Thrice> {
     let alloc = rt.alloc();
     let by_turns = format!(in alloc; "run {words}").ok()?;
     let serially = format!(in alloc; "serial {words}").ok()?;
-    Some((
-        called(rt, rows, by_turns.as_str(), None)?,
-        called(rt, rows, serially.as_str(), None)?,
-    ))
+    let lockless = format!(in alloc; "lockless {words}").ok()?;
+    Some(Thrice {
+        by_turns: called(rt, rows, by_turns.as_str(), None)?,
+        serially: called(rt, rows, serially.as_str(), None)?,
+        lockless: called(rt, rows, lockless.as_str(), None)?,
+    })
 }
 
-/// A row that is run by `run` and by `serial`: prints what `run` left, and whether `serial` left the same.
+/// A row that is run by `run`, by `serial` and by `lockless`: prints what `run` left, and whether the others left the
+/// same.
 fn both<R: AllocGlobal + Threads + Print>(
     rt: &R,
     rows: &Rows,
     words: &str,
     detail: Detail,
 ) -> io::Result<()> {
-    let Some((by_turns, serially)) = by_both(rt, rows, words) else {
+    let Some(ends) = by_each(rt, rows, words) else {
         return println!(rt; "{NO_ROW}");
     };
-    show_answer(rt, &by_turns)?;
-    show_outputs(rt, &by_turns, detail)?;
-    if are_alike(&by_turns, &serially) {
+    show_answer(rt, &ends.by_turns)?;
+    show_outputs(rt, &ends.by_turns, detail)?;
+    if !are_alike(&ends.by_turns, &ends.lockless) {
+        println!(rt; "  run and lockless differ")?;
+    }
+    if are_alike(&ends.by_turns, &ends.serially) {
         println!(rt; "  run and serial alike")
     } else {
         println!(rt; "  run and serial differ")

@@ -59,6 +59,9 @@ fn call_named<P: Player, R: AllocGlobal + Workers, H: Shelf>(
     if name == "serial" {
         return call(&Run::<P>::by(Way::Serial), rt, words, shelf);
     }
+    if name == "lockless" {
+        return call(&Run::<P>::by(Way::Words), rt, words, shelf);
+    }
     if name == "make" {
         return call(&Make, rt, words, shelf);
     }
