@@ -6,7 +6,7 @@ use Rattle.console_steps.specs.World.{due_of, bytes_after, console_moves}
 use Rattle.console_machine.specs.Parts.{value_of}
 use Rattle.console_machine.specs.Side.{ConsoleValue, StandsAt}
 use Rattle.console_machine.specs.Standing.{stamp_stands}
-use Rattle.console_machine.proofs.parts.Parts.hurry.Goals as goal
+use Rattle.console_machine.proofs.parts.Parts.creep.Goals as goal
 
 pub steps-preserved : goal.steps-preserved
 steps-preserved c = record {

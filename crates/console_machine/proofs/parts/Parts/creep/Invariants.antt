@@ -3,7 +3,7 @@ use Rattle.side_law.proofs.QuietRuns.{IsSilent}
 use Rattle.console_steps.specs.World.{World, console_moves}
 use Rattle.console_machine.specs.Parts.{value_of}
 use Rattle.console_machine.specs.Side.{IsSome, StandsAt}
-use Rattle.console_machine.proofs.parts.Parts.hurry.Given as goal
+use Rattle.console_machine.proofs.parts.Parts.creep.Given as goal
 
 abbrev pub invariant-steps : goal.invariant-steps
 invariant-steps l = record {
