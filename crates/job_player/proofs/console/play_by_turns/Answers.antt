@@ -15,14 +15,14 @@ pub returns-in-Lock-clause-bounded : goal.returns-in-Lock-clause-bounded
 returns-in-Lock-clause-bounded g c = if_ok _ c.run_turns.ensures.bounded
     (λ turns. ready_bounded c.args.player.console c.args.player.sound c.args.player.ports c.args.player.whole c.args.player.words c.args.player.word_whole c.args.player.end (vec_len c.args.player.buffer) turns)
 
-pub returns-in-Words-clause-whole : goal.returns-in-Words-clause-whole
-returns-in-Words-clause-whole g c = on_ok _ c.run_turns-in-Words.ensures.whole
+pub returns-clause-whole : goal.returns-clause-whole
+returns-clause-whole g c = on_ok _ c.run_turns-in-Words.ensures.whole
     (ready_whole (g.K.Sink.holds c.run_turns-in-Words.new.sink) c.args.player.console c.args.player.sound c.args.player.ports c.args.player.whole c.args.player.words c.args.player.word_whole c.args.player.end (vec_len c.args.player.buffer))
 
-pub returns-in-Words-clause-first : goal.returns-in-Words-clause-first
-returns-in-Words-clause-first g c =
+pub returns-clause-first : goal.returns-clause-first
+returns-clause-first g c =
     ready_first (g.K.Sink.holds c.run_turns-in-Words.new.sink) c.args.player.console c.args.player.sound c.args.player.ports c.args.player.whole c.args.player.words c.args.player.word_whole c.args.player.end (vec_len c.args.player.buffer) c.run_turns-in-Words.ensures.first
 
-pub returns-in-Words-clause-bounded : goal.returns-in-Words-clause-bounded
-returns-in-Words-clause-bounded g c = if_ok _ c.run_turns-in-Words.ensures.bounded
+pub returns-clause-bounded : goal.returns-clause-bounded
+returns-clause-bounded g c = if_ok _ c.run_turns-in-Words.ensures.bounded
     (λ turns. words_bounded c.args.player.console c.args.player.sound c.args.player.ports c.args.player.whole c.args.player.words c.args.player.word_whole c.args.player.end (vec_len c.args.player.buffer) turns)
