@@ -1,10 +1,10 @@
 ghost use Rattle.std.specs.Prelude.{◌≡◌, ◌≢◌, ◌/◌, ◌<◌, ◌≤◌, ◌+◌, ◌%◌, ◌^◌, length};
-ghost use Rattle.std.specs.Int.{w16, cast_unsigned};
 ghost use Rattle.sdsp_voice.specs.Registers.{bit};
 ghost use Rattle.audio_side.specs.Board.{vector};
-ghost use Rattle.audio_side.specs.Effect.{after_load, cleared_ports, controlled, dsp_written, high_byte, loaded, low_byte, register_shown, register_stored, reset_board, sample_bytes, sampled, stored, stored_in_ram, timed};
+ghost use Rattle.audio_side.specs.Effect.{after_load, cleared_ports, controlled, dsp_written, loaded, register_shown, register_stored, reset_board, sample_bytes, sampled, stored, stored_in_ram, timed};
 
 use crate::timer::{Timer, stopped_timer, switch, tick};
+use byteorder::{ByteOrder, LittleEndian};
 use sdsp_echo::Echo;
 use sdsp_voice::Voices;
 use snes_defs::Table;
@@ -54,21 +54,6 @@ pub fn cleared(byte: u8) -> u8
     ensures small { result ≤ 15 }
 {
     (if is_on(byte, 4) { 3 } else { 0 }) + (if is_on(byte, 5) { 12 } else { 0 })
-}
-
-/// The two bytes of a number, the low one first.
-#[inline(always)]
-fn low(number: i16) -> u8
-    ensures { result ≡ low_byte (cast_unsigned w16 number) }
-{
-    (number.cast_unsigned() % 256) as u8
-}
-
-#[inline(always)]
-fn high(number: i16) -> u8
-    ensures { result ≡ high_byte (cast_unsigned w16 number) }
-{
-    (number.cast_unsigned() / 256) as u8
 }
 
 impl Hardware {
@@ -232,7 +217,7 @@ impl Hardware {
     pub fn entry(&self) -> u16
         ensures { result ≡ vector self.now }
     {
-        self.boot[62] as u16 + 256 * self.boot[63] as u16
+        LittleEndian::read_u16(&self.boot[62..])
     }
 
     /// The timers tick, at the end of every 16th cycle.
@@ -259,6 +244,8 @@ impl Hardware {
     {
         let sums = self.voices.sample(self.ram.as_slice(), &self.table, s);
         let (left, right) = self.echo.mix(&self.voices, sums, self.ram.as_mut_slice());
-        [low(left), high(left), low(right), high(right)]
+        let mut bytes = [0u8; 4];
+        LittleEndian::write_i16_into(&[left, right], &mut bytes);
+        bytes
     }
 }

@@ -4,6 +4,7 @@ ghost use Rattle.cart_map.specs.Accept.{image_of, missing, rom_of, header_at, ch
 
 use crate::header::Header;
 use crate::refused::{CartEnd, CartRefused};
+use byteorder::{ByteOrder, LittleEndian};
 use snes_defs::{Bytes, Cart, MapKind};
 use std::alloc::AllocError;
 
@@ -143,7 +144,7 @@ fn word(rom: &[u8], at: usize) -> u32
     ensures number { result ≡ slice_index rom.now at + 256 * slice_index rom.now (at + 1) }
     ensures small { result < 65536 }
 {
-    u32::from(rom[at]) + 256 * u32::from(rom[at + 1])
+    u32::from(LittleEndian::read_u16(&rom[at..]))
 }
 
 /// What a header's chip and RAM size ask for.

@@ -1,9 +1,11 @@
 -- A row of dots as bytes.
-use Rattle.std.proofs.Common.{◌≡◌, ℕ, zero, suc, ◌+◌, ◌*◌, ◌/◌, ◌%◌, ◌<◌, List, [], ◌∷◌, ◌++◌, length, slice_index, inl, inr, refl, sym, subst, ◌∙◌, arith, length-append, slice_set}
+use Rattle.std.proofs.Common.{◌≡◌, ℕ, zero, suc, ◌+◌, ◌*◌, ◌/◌, ◌%◌, ◌<◌, ◌≤◌, List, [], ◌∷◌, ◌++◌, length, take, slice_index, inl, inr, refl, sym, ap, subst, ◌∙◌, arith, length-append}
+use Rattle.std.specs.List.{flat_map}
 use Rattle.std.proofs.Math.Seq.{get_or-append_seam}
-use Rattle.std.proofs.lemmas.List.{get_or_append_left, get_or-set_same, get_or-set_other, length-set}
-use Rattle.std.proofs.lemmas.Grind.{same_number_lists}
+use Rattle.std.proofs.lemmas.List.{append_assoc, append-nil, get_or_append_left, take_all, take_more}
+use Rattle.std.proofs.lemmas.Grind.{flat_map-append, same_number_lists}
 use Rattle.std.proofs.lemmas.Bool.{cases_lt}
+use Rattle.byteorder.specs.Endian.{little_bytes}
 use Rattle.console_bus.specs.Happenings.{list_of, byte_of_dots}
 
 pub length-list_of : (n : ℕ) (f : ℕ → ℕ) → length (list_of n f) ≡ n
@@ -51,34 +53,33 @@ byte_low dot e =
     let half : 2 * e / 2 ≡ e = omega arith in
     rw (even, half) refl
 
-byte_high : (dot : ℕ → ℕ) (e : ℕ) → byte_of_dots dot (2 * e + 1) ≡ dot e / 256
+byte_high : (dot : ℕ → ℕ) (e : ℕ) → byte_of_dots dot (suc (2 * e)) ≡ dot e / 256
 unfolding byte_of_dots
 byte_high dot e =
-    let odd : (2 * e + 1) % 2 ≡ 1 = omega arith in
-    let half : (2 * e + 1) / 2 ≡ e = omega arith in
+    let odd : suc (2 * e) % 2 ≡ 1 = omega arith in
+    let half : suc (2 * e) / 2 ≡ e = omega arith in
     rw (odd, half) refl
 
--- two more bytes of a row
-pub more_bytes : (bytes : List ℕ) (dot : ℕ → ℕ) (e : ℕ) → length bytes ≡ 1024 → e < 512
-    → ((k : ℕ) → k < 2 * e → slice_index bytes k ≡ byte_of_dots dot k)
-    → (k : ℕ) → k < 2 * (e + 1) → slice_index (slice_set (slice_set bytes (2 * e) (dot e % 256)) (2 * e + 1) (dot e / 256)) k ≡ byte_of_dots dot k
-more_bytes bytes dot e size small below k h = elim (cases_lt k (2 * e)) [
-  | inl before ↦
-      get_or-set_other (slice_set bytes (2 * e) (dot e % 256)) (2 * e + 1) k (dot e / 256) 0 (λ s. omega arith)
-      ∙ get_or-set_other bytes (2 * e) k (dot e % 256) 0 (λ s. omega arith) ∙ below k before
-  | inr after ↦ elim (cases_lt k (2 * e + 1)) [
-    | inl low ↦ (
-        let same : k ≡ 2 * e = omega arith in
-        rw same (
-        get_or-set_other (slice_set bytes (2 * e) (dot e % 256)) (2 * e + 1) (2 * e) (dot e / 256) 0 (λ s. omega arith)
-        ∙ get_or-set_same bytes (2 * e) (dot e % 256) 0 (omega arith) ∙ sym (byte_low dot e)))
-    | inr high ↦ (
-        let same : k ≡ 2 * e + 1 = omega arith in
-        rw same (
-        get_or-set_same (slice_set bytes (2 * e) (dot e % 256)) (2 * e + 1) (dot e / 256) 0 (rw (length-set bytes (2 * e) (dot e % 256)) (omega arith))
-        ∙ sym (byte_high dot e)))
-  ]
-]
+-- two bytes more
+two_more : (f : ℕ → ℕ) (n : ℕ) → list_of (suc (suc n)) f ≡ list_of n f ++ (f n ∷ f (suc n) ∷ [])
+unfolding list_of
+two_more f n = append_assoc (list_of n f) (f n ∷ []) (f (suc n) ∷ [])
 
-pub more_bytes_size : (bytes : List ℕ) (i j a b : ℕ) → length bytes ≡ 1024 → length (slice_set (slice_set bytes i a) j b) ≡ 1024
-more_bytes_size bytes i j a b size = length-set (slice_set bytes i a) j b ∙ length-set bytes i a ∙ size
+-- the first dots, each written low byte first, are the first bytes of the row
+first_bytes : (dots : List ℕ) → ((e : ℕ) → slice_index dots e < 65536) → (i : ℕ) → i ≤ length dots
+    → flat_map (little_bytes 2) (take i dots) ≡ list_of (2 * i) (byte_of_dots (slice_index dots))
+unfolding list_of
+first_bytes dots small zero fits = refl
+first_bytes dots small (suc i) fits =
+    let before = first_bytes dots small i (omega arith) in
+    let dot = slice_index dots i in
+    let more : take (suc i) dots ≡ take i dots ++ (dot ∷ []) = take_more dots i 0 (omega arith) in
+    let low = byte_low (slice_index dots) i in
+    let high = byte_high (slice_index dots) i in
+    let within : dot / 256 % 256 ≡ dot / 256 = omega (arith, small i) in
+    let twice : 2 * suc i ≡ suc (suc (2 * i)) = omega arith in
+    rw (more, flat_map-append, append-nil, before, twice, two_more, low, high, within) refl
+
+-- so are all
+pub all_bytes : (dots : List ℕ) → ((e : ℕ) → slice_index dots e < 65536) → flat_map (little_bytes 2) dots ≡ list_of (2 * length dots) (byte_of_dots (slice_index dots))
+all_bytes dots small = ap (flat_map (little_bytes 2)) (sym (take_all (length dots) dots (omega arith))) ∙ first_bytes dots small (length dots) (omega arith)

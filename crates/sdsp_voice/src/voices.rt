@@ -11,6 +11,7 @@ use crate::output::{go_on, sound};
 use crate::setting::Setting;
 use crate::sums::Sums;
 use crate::voice::{Phase, Voice};
+use byteorder::{ByteOrder, LittleEndian};
 use snes_defs::Table;
 
 /// 6C FLG: bit 7 silences all voices, bit 6 mutes the output, bit 5 stops echo writes, bits 4-0 are
@@ -219,7 +220,7 @@ impl Voices {
         Setting {
             left: self.registers[base].cast_signed(),
             right: self.registers[base + 1].cast_signed(),
-            pitch: self.registers[base + 2] as u16 + 256 * (self.registers[base + 3] % 64) as u16,
+            pitch: self.pitch(v),
             entry: ((256 * self.registers[DIR] as u32 + 4 * source) % 65536) as u16,
             adsr1: self.registers[base + 5],
             adsr2: self.registers[base + 6],
@@ -303,7 +304,7 @@ impl Voices {
         requires { v < 8 }
         ensures { result ≡ (setting self.now v).pitch }
     {
-        self.registers[16 * v + 2] as u16 + 256 * (self.registers[16 * v + 3] % 64) as u16
+        LittleEndian::read_u16(&self.registers[16 * v + 2..]) % 0x4000
     }
 
     /// Whether voice `v` is silent and stays where it is.
