@@ -73,12 +73,13 @@ first_bytes dots small zero fits = refl
 first_bytes dots small (suc i) fits =
     let before = first_bytes dots small i (omega arith) in
     let dot = slice_index dots i in
-    let more : take (suc i) dots ≡ take i dots ++ (dot ∷ []) = take_more dots i 0 (omega arith) in
+    let next : suc i ≡ i + 1 = omega arith in
+    let more : take (i + 1) dots ≡ take i dots ++ (dot ∷ []) = take_more dots i 0 (omega arith) in
     let low = byte_low (slice_index dots) i in
     let high = byte_high (slice_index dots) i in
     let within : dot / 256 % 256 ≡ dot / 256 = omega (arith, small i) in
-    let twice : 2 * suc i ≡ suc (suc (2 * i)) = omega arith in
-    rw (more, flat_map-append, append-nil, before, twice, two_more, low, high, within) refl
+    let twice : 2 * (i + 1) ≡ suc (suc (2 * i)) = omega arith in
+    rw (next, more, flat_map-append, append-nil, before, twice, two_more, low, high, within) refl
 
 -- so are all
 pub all_bytes : (dots : List ℕ) → ((e : ℕ) → slice_index dots e < 65536) → flat_map (little_bytes 2) dots ≡ list_of (2 * length dots) (byte_of_dots (slice_index dots))
