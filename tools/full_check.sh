@@ -2,7 +2,7 @@
 # Runs everything that is no part of the gate, and ends with one line: `full check: N of M parts hold`.
 #
 # The parts: the edits can be made (check_edits.sh); each wrong body is refused (try_wrong_bodies.sh); each planted fault is seen by
-# its rows (try_row_faults.sh); each refused request for memory (refuse_each_allocation.sh); full devices and failing ones,
+# its rows (try_row_faults.sh); each run by one worker is told (try_one_worker.sh); each refused request for memory (refuse_each_allocation.sh); full devices and failing ones,
 # by the built program; and a soak of two workers (soak.sh) of SOAK jobs (1000).
 #
 # It wants the built programs (./snes demo 7 --frames 0; in crates/wild_jobs `rt run`), a C compiler, and some three hours of
@@ -13,7 +13,7 @@ checked=${CHECKED:-/tmp/snes-full-check}
 mkdir -p "$checked" || exit 2
 export snes=${SNES:-$top/crates/snes_run/out/snes_run}
 parts=("$@")
-[ $# -gt 0 ] || parts=(edits rows device allocations soak bodies)
+[ $# -gt 0 ] || parts=(edits rows workers device allocations soak bodies)
 
 # A full device, a device that takes everything, a name that can't be made: what the program says and its status.
 device() {
@@ -49,6 +49,7 @@ for part in "${parts[@]}"; do
     edits) "$top/tools/check_edits.sh" ;;
     bodies) "$top/tools/try_wrong_bodies.sh" ;;
     rows) "$top/tools/try_row_faults.sh" ;;
+    workers) "$top/tools/try_one_worker.sh" ;;
     allocations) "$top/tools/refuse_each_allocation.sh" "$snes" ;;
     device) device ;;
     soak) "$top/tools/soak.sh" "${SOAK:-1000}" ;;

@@ -4,3 +4,4 @@ pub mod Moves
 pub mod Ticks
 pub mod FromParts
 pub mod BootOver
+pub mod Halts

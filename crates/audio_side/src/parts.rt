@@ -3,6 +3,8 @@ ghost use Rattle.snes_defs.specs.declared.ports.Act.TheVariants.{Quiet};
 ghost use Rattle.side_law.specs.Moves.{IsAtPorts, taken};
 ghost use Rattle.side_law.specs.Quiet.{HasGoneQuietly};
 ghost use Rattle.audio_side.specs.Clock.{gone_on, stamp_now};
+ghost use Rattle.audio_side.specs.Rests.{HasRested};
+ghost use Rattle.side_law.proofs.QuietRuns.{IsSilent};
 ghost use Rattle.audio_side.specs.Effect.{emitted};
 ghost use Rattle.audio_side.specs.Sound.{IsRunning, SoundState, StandsAt, board_before_end, sound_act, sound_moves, sound_next};
 
@@ -22,6 +24,25 @@ pub struct Parts {
     pub clock: CycleClock,
     /// The emitted bytes that wait.
     pub waiting: HeapCircularBuffer<u8>,
+}
+
+/// The clock goes on by cycles in which nothing but the processor acts, each begun before a stamp.
+#[inline(never)]
+fn rest(clock: &mut CycleClock, before: u64)
+    requires early { before ≤ 2 ^ 62 }
+    ensures rests { HasRested before clock.old clock.new }
+    ensures forward { stamp_now clock.old ≤ stamp_now clock.new }
+    ensures region { clock.new.region ≡ clock.old.region }
+{
+    'cycles: while clock.stamp() < before {
+        if clock.is_due() {
+            return;
+        }
+        if (clock.number() + 1) % 16 == 0 {
+            return;
+        }
+        clock.go_on();
+    }
 }
 
 impl Parts {
@@ -85,6 +106,23 @@ impl Parts {
         true
     }
 
+    /// Where the processor has halted, makes the cycles, each begun before a stamp, up to the next at whose end the
+    /// timers come.
+    #[inline(always)]
+    fn rest_halted(&mut self, before: u64)
+        requires early { before ≤ 2 ^ 62 }
+        ensures gone { (m : SoundState) → StandsAt (value_of self.old) m → IsSilent sound_moves before (StandsAt (value_of self.new)) self.old.waiting.items m self.new.waiting.items }
+        ensures forward { stamp_now self.old.clock ≤ stamp_now self.new.clock }
+        ensures region { self.new.clock.region ≡ self.old.clock.region }
+        ensures waiting { self.new.waiting ≡ self.old.waiting }
+        ensures runs { IsRunning self.old.spc → IsRunning self.new.spc }
+    {
+        if !self.spc.is_halted() {
+            return;
+        }
+        rest(&mut self.clock, before);
+    }
+
     /// Makes quiet steps, each begun before a stamp, up to the first that emits bytes, and answers where it stands
     /// then.
     #[inline(never)]
@@ -103,6 +141,7 @@ impl Parts {
         ensures runs { IsRunning self.old.spc → IsRunning self.new.spc }
     {
         let waited = self.waiting.len();
+        self.rest_halted(before);
         let mut at = self.clock.stamp();
         'steps: while at < before {
             if !self.try_step() {
@@ -113,6 +152,7 @@ impl Parts {
                 let act = self.act();
                 return Pause { at, act };
             }
+            self.rest_halted(before);
             at = self.clock.stamp();
         }
         let act = self.act();

@@ -14,7 +14,7 @@ use Rattle.console_steps.proofs.PassSteps.{went_on}
 use Rattle.console_machine.specs.SideLaws.{due_step}
 
 -- the access of a processor is that of what it stands for
-same_access : (cpu : Cpu) (s : Standing) → Stands cpu s → access_of cpu ≡ next_of s
+pub same_access : (cpu : Cpu) (s : Standing) → Stands cpu s → access_of cpu ≡ next_of s
 same_access cpu s h = rw (h.kept, h.irq_level, h.left) refl
 
 -- the step that is due is that access

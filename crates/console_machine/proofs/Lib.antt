@@ -3,3 +3,5 @@ pub mod AtOnce
 pub mod Few
 pub mod Quiets
 pub mod Steps
+pub mod Runs
+pub mod Looks

@@ -6,3 +6,4 @@ pub mod SideLaws
 pub mod Standing
 pub mod Taken
 pub mod Playing
+pub mod Runs

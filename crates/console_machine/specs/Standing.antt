@@ -25,7 +25,7 @@ distributes : (region : Region) (c n : ℕ) → rate_of region Console * c + rat
 distributes Ntsc c n = omega arith
 distributes Pal c n = omega arith
 
-stamp_on : (a b : Region) (s t c d n : ℕ) → b ≡ a → t ≡ s + rate_of a Console * n → s ≡ rate_of a Console * c → d ≡ c + n → t ≡ rate_of b Console * d
+pub stamp_on : (a b : Region) (s t c d n : ℕ) → b ≡ a → t ≡ s + rate_of a Console * n → s ≡ rate_of a Console * c → d ≡ c + n → t ≡ rate_of b Console * d
 stamp_on a b s t c d n eb et es ed = rw (eb, et, es, ed) (distributes a c n)
 
 -- the processor and all else are at the world after the step, and the stamp has risen by its clocks

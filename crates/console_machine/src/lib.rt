@@ -8,6 +8,7 @@
 #![tactic(auto)]
 
 mod acts;
+mod many_steps;
 mod parts;
 mod side;
 mod step;

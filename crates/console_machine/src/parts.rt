@@ -9,6 +9,7 @@ ghost use Rattle.console_steps.specs.World.{World, act_of, due_of, world_after, 
 ghost use Rattle.console_machine.specs.Side.{IsSome, StandsAt};
 
 use crate::acts::due_act;
+use crate::many_steps::make_plain_steps;
 use crate::step::{make_step, try_make};
 use circular_buffer::HeapCircularBuffer;
 use clock_ratio::{CONSOLE_RATE, PAL_CONSOLE_RATE};
@@ -16,6 +17,9 @@ use console_bus::Bus;
 use cpu65816::Cpu;
 use side_law::Pause;
 use snes_defs::{Act, Region};
+
+/// The stamps of a line in the region where they are more.
+const LONGEST_LINE: u64 = 1364 * PAL_CONSOLE_RATE;
 
 /// The parts of a console side.
 #[derive(Drop)]
@@ -38,6 +42,19 @@ fn stamps(region: Region, clocks: u8) -> u64
     ensures least { least_of region ≤ result }
     ensures most { result ≤ most_of region }
     ensures small { result ≤ 4096000 }
+{
+    match region {
+        Region::Ntsc => CONSOLE_RATE * clocks as u64,
+        Region::Pal => PAL_CONSOLE_RATE * clocks as u64,
+    }
+}
+
+/// The stamps of a line's clocks, or of fewer.
+#[inline(always)]
+fn line_stamps(region: Region, clocks: u16) -> u64
+    requires { clocks ≤ 1364 }
+    ensures value { result ≡ rate_of region Console * clocks }
+    ensures most { result ≤ 139673600 }
 {
     match region {
         Region::Ntsc => CONSOLE_RATE * clocks as u64,
@@ -113,10 +130,9 @@ impl Parts {
         }
     }
 
-    /// Makes the steps, each begun before a stamp, that are seen at once to be quiet and to emit nothing. Out of line:
-    /// with two copies of it in one function the processor's transitions would not be built into the loop.
+    /// Makes the steps, each begun before a stamp, that are seen at once to be quiet and to emit nothing, one by one.
     #[inline(never)]
-    fn hurry(&mut self, before: u64)
+    fn creep(&mut self, before: u64)
         requires early { before ≤ 2 ^ 62 }
         ensures gone { (w : World) → StandsAt (value_of self.old) w → IsSilent console_moves before (StandsAt (value_of self.new)) self.old.waiting.items w self.new.waiting.items }
         ensures keeps { IsSome (value_of self.old) → IsSome (value_of self.new) }
@@ -129,6 +145,39 @@ impl Parts {
                 return;
             }
         }
+    }
+
+    /// The same steps up to the next place of the beam, which comes before that stamp, all at once.
+    #[inline(never)]
+    fn rush(&mut self, before: u64)
+        requires far { self.old.stamp + 139673600 ≤ before }
+        requires early { before ≤ 2 ^ 62 }
+        ensures gone { (w : World) → StandsAt (value_of self.old) w → IsSilent console_moves before (StandsAt (value_of self.new)) self.old.waiting.items w self.new.waiting.items }
+        ensures keeps { IsSome (value_of self.old) → IsSome (value_of self.new) }
+        ensures forward { self.old.stamp ≤ self.new.stamp }
+        ensures region { self.new.region ≡ self.old.region }
+        ensures waiting { self.new.waiting ≡ self.old.waiting }
+    {
+        let clocks = make_plain_steps(&mut self.cpu, &mut self.bus);
+        self.stamp += line_stamps(self.region, clocks);
+    }
+
+    /// The same: all at once, or near the stamp one by one. Out of line: with two copies of it in one function the
+    /// processor's transitions would not be built into the loop.
+    #[inline(never)]
+    fn hurry(&mut self, before: u64)
+        requires early { before ≤ 2 ^ 62 }
+        ensures gone { (w : World) → StandsAt (value_of self.old) w → IsSilent console_moves before (StandsAt (value_of self.new)) self.old.waiting.items w self.new.waiting.items }
+        ensures keeps { IsSome (value_of self.old) → IsSome (value_of self.new) }
+        ensures forward { self.old.stamp ≤ self.new.stamp }
+        ensures region { self.new.region ≡ self.old.region }
+        ensures waiting { self.new.waiting ≡ self.old.waiting }
+    {
+        if before < self.stamp.saturating_add(LONGEST_LINE) {
+            self.creep(before);
+            return;
+        }
+        self.rush(before);
     }
 
     /// Makes quiet steps, each begun before a stamp, up to the first that emits bytes, and answers where it stands

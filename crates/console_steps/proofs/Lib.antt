@@ -4,3 +4,4 @@ pub mod Beams
 pub mod EventLists
 pub mod Clocks
 pub mod PassSteps
+pub mod Wires

@@ -3,3 +3,4 @@ pub mod Stands
 pub mod Parts
 pub mod Draws
 pub mod AtOnce
+pub mod Plain

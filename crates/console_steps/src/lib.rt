@@ -12,8 +12,10 @@ mod drawing;
 mod effects;
 mod happening;
 mod passing;
+mod plain;
 mod rows;
 
 pub use at_once::try_access;
 pub use effects::{give_lines, make_inner, make_move, make_read, make_reset, make_write};
 pub use passing::pass;
+pub use plain::{is_calm, is_wired, try_look, try_plain};

@@ -33,7 +33,6 @@ mod record;
 mod steps;
 mod tally;
 mod turns;
-mod watch;
 
 use case::Case;
 use std::{env, fs, io};

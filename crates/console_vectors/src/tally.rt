@@ -2,7 +2,7 @@ use crate::case::Case;
 use crate::play::play;
 use crate::steps::record_steps;
 use crate::turns::play_on_two;
-use crate::watch::Watch;
+use run_drive::Watch;
 use std::alloc::Global;
 use std::io;
 use std::thread::Threads;

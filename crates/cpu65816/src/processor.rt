@@ -1,8 +1,9 @@
-ghost use Rattle.std.specs.Prelude.{◌≡◌, ◌<◌, ◌^◌, ◌||◌, IsTrue, false, true};
+ghost use Rattle.std.specs.Prelude.{◌≡◌, ◌<◌, ◌^◌, ◌||◌, IsTrue, MatchBool, None, Some, false, true};
 ghost use Rattle.cpu_modes.specs.Plan.{address_of, first_access};
 ghost use Rattle.cpu_modes.specs.Rest.{rest};
 ghost use Rattle.cpu65816.specs.Instruction.{ahead};
 
+use crate::likeness::{leave_the_same, same_registers};
 use crate::settling::settle;
 use cpu_modes::Micro;
 use cpu_tables::{Access, Mode, Op, Regs, Row};
@@ -169,6 +170,43 @@ impl Cpu {
         self.irq_level = irq;
         let is_between = self.micro.has_ended(true);
         settle(&mut self.micro, is_between, self.kept, self.irq_level);
+    }
+
+    /// The levels of the NMI and IRQ lines, as they were last given.
+    #[inline(always)]
+    pub fn levels(&self) -> (bool, bool)
+        ensures nmi { result.0 ≡ self.now.nmi_level }
+        ensures irq { result.1 ≡ self.now.irq_level }
+    {
+        (self.nmi_level, self.irq_level)
+    }
+
+    /// Whether an instruction has ended, or waits for an interrupt.
+    #[inline(always)]
+    pub fn is_between(&self) -> bool
+        ensures { MatchBool result
+            (finished true (rest self.now.micro) ≡ Some self.now.micro.here)
+            (finished true (rest self.now.micro) ≡ None) }
+    {
+        self.micro.has_ended(true)
+    }
+
+    /// Whether another processor stands for whatever this one stands for. It is seen between two instructions and
+    /// where both wait for an interrupt; elsewhere the answer is no.
+    #[tactic(auto, using(crate::proofs::Alike::stands_alike))]
+    #[inline(always)]
+    pub fn is_like(&self, other: &Cpu) -> bool
+        ensures { IsTrue result → (s : Standing) → Stands self.now s → Stands other.now s }
+    {
+        if !leave_the_same(&self.micro, &other.micro) {
+            return false;
+        }
+        if !same_registers(&self.micro.start, &other.micro.start) {
+            return false;
+        }
+        self.kept == other.kept
+            && self.nmi_level == other.nmi_level
+            && self.irq_level == other.irq_level
     }
 
     /// The registers at the start of the instruction in hand.

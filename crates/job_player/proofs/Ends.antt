@@ -27,7 +27,11 @@ job_is_playable job = playable (Emits job)
     (serial_of (console_of job) (sound_of job)) (end_of job)
     (serving_at_first (IsConsoleOf job.region) (IsSound job.region) (console_of job) (sound_of job) (console_starts_valid job) refl))
 
--- an end that a run can come to
+-- an end that a run can come to, and at which all stamps of writes are small
 pub ends_early : (region : Region) (frames : ℕ) → frames ≤ 36000 → end_stamp_of region frames ≤ 2 ^ 62
 ends_early Ntsc frames few = omega arith
 ends_early Pal frames few = omega arith
+
+pub ends_soon : (region : Region) (frames : ℕ) → frames ≤ 36000 → end_stamp_of region frames ≤ 2 ^ 51
+ends_soon Ntsc frames few = omega arith
+ends_soon Pal frames few = omega arith

@@ -4,13 +4,13 @@ ghost use Rattle.run_drive.specs.Played.{PlayedWhole, PlayedFirst};
 ghost use Rattle.run_laws.specs.TurnBound.{most_turns};
 ghost use Rattle.job_player.specs.Start.{Emits, IsReady};
 
-use crate::open_gate::OpenGate;
+use crate::door::Door;
 use audio_side::AudioSide;
 use clock_ratio::end_stamp_in;
 use console_machine::ConsoleSide;
 use port_lock::{Ports, Whole};
 use port_wire::Gate;
-use run_drive::{Player, Sink, run_serial};
+use run_drive::{Player, Sink, Workers, run_serial};
 use snes_defs::{Job, NoMemory, Side};
 use std::alloc::Global;
 use std::thread::Threads;
@@ -103,8 +103,9 @@ impl Player for Console {
         run_serial(console, sound, end, buffer.as_mut_slice(), sink)
     }
 
-    fn play_turns<R: Threads, K: Sink>(self, rt: &R, sink: &mut K) -> Result<(), Side> {
-        match play_by_turns(self, rt, &OpenGate, sink) {
+    fn play_turns<R: Workers, K: Sink>(self, rt: &R, sink: &mut K) -> Result<(), Side> {
+        let door = Door { watch: rt.watch() };
+        match play_by_turns(self, rt, &door, sink) {
             Ok(_) => Ok(()),
             Err(side) => Err(side),
         }

@@ -6,6 +6,6 @@
 #![tactic(auto)]
 
 mod console;
-mod open_gate;
+mod door;
 
 pub use console::{Console, play_by_turns};

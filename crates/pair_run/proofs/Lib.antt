@@ -2,6 +2,7 @@ pub mod Fronts
 pub mod LegGoesOn
 pub mod Meets
 pub mod QuietLegs
+pub mod Reaches
 pub mod Refusals
 pub mod Tries
 pub mod TurnGoesOn

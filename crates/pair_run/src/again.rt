@@ -1,9 +1,10 @@
 // A step that is tried more than once.
 ghost use Rattle.std.specs.Prelude.{◌≡◌, ◌+◌, ◌*◌, ◌^◌, ◌<◌, ◌≤◌, ℕ, IsTrue, OnOk, OnErr, IfErr, length};
-ghost use Rattle.clock_ratio.specs.Stamp.{least_of, window_of};
+ghost use Rattle.clock_ratio.specs.Stamp.{least_of, most_of, window_of};
 ghost use Rattle.commute_laws.specs.History.{History};
 ghost use Rattle.port_wire.specs.Seen.{Half};
 ghost use Rattle.port_wire.specs.Answers.{HearsOn};
+ghost use Rattle.port_wire.specs.Reach.{IsInReach};
 ghost use Rattle.port_wire.specs.Tally.{HasRisenBy};
 ghost use Rattle.pair_run.specs.Leg.{IsSpent};
 ghost use Rattle.pair_run.specs.Tried.{Tried, call_of};
@@ -33,11 +34,13 @@ fn wait(tried: u32) {
 fn tell<W: Wire>(wire: &W, pass: &mut W::Pass, at: u64) -> bool
     requires of { W.is_pass_of wire.now pass.old }
     requires clock { (W.seen pass.old).half.at ≤ at }
+    requires reach { IsInReach (W.region_of wire.now) at (W.seen pass.old).half }
     ensures still_of { W.is_pass_of wire.now pass.new }
     ensures side { (W.seen pass.new).side ≡ (W.seen pass.old).side }
     ensures hears { HearsOn (W.seen pass.old).half (W.seen pass.new).half }
     ensures mine { (W.seen pass.new).half.mine ≡ (W.seen pass.old).half.mine }
     ensures clock { (W.seen pass.new).half.at ≤ at }
+    ensures reach { IsInReach (W.region_of wire.now) at (W.seen pass.new).half }
     ensures counted { (before : ℕ) → HasRisenBy 0 before (W.seen pass.old).half.tally.refused → HasRisenBy 0 before (W.seen pass.new).half.tally.refused }
     ensures published { IsTrue result → (W.seen pass.new).half.at ≡ at }
 {
@@ -51,11 +54,13 @@ fn tell<W: Wire>(wire: &W, pass: &mut W::Pass, at: u64) -> bool
 pub(crate) fn publish<W: Wire>(wire: &W, pass: &mut W::Pass, at: u64)
     requires of { W.is_pass_of wire.now pass.old }
     requires clock { (W.seen pass.old).half.at ≤ at }
+    requires reach { IsInReach (W.region_of wire.now) at (W.seen pass.old).half }
     ensures still_of { W.is_pass_of wire.now pass.new }
     ensures side { (W.seen pass.new).side ≡ (W.seen pass.old).side }
     ensures hears { HearsOn (W.seen pass.old).half (W.seen pass.new).half }
     ensures mine { (W.seen pass.new).half.mine ≡ (W.seen pass.old).half.mine }
     ensures clock { (W.seen pass.new).half.at ≤ at }
+    ensures reach { IsInReach (W.region_of wire.now) at (W.seen pass.new).half }
     ensures counted { (before : ℕ) → HasRisenBy 0 before (W.seen pass.old).half.tally.refused → HasRisenBy 0 before (W.seen pass.new).half.tally.refused }
 {
     for _ in 0..TELLS {
@@ -77,13 +82,15 @@ fn insist<W: Wire, M: Machine>(
     requires of { W.is_pass_of wire.now pass.old }
     requires region { M.region_of machine.old ≡ W.region_of wire.now }
     requires room { length (M.waiting machine.old) + M.MOST ≤ M.CAP }
-    requires early { M.stamp_of machine.old ≤ 2 ^ 62 }
+    requires early { M.stamp_of machine.old ≤ 2 ^ 51 }
     requires clock { (W.seen pass.old).half.at ≤ M.stamp_of machine.old }
+    requires reach { IsInReach (W.region_of wire.now) (M.stamp_of machine.old) (W.seen pass.old).half }
     requires tries { 1 ≤ tries }
     ensures still_of { W.is_pass_of wire.now pass.new }
     ensures side { (W.seen pass.new).side ≡ (W.seen pass.old).side }
     ensures hears { HearsOn (W.seen pass.old).half (W.seen pass.new).half }
     ensures clock { (W.seen pass.new).half.at ≤ M.stamp_of machine.new }
+    ensures reach { IsInReach (W.region_of wire.now) (M.stamp_of machine.new) (W.seen pass.new).half }
     ensures same_region { M.region_of machine.new ≡ M.region_of machine.old }
     ensures steps { OnOk result ((before : History M.State) → M.stands machine.old before.now → before.entries ≡ (W.seen pass.old).half.mine → Tried (W.seen pass.old).side M.moves (window_of (W.region_of wire.now)) (M.stands machine.new) (W.seen pass.new).half (M.waiting machine.old) (M.waiting machine.new) before) }
     ensures rises { OnOk result (M.stamp_of machine.old + least_of (M.region_of machine.old) ≤ M.stamp_of machine.new) }
@@ -115,13 +122,15 @@ pub(crate) fn step_by_call<W: Wire, M: Machine>(
     requires of { W.is_pass_of wire.now pass.old }
     requires region { M.region_of machine.old ≡ W.region_of wire.now }
     requires room { length (M.waiting machine.old) + M.MOST ≤ M.CAP }
-    requires early { M.stamp_of machine.old ≤ 2 ^ 62 }
+    requires early { M.stamp_of machine.old ≤ 2 ^ 51 }
     requires clock { (W.seen pass.old).half.at ≤ M.stamp_of machine.old }
+    requires reach { IsInReach (W.region_of wire.now) (M.stamp_of machine.old) (W.seen pass.old).half }
     requires tries { 1 ≤ tries }
     ensures still_of { W.is_pass_of wire.now pass.new }
     ensures side { (W.seen pass.new).side ≡ (W.seen pass.old).side }
     ensures hears { HearsOn (W.seen pass.old).half (W.seen pass.new).half }
     ensures clock { (W.seen pass.new).half.at ≤ M.stamp_of machine.new }
+    ensures reach { IsInReach (W.region_of wire.now) (M.stamp_of machine.new) (W.seen pass.new).half }
     ensures same_region { M.region_of machine.new ≡ M.region_of machine.old }
     ensures steps { OnOk result ((before : History M.State) → M.stands machine.old before.now → before.entries ≡ (W.seen pass.old).half.mine → Tried (W.seen pass.old).side M.moves (window_of (W.region_of wire.now)) (M.stands machine.new) (W.seen pass.new).half (M.waiting machine.old) (M.waiting machine.new) before) }
     ensures rises { OnOk result (M.stamp_of machine.old + least_of (M.region_of machine.old) ≤ M.stamp_of machine.new) }

@@ -1,7 +1,8 @@
 ghost use Rattle.std.specs.Prelude.{◌≡◌, ◌+◌, ◌^◌, ◌<◌, ◌≤◌, ◌↔◌, ℕ, IsTrue, OnOk, OnErr, IfErr, length};
-ghost use Rattle.clock_ratio.specs.Stamp.{least_of, window_of};
+ghost use Rattle.clock_ratio.specs.Stamp.{least_of, most_of, window_of};
 ghost use Rattle.commute_laws.specs.History.{History};
 ghost use Rattle.port_wire.specs.Answers.{HearsOn};
+ghost use Rattle.port_wire.specs.Reach.{IsInReach};
 ghost use Rattle.port_wire.specs.Tally.{counted_on, HasRisenBy, after_refusal};
 ghost use Rattle.pair_run.specs.Tried.{Tried, IsHeldBack, call_of};
 
@@ -25,11 +26,13 @@ fn is_ahead(at: u64, other: u64, window: u64) -> bool
 fn tell_before<W: Wire>(wire: &W, pass: &mut W::Pass, at: u64) -> Result<(), PassLate>
     requires of { W.is_pass_of wire.now pass.old }
     requires clock { (W.seen pass.old).half.at ≤ at }
+    requires reach { IsInReach (W.region_of wire.now) at (W.seen pass.old).half }
     ensures still_of { W.is_pass_of wire.now pass.new }
     ensures side { (W.seen pass.new).side ≡ (W.seen pass.old).side }
     ensures hears { HearsOn (W.seen pass.old).half (W.seen pass.new).half }
     ensures mine { (W.seen pass.new).half.mine ≡ (W.seen pass.old).half.mine }
     ensures clock { (W.seen pass.new).half.at ≤ at }
+    ensures reach { IsInReach (W.region_of wire.now) at (W.seen pass.new).half }
     ensures within { OnOk result (at ≤ (W.seen pass.new).half.known + window_of (W.region_of wire.now)) }
     ensures counted { (before : ℕ) → HasRisenBy 0 before (W.seen pass.old).half.tally.refused → HasRisenBy 0 before (W.seen pass.new).half.tally.refused }
     ensures held_back { IfErr result (λ late. (W.seen pass.new).half.tally ≡ after_refusal (W.seen pass.old).half.tally CallName.Advance at late) }
@@ -60,13 +63,15 @@ fn try_quiet<W: Wire, M: Machine>(
     requires of { W.is_pass_of wire.now pass.old }
     requires region { M.region_of machine.old ≡ W.region_of wire.now }
     requires room { length (M.waiting machine.old) + M.MOST ≤ M.CAP }
-    requires early { M.stamp_of machine.old ≤ 2 ^ 62 }
+    requires early { M.stamp_of machine.old ≤ 2 ^ 51 }
     requires clock { (W.seen pass.old).half.at ≤ M.stamp_of machine.old }
+    requires reach { IsInReach (W.region_of wire.now) (M.stamp_of machine.old) (W.seen pass.old).half }
     requires act { (m : M.State) → M.stands machine.old m → M.moves.act m ≡ Act.Quiet }
     ensures still_of { W.is_pass_of wire.now pass.new }
     ensures side { (W.seen pass.new).side ≡ (W.seen pass.old).side }
     ensures hears { HearsOn (W.seen pass.old).half (W.seen pass.new).half }
     ensures clock { (W.seen pass.new).half.at ≤ M.stamp_of machine.new }
+    ensures reach { IsInReach (W.region_of wire.now) (M.stamp_of machine.new) (W.seen pass.new).half }
     ensures same_region { M.region_of machine.new ≡ M.region_of machine.old }
     ensures steps { OnOk result ((before : History M.State) → M.stands machine.old before.now → before.entries ≡ (W.seen pass.old).half.mine → Tried (W.seen pass.old).side M.moves (window_of (W.region_of wire.now)) (M.stands machine.new) (W.seen pass.new).half (M.waiting machine.old) (M.waiting machine.new) before) }
     ensures rises { OnOk result (M.stamp_of machine.old + least_of (M.region_of machine.old) ≤ M.stamp_of machine.new) }
@@ -94,14 +99,16 @@ fn try_read<W: Wire, M: Machine>(
     requires of { W.is_pass_of wire.now pass.old }
     requires region { M.region_of machine.old ≡ W.region_of wire.now }
     requires room { length (M.waiting machine.old) + M.MOST ≤ M.CAP }
-    requires early { M.stamp_of machine.old ≤ 2 ^ 62 }
+    requires early { M.stamp_of machine.old ≤ 2 ^ 51 }
     requires clock { (W.seen pass.old).half.at ≤ M.stamp_of machine.old }
+    requires reach { IsInReach (W.region_of wire.now) (M.stamp_of machine.old) (W.seen pass.old).half }
     requires port { port < 4 }
     requires act { (m : M.State) → M.stands machine.old m → M.moves.act m ≡ Act.Read port }
     ensures still_of { W.is_pass_of wire.now pass.new }
     ensures side { (W.seen pass.new).side ≡ (W.seen pass.old).side }
     ensures hears { HearsOn (W.seen pass.old).half (W.seen pass.new).half }
     ensures clock { (W.seen pass.new).half.at ≤ M.stamp_of machine.new }
+    ensures reach { IsInReach (W.region_of wire.now) (M.stamp_of machine.new) (W.seen pass.new).half }
     ensures same_region { M.region_of machine.new ≡ M.region_of machine.old }
     ensures steps { OnOk result ((before : History M.State) → M.stands machine.old before.now → before.entries ≡ (W.seen pass.old).half.mine → Tried (W.seen pass.old).side M.moves (window_of (W.region_of wire.now)) (M.stands machine.new) (W.seen pass.new).half (M.waiting machine.old) (M.waiting machine.new) before) }
     ensures rises { OnOk result (M.stamp_of machine.old + least_of (M.region_of machine.old) ≤ M.stamp_of machine.new) }
@@ -129,14 +136,16 @@ fn try_clear<W: Wire, M: Machine>(
     requires of { W.is_pass_of wire.now pass.old }
     requires region { M.region_of machine.old ≡ W.region_of wire.now }
     requires room { length (M.waiting machine.old) + M.MOST ≤ M.CAP }
-    requires early { M.stamp_of machine.old ≤ 2 ^ 62 }
+    requires early { M.stamp_of machine.old ≤ 2 ^ 51 }
     requires clock { (W.seen pass.old).half.at ≤ M.stamp_of machine.old }
+    requires reach { IsInReach (W.region_of wire.now) (M.stamp_of machine.old) (W.seen pass.old).half }
     requires mask { (1 ≤ mask) × (mask ≤ 15) }
     requires act { (m : M.State) → M.stands machine.old m → M.moves.act m ≡ Act.Clear mask }
     ensures still_of { W.is_pass_of wire.now pass.new }
     ensures side { (W.seen pass.new).side ≡ (W.seen pass.old).side }
     ensures hears { HearsOn (W.seen pass.old).half (W.seen pass.new).half }
     ensures clock { (W.seen pass.new).half.at ≤ M.stamp_of machine.new }
+    ensures reach { IsInReach (W.region_of wire.now) (M.stamp_of machine.new) (W.seen pass.new).half }
     ensures same_region { M.region_of machine.new ≡ M.region_of machine.old }
     ensures steps { OnOk result ((before : History M.State) → M.stands machine.old before.now → before.entries ≡ (W.seen pass.old).half.mine → Tried (W.seen pass.old).side M.moves (window_of (W.region_of wire.now)) (M.stands machine.new) (W.seen pass.new).half (M.waiting machine.old) (M.waiting machine.new) before) }
     ensures rises { OnOk result (M.stamp_of machine.old + least_of (M.region_of machine.old) ≤ M.stamp_of machine.new) }
@@ -155,6 +164,7 @@ fn try_clear<W: Wire, M: Machine>(
 
 /// A step that writes a byte to a port. The least stamp of the step after it is published with it.
 #[inline(always)]
+#[tactic(auto, using(crate::proofs::Reaches::least_below_most))]
 fn try_write<W: Wire, M: Machine>(
     wire: &W,
     pass: &mut W::Pass,
@@ -165,14 +175,16 @@ fn try_write<W: Wire, M: Machine>(
     requires of { W.is_pass_of wire.now pass.old }
     requires region { M.region_of machine.old ≡ W.region_of wire.now }
     requires room { length (M.waiting machine.old) + M.MOST ≤ M.CAP }
-    requires early { M.stamp_of machine.old ≤ 2 ^ 62 }
+    requires early { M.stamp_of machine.old ≤ 2 ^ 51 }
     requires clock { (W.seen pass.old).half.at ≤ M.stamp_of machine.old }
+    requires reach { IsInReach (W.region_of wire.now) (M.stamp_of machine.old) (W.seen pass.old).half }
     requires port { port < 4 }
     requires act { (m : M.State) → M.stands machine.old m → M.moves.act m ≡ Act.Write port v }
     ensures still_of { W.is_pass_of wire.now pass.new }
     ensures side { (W.seen pass.new).side ≡ (W.seen pass.old).side }
     ensures hears { HearsOn (W.seen pass.old).half (W.seen pass.new).half }
     ensures clock { (W.seen pass.new).half.at ≤ M.stamp_of machine.new }
+    ensures reach { IsInReach (W.region_of wire.now) (M.stamp_of machine.new) (W.seen pass.new).half }
     ensures same_region { M.region_of machine.new ≡ M.region_of machine.old }
     ensures steps { OnOk result ((before : History M.State) → M.stands machine.old before.now → before.entries ≡ (W.seen pass.old).half.mine → Tried (W.seen pass.old).side M.moves (window_of (W.region_of wire.now)) (M.stands machine.new) (W.seen pass.new).half (M.waiting machine.old) (M.waiting machine.new) before) }
     ensures rises { OnOk result (M.stamp_of machine.old + least_of (M.region_of machine.old) ≤ M.stamp_of machine.new) }
@@ -199,12 +211,14 @@ pub(crate) fn attempt<W: Wire, M: Machine>(
     requires of { W.is_pass_of wire.now pass.old }
     requires region { M.region_of machine.old ≡ W.region_of wire.now }
     requires room { length (M.waiting machine.old) + M.MOST ≤ M.CAP }
-    requires early { M.stamp_of machine.old ≤ 2 ^ 62 }
+    requires early { M.stamp_of machine.old ≤ 2 ^ 51 }
     requires clock { (W.seen pass.old).half.at ≤ M.stamp_of machine.old }
+    requires reach { IsInReach (W.region_of wire.now) (M.stamp_of machine.old) (W.seen pass.old).half }
     ensures still_of { W.is_pass_of wire.now pass.new }
     ensures side { (W.seen pass.new).side ≡ (W.seen pass.old).side }
     ensures hears { HearsOn (W.seen pass.old).half (W.seen pass.new).half }
     ensures clock { (W.seen pass.new).half.at ≤ M.stamp_of machine.new }
+    ensures reach { IsInReach (W.region_of wire.now) (M.stamp_of machine.new) (W.seen pass.new).half }
     ensures same_region { M.region_of machine.new ≡ M.region_of machine.old }
     ensures steps { OnOk result ((before : History M.State) → M.stands machine.old before.now → before.entries ≡ (W.seen pass.old).half.mine → Tried (W.seen pass.old).side M.moves (window_of (W.region_of wire.now)) (M.stands machine.new) (W.seen pass.new).half (M.waiting machine.old) (M.waiting machine.new) before) }
     ensures rises { OnOk result (M.stamp_of machine.old + least_of (M.region_of machine.old) ≤ M.stamp_of machine.new) }

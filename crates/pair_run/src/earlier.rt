@@ -1,10 +1,10 @@
 // The step of the earlier side, over a whole: the other side's clock settles its look, so no call is refused.
 ghost use Rattle.std.specs.Prelude.{◌≡◌, ◌+◌, ◌^◌, ◌<◌, ◌≤◌, ℕ, length};
-ghost use Rattle.clock_ratio.specs.Stamp.{least_of, window_of};
+ghost use Rattle.clock_ratio.specs.Stamp.{least_of, most_of, window_of};
 ghost use Rattle.port_entries.specs.Window.{IsSettled};
 ghost use Rattle.commute_laws.specs.History.{History};
 ghost use Rattle.port_wire.specs.Seen.{half_of};
-ghost use Rattle.port_wire.specs.Whole.{other_of, IsOwn};
+ghost use Rattle.port_wire.specs.Whole.{other_of, IsOwn, HearBoth};
 ghost use Rattle.pair_run.specs.Tried.{Tried, as_heard};
 
 use clock_ratio::least;
@@ -25,7 +25,7 @@ fn step_read<W: Wire, M: Machine>(
     requires of { W.is_whole_of wire.now whole.old }
     requires region { M.region_of machine.old ≡ W.region_of wire.now }
     requires room { length (M.waiting machine.old) + M.MOST ≤ M.CAP }
-    requires early { M.stamp_of machine.old ≤ 2 ^ 62 }
+    requires early { M.stamp_of machine.old ≤ 2 ^ 51 }
     requires clock { (half_of side (W.both whole.old)).at ≤ M.stamp_of machine.old }
     requires first { IsSettled side (M.stamp_of machine.old) (half_of (other_of side) (W.both whole.old)).at }
     requires port { port < 4 }
@@ -36,6 +36,8 @@ fn step_read<W: Wire, M: Machine>(
     ensures same_region { M.region_of machine.new ≡ M.region_of machine.old }
     ensures steps { (before : History M.State) → M.stands machine.old before.now → before.entries ≡ (half_of side (W.both whole.old)).mine → Tried side M.moves (window_of (W.region_of wire.now)) (M.stands machine.new) (as_heard (half_of side (W.both whole.new)) (half_of (other_of side) (W.both whole.old))) (M.waiting machine.old) (M.waiting machine.new) before }
     ensures rises { M.stamp_of machine.old + least_of (M.region_of machine.old) ≤ M.stamp_of machine.new }
+    ensures rises_at_most { M.stamp_of machine.new ≤ M.stamp_of machine.old + most_of (M.region_of machine.old) }
+    ensures hears { HearBoth (W.both whole.old) (W.both whole.new) }
     ensures emits_at_most { length (M.waiting machine.new) ≤ length (M.waiting machine.old) + M.MOST }
 {
     let at = machine.stamp();
@@ -58,7 +60,7 @@ fn step_clear<W: Wire, M: Machine>(
     requires of { W.is_whole_of wire.now whole.old }
     requires region { M.region_of machine.old ≡ W.region_of wire.now }
     requires room { length (M.waiting machine.old) + M.MOST ≤ M.CAP }
-    requires early { M.stamp_of machine.old ≤ 2 ^ 62 }
+    requires early { M.stamp_of machine.old ≤ 2 ^ 51 }
     requires clock { (half_of side (W.both whole.old)).at ≤ M.stamp_of machine.old }
     requires first { IsSettled side (M.stamp_of machine.old) (half_of (other_of side) (W.both whole.old)).at }
     requires mask { (1 ≤ mask) × (mask ≤ 15) }
@@ -69,6 +71,8 @@ fn step_clear<W: Wire, M: Machine>(
     ensures same_region { M.region_of machine.new ≡ M.region_of machine.old }
     ensures steps { (before : History M.State) → M.stands machine.old before.now → before.entries ≡ (half_of side (W.both whole.old)).mine → Tried side M.moves (window_of (W.region_of wire.now)) (M.stands machine.new) (as_heard (half_of side (W.both whole.new)) (half_of (other_of side) (W.both whole.old))) (M.waiting machine.old) (M.waiting machine.new) before }
     ensures rises { M.stamp_of machine.old + least_of (M.region_of machine.old) ≤ M.stamp_of machine.new }
+    ensures rises_at_most { M.stamp_of machine.new ≤ M.stamp_of machine.old + most_of (M.region_of machine.old) }
+    ensures hears { HearBoth (W.both whole.old) (W.both whole.new) }
     ensures emits_at_most { length (M.waiting machine.new) ≤ length (M.waiting machine.old) + M.MOST }
 {
     let at = machine.stamp();
@@ -80,7 +84,7 @@ fn step_clear<W: Wire, M: Machine>(
 
 /// A step that writes a byte to a port. The least stamp of the step after it is published with it.
 #[inline(always)]
-#[tactic(auto, using(crate::proofs::Unrefused::settled_soon, crate::proofs::Unrefused::within_refused))]
+#[tactic(auto, using(crate::proofs::Unrefused::settled_soon, crate::proofs::Unrefused::within_refused, crate::proofs::Reaches::least_below_most))]
 fn step_write<W: Wire, M: Machine>(
     wire: &W,
     whole: &mut W::Whole,
@@ -92,7 +96,7 @@ fn step_write<W: Wire, M: Machine>(
     requires of { W.is_whole_of wire.now whole.old }
     requires region { M.region_of machine.old ≡ W.region_of wire.now }
     requires room { length (M.waiting machine.old) + M.MOST ≤ M.CAP }
-    requires early { M.stamp_of machine.old ≤ 2 ^ 62 }
+    requires early { M.stamp_of machine.old ≤ 2 ^ 51 }
     requires clock { (half_of side (W.both whole.old)).at ≤ M.stamp_of machine.old }
     requires first { IsSettled side (M.stamp_of machine.old) (half_of (other_of side) (W.both whole.old)).at }
     requires port { port < 4 }
@@ -103,6 +107,8 @@ fn step_write<W: Wire, M: Machine>(
     ensures same_region { M.region_of machine.new ≡ M.region_of machine.old }
     ensures steps { (before : History M.State) → M.stands machine.old before.now → before.entries ≡ (half_of side (W.both whole.old)).mine → Tried side M.moves (window_of (W.region_of wire.now)) (M.stands machine.new) (as_heard (half_of side (W.both whole.new)) (half_of (other_of side) (W.both whole.old))) (M.waiting machine.old) (M.waiting machine.new) before }
     ensures rises { M.stamp_of machine.old + least_of (M.region_of machine.old) ≤ M.stamp_of machine.new }
+    ensures rises_at_most { M.stamp_of machine.new ≤ M.stamp_of machine.old + most_of (M.region_of machine.old) }
+    ensures hears { HearBoth (W.both whole.old) (W.both whole.new) }
     ensures emits_at_most { length (M.waiting machine.new) ≤ length (M.waiting machine.old) + M.MOST }
 {
     let at = machine.stamp();
@@ -114,7 +120,7 @@ fn step_write<W: Wire, M: Machine>(
 
 /// Makes the next step of the machine of a side, which is the earlier one.
 #[inline(always)]
-#[tactic(auto, using(crate::proofs::Unrefused::settled_soon, crate::proofs::Unrefused::settled_refused))]
+#[tactic(auto, using(crate::proofs::Unrefused::settled_soon, crate::proofs::Unrefused::settled_refused, crate::proofs::Reaches::both_hear_nothing))]
 pub(crate) fn step_over<W: Wire, M: Machine>(
     wire: &W,
     whole: &mut W::Whole,
@@ -124,7 +130,7 @@ pub(crate) fn step_over<W: Wire, M: Machine>(
     requires of { W.is_whole_of wire.now whole.old }
     requires region { M.region_of machine.old ≡ W.region_of wire.now }
     requires room { length (M.waiting machine.old) + M.MOST ≤ M.CAP }
-    requires early { M.stamp_of machine.old ≤ 2 ^ 62 }
+    requires early { M.stamp_of machine.old ≤ 2 ^ 51 }
     requires clock { (half_of side (W.both whole.old)).at ≤ M.stamp_of machine.old }
     requires first { IsSettled side (M.stamp_of machine.old) (half_of (other_of side) (W.both whole.old)).at }
     ensures still_of { W.is_whole_of wire.now whole.new }
@@ -133,6 +139,8 @@ pub(crate) fn step_over<W: Wire, M: Machine>(
     ensures same_region { M.region_of machine.new ≡ M.region_of machine.old }
     ensures steps { (before : History M.State) → M.stands machine.old before.now → before.entries ≡ (half_of side (W.both whole.old)).mine → Tried side M.moves (window_of (W.region_of wire.now)) (M.stands machine.new) (as_heard (half_of side (W.both whole.new)) (half_of (other_of side) (W.both whole.old))) (M.waiting machine.old) (M.waiting machine.new) before }
     ensures rises { M.stamp_of machine.old + least_of (M.region_of machine.old) ≤ M.stamp_of machine.new }
+    ensures rises_at_most { M.stamp_of machine.new ≤ M.stamp_of machine.old + most_of (M.region_of machine.old) }
+    ensures hears { HearBoth (W.both whole.old) (W.both whole.new) }
     ensures emits_at_most { length (M.waiting machine.new) ≤ length (M.waiting machine.old) + M.MOST }
 {
     match machine.act() {

@@ -1,5 +1,6 @@
 ghost use Rattle.std.specs.Prelude.{◌≡◌, ◌+◌, ◌*◌, ◌^◌, ◌<◌, ◌≤◌, ◌↔◌, ℕ, length};
 ghost use Rattle.clock_ratio.specs.Stamp.{window_of};
+ghost use Rattle.port_wire.specs.Reach.{IsInReach};
 ghost use Rattle.pair_run.specs.Leg.{HasRun, IfHeldBack, IsSpent};
 ghost use Rattle.pair_run.specs.Tried.{call_of};
 
@@ -28,10 +29,12 @@ pub fn leg<W: Wire, M: Machine, G: Gate>(
     requires tries { 1 ≤ tries }
     requires ready { length (M.waiting machine.old) + 2 * M.MOST ≤ M.CAP }
     requires clock { (W.seen pass.old).half.at ≤ M.stamp_of machine.old }
-    requires end { end ≤ 2 ^ 62 }
+    requires reach { IsInReach (W.region_of wire.now) (M.stamp_of machine.old) (W.seen pass.old).half }
+    requires end { end ≤ 2 ^ 51 }
     ensures still_of { W.is_pass_of wire.now pass.new }
     ensures side { (W.seen pass.new).side ≡ (W.seen pass.old).side }
     ensures clock { (W.seen pass.new).half.at ≤ M.stamp_of machine.new }
+    ensures reach { IsInReach (W.region_of wire.now) (M.stamp_of machine.new) (W.seen pass.new).half }
     ensures same_region { M.region_of machine.new ≡ M.region_of machine.old }
     ensures room { length (M.waiting machine.new) + M.MOST ≤ M.CAP }
     ensures ran { HasRun (W.seen pass.old).side M.moves (window_of (W.region_of wire.now)) end (M.stands machine.old) (M.stands machine.new) (W.seen pass.old).half (W.seen pass.new).half (M.waiting machine.old) (M.waiting machine.new) }

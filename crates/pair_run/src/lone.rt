@@ -1,6 +1,7 @@
 // Quiet steps that need no call.
 ghost use Rattle.std.specs.Prelude.{◌≡◌, ◌+◌, ◌^◌, ◌≤◌, length};
 ghost use Rattle.clock_ratio.specs.Stamp.{window_of};
+ghost use Rattle.port_wire.specs.Reach.{IsInReach};
 ghost use Rattle.pair_run.specs.Leg.{HasRun};
 
 use clock_ratio::window;
@@ -25,7 +26,10 @@ fn alone_until<W: Wire>(wire: &W, pass: &W::Pass, end: u64) -> u64
 #[inline(always)]
 pub(crate) fn run_alone<W: Wire, M: Machine>(wire: &W, pass: &W::Pass, machine: &mut M, end: u64)
     requires room { length (M.waiting machine.old) + M.MOST ≤ M.CAP }
-    requires end { end ≤ 2 ^ 62 }
+    requires region { M.region_of machine.old ≡ W.region_of wire.now }
+    requires end { end ≤ 2 ^ 51 }
+    requires reach { IsInReach (W.region_of wire.now) (M.stamp_of machine.old) (W.seen pass.now).half }
+    ensures reach { IsInReach (W.region_of wire.now) (M.stamp_of machine.new) (W.seen pass.now).half }
     ensures forward { M.stamp_of machine.old ≤ M.stamp_of machine.new }
     ensures same_region { M.region_of machine.new ≡ M.region_of machine.old }
     ensures room { length (M.waiting machine.new) + M.MOST ≤ M.CAP }

@@ -1,6 +1,7 @@
 ghost use Rattle.std.specs.Prelude.{◌≡◌, ◌+◌, ◌^◌, ◌<◌, ◌≤◌, ℕ, length};
-ghost use Rattle.clock_ratio.specs.Stamp.{least_of};
+ghost use Rattle.clock_ratio.specs.Stamp.{least_of, most_of, window_of};
 ghost use Rattle.commute_laws.specs.History.{History};
+ghost use Rattle.port_wire.specs.Reach.{IsInReach};
 ghost use Rattle.pair_run.specs.Turn.{HasStepped};
 
 use crate::earlier::step_over;
@@ -33,7 +34,11 @@ pub(crate) fn step_earlier<W: Wire, C: Machine, S: Machine>(
     requires sound_room { length (S.waiting sound.old) + S.MOST ≤ S.CAP }
     requires console_clock { (W.both whole.old).console.at ≡ C.stamp_of console.old }
     requires sound_clock { (W.both whole.old).sound.at ≡ S.stamp_of sound.old }
-    requires end { end ≤ 2 ^ 62 }
+    requires console_reach { IsInReach (W.region_of wire.now) (C.stamp_of console.old) (W.both whole.old).console }
+    requires sound_reach { IsInReach (W.region_of wire.now) (S.stamp_of sound.old) (W.both whole.old).sound }
+    requires console_knows { S.stamp_of sound.old ≤ (W.both whole.old).console.known }
+    requires sound_knows { C.stamp_of console.old ≤ (W.both whole.old).sound.known }
+    requires end { end ≤ 2 ^ 51 }
     ensures still_of { W.is_whole_of wire.now whole.new }
     ensures console_region { C.region_of console.new ≡ C.region_of console.old }
     ensures sound_region { S.region_of sound.new ≡ S.region_of sound.old }
@@ -41,6 +46,8 @@ pub(crate) fn step_earlier<W: Wire, C: Machine, S: Machine>(
     ensures sound_tally { (W.both whole.new).sound.tally ≡ (W.both whole.old).sound.tally }
     ensures console_clock { (W.both whole.new).console.at ≤ C.stamp_of console.new }
     ensures sound_clock { (W.both whole.new).sound.at ≤ S.stamp_of sound.new }
+    ensures console_reach { IsInReach (W.region_of wire.now) (C.stamp_of console.new) (W.both whole.new).console }
+    ensures sound_reach { IsInReach (W.region_of wire.now) (S.stamp_of sound.new) (W.both whole.new).sound }
     ensures console_forward { C.stamp_of console.old ≤ C.stamp_of console.new }
     ensures sound_forward { S.stamp_of sound.old ≤ S.stamp_of sound.new }
     ensures stepped { (c : History C.State) (s : History S.State) → C.stands console.old c.now → S.stands sound.old s.now → c.entries ≡ (W.both whole.old).console.mine → s.entries ≡ (W.both whole.old).sound.mine → HasStepped C.moves S.moves end (C.stands console.new) (S.stands sound.new) (W.both whole.new) (C.waiting console.old) (C.waiting console.new) (S.waiting sound.old) (S.waiting sound.new) result c s }

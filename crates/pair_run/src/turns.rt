@@ -3,6 +3,7 @@ ghost use Rattle.clock_ratio.specs.Stamp.{least_of, window_of};
 ghost use Rattle.snes_defs.specs.declared.ports.Side.TheVariants.{Console, Sound};
 ghost use Rattle.commute_laws.specs.History.{History};
 ghost use Rattle.commute_laws.specs.OnRun.{IsOnRun};
+ghost use Rattle.port_wire.specs.Reach.{IsInReach};
 ghost use Rattle.pair_run.specs.Leg.{HasRun, IfHeldBack, IsSpent};
 ghost use Rattle.pair_run.specs.Tried.{call_of};
 ghost use Rattle.pair_run.specs.Turn.{HasGone, HasTurned, tries_of_turn};
@@ -43,14 +44,17 @@ fn both_legs<R: Threads, W: Wire, C: Machine, S: Machine, G: Gate>(
     requires console_region { C.region_of console.old ≡ W.region_of wire.now }
     requires console_ready { length (C.waiting console.old) + 2 * C.MOST ≤ C.CAP }
     requires console_clock { (W.seen console_pass.old).half.at ≤ C.stamp_of console.old }
+    requires console_reach { IsInReach (W.region_of wire.now) (C.stamp_of console.old) (W.seen console_pass.old).half }
     requires sound_pass { W.is_pass_of wire.now sound_pass.old }
     requires sound_region { S.region_of sound.old ≡ W.region_of wire.now }
     requires sound_ready { length (S.waiting sound.old) + 2 * S.MOST ≤ S.CAP }
     requires sound_clock { (W.seen sound_pass.old).half.at ≤ S.stamp_of sound.old }
-    requires end { end ≤ 2 ^ 62 }
+    requires sound_reach { IsInReach (W.region_of wire.now) (S.stamp_of sound.old) (W.seen sound_pass.old).half }
+    requires end { end ≤ 2 ^ 51 }
     ensures console_pass { W.is_pass_of wire.now console_pass.new }
     ensures console_side { (W.seen console_pass.new).side ≡ (W.seen console_pass.old).side }
     ensures console_clock { (W.seen console_pass.new).half.at ≤ C.stamp_of console.new }
+    ensures console_reach { IsInReach (W.region_of wire.now) (C.stamp_of console.new) (W.seen console_pass.new).half }
     ensures console_region { C.region_of console.new ≡ C.region_of console.old }
     ensures console_room { length (C.waiting console.new) + C.MOST ≤ C.CAP }
     ensures console_ran { HasRun (W.seen console_pass.old).side C.moves (window_of (W.region_of wire.now)) end (C.stands console.old) (C.stands console.new) (W.seen console_pass.old).half (W.seen console_pass.new).half (C.waiting console.old) (C.waiting console.new) }
@@ -60,6 +64,7 @@ fn both_legs<R: Threads, W: Wire, C: Machine, S: Machine, G: Gate>(
     ensures sound_pass { W.is_pass_of wire.now sound_pass.new }
     ensures sound_side { (W.seen sound_pass.new).side ≡ (W.seen sound_pass.old).side }
     ensures sound_clock { (W.seen sound_pass.new).half.at ≤ S.stamp_of sound.new }
+    ensures sound_reach { IsInReach (W.region_of wire.now) (S.stamp_of sound.new) (W.seen sound_pass.new).half }
     ensures sound_region { S.region_of sound.new ≡ S.region_of sound.old }
     ensures sound_room { length (S.waiting sound.new) + S.MOST ≤ S.CAP }
     ensures sound_ran { HasRun (W.seen sound_pass.old).side S.moves (window_of (W.region_of wire.now)) end (S.stands sound.old) (S.stands sound.new) (W.seen sound_pass.old).half (W.seen sound_pass.new).half (S.waiting sound.old) (S.waiting sound.new) }
@@ -72,13 +77,38 @@ fn both_legs<R: Threads, W: Wire, C: Machine, S: Machine, G: Gate>(
     let (sound_end, console_end) = join_mut(
         rt,
         &mut || -> LegEnd
-            requires { (W.is_pass_of wire.now sound_pass.now) × (S.region_of sound.now ≡ W.region_of wire.now) × (length (S.waiting sound.now) + 2 * S.MOST ≤ S.CAP) × ((W.seen sound_pass.now).half.at ≤ S.stamp_of sound.now) × (end ≤ 2 ^ 62) }
+            requires { (W.is_pass_of wire.now sound_pass.now) × (S.region_of sound.now ≡ W.region_of wire.now) × (length (S.waiting sound.now) + 2 * S.MOST ≤ S.CAP) × ((W.seen sound_pass.now).half.at ≤ S.stamp_of sound.now) × IsInReach (W.region_of wire.now) (S.stamp_of sound.now) (W.seen sound_pass.now).half × (end ≤ 2 ^ 51) }
         { leg(wire, sound_pass, sound, gate, number, end, 4096) },
         &mut || -> LegEnd
-            requires { (W.is_pass_of wire.now console_pass.now) × (C.region_of console.now ≡ W.region_of wire.now) × (length (C.waiting console.now) + 2 * C.MOST ≤ C.CAP) × ((W.seen console_pass.now).half.at ≤ C.stamp_of console.now) × (end ≤ 2 ^ 62) }
+            requires { (W.is_pass_of wire.now console_pass.now) × (C.region_of console.now ≡ W.region_of wire.now) × (length (C.waiting console.now) + 2 * C.MOST ≤ C.CAP) × ((W.seen console_pass.now).half.at ≤ C.stamp_of console.now) × IsInReach (W.region_of wire.now) (C.stamp_of console.now) (W.seen console_pass.now).half × (end ≤ 2 ^ 51) }
         { leg(wire, console_pass, console, gate, number, end, 4096) },
     );
     (console_end, sound_end)
+}
+
+/// Publishes the clocks of both sides and tells each the other's: the console is asked again for what the sound
+/// side has published.
+fn publish_both<W: Wire>(wire: &W, whole: &mut W::Whole, console_at: u64, sound_at: u64)
+    requires of { W.is_whole_of wire.now whole.old }
+    requires console_clock { (W.both whole.old).console.at ≤ console_at }
+    requires sound_clock { (W.both whole.old).sound.at ≤ sound_at }
+    requires console_reach { IsInReach (W.region_of wire.now) console_at (W.both whole.old).console }
+    requires sound_reach { IsInReach (W.region_of wire.now) sound_at (W.both whole.old).sound }
+    ensures still_of { W.is_whole_of wire.now whole.new }
+    ensures console_mine { (W.both whole.new).console.mine ≡ (W.both whole.old).console.mine }
+    ensures sound_mine { (W.both whole.new).sound.mine ≡ (W.both whole.old).sound.mine }
+    ensures console_tally { (W.both whole.new).console.tally ≡ (W.both whole.old).console.tally }
+    ensures sound_tally { (W.both whole.new).sound.tally ≡ (W.both whole.old).sound.tally }
+    ensures console_clock { (W.both whole.new).console.at ≡ console_at }
+    ensures sound_clock { (W.both whole.new).sound.at ≡ sound_at }
+    ensures console_reach { IsInReach (W.region_of wire.now) console_at (W.both whole.new).console }
+    ensures sound_reach { IsInReach (W.region_of wire.now) sound_at (W.both whole.new).sound }
+    ensures console_knows { sound_at ≤ (W.both whole.new).console.known }
+    ensures sound_knows { console_at ≤ (W.both whole.new).sound.known }
+{
+    wire.advance_whole(whole, Side::Console, console_at);
+    wire.advance_whole(whole, Side::Sound, sound_at);
+    let _sound_clock = wire.advance_whole(whole, Side::Console, console_at);
 }
 
 /// Lets both machines run at once, each by itself over its pass, until each has come to `end` or can go on
@@ -100,13 +130,17 @@ pub fn turn<R: Threads, W: Wire, C: Machine, S: Machine, G: Gate>(
     requires sound_ready { length (S.waiting sound.old) + 2 * S.MOST ≤ S.CAP }
     requires console_clock { (W.both whole).console.at ≤ C.stamp_of console.old }
     requires sound_clock { (W.both whole).sound.at ≤ S.stamp_of sound.old }
-    requires end { end ≤ 2 ^ 62 }
+    requires console_reach { IsInReach (W.region_of wire.now) (C.stamp_of console.old) (W.both whole).console }
+    requires sound_reach { IsInReach (W.region_of wire.now) (S.stamp_of sound.old) (W.both whole).sound }
+    requires end { end ≤ 2 ^ 51 }
     requires before_end { (C.stamp_of console.old < end) ⊎ (S.stamp_of sound.old < end) }
     ensures still_of { W.is_whole_of wire.now result.whole }
     ensures console_region { C.region_of console.new ≡ C.region_of console.old }
     ensures sound_region { S.region_of sound.new ≡ S.region_of sound.old }
     ensures console_clock { (W.both result.whole).console.at ≤ C.stamp_of console.new }
     ensures sound_clock { (W.both result.whole).sound.at ≤ S.stamp_of sound.new }
+    ensures console_reach { IsInReach (W.region_of wire.now) (C.stamp_of console.new) (W.both result.whole).console }
+    ensures sound_reach { IsInReach (W.region_of wire.now) (S.stamp_of sound.new) (W.both result.whole).sound }
     ensures console_room { length (C.waiting console.new) ≤ C.CAP }
     ensures sound_room { length (S.waiting sound.new) ≤ S.CAP }
     ensures turned { (console_start : C.State) (sound_start : S.State) → C.valid (W.region_of wire.now) console_start → S.valid (W.region_of wire.now) sound_start → (c : History C.State) (s : History S.State) → IsOnRun C.moves S.moves console_start sound_start c s → C.stands console.old c.now → S.stands sound.old s.now → c.entries ≡ (W.both whole).console.mine → s.entries ≡ (W.both whole).sound.mine → HasTurned C.moves S.moves console_start sound_start end (C.stands console.new) (S.stands sound.new) (W.both whole) (W.both result.whole) (C.waiting console.old) (C.waiting console.new) (S.waiting sound.old) (S.waiting sound.new) result.console result.sound result.stepped c s }
@@ -129,8 +163,7 @@ pub fn turn<R: Threads, W: Wire, C: Machine, S: Machine, G: Gate>(
         end,
     );
     let mut whole = wire.reunite(console_pass, sound_pass);
-    wire.advance_whole(&mut whole, Side::Console, console.stamp());
-    wire.advance_whole(&mut whole, Side::Sound, sound.stamp());
+    publish_both(wire, &mut whole, console.stamp(), sound.stamp());
     let stepped = step_earlier(wire, &mut whole, console, sound, end);
     Turned {
         whole,

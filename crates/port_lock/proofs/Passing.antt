@@ -18,7 +18,7 @@ use Rattle.port_lock.specs.ListRule.{list_in, clock_in, IsTrueHalf, logged, half
 use Rattle.port_lock.specs.Seating.{no_half, half_option, half_in, MissesOnce}
 use Rattle.port_lock.specs.Called.{IsTold, IfHeld, IfTold}
 use Rattle.port_lock.specs.Passes.{shown, ports_of, StandFor}
-use Rattle.port_lock.specs.declared.counts.Counts.{Counts}
+use Rattle.port_wire.specs.declared.counts.Counts.{Counts}
 use Rattle.port_lock.specs.declared.seats.Seats.{Seats}
 use Rattle.port_lock.proofs.Calling.{half-true, other-clock}
 

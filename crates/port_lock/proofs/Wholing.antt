@@ -26,7 +26,7 @@ use Rattle.port_lock.specs.Lateness.{IsAsOfLog}
 use Rattle.port_lock.specs.Passes.{shown, ports_of}
 use Rattle.port_lock.specs.Wholes.{WholeValue, whole_of, both_of, AreKnown, StandForBoth}
 use Rattle.port_lock.specs.WholeCalls.{own_half, other_half, whole_after, IsLateLook, ReadsWhole, ClearsWhole, WritesWhole, console_clocks, sound_clocks}
-use Rattle.port_lock.specs.declared.counts.Counts.{Counts}
+use Rattle.port_wire.specs.declared.counts.Counts.{Counts}
 use Rattle.port_lock.specs.declared.seats.Seats.{Seats}
 use Rattle.port_lock.specs.declared.seats.Clocks.{Clocks}
 use Rattle.port_lock.proofs.Calling.{half-true}

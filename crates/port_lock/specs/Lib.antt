@@ -9,6 +9,5 @@ pub mod Seating
 pub mod Called
 pub mod Lateness
 pub mod Passes
-pub mod Counts
 pub mod Wholes
 pub mod WholeCalls

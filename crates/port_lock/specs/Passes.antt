@@ -5,11 +5,11 @@ use Rattle.port_wire.specs.Seen.{Seen}
 use Rattle.port_wire.specs.Seen as seen
 use Rattle.port_log.specs.Kept.{other_side}
 use Rattle.port_lock.specs.Known.{Half, Away}
-use Rattle.port_lock.specs.Counts.{tally_of}
+use Rattle.port_wire.specs.Counts.{tally_of}
 use Rattle.port_lock.specs.PortsKnown.{PortsKnown}
 use Rattle.port_lock.specs.LockRule.{part_in}
 use Rattle.port_lock.specs.Seating.{half_option, half_in, AreIdle}
-use Rattle.port_lock.specs.declared.counts.Counts.{Counts}
+use Rattle.port_wire.specs.declared.counts.Counts.{Counts}
 use Rattle.port_lock.specs.declared.seats.Seats.{Seats}
 
 -- a pass: its side, what is seen of that; how often it was told, and how often it missed the log

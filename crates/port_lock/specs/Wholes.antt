@@ -11,7 +11,7 @@ use Rattle.port_lock.specs.Sums.{count_of}
 use Rattle.port_lock.specs.ListRule.{IsHeard}
 use Rattle.port_lock.specs.Seating.{half_in}
 use Rattle.port_lock.specs.Passes.{PassValue, shown, ports_of}
-use Rattle.port_lock.specs.declared.counts.Counts.{Counts}
+use Rattle.port_wire.specs.declared.counts.Counts.{Counts}
 use Rattle.port_lock.specs.declared.seats.Seats.{Seats}
 use Rattle.port_lock.specs.declared.seats.Clocks.{Clocks}
 

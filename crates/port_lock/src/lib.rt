@@ -13,7 +13,6 @@
 // or it finds the other side's number in the turn word and changes nothing. `docs/TWO-WORKERS.md` tells it.
 #![tactic(auto)]
 
-mod counts;
 mod event;
 mod kept;
 mod late;

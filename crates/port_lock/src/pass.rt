@@ -5,10 +5,9 @@ ghost use Rattle.port_wire.specs.Answers.{HearsOn, EndsRead, EndsClear, EndsWrit
 ghost use Rattle.port_lock.specs.Called.{IfHeld, IfTold};
 ghost use Rattle.port_lock.specs.Passes.{IsPassOf, IsMissed, WasTold};
 
-use crate::counts::{Counts, counted};
 use crate::ports::Ports;
 use crate::seats::Seats;
-use port_wire::{CallName, PassLate};
+use port_wire::{CallName, Counts, PassLate, counted};
 use snes_defs::Side;
 use std::marker::Model;
 

@@ -4,7 +4,6 @@ ghost use Rattle.snes_defs.specs.declared.ports.Side.TheVariants.{Console, Sound
 ghost use Rattle.port_lock.specs.Passes.{IsPassOf};
 ghost use Rattle.port_lock.specs.Wholes.{IsWholeOf, new_whole, console_pass, sound_pass, IsReunited};
 
-use crate::counts::Counts;
 use crate::kept::Kept;
 use crate::pass::Pass;
 use crate::plays::{BySide, Halves, Joined, LockKey, Look, Note};
@@ -12,6 +11,7 @@ use crate::ports::Ports;
 use crate::seats::{Clocks, Seats};
 use atomic_table::{Refused, Table};
 use port_log::PortLog;
+use port_wire::Counts;
 use snes_defs::{NoMemory, Region, Side};
 use std::alloc::Global;
 use std::marker::Model;

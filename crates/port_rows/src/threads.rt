@@ -1,12 +1,12 @@
 ghost use Rattle.std.specs.Prelude.{◌≡◌, ◌+◌, ◌^◌, ◌≤◌};
 ghost use Rattle.snes_defs.specs.declared.region.Region.TheVariants.{Ntsc};
-ghost use Rattle.port_lock.specs.Passes.{IsPassOf};
 
-use port_lock::{Pass, Ports};
-use port_wire::PassLate;
+use port_lock::Ports;
+use port_wire::{PassLate, Wire};
 use snes_defs::{Region, Side};
 use std::test::Fail;
 use std::thread::{Threads, join_mut};
+use word_log::Words;
 
 const WRITES: u64 = 1000;
 
@@ -18,17 +18,17 @@ const WRITE_RISE: u64 = 33_792;
 const READ_RISE: u64 = 118_125;
 
 // Writes a byte to port 0 at a stamp, tried again while the other side has the log. Whether it was taken.
-fn write_one(ports: &Ports, console: &mut Pass, at: u64, byte: u8) -> bool
-    requires of { IsPassOf ports.now console.old }
-    requires region { ports.now.region ≡ Ntsc }
-    requires own_clock { console.old.half.at ≤ at }
+fn write_one<W: Wire>(wire: &W, console: &mut W::Pass, at: u64, byte: u8) -> bool
+    requires of { W.is_pass_of wire.now console.old }
+    requires region { W.region_of wire.now ≡ Ntsc }
+    requires own_clock { (W.seen console.old).half.at ≤ at }
     requires range { at ≤ 2 ^ 40 }
-    ensures of { IsPassOf ports.now console.new }
-    ensures side { console.new.side ≡ console.old.side }
-    ensures clock { console.new.half.at ≤ at + 33792 }
+    ensures of { W.is_pass_of wire.now console.new }
+    ensures side { (W.seen console.new).side ≡ (W.seen console.old).side }
+    ensures clock { (W.seen console.new).half.at ≤ at + 33792 }
 {
     for again in 0..u64::MAX {
-        match ports.write(console, at, 0, byte, at + WRITE_RISE) {
+        match wire.write(console, at, 0, byte, at + WRITE_RISE) {
             Err(PassLate::Held { .. }) => {}
             answer => return answer.is_ok(),
         }
@@ -37,16 +37,16 @@ fn write_one(ports: &Ports, console: &mut Pass, at: u64, byte: u8) -> bool
 }
 
 // Writes `k mod 256` at the k-th stamp, for each k below a thousand. How many of them were refused.
-fn writes(ports: &Ports, console: &mut Pass) -> u32
-    requires of { IsPassOf ports.now console.old }
-    requires region { ports.now.region ≡ Ntsc }
-    requires start { console.old.half.at ≡ 0 }
-    ensures of { IsPassOf ports.now console.new }
-    ensures side { console.new.side ≡ console.old.side }
+fn writes<W: Wire>(wire: &W, console: &mut W::Pass) -> u32
+    requires of { W.is_pass_of wire.now console.old }
+    requires region { W.region_of wire.now ≡ Ntsc }
+    requires start { (W.seen console.old).half.at ≡ 0 }
+    ensures of { W.is_pass_of wire.now console.new }
+    ensures side { (W.seen console.new).side ≡ (W.seen console.old).side }
 {
     let mut refused = 0u32;
     for k in 0..WRITES {
-        if !write_one(ports, console, k * WRITE_RISE, (k % 256) as u8) {
+        if !write_one(wire, console, k * WRITE_RISE, (k % 256) as u8) {
             refused = refused.wrapping_add(1);
         }
     }
@@ -54,15 +54,15 @@ fn writes(ports: &Ports, console: &mut Pass) -> u32
 }
 
 // Reads port 0 at a stamp, tried again until it is answered.
-fn read_one(ports: &Ports, sound: &mut Pass, at: u64) -> Option<u8>
-    requires of { IsPassOf ports.now sound.old }
-    requires own_clock { sound.old.half.at ≤ at }
-    ensures of { IsPassOf ports.now sound.new }
-    ensures side { sound.new.side ≡ sound.old.side }
-    ensures clock { sound.new.half.at ≡ sound.old.half.at }
+fn read_one<W: Wire>(wire: &W, sound: &mut W::Pass, at: u64) -> Option<u8>
+    requires of { W.is_pass_of wire.now sound.old }
+    requires own_clock { (W.seen sound.old).half.at ≤ at }
+    ensures of { W.is_pass_of wire.now sound.new }
+    ensures side { (W.seen sound.new).side ≡ (W.seen sound.old).side }
+    ensures clock { (W.seen sound.new).half.at ≡ (W.seen sound.old).half.at }
 {
     for again in 0..u64::MAX {
-        if let Ok(byte) = ports.read(sound, at, 0) {
+        if let Ok(byte) = wire.read(sound, at, 0) {
             return Some(byte);
         }
     }
@@ -71,18 +71,18 @@ fn read_one(ports: &Ports, sound: &mut Pass, at: u64) -> Option<u8>
 
 // Reads port 0 at each stamp up to the last write. How many reads didn't give the last write at or before
 // their stamp.
-fn reads(ports: &Ports, sound: &mut Pass) -> u32
-    requires of { IsPassOf ports.now sound.old }
-    requires start { sound.old.half.at ≡ 0 }
-    ensures of { IsPassOf ports.now sound.new }
-    ensures side { sound.new.side ≡ sound.old.side }
-    ensures clock { sound.new.half.at ≡ 0 }
+fn reads<W: Wire>(wire: &W, sound: &mut W::Pass) -> u32
+    requires of { W.is_pass_of wire.now sound.old }
+    requires start { (W.seen sound.old).half.at ≡ 0 }
+    ensures of { W.is_pass_of wire.now sound.new }
+    ensures side { (W.seen sound.new).side ≡ (W.seen sound.old).side }
+    ensures clock { (W.seen sound.new).half.at ≡ 0 }
 {
     let mut wrong = 0u32;
     for k in 0..READS {
         let at = k * READ_RISE;
         let last = (at / WRITE_RISE % 256) as u8;
-        if read_one(ports, sound, at) != Some(last) {
+        if read_one(wire, sound, at) != Some(last) {
             wrong = wrong.wrapping_add(1);
         }
     }
@@ -90,20 +90,29 @@ fn reads(ports: &Ports, sound: &mut Pass) -> u32
 }
 
 // Both at once: how many writes were refused, and how many reads were wrong.
-fn race<R: Threads>(rt: &R, ports: &Ports, console: &mut Pass, sound: &mut Pass) -> (u32, u32)
-    requires console { IsPassOf ports.now console.old × (console.old.half.at ≡ 0) }
-    requires sound { IsPassOf ports.now sound.old × (sound.old.half.at ≡ 0) }
-    requires region { ports.now.region ≡ Ntsc }
-    ensures console_of { IsPassOf ports.now console.new }
-    ensures sound_of { IsPassOf ports.now sound.new }
-    ensures console { console.new.side ≡ console.old.side }
-    ensures sound { sound.new.side ≡ sound.old.side }
-    ensures sound_clock { sound.new.half.at ≡ 0 }
+fn race<R: Threads, W: Wire>(
+    rt: &R,
+    wire: &W,
+    console: &mut W::Pass,
+    sound: &mut W::Pass,
+) -> (u32, u32)
+    requires console { W.is_pass_of wire.now console.old × ((W.seen console.old).half.at ≡ 0) }
+    requires sound { W.is_pass_of wire.now sound.old × ((W.seen sound.old).half.at ≡ 0) }
+    requires region { W.region_of wire.now ≡ Ntsc }
+    ensures console_of { W.is_pass_of wire.now console.new }
+    ensures sound_of { W.is_pass_of wire.now sound.new }
+    ensures console { (W.seen console.new).side ≡ (W.seen console.old).side }
+    ensures sound { (W.seen sound.new).side ≡ (W.seen sound.old).side }
+    ensures sound_clock { (W.seen sound.new).half.at ≡ 0 }
 {
     join_mut(
         rt,
-        &mut || writes(ports, console),
-        &mut || reads(ports, sound),
+        &mut || -> u32
+            requires { (W.is_pass_of wire.now console.now) × (W.region_of wire.now ≡ Ntsc) × ((W.seen console.now).half.at ≡ 0) }
+        { writes(wire, console) },
+        &mut || -> u32
+            requires { (W.is_pass_of wire.now sound.now) × ((W.seen sound.now).half.at ≡ 0) }
+        { reads(wire, sound) },
     )
 }
 
@@ -115,6 +124,19 @@ fn two_threads_hear_each_write_at_its_stamp(rt: HostRuntime) -> Result<(), Fail>
     let mut whole = ports.reunite(console, sound);
     assert_eq!(rt;
         ports.read_whole(&mut whole, Side::Sound, 33_758_208, 0),
+        Ok(231)
+    );
+    Ok(())
+}
+
+#[test]
+fn two_threads_hear_each_write_without_a_lock(rt: HostRuntime) -> Result<(), Fail> {
+    let (words, whole) = Words::open(rt.alloc(), Region::Ntsc)?;
+    let (mut console, mut sound) = words.part(whole);
+    assert_eq!(rt; race(&rt, &words, &mut console, &mut sound), (0, 0));
+    let mut whole = words.reunite(console, sound);
+    assert_eq!(rt;
+        words.read_whole(&mut whole, Side::Sound, 33_758_208, 0),
         Ok(231)
     );
     Ok(())

@@ -5,6 +5,7 @@ use port_lock::Ports;
 use port_wire::{PassLate, Wire};
 use snes_defs::{Region, Side};
 use std::test::Fail;
+use word_log::Words;
 
 // What becomes of a byte that the console writes to port 0 at 0, over any wire of new ports: what the sound
 // side reads there over its pass, and then over the whole.
@@ -38,5 +39,12 @@ where
 fn the_ports_are_a_wire(rt: HostRuntime) -> Result<(), Fail> {
     let (ports, whole) = Ports::open(rt.alloc(), Region::Ntsc)?;
     assert_eq!(rt; carried(&ports, whole), (Ok(()), Ok(5), Ok(5)));
+    Ok(())
+}
+
+#[test]
+fn the_words_are_a_wire(rt: HostRuntime) -> Result<(), Fail> {
+    let (words, whole) = Words::open(rt.alloc(), Region::Ntsc)?;
+    assert_eq!(rt; carried(&words, whole), (Ok(()), Ok(5), Ok(5)));
     Ok(())
 }

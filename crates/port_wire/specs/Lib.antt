@@ -1,4 +1,6 @@
 pub mod Answers
+pub mod Reach
 pub mod Seen
 pub mod Tally
 pub mod Whole
+pub mod Counts

@@ -74,7 +74,8 @@ abbrev pub EndsWriteWhole : {A : Type 0} → ℕ → ℕ → ℕ → ℕ → ℕ
 EndsWriteWhole window at port byte next (Ok done) own other new = WritesWhole window at port byte next own other new
 EndsWriteWhole window at port byte next (Err late) own other new = HasKept own new × IsBeyond window at other.at late
 
--- an advance of the own clock
-pub record AdvancesWhole (at : ℕ) (own new : Half) : Type 0 where
+-- an advance of the own clock, which tells the other's
+pub record AdvancesWhole (at : ℕ) (own other new : Half) : Type 0 where
   pub mine : new.mine ≡ own.mine
   pub clock : new.at ≡ at
+  pub known : new.known ≡ other.at

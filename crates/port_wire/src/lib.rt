@@ -6,13 +6,15 @@
 // heard of the other's, the stamp up to which it has heard all, its clock, and the tally of its refusals.
 //
 // No call waits for the other side. A refused call changes nothing but what the pass has heard and its tally.
-// `Gate` is what a worker passes as it sets out.
+// `Gate` is what a worker passes as it sets out. `Counts` keeps the tally of refusals, for whoever carries entries.
 #![tactic(auto)]
 
+mod counts;
 mod gate;
 mod late;
 mod wire;
 
+pub use counts::{Counts, Refusal, counted};
 pub use gate::Gate;
 pub use late::{CallName, PassLate};
 pub use wire::Wire;

@@ -1,6 +1,7 @@
-ghost use Rattle.std.specs.Prelude.{◌≡◌, ◌+◌, ◌<◌, ◌≤◌};
+ghost use Rattle.std.specs.Prelude.{◌≡◌, ◌+◌, ◌^◌, ◌<◌, ◌≤◌};
 ghost use Rattle.snes_defs.specs.declared.region.Region.{Region};
-ghost use Rattle.clock_ratio.specs.Stamp.{least_of, window_of};
+ghost use Rattle.clock_ratio.specs.Stamp.{least_of, most_of, window_of};
+ghost use Rattle.port_wire.specs.Reach.{IsInReach};
 ghost use Rattle.port_wire.specs.Seen.{Seen, Both, Half, parted, AreReunited, half_of, with_half};
 ghost use Rattle.port_wire.specs.Whole.{other_of, IsOwn, HearBoth, EndsReadWhole, EndsClearWhole, EndsWriteWhole, AdvancesWhole};
 ghost use Rattle.port_wire.specs.Answers.{HearsOn, EndsRead, EndsClear, EndsWrite, EndsAdvance};
@@ -14,6 +15,10 @@ use snes_defs::{Region, Side};
 /// Each call over a pass tries once, and is answered or refused. In every answer the pass has heard all
 /// that was in its `heard` before, and more only of what is stamped at its `upto` or later. So have both
 /// sides after a call over a whole.
+///
+/// What carries the entries may count on this of its callers: writes are stamped below 2^52, the clock that a
+/// write publishes is at most one step's rise later, and a clock is published by itself only within its side's
+/// reach, that is at most the window and one such rise past the clock of the other side that it was told.
 pub trait Wire: Sync {
     type Pass: Send;
 
@@ -100,7 +105,9 @@ pub trait Wire: Sync {
         requires of { is_pass_of self.now pass.old }
         requires port { port < 4 }
         requires own_clock { (seen pass.old).half.at ≤ at }
+        requires early { at < 2 ^ 52 }
         requires rises { at + least_of (region_of self.now) ≤ next }
+        requires rises_at_most { next ≤ at + most_of (region_of self.now) }
         ensures still_of { is_pass_of self.now pass.new }
         ensures side { (seen pass.new).side ≡ (seen pass.old).side }
         ensures hears { HearsOn (seen pass.old).half (seen pass.new).half }
@@ -110,6 +117,7 @@ pub trait Wire: Sync {
     fn advance(&self, pass: &mut Self::Pass, at: u64) -> Result<u64, PassLate>
         requires of { is_pass_of self.now pass.old }
         requires own_clock { (seen pass.old).half.at ≤ at }
+        requires reach { IsInReach (region_of self.now) at (seen pass.old).half }
         ensures still_of { is_pass_of self.now pass.new }
         ensures side { (seen pass.new).side ≡ (seen pass.old).side }
         ensures hears { HearsOn (seen pass.old).half (seen pass.new).half }
@@ -162,7 +170,9 @@ pub trait Wire: Sync {
         requires of { is_whole_of self.now whole.old }
         requires port { port < 4 }
         requires own_clock { (half_of side (both whole.old)).at ≤ at }
+        requires early { at < 2 ^ 52 }
         requires rises { at + least_of (region_of self.now) ≤ next }
+        requires rises_at_most { next ≤ at + most_of (region_of self.now) }
         ensures still_of { is_whole_of self.now whole.new }
         ensures own { IsOwn side (both whole.old) (both whole.new) }
         ensures hears { HearBoth (both whole.old) (both whole.new) }
@@ -172,9 +182,10 @@ pub trait Wire: Sync {
     fn advance_whole(&self, whole: &mut Self::Whole, side: Side, at: u64) -> u64
         requires of { is_whole_of self.now whole.old }
         requires own_clock { (half_of side (both whole.old)).at ≤ at }
+        requires reach { IsInReach (region_of self.now) at (half_of side (both whole.old)) }
         ensures still_of { is_whole_of self.now whole.new }
         ensures own { IsOwn side (both whole.old) (both whole.new) }
         ensures hears { HearBoth (both whole.old) (both whole.new) }
         ensures told { result ≡ (half_of (other_of side) (both whole.old)).at }
-        ensures advances { AdvancesWhole at (half_of side (both whole.old)) (half_of side (both whole.new)) };
+        ensures advances { AdvancesWhole at (half_of side (both whole.old)) (half_of (other_of side) (both whole.old)) (half_of side (both whole.new)) };
 }

@@ -10,12 +10,11 @@ use crate::run::{Run, Way};
 use crate::say::{refuse, say};
 use crate::status::Status;
 use file_shelf::Shelf;
-use run_drive::Player;
+use run_drive::{Player, Workers};
 use run_io::{Argv, Asked, Word, read_form};
-use std::thread::Threads;
 
 /// Does what a command asks for, says how it ended, and gives the answer.
-fn commanded<C: Performs, R: AllocGlobal + Threads, H: Shelf>(
+fn commanded<C: Performs, R: AllocGlobal + Workers, H: Shelf>(
     command: &C,
     rt: &R,
     asked: &Asked<'_>,
@@ -30,7 +29,7 @@ fn commanded<C: Performs, R: AllocGlobal + Threads, H: Shelf>(
 
 /// Reads the words behind a command's name by its form, and does what they ask for.
 #[tactic(auto, using(crate::proofs::Ending::reads))]
-fn call<C: Performs, R: AllocGlobal + Threads, H: Shelf>(
+fn call<C: Performs, R: AllocGlobal + Workers, H: Shelf>(
     command: &C,
     rt: &R,
     words: &[Word],
@@ -46,7 +45,7 @@ fn call<C: Performs, R: AllocGlobal + Threads, H: Shelf>(
 
 /// Calls the command of this name. THE COMMANDS are listed here, and in `asked_by`.
 #[tactic(auto, unfolding(crate::specs::Commands::asked_by))]
-fn call_named<P: Player, R: AllocGlobal + Threads, H: Shelf>(
+fn call_named<P: Player, R: AllocGlobal + Workers, H: Shelf>(
     rt: &R,
     name: &str,
     words: &[Word],
@@ -71,7 +70,7 @@ fn call_named<P: Player, R: AllocGlobal + Threads, H: Shelf>(
 
 /// Does what the words ask for, says how it ended, and gives the answer.
 #[tactic(auto, using(crate::proofs::Ending::reads))]
-pub(crate) fn called<P: Player, R: AllocGlobal + Threads, H: Shelf>(
+pub(crate) fn called<P: Player, R: AllocGlobal + Workers, H: Shelf>(
     rt: &R,
     words: &Argv,
     shelf: &mut H,

@@ -8,10 +8,10 @@ ghost use Rattle.snes_call.specs.Ends.{are_apart, OnlyTouches};
 
 use crate::loads::Loads;
 use file_shelf::{Out, Shelf};
+use run_drive::Workers;
 use run_io::{Asked, Form, Line};
 use snes_defs::NoMemory;
 use std::alloc::Global;
-use std::thread::Threads;
 
 /// A command: what is its own beside the words, loads, creations and lines that all commands share.
 pub(crate) trait Performs {
@@ -47,7 +47,7 @@ pub(crate) trait Performs {
 
     /// Puts what it makes to its outputs, which were created, and gives its line. Err names the
     /// output that was not written.
-    fn fill<R: Threads, H: Shelf>(
+    fn fill<R: Workers, H: Shelf>(
         &self,
         rt: &R,
         asked: &Asked<'_>,

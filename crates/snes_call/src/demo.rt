@@ -6,12 +6,11 @@ use crate::sums::Sums;
 use clock_ratio::{end_stamp, samples_before};
 use demo_files::{demo_boot_rom, demo_table, image};
 use file_shelf::{Out, Shelf};
-use run_drive::Player;
+use run_drive::{Player, Workers};
 use run_io::{Asked, Count, Form, Line, demo_line};
 use snes_defs::{Bytes, Cart, Job, MapKind, NoMemory, Region, Spans};
 use std::alloc::Global;
 use std::marker::PhantomData;
-use std::thread::Threads;
 
 /// The command `demo`: the image of a number is run in memory by two workers.
 #[derive(Drop)]
@@ -78,7 +77,7 @@ impl<P: Player> Performs for Demo<P> {
     }
 
     /// Nothing is put: the line has the sums of what the run emits.
-    fn fill<R: Threads, H: Shelf>(
+    fn fill<R: Workers, H: Shelf>(
         &self,
         rt: &R,
         asked: &Asked<'_>,

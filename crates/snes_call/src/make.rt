@@ -1,10 +1,10 @@
 use crate::command::Performs;
 use demo_files::image;
 use file_shelf::{Failed, Out, Shelf};
+use run_drive::Workers;
 use run_io::{Asked, Form, Line, image_line};
 use snes_defs::NoMemory;
 use std::alloc::Global;
-use std::thread::Threads;
 
 /// The command `make`: a number makes the image of a cartridge.
 pub(crate) struct Make;
@@ -37,7 +37,7 @@ impl Performs for Make {
         Ok(bytes)
     }
 
-    fn fill<R: Threads, H: Shelf>(
+    fn fill<R: Workers, H: Shelf>(
         &self,
         _rt: &R,
         _asked: &Asked<'_>,

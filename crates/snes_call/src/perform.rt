@@ -7,13 +7,13 @@ use crate::loads::Loads;
 use crate::outputs::{create_all, flush_all};
 use crate::status::Status;
 use file_shelf::Shelf;
+use run_drive::Workers;
 use run_io::{Asked, Line};
-use std::thread::Threads;
 
 /// Does what a command asks for, and gives the line to say: loads and accepts its inputs in their
 /// order, takes all memory, creates its outputs in their order, fills and flushes them. Err is the
 /// answer where it was not done.
-pub(crate) fn perform<C: Performs, R: AllocGlobal + Threads, H: Shelf>(
+pub(crate) fn perform<C: Performs, R: AllocGlobal + Workers, H: Shelf>(
     command: &C,
     rt: &R,
     asked: &Asked<'_>,

@@ -10,12 +10,11 @@ use crate::command::Performs;
 use crate::job::{JobFiles, job_of, line_of_run};
 use crate::loads::Loads;
 use file_shelf::{Input, Out, Shelf};
-use run_drive::{Player, out_of};
+use run_drive::{Player, Workers, out_of};
 use run_io::{Asked, Count, Form, Line};
 use snes_defs::{NoMemory, Side};
 use std::alloc::Global;
 use std::marker::PhantomData;
-use std::thread::Threads;
 
 /// How the two machines of a run are stepped. What they emit is the same.
 #[derive(Clone, Copy)]
@@ -55,7 +54,7 @@ impl<P: Player> Run<P> {
 }
 
 /// Plays one way or the other.
-fn play_by<P: Player, R: Threads, H: Shelf>(
+fn play_by<P: Player, R: Workers, H: Shelf>(
     rt: &R,
     player: P,
     way: Way,
@@ -111,7 +110,7 @@ impl<P: Player> Performs for Run<P> {
         Ok(ReadyRun { player, line })
     }
 
-    fn fill<R: Threads, H: Shelf>(
+    fn fill<R: Workers, H: Shelf>(
         &self,
         rt: &R,
         _asked: &Asked<'_>,

@@ -15,9 +15,8 @@ ghost use Rattle.snes_call.specs.Snes.{OrNoMemory, IsEarly, IsLate, IsOver, IsDu
 use crate::call::called;
 use crate::status::Status;
 use file_shelf::Shelf;
-use run_drive::Player;
+use run_drive::{Player, Workers};
 use run_io::Argv;
-use std::thread::Threads;
 
 /// Does all that the program does: reads the words; loads and accepts the inputs of their command in
 /// their order, takes all memory, creates its outputs in their order, fills and flushes them; and says
@@ -26,7 +25,7 @@ use std::thread::Threads;
 ///
 /// Each clause speaks of what the shelf tells; of a shelf that tells nothing, of the words and of counts
 /// alone. `NoMemory` is the one answer that no input and no count causes.
-pub fn snes<P: Player, R: AllocGlobal + Threads, H: Shelf>(
+pub fn snes<P: Player, R: AllocGlobal + Workers, H: Shelf>(
     rt: &R,
     words: &Argv,
     shelf: &mut H,

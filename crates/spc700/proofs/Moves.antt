@@ -33,3 +33,10 @@ Stands-moved_to (ends r) new s byte left start whole =
 pub Stands-moved_on : (old new : Spc) (s : Standing) (byte : ℕ) → Stands old s → Advances old new byte → Stands new (moved_on s byte)
 Stands-moved_on old new s byte h a =
     Stands-moved_to (after (left_of s) byte) new s byte (a.left ∙ ap (λ p. after p byte) h.left) (a.start ∙ h.start) refl
+
+-- one that has halted stands for whatever an internal cycle makes of what it stands for
+pub halted_stays : (spc : Spc) (s : Standing) (byte : ℕ) → rest spc.micro ≡ stops → Stands spc s → Stands spc (moved_on s byte)
+halted_stays spc s byte halted h =
+    let left : rest spc.micro ≡ after (ahead (rest spc.micro)) byte = halted ∙ sym (ap (λ (p : Plan). after (ahead p) byte) halted) in
+    let start : spc.micro.start ≡ start_by (rest spc.micro) spc.micro.start = sym (ap (λ (p : Plan). start_by p spc.micro.start) halted) in
+    Stands-moved_on spc spc s byte h (record { left = left; start = start })

@@ -1,4 +1,5 @@
-ghost use Rattle.std.specs.Prelude.{◌≡◌, IfSome, IsTrue};
+ghost use Rattle.std.specs.Prelude.{◌≡◌, ℕ, IfSome, IsTrue};
+ghost use Rattle.spc_tables.specs.declared.access.SpcAccess.TheVariants.{Inner};
 
 use spc_modes::micro::Micro;
 use spc_modes::next::next;
@@ -63,6 +64,19 @@ impl Spc {
         ensures standing { (s : Standing) → Stands self.now s → result ≡ next_of s }
     {
         next(&self.micro)
+    }
+
+    /// Whether the processor has halted: all that comes are internal cycles, which leave it as it is.
+    #[tactic(auto, using(crate::proofs::Moves::halted_stays))]
+    #[inline(always)]
+    pub fn is_halted(&self) -> bool
+        ensures inner { IsTrue result → access_of self.now ≡ Inner }
+        ensures stays { IsTrue result → (s : Standing) (byte : ℕ) → Stands self.now s → Stands self.now (moved_on s byte) }
+    {
+        match self.micro.place {
+            Place::Halted => true,
+            _ => false,
+        }
     }
 
     /// The next access got a byte.

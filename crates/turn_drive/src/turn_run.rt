@@ -2,6 +2,7 @@ ghost use Rattle.std.specs.Prelude.{◌≡◌, ◌*◌, ◌^◌, ◌≤◌, ℕ,
 ghost use Rattle.side_law.specs.Serial.{serial_of};
 ghost use Rattle.side_law.specs.SerialRun.{RunsFor};
 ghost use Rattle.clock_ratio.specs.Stamp.{end_stamp_of};
+ghost use Rattle.port_wire.specs.Reach.{IsInReach};
 ghost use Rattle.run_laws.specs.TurnBound.{most_turns};
 ghost use Rattle.run_drive.specs.Run.{TookRun, TookFirst};
 ghost use Rattle.turn_drive.specs.Cycle.{StepsByCycle};
@@ -35,11 +36,13 @@ where
     requires of { W.is_whole_of wire.now whole }
     requires console_region { C.region_of console ≡ W.region_of wire.now }
     requires sound_region { S.region_of sound ≡ W.region_of wire.now }
-    requires early { end ≤ 2 ^ 62 }
+    requires early { end ≤ 2 ^ 51 }
     requires no_console_entries { (W.both whole).console.mine ≡ [] }
     requires no_sound_entries { (W.both whole).sound.mine ≡ [] }
     requires console_clock { (W.both whole).console.at ≤ C.stamp_of console }
     requires sound_clock { (W.both whole).sound.at ≤ S.stamp_of sound }
+    requires console_reach { IsInReach (W.region_of wire.now) (C.stamp_of console) (W.both whole).console }
+    requires sound_reach { IsInReach (W.region_of wire.now) (S.stamp_of sound) (W.both whole).sound }
     requires console_room { 2 * C.MOST ≤ C.CAP }
     requires sound_room { 2 * S.MOST ≤ S.CAP }
     requires console_fits { C.CAP ≤ length buffer.old }

@@ -1,9 +1,11 @@
 // Pairs of tapes by turns, each beside the serial console of the same two.
+ghost use Rattle.std.specs.Prelude.{◌≤◌};
 
-use crate::runs::{Pair, by_run_turns, by_serial, by_turns};
-use crate::tapes::style_of;
+use crate::runs::{Manner, by_lock, by_serial, by_words};
+use crate::sums::Sums;
+use crate::tapes::{Style, style_of, tape, writes_and_reads};
 use clock_ratio::least;
-use snes_defs::Region;
+use snes_defs::{Region, Side};
 use std::alloc::AllocGlobal;
 use std::test::Fail;
 use std::thread::Threads;
@@ -24,7 +26,62 @@ struct Compared {
     heard: u64,
 }
 
-/// Runs the pairs of a region: four by `run_turns`, four by bare turns, and so on.
+/// A pair of tapes of a region: its style and its seed.
+#[derive(Clone, Copy, Debug, PartialEq, Eq)]
+struct Pair {
+    region: Region,
+    style: Style,
+    seed: u64,
+}
+
+/// What carries the entries of both sides.
+#[derive(Clone, Copy, Debug, PartialEq, Eq)]
+enum Carrier {
+    /// One log behind a lock.
+    Lock,
+    /// Words without a lock.
+    Words,
+}
+
+/// What the serial console makes of a pair.
+fn serially<R: AllocGlobal>(rt: &R, pair: Pair) -> Result<Sums, Fail>
+    requires { pair.style.grid ≤ 6 }
+{
+    let Pair {
+        region,
+        style,
+        seed,
+    } = pair;
+    let console = tape(rt.alloc(), region, Side::Console, style, seed)?;
+    let sound = tape(rt.alloc(), region, Side::Sound, style, seed)?;
+    by_serial(console, sound, least(region) * LENGTH)
+}
+
+/// And what turns make of it.
+fn by_turns<R: AllocGlobal + Threads>(
+    rt: &R,
+    pair: Pair,
+    carrier: Carrier,
+    manner: Manner,
+) -> Result<Sums, Fail>
+    requires { pair.style.grid ≤ 6 }
+{
+    let Pair {
+        region,
+        style,
+        seed,
+    } = pair;
+    let console = tape(rt.alloc(), region, Side::Console, style, seed)?;
+    let sound = tape(rt.alloc(), region, Side::Sound, style, seed)?;
+    let end = least(region) * LENGTH;
+    match carrier {
+        Carrier::Lock => by_lock(rt, console, sound, end, manner),
+        Carrier::Words => by_words(rt, console, sound, end, manner),
+    }
+}
+
+/// Runs the pairs of a region: four by `run_turns`, four by bare turns, and so on, and of these eight over the lock,
+/// then eight over words.
 fn compare<R: AllocGlobal + Threads>(rt: &R, region: Region) -> Result<Compared, Fail> {
     let mut compared = Compared { alike: 0, heard: 0 };
     for number in 0..PAIRS {
@@ -32,14 +89,19 @@ fn compare<R: AllocGlobal + Threads>(rt: &R, region: Region) -> Result<Compared,
             region,
             style: style_of(number),
             seed: number + 1,
-            end: least(region) * LENGTH,
         };
-        let serial = by_serial(rt, pair)?;
-        let turns = if number / 4 % 2 == 0 {
-            by_run_turns(rt, pair)?
+        let manner = if number / 4 % 2 == 0 {
+            Manner::Run
         } else {
-            by_turns(rt, pair)?
+            Manner::Bare
         };
+        let carrier = if number / 8 % 2 == 0 {
+            Carrier::Lock
+        } else {
+            Carrier::Words
+        };
+        let serial = serially(rt, pair)?;
+        let turns = by_turns(rt, pair, carrier, manner)?;
         if turns == serial {
             compared.alike = compared.alike.wrapping_add(1);
         }
@@ -71,5 +133,17 @@ fn turns_emit_what_the_serial_console_emits_in_pal(rt: HostRuntime) -> Result<()
             heard: 88
         }
     );
+    Ok(())
+}
+
+/// The words' ring of 8,192 entries, gone round twice: 20,000 writes against 5,000 reads, of which each is emitted.
+#[test]
+fn the_ring_goes_round_twice(rt: HostRuntime) -> Result<(), Fail> {
+    let (console, sound) = writes_and_reads(rt.alloc())?;
+    let serial = by_serial(console, sound, 600_000_000)?;
+    let (console, sound) = writes_and_reads(rt.alloc())?;
+    let turns = by_words(&rt, console, sound, 600_000_000, Manner::Bare)?;
+    assert_eq!(rt; serial.sound.count, 5000);
+    assert_eq!(rt; turns, serial);
     Ok(())
 }

@@ -1,19 +1,19 @@
-// The three ways to run a pair of tapes.
+// The ways to run a pair of tapes: by the serial console, and by turns over either wire.
 ghost use Rattle.std.specs.Prelude.{◌≡◌, ◌^◌, ◌<◌, ◌≤◌, ◌⊎◌, false, []};
-ghost use Rattle.port_lock.specs.Wholes.{IsWholeOf};
+ghost use Rattle.port_wire.specs.Reach.{IsInReach};
 
 use crate::sums::Sums;
-use crate::tapes::{Style, tape};
 use pair_run::{Turned, turn};
-use port_lock::{Ports, Whole};
-use port_wire::Gate;
+use port_lock::Ports;
+use port_wire::{Gate, Wire};
 use run_drive::{pour, run_serial};
 use side_law::{Machine, Tape};
-use snes_defs::{Region, Side};
+use snes_defs::Side;
 use std::alloc::AllocGlobal;
 use std::test::Fail;
 use std::thread::Threads;
 use turn_drive::run_turns;
+use word_log::Words;
 
 /// How many turns a run of tapes is given.
 const MOST_TURNS: u64 = 100_000;
@@ -25,64 +25,26 @@ impl Gate for OpenGate {
     fn arrive(&self, _side: Side, _turn: u64) {}
 }
 
-/// A pair of tapes, and the stamp to which they are run.
+/// How turns follow one another.
 #[derive(Clone, Copy, Debug, PartialEq, Eq)]
-pub(crate) struct Pair {
-    pub(crate) region: Region,
-    pub(crate) style: Style,
-    pub(crate) seed: u64,
-    pub(crate) end: u64,
+pub(crate) enum Manner {
+    /// By `run_turns`, to near ends.
+    Run,
+    /// By turns that each have the end of the run as theirs.
+    Bare,
 }
 
 /// What the serial console emits.
-pub(crate) fn by_serial<R: AllocGlobal>(rt: &R, pair: Pair) -> Result<Sums, Fail>
-    requires grid { pair.style.grid ≤ 6 }
-    requires early { pair.end ≤ 2 ^ 62 }
+pub(crate) fn by_serial(console: Tape, sound: Tape, end: u64) -> Result<Sums, Fail>
+    requires one_region { console.state.region ≡ sound.state.region }
+    requires console_empty { console.waiting ≡ [] }
+    requires sound_empty { sound.waiting ≡ [] }
+    requires early { end ≤ 2 ^ 51 }
 {
-    let console = tape(
-        rt.alloc(),
-        pair.region,
-        Side::Console,
-        pair.style,
-        pair.seed,
-    )?;
-    let sound = tape(rt.alloc(), pair.region, Side::Sound, pair.style, pair.seed)?;
     let mut sums = Sums::new();
     let mut buffer = [0u8; 1];
-    match run_serial(console, sound, pair.end, &mut buffer, &mut sums) {
+    match run_serial(console, sound, end, &mut buffer, &mut sums) {
         Ok(()) => Ok(sums),
-        Err(side) => Err(Fail::new("the sink failed")),
-    }
-}
-
-/// What a run by turns emits.
-pub(crate) fn by_run_turns<R: AllocGlobal + Threads>(rt: &R, pair: Pair) -> Result<Sums, Fail>
-    requires grid { pair.style.grid ≤ 6 }
-    requires early { pair.end ≤ 2 ^ 62 }
-{
-    let console = tape(
-        rt.alloc(),
-        pair.region,
-        Side::Console,
-        pair.style,
-        pair.seed,
-    )?;
-    let sound = tape(rt.alloc(), pair.region, Side::Sound, pair.style, pair.seed)?;
-    let (ports, whole) = Ports::open(rt.alloc(), pair.region)?;
-    let mut sums = Sums::new();
-    let mut buffer = [0u8; 4096];
-    match run_turns(
-        rt,
-        &ports,
-        whole,
-        console,
-        sound,
-        &OpenGate,
-        pair.end,
-        &mut buffer,
-        &mut sums,
-    ) {
-        Ok(_) => Ok(sums),
         Err(_) => Err(Fail::new("the sink failed")),
     }
 }
@@ -95,23 +57,27 @@ fn both_at(console: &Tape, sound: &Tape, end: u64) -> bool
 }
 
 /// Turns to the end stamp, one after another, until both tapes are there. Whether they are.
-fn turns_to<R: Threads>(
+fn turns_to<R: Threads, W: Wire>(
     rt: &R,
-    ports: &Ports,
-    whole: Whole,
+    wire: &W,
+    whole: W::Whole,
     console: &mut Tape,
     sound: &mut Tape,
     end: u64,
     sums: &mut Sums,
 ) -> bool
-    requires of { IsWholeOf ports.now whole }
-    requires console_region { console.old.state.region ≡ ports.now.region }
-    requires sound_region { sound.old.state.region ≡ ports.now.region }
-    requires console_clock { whole.console.at ≤ console.old.state.stamp }
-    requires sound_clock { whole.sound.at ≤ sound.old.state.stamp }
+where
+    W::Whole: Drop,
+    requires of { W.is_whole_of wire.now whole }
+    requires console_region { console.old.state.region ≡ W.region_of wire.now }
+    requires sound_region { sound.old.state.region ≡ W.region_of wire.now }
+    requires console_clock { (W.both whole).console.at ≤ console.old.state.stamp }
+    requires sound_clock { (W.both whole).sound.at ≤ sound.old.state.stamp }
+    requires console_reach { IsInReach (W.region_of wire.now) console.old.state.stamp (W.both whole).console }
+    requires sound_reach { IsInReach (W.region_of wire.now) sound.old.state.stamp (W.both whole).sound }
     requires console_empty { console.old.waiting ≡ [] }
     requires sound_empty { sound.old.waiting ≡ [] }
-    requires early { end ≤ 2 ^ 62 }
+    requires early { end ≤ 2 ^ 51 }
 {
     let mut whole = whole;
     let mut buffer = [0u8; 4096];
@@ -119,7 +85,7 @@ fn turns_to<R: Threads>(
         if both_at(console, sound, end) {
             return true;
         }
-        let turned = turn(rt, ports, whole, console, sound, &OpenGate, number, end);
+        let turned = turn(rt, wire, whole, console, sound, &OpenGate, number, end);
         let Turned {
             whole: again,
             console: _,
@@ -133,32 +99,96 @@ fn turns_to<R: Threads>(
     false
 }
 
-/// What bare turns emit.
-pub(crate) fn by_turns<R: AllocGlobal + Threads>(rt: &R, pair: Pair) -> Result<Sums, Fail>
-    requires grid { pair.style.grid ≤ 6 }
-    requires early { pair.end ≤ 2 ^ 62 }
+/// What turns over a new wire emit.
+fn emitted<R: Threads, W: Wire>(
+    rt: &R,
+    wire: &W,
+    whole: W::Whole,
+    console: Tape,
+    sound: Tape,
+    end: u64,
+    manner: Manner,
+) -> Result<Sums, Fail>
+where
+    W::Whole: Drop,
+    requires of { W.is_whole_of wire.now whole }
+    requires console_region { console.state.region ≡ W.region_of wire.now }
+    requires sound_region { sound.state.region ≡ W.region_of wire.now }
+    requires no_console_entries { (W.both whole).console.mine ≡ [] }
+    requires no_sound_entries { (W.both whole).sound.mine ≡ [] }
+    requires console_clock { (W.both whole).console.at ≡ 0 }
+    requires sound_clock { (W.both whole).sound.at ≡ 0 }
+    requires console_start { console.state.stamp ≡ 0 }
+    requires sound_start { sound.state.stamp ≡ 0 }
+    requires console_empty { console.waiting ≡ [] }
+    requires sound_empty { sound.waiting ≡ [] }
+    requires early { end ≤ 2 ^ 51 }
 {
-    let mut console = tape(
-        rt.alloc(),
-        pair.region,
-        Side::Console,
-        pair.style,
-        pair.seed,
-    )?;
-    let mut sound = tape(rt.alloc(), pair.region, Side::Sound, pair.style, pair.seed)?;
-    let (ports, whole) = Ports::open(rt.alloc(), pair.region)?;
     let mut sums = Sums::new();
-    if turns_to(
-        rt,
-        &ports,
-        whole,
-        &mut console,
-        &mut sound,
-        pair.end,
-        &mut sums,
-    ) {
-        Ok(sums)
-    } else {
-        Err(Fail::new("too many turns"))
+    match manner {
+        Manner::Run => {
+            let mut buffer = [0u8; 4096];
+            match run_turns(
+                rt,
+                wire,
+                whole,
+                console,
+                sound,
+                &OpenGate,
+                end,
+                &mut buffer,
+                &mut sums,
+            ) {
+                Ok(_) => Ok(sums),
+                Err(_) => Err(Fail::new("the sink failed")),
+            }
+        }
+        Manner::Bare => {
+            let mut console = console;
+            let mut sound = sound;
+            if turns_to(rt, wire, whole, &mut console, &mut sound, end, &mut sums) {
+                Ok(sums)
+            } else {
+                Err(Fail::new("too many turns"))
+            }
+        }
     }
+}
+
+/// What turns over the log behind its lock emit.
+pub(crate) fn by_lock<R: AllocGlobal + Threads>(
+    rt: &R,
+    console: Tape,
+    sound: Tape,
+    end: u64,
+    manner: Manner,
+) -> Result<Sums, Fail>
+    requires one_region { console.state.region ≡ sound.state.region }
+    requires console_start { console.state.stamp ≡ 0 }
+    requires sound_start { sound.state.stamp ≡ 0 }
+    requires console_empty { console.waiting ≡ [] }
+    requires sound_empty { sound.waiting ≡ [] }
+    requires early { end ≤ 2 ^ 51 }
+{
+    let (ports, whole) = Ports::open(rt.alloc(), console.region())?;
+    emitted(rt, &ports, whole, console, sound, end, manner)
+}
+
+/// What turns over words without a lock emit.
+pub(crate) fn by_words<R: AllocGlobal + Threads>(
+    rt: &R,
+    console: Tape,
+    sound: Tape,
+    end: u64,
+    manner: Manner,
+) -> Result<Sums, Fail>
+    requires one_region { console.state.region ≡ sound.state.region }
+    requires console_start { console.state.stamp ≡ 0 }
+    requires sound_start { sound.state.stamp ≡ 0 }
+    requires console_empty { console.waiting ≡ [] }
+    requires sound_empty { sound.waiting ≡ [] }
+    requires early { end ≤ 2 ^ 51 }
+{
+    let (words, whole) = Words::open(rt.alloc(), console.region())?;
+    emitted(rt, &words, whole, console, sound, end, manner)
 }

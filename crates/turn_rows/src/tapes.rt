@@ -177,3 +177,32 @@ pub(crate) fn tape(
     }
     Ok(Tape::new(alloc, region, beats)?)
 }
+
+/// The console's tape of 20,000 writes to port 0, of the bytes 0 to 255 over and over, at the least rise; and the sound
+/// side's of 5,000 reads of it.
+#[tactic(auto, using(crate::proofs::Beats::one_more))]
+pub(crate) fn writes_and_reads(alloc: Global) -> Result<(Tape, Tape), Fail>
+    ensures regions { IfOk result (λ t. t.0.state.region ≡ t.1.state.region) }
+    ensures console_starts { IfOk result (λ t. t.0.state.stamp ≡ 0) }
+    ensures sound_starts { IfOk result (λ t. t.1.state.stamp ≡ 0) }
+    ensures console_empty { IfOk result (λ t. t.0.waiting ≡ []) }
+    ensures sound_empty { IfOk result (λ t. t.1.waiting ≡ []) }
+{
+    let mut writes = Vec::new(alloc);
+    'writes: for k in 0..20_000u32 {
+        writes.push(Beat {
+            rise: 33_792,
+            act: Act::Write(0, (k % 256) as u8),
+        })?;
+    }
+    let mut reads = Vec::new(alloc);
+    'reads: for _ in 0..5_000u32 {
+        reads.push(Beat {
+            rise: 118_125,
+            act: Act::Read(0),
+        })?;
+    }
+    let console = Tape::new(alloc, Region::Ntsc, writes)?;
+    let sound = Tape::new(alloc, Region::Ntsc, reads)?;
+    Ok((console, sound))
+}

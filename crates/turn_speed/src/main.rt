@@ -5,8 +5,9 @@
 //! - `read N`, `write N`, `advance N`: so many calls over a pass, while the other side does nothing;
 //! - `turn N`: so many turns in which each machine makes one step;
 //! - `emit N`: N frames, by turns, of two quiet machines that emit as a console and a sound side do;
-//! - `serial N`, `turns N`: N frames of two machines each of whose steps costs some 200 ns, serially and by turns;
-//! - `serial-talk N`, `turns-talk N`: the same, with a write or a read of both sides each 32 steps.
+//! - `serial N`, `turns N`, `words N`: N frames of two machines each of whose steps costs some 200 ns, serially, by turns
+//!   over the log behind its lock, and by turns over words without a lock;
+//! - `serial-talk N`, `turns-talk N`, `words-talk N`: the same, with a write or a read of both sides each 32 steps.
 //!
 //! - `order N`: N frames of rows and samples by the serial run, and by turns of the serial console with a drain of
 //!   both after each, and whether both were handed on in the same order.
@@ -28,7 +29,7 @@ mod worker;
 
 use calls::{FAR, advances, reads, writes};
 use order::{by_run, by_turns};
-use pairs::{emitted, worked_by_turns, worked_serially};
+use pairs::{emitted, worked_by_lock, worked_by_words, worked_serially};
 use port_lock::Ports;
 use quiet::quiet_turns;
 use side_law::Tape;
@@ -107,10 +108,18 @@ fn frames<R: AllocGlobal + Threads + Clock>(rt: &R, count: u32) -> io::Result<Ta
     })
 }
 
-/// Frames of two machines that work, serially or by turns.
+/// How two machines that work are run.
+#[derive(Clone, Copy, Debug, PartialEq, Eq)]
+enum How {
+    Serially,
+    ByLock,
+    ByWords,
+}
+
+/// Frames of two machines that work.
 fn work<R: AllocGlobal + Threads + Clock>(
     rt: &R,
-    serial: bool,
+    how: How,
     talk: bool,
     frames: u32,
 ) -> io::Result<Taken>
@@ -124,13 +133,13 @@ fn work<R: AllocGlobal + Threads + Clock>(
         return Ok(NOTHING);
     };
     let begin = Instant::now(rt)?;
-    let count = if serial {
-        worked_serially(console, sound, frames)
-    } else {
-        let Ok(count) = worked_by_turns(rt, rt.alloc(), console, sound, frames) else {
-            return Ok(NOTHING);
-        };
-        count
+    let count = match how {
+        How::Serially => Ok(worked_serially(console, sound, frames)),
+        How::ByLock => worked_by_lock(rt, rt.alloc(), console, sound, frames),
+        How::ByWords => worked_by_words(rt, rt.alloc(), console, sound, frames),
+    };
+    let Ok(count) = count else {
+        return Ok(NOTHING);
     };
     Ok(Taken {
         time: begin.elapsed(rt)?,
@@ -144,10 +153,12 @@ fn run<R: AllocGlobal + Threads + Clock>(rt: &R, what: &str, count: u32) -> io::
     match what {
         "turn" => turns(rt, count),
         "emit" => frames(rt, few),
-        "serial" => work(rt, true, false, few),
-        "turns" => work(rt, false, false, few),
-        "serial-talk" => work(rt, true, true, few),
-        "turns-talk" => work(rt, false, true, few),
+        "serial" => work(rt, How::Serially, false, few),
+        "turns" => work(rt, How::ByLock, false, few),
+        "words" => work(rt, How::ByWords, false, few),
+        "serial-talk" => work(rt, How::Serially, true, few),
+        "turns-talk" => work(rt, How::ByLock, true, few),
+        "words-talk" => work(rt, How::ByWords, true, few),
         _ => some_calls(rt, what, count),
     }
 }

@@ -7,12 +7,14 @@ use crate::emitter::{Emitter, Rhythm};
 use crate::worker::Worker;
 use clock_ratio::end_stamp;
 use port_lock::Ports;
+use port_wire::Wire;
 use run_drive::run_serial;
 use side_law::Tape;
 use snes_defs::{NoMemory, Region};
 use std::alloc::Global;
 use std::thread::Threads;
 use turn_drive::run_turns;
+use word_log::Words;
 
 /// A machine that emits as the console does.
 pub(crate) type Rows = Emitter<65536, 1024>;
@@ -85,24 +87,32 @@ pub fn emitted<R: Threads>(rt: &R, alloc: Global, frames: u32) -> Result<u64, No
     }
 }
 
-/// Runs two tapes whose steps cost time by turns, and answers how many turns that took.
-pub fn worked_by_turns<R: Threads>(
+/// Runs two tapes whose steps cost time by turns over a new wire, and answers how many turns that took.
+fn worked<R: Threads, W: Wire>(
     rt: &R,
-    alloc: Global,
+    wire: &W,
+    whole: W::Whole,
     console: Tape,
     sound: Tape,
     frames: u32,
-) -> Result<u64, NoMemory>
+) -> u64
+where
+    W::Whole: Drop,
+    requires of { W.is_whole_of wire.now whole }
+    requires region { W.region_of wire.now ≡ Ntsc }
+    requires no_console_entries { (W.both whole).console.mine ≡ [] }
+    requires no_sound_entries { (W.both whole).sound.mine ≡ [] }
+    requires console_clock { (W.both whole).console.at ≡ 0 }
+    requires sound_clock { (W.both whole).sound.at ≡ 0 }
     requires frames { frames ≤ 36000 }
-    requires console { (console.state.region ≡ Ntsc) × (console.waiting ≡ []) }
-    requires sound { (sound.state.region ≡ Ntsc) × (sound.waiting ≡ []) }
+    requires console { (console.state.region ≡ Ntsc) × (console.state.stamp ≡ 0) × (console.waiting ≡ []) }
+    requires sound { (sound.state.region ≡ Ntsc) × (sound.state.stamp ≡ 0) × (sound.waiting ≡ []) }
 {
-    let (ports, whole) = Ports::open(alloc, Region::Ntsc)?;
     let mut buffer = [0u8; 4096];
     let mut count = Count { bytes: 0 };
     match run_turns(
         rt,
-        &ports,
+        wire,
         whole,
         Worker::new(console),
         Worker::new(sound),
@@ -111,9 +121,41 @@ pub fn worked_by_turns<R: Threads>(
         &mut buffer,
         &mut count,
     ) {
-        Ok(turns) => Ok(turns),
-        Err(_) => Ok(0),
+        Ok(turns) => turns,
+        Err(_) => 0,
     }
+}
+
+/// Runs the two over the log behind its lock.
+pub fn worked_by_lock<R: Threads>(
+    rt: &R,
+    alloc: Global,
+    console: Tape,
+    sound: Tape,
+    frames: u32,
+) -> Result<u64, NoMemory>
+    requires frames { frames ≤ 36000 }
+    requires console { (console.state.region ≡ Ntsc) × (console.state.stamp ≡ 0) × (console.waiting ≡ []) }
+    requires sound { (sound.state.region ≡ Ntsc) × (sound.state.stamp ≡ 0) × (sound.waiting ≡ []) }
+{
+    let (ports, whole) = Ports::open(alloc, Region::Ntsc)?;
+    Ok(worked(rt, &ports, whole, console, sound, frames))
+}
+
+/// Runs the two over words without a lock.
+pub fn worked_by_words<R: Threads>(
+    rt: &R,
+    alloc: Global,
+    console: Tape,
+    sound: Tape,
+    frames: u32,
+) -> Result<u64, NoMemory>
+    requires frames { frames ≤ 36000 }
+    requires console { (console.state.region ≡ Ntsc) × (console.state.stamp ≡ 0) × (console.waiting ≡ []) }
+    requires sound { (sound.state.region ≡ Ntsc) × (sound.state.stamp ≡ 0) × (sound.waiting ≡ []) }
+{
+    let (words, whole) = Words::open(alloc, Region::Ntsc)?;
+    Ok(worked(rt, &words, whole, console, sound, frames))
 }
 
 /// Runs them by the serial console, and answers how many bytes they emitted.

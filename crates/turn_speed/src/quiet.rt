@@ -1,6 +1,7 @@
 // Turns in which next to nothing is done.
 ghost use Rattle.std.specs.Prelude.{◌≡◌, ◌<◌, ◌≤◌, ◌⊎◌, false, []};
 ghost use Rattle.port_lock.specs.Wholes.{IsWholeOf};
+ghost use Rattle.port_wire.specs.Reach.{IsInReach};
 
 use crate::count::{Count, OpenGate};
 use crate::tapes::RISE;
@@ -32,6 +33,8 @@ pub fn quiet_turns<R: Threads>(
     requires sound_region { sound.old.state.region ≡ ports.now.region }
     requires console_clock { whole.console.at ≤ console.old.state.stamp }
     requires sound_clock { whole.sound.at ≤ sound.old.state.stamp }
+    requires console_reach { IsInReach ports.now.region console.old.state.stamp whole.console }
+    requires sound_reach { IsInReach ports.now.region sound.old.state.stamp whole.sound }
     requires console_empty { console.old.waiting ≡ [] }
     requires sound_empty { sound.old.waiting ≡ [] }
 {

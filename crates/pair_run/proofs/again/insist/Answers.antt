@@ -28,6 +28,7 @@ loop-tried-preserved g c =
       hears = hears_then first old new was.hears late.hears;
       mine = late.mine_stays ∙ was.mine;
       clock = late.clock;
+      reach = late.reach;
       stays = late.stays ∙ was.stays;
       risen = λ before risen. risen_on c.loop-tried.tried before old.tally.refused new.tally.refused (was.risen before risen) late.one_refused;
       in_row = λ m stands.

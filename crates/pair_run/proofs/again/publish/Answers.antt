@@ -9,6 +9,7 @@ returns-then-tell g c = record {
   hears = hears_then (g.W.Wire.seen c.args.pass.now).half (g.W.Wire.seen c.loop.pass).half (g.W.Wire.seen c.tell.new.pass).half c.loop.invariant.hears c.tell.ensures.hears;
   mine = c.tell.ensures.mine ∙ c.loop.invariant.mine;
   clock = c.tell.ensures.clock;
+  reach = c.tell.ensures.reach;
   counted = λ before risen. c.tell.ensures.counted before (c.loop.invariant.counted before risen);
 }
 
@@ -19,5 +20,6 @@ loop-preserved g c = record {
   hears = hears_then (g.W.Wire.seen c.args.pass.now).half (g.W.Wire.seen c.loop.pass).half (g.W.Wire.seen c.tell.new.pass).half c.loop.invariant.hears c.tell.ensures.hears;
   mine = c.tell.ensures.mine ∙ c.loop.invariant.mine;
   clock = c.tell.ensures.clock;
+  reach = c.tell.ensures.reach;
   counted = λ before risen. c.tell.ensures.counted before (c.loop.invariant.counted before risen);
 }

@@ -1,5 +1,6 @@
 use Rattle.std.proofs.Common.{◌≡◌, ◌≤◌, ℕ}
 use Rattle.port_wire.specs.Answers.{HearsOn}
+use Rattle.port_wire.specs.Reach.{IsInReach}
 use Rattle.port_wire.specs.Tally.{HasRisenBy}
 use Rattle.pair_run.proofs.again.publish.Given as goal
 
@@ -12,5 +13,6 @@ invariant-loop g l =
       hears : HearsOn (wire.seen l.initial.pass).half (wire.seen l.pass).half;
       mine : (wire.seen l.pass).half.mine ≡ (wire.seen l.initial.pass).half.mine;
       clock : (wire.seen l.pass).half.at ≤ l.at;
+      reach : IsInReach (wire.region_of l.wire) l.at (wire.seen l.pass).half;
       counted : (before : ℕ) → HasRisenBy 0 before (wire.seen l.initial.pass).half.tally.refused → HasRisenBy 0 before (wire.seen l.pass).half.tally.refused;
     }

@@ -1,5 +1,6 @@
 use Rattle.std.proofs.Common.{◌≡◌, ◌+◌, ◌-◌, ◌≤◌, length}
 use Rattle.clock_ratio.specs.Stamp.{window_of}
+use Rattle.port_wire.specs.Reach.{IsInReach}
 use Rattle.pair_run.specs.Leg.{HasRun}
 use Rattle.pair_run.proofs.lone.run_alone.Given as goal
 
@@ -9,6 +10,8 @@ invariant-steps g l =
     let machine = g.M.Machine in
     record {
       next : l.stamp ≡ machine.stamp_of l.machine;
+      stands : ∥ ((m : machine.State) × machine.stands l.machine m) ∥₁;
+      reach : IsInReach (wire.region_of l.wire) (machine.stamp_of l.machine) (wire.seen l.pass).half;
       forward : machine.stamp_of l.initial.machine ≤ machine.stamp_of l.machine;
       region : machine.region_of l.machine ≡ machine.region_of l.initial.machine;
       room : length (machine.waiting l.machine) + machine.MOST ≤ machine.CAP;

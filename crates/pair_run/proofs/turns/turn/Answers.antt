@@ -25,8 +25,7 @@ returns-clause-turned g c = λ c0 s0 c0_valid s0_valid a b on a_stands b_stands 
     let legs = c.both_legs-console_end.ensures in
     let ran = c.both_legs-console_end.new in
     let met = c.reunite-whole.ensures in
-    let told = c.advance_whole.ensures in
-    let told_too = c.advance_whole-2.ensures in
+    let told = c.publish_both.ensures in
     let step = c.step_earlier-stepped.ensures in
     let old = wire.both c.args.whole in
     let new = wire.both c.step_earlier-stepped.new.whole in
@@ -52,8 +51,8 @@ returns-clause-turned g c = λ c0 s0 c0_valid s0_valid a b on a_stands b_stands 
     (λ m stands. omega (arith, legs.console_clock, of_console.stands_stamp ran.console m stands))
     (λ m stands. omega (arith, legs.sound_clock, of_sound.stands_stamp ran.sound m stands))
     (λ p q p_stands q_stands p_is q_is. step.stepped p q p_stands q_stands
-    (p_is ∙ sym (ap mine met.console) ∙ sym told.advances.mine ∙ sym told_too.own.other.mine)
-    (q_is ∙ sym (ap mine met.sound) ∙ sym told.own.other.mine ∙ sym told_too.advances.mine))
+    (p_is ∙ sym (ap mine met.console) ∙ sym told.console_mine)
+    (q_is ∙ sym (ap mine met.sound) ∙ sym told.sound_mine))
     (⊎_elim (λ lt. inl (omega (arith, lt, of_console.stands_stamp c.args.console.now a.now a_stands)))
     (λ lt. inr (omega (arith, lt, of_sound.stands_stamp c.args.sound.now b.now b_stands))) c.requires.before_end)
     (λ m stands. held_still c.both_legs-console_end.result.0 (call_of (console.moves.act m)) (console.stamp_of ran.console) (console.moves.stamp m) tries_of_turn
@@ -61,13 +60,13 @@ returns-clause-turned g c = λ c0 s0 c0_valid s0_valid a b on a_stands b_stands 
     (subst (λ (q : Seen). IfHeldBack c.both_legs-console_end.result.0 (λ late. IsSpent (call_of (console.moves.act m)) (console.stamp_of ran.console) late tries_of_turn q.half first))
     parts.console (legs.console_spent m stands))
     (of_console.stands_stamp ran.console m stands)
-    (step.console_tally ∙ told_too.own.other.tally ∙ told.own.tally ∙ ap tally met.console))
+    (step.console_tally ∙ told.console_tally ∙ ap tally met.console))
     (λ m stands. held_still c.both_legs-console_end.result.1 (call_of (sound.moves.act m)) (sound.stamp_of ran.sound) (sound.moves.stamp m) tries_of_turn
     (parted old.sound) second new.sound
     (subst (λ (q : Seen). IfHeldBack c.both_legs-console_end.result.1 (λ late. IsSpent (call_of (sound.moves.act m)) (sound.stamp_of ran.sound) late tries_of_turn q.half second))
     parts.sound (legs.sound_spent m stands))
     (of_sound.stands_stamp ran.sound m stands)
-    (step.sound_tally ∙ told_too.own.tally ∙ told.own.other.tally ∙ ap tally met.sound))
+    (step.sound_tally ∙ told.sound_tally ∙ ap tally met.sound))
 
 pub returns-clause-gone : goal.returns-clause-gone
 returns-clause-gone g c = λ a b a_stands b_stands a_is b_is.
@@ -83,8 +82,7 @@ returns-clause-gone g c = λ a b a_stands b_stands a_is b_is.
     let legs = c.both_legs-console_end.ensures in
     let ran = c.both_legs-console_end.new in
     let met = c.reunite-whole.ensures in
-    let told = c.advance_whole.ensures in
-    let told_too = c.advance_whole-2.ensures in
+    let told = c.publish_both.ensures in
     let step = c.step_earlier-stepped.ensures in
     let old = wire.both c.args.whole in
     let new = wire.both c.step_earlier-stepped.new.whole in
@@ -108,29 +106,29 @@ returns-clause-gone g c = λ a b a_stands b_stands a_is b_is.
     c.both_legs-console_end.result.0 c.both_legs-console_end.result.1 c.step_earlier-stepped.result a b by_console by_sound
     (of_console.stands_stamp ran.console) (of_sound.stands_stamp ran.sound)
     (λ p q p_stands q_stands p_is q_is. step.stepped p q p_stands q_stands
-    (p_is ∙ sym (ap mine met.console) ∙ sym told.advances.mine ∙ sym told_too.own.other.mine)
-    (q_is ∙ sym (ap mine met.sound) ∙ sym told.own.other.mine ∙ sym told_too.advances.mine))
+    (p_is ∙ sym (ap mine met.console) ∙ sym told.console_mine)
+    (q_is ∙ sym (ap mine met.sound) ∙ sym told.sound_mine))
     legs.console_done legs.console_drain
     (λ m stands. held_still c.both_legs-console_end.result.0 (call_of (console.moves.act m)) (console.stamp_of ran.console) (console.moves.stamp m) tries_of_turn
     (parted old.console) first new.console
     (subst (λ (q : Seen). IfHeldBack c.both_legs-console_end.result.0 (λ late. IsSpent (call_of (console.moves.act m)) (console.stamp_of ran.console) late tries_of_turn q.half first))
     parts.console (legs.console_spent m stands))
     (of_console.stands_stamp ran.console m stands)
-    (step.console_tally ∙ told_too.own.other.tally ∙ told.own.tally ∙ ap tally met.console))
+    (step.console_tally ∙ told.console_tally ∙ ap tally met.console))
     legs.sound_done legs.sound_drain
     (λ m stands. held_still c.both_legs-console_end.result.1 (call_of (sound.moves.act m)) (sound.stamp_of ran.sound) (sound.moves.stamp m) tries_of_turn
     (parted old.sound) second new.sound
     (subst (λ (q : Seen). IfHeldBack c.both_legs-console_end.result.1 (λ late. IsSpent (call_of (sound.moves.act m)) (sound.stamp_of ran.sound) late tries_of_turn q.half second))
     parts.sound (legs.sound_spent m stands))
     (of_sound.stands_stamp ran.sound m stands)
-    (step.sound_tally ∙ told_too.own.tally ∙ told.own.other.tally ∙ ap tally met.sound))
+    (step.sound_tally ∙ told.sound_tally ∙ ap tally met.sound))
 
 pub returns-clause-console_drain : goal.returns-clause-console_drain
 returns-clause-console_drain g c = λ is room.
     let console = g.C.Machine in
     let ran = c.both_legs-console_end.new in
     let new = c.step_earlier-stepped.new in
-    let told = g.W.Wire.both c.advance_whole-2.new.whole in
+    let told = g.W.Wire.both c.publish_both.new.whole in
     ∥∥₁_elim c.stamp.ensures.stands (λ x y. absurd x) (λ p. ∥∥₁_elim c.stamp-2.ensures.stands (λ x y. absurd x) (λ q.
     let before_c : History g.C.Machine.State = record { now = p.0; steps = 0; entries = told.console.mine; emitted = [] } in
     let before_s : History g.S.Machine.State = record { now = q.0; steps = 0; entries = told.sound.mine; emitted = [] } in
@@ -143,7 +141,7 @@ returns-clause-sound_drain g c = λ is room.
     let sound = g.S.Machine in
     let ran = c.both_legs-console_end.new in
     let new = c.step_earlier-stepped.new in
-    let told = g.W.Wire.both c.advance_whole-2.new.whole in
+    let told = g.W.Wire.both c.publish_both.new.whole in
     ∥∥₁_elim c.stamp.ensures.stands (λ x y. absurd x) (λ p. ∥∥₁_elim c.stamp-2.ensures.stands (λ x y. absurd x) (λ q.
     let before_c : History g.C.Machine.State = record { now = p.0; steps = 0; entries = told.console.mine; emitted = [] } in
     let before_s : History g.S.Machine.State = record { now = q.0; steps = 0; entries = told.sound.mine; emitted = [] } in

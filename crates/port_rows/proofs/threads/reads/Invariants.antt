@@ -2,8 +2,10 @@ use Rattle.std.proofs.Common.{◌≡◌}
 use Rattle.port_rows.proofs.threads.reads.Given as goal
 
 abbrev pub invariant-loop-k : goal.invariant-loop-k
-invariant-loop-k l = record {
-  of : l.sound.ports ≡ l.ports;
-  side : l.sound.side ≡ l.fn.sound.side;
-  clock : l.sound.half.at ≡ 0;
-}
+invariant-loop-k g l =
+    let wire = g.W.Wire in
+    record {
+      of : wire.is_pass_of l.wire l.sound;
+      side : (wire.seen l.sound).side ≡ (wire.seen l.fn.sound).side;
+      clock : (wire.seen l.sound).half.at ≡ 0;
+    }

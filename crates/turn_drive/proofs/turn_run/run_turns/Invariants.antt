@@ -1,4 +1,5 @@
 use Rattle.std.proofs.Common.{◌≡◌, ◌+◌, ◌-◌, ◌*◌, ◌≤◌, []}
+use Rattle.port_wire.specs.Reach.{IsInReach}
 use Rattle.turn_drive.proofs.Going.{IsGoing}
 use Rattle.turn_drive.proofs.turn_run.run_turns.Given as goal
 
@@ -15,6 +16,8 @@ invariant-loop-ends g l =
       sound_region : S.region_of l.sound ≡ W.region_of l.wire;
       console_clock : (W.both l.whole).console.at ≤ C.stamp_of l.console;
       sound_clock : (W.both l.whole).sound.at ≤ S.stamp_of l.sound;
+      console_reach : IsInReach (W.region_of l.wire) (C.stamp_of l.console) (W.both l.whole).console;
+      sound_reach : IsInReach (W.region_of l.wire) (S.stamp_of l.sound) (W.both l.whole).sound;
       console_empty : C.waiting l.console ≡ [];
       sound_empty : S.waiting l.sound ≡ [];
       to_end : l.ends.end ≡ l.end;

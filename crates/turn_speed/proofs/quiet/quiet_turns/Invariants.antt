@@ -1,4 +1,5 @@
 use Rattle.std.proofs.Common.{◌≡◌, ◌≤◌, []}
+use Rattle.port_wire.specs.Reach.{IsInReach}
 use Rattle.port_lock.specs.Wholes.{IsWholeOf}
 use Rattle.turn_speed.proofs.quiet.quiet_turns.Given as goal
 
@@ -9,6 +10,8 @@ invariant-turns g l = record {
   sound_region : l.sound.state.region ≡ l.ports.region;
   console_clock : l.whole.console.at ≤ l.console.state.stamp;
   sound_clock : l.whole.sound.at ≤ l.sound.state.stamp;
+  console_reach : IsInReach l.ports.region l.console.state.stamp l.whole.console;
+  sound_reach : IsInReach l.ports.region l.sound.state.stamp l.whole.sound;
   console_empty : l.console.waiting ≡ [];
   sound_empty : l.sound.waiting ≡ [];
 }

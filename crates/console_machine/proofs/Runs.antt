@@ -1,0 +1,128 @@
+-- Runs of silent steps: none, one more, one after another; and what they are of a machine.
+use Rattle.std.proofs.Common.{◌≡◌, ℕ, zero, suc, ◌+◌, ◌*◌, ◌<◌, ◌≤◌, List, [], refl, sym, ap, subst, ◌∙◌, arith, add-zero}
+use Rattle.snes_defs.specs.declared.region.Region.{Region}
+use Rattle.snes_defs.specs.declared.region.Region.TheVariants.{Ntsc, Pal}
+use Rattle.snes_defs.specs.declared.ports.Act.TheVariants.{Quiet}
+use Rattle.snes_defs.specs.declared.ports.Side.TheVariants.{Console}
+use Rattle.clock_ratio.specs.Stamp.{rate_of}
+use Rattle.side_law.specs.Quiet.{SilentSteps}
+use Rattle.side_law.proofs.QuietRuns.{IsSilent}
+use Rattle.cpu65816.specs.declared.processor.Cpu.{Cpu}
+use Rattle.console_bus.specs.Rest.{Rest}
+use Rattle.console_steps.specs.World.{World, act_of, due_of, due_clocks, world_after, bytes_after, region_of, console_moves}
+use Rattle.console_steps.specs.Stands.{IsAt}
+use Rattle.console_machine.specs.Side.{ConsoleValue, StandsAt}
+use Rattle.console_machine.specs.SideLaws.{IsAfter, step_keeps, due_step}
+use Rattle.console_machine.specs.Standing.{stamp_on}
+use Rattle.console_machine.specs.Runs.{SilentWorlds, HasRun}
+use Rattle.console_machine.proofs.AtOnce.{IsStepMade}
+
+-- one silent step more
+pub silent_more : (n : ℕ) (w to : World) → SilentWorlds n w to → act_of to.rest (due_of to) ≡ Quiet → bytes_after to (due_of to) 0 ≡ []
+    → SilentWorlds (suc n) w (world_after to (due_of to) 0)
+silent_more zero w to same quiet none =
+    let P : World → Type 0 = λ x. SilentWorlds 1 x (world_after to (due_of to) 0) in
+    subst P (sym same) (quiet, none, refl)
+silent_more (suc n) w to (first, nothing, rest) quiet none = (first, nothing, silent_more n (world_after w (due_of w) 0) to rest quiet none)
+
+-- silent steps after silent steps
+silent_append : (n m : ℕ) (w mid to : World) → SilentWorlds n w mid → SilentWorlds m mid to → (q : ℕ) × SilentWorlds q w to
+silent_append zero m w mid to same then =
+    let P : World → Type 0 = λ x. SilentWorlds m x to in
+    (m, subst P (sym same) then)
+silent_append (suc n) m w mid to (first, nothing, rest) then =
+    let more = silent_append n m (world_after w (due_of w) 0) mid to rest then in
+    (suc more.0, (first, nothing, more.1))
+
+pub no_run : (cpu : Cpu) (bus : Rest) (w : World) → IsAt cpu bus w → w.rest.beam.h < 1364 → HasRun cpu bus w 0
+no_run cpu bus w at line = record { steps = 0; to = w; run = refl; at = at; after = record { region = refl; line = line; clock = sym (add-zero w.clock) } }
+
+-- a run and one step more
+pub run_on : (cpu cpu' : Cpu) (bus bus' : Rest) (w : World) (k c n : ℕ) → (h : HasRun cpu bus w k) → IsStepMade cpu' bus' h.to (due_of h.to) c → n ≡ k + c
+    → HasRun cpu' bus' w n
+run_on cpu cpu' bus bus' w k c n h m sum =
+    let s = step_keeps h.to (due_of h.to) 0 h.after.line in
+    let before = h.after.clock in
+    let step = s.clock in
+    let lasts = m.lasts in
+    record {
+      steps = suc h.steps;
+      to = world_after h.to (due_of h.to) 0;
+      run = silent_more h.steps w h.to h.run m.quiet m.none;
+      at = m.at;
+      after = record { region = s.region ∙ h.after.region; line = s.line; clock = omega (arith, before, step, lasts, sum) };
+    }
+
+-- a run after a run
+pub run_then : (cpu cpu' : Cpu) (bus bus' : Rest) (w : World) (j k n : ℕ) → (h : HasRun cpu bus w j) → HasRun cpu' bus' h.to k → n ≡ j + k → HasRun cpu' bus' w n
+run_then cpu cpu' bus bus' w j k n h then sum =
+    let all = silent_append h.steps then.steps w h.to then.to h.run then.run in
+    let before = h.after.clock in
+    let step = then.after.clock in
+    record {
+      steps = all.0;
+      to = then.to;
+      run = all.1;
+      at = then.at;
+      after = record { region = then.after.region ∙ h.after.region; line = then.after.line; clock = omega (arith, before, step, sum) };
+    }
+
+-- ---- by stamps
+
+clock_later : (n : ℕ) (w to : World) → w.rest.beam.h < 1364 → SilentWorlds n w to → w.clock ≤ to.clock
+clock_later zero w to line same =
+    let e : w.clock ≡ to.clock = ap (λ (x : World). x.clock) same in
+    omega (arith, e)
+clock_later (suc n) w to line (first, nothing, rest) =
+    let s = step_keeps w (due_of w) 0 line in
+    let step = s.clock in
+    let later = clock_later n (world_after w (due_of w) 0) to s.line rest in
+    omega (arith, step, later)
+
+less_in : (r : Region) (c d before : ℕ) → c < d → rate_of r Console * d ≤ before → rate_of r Console * c < before
+less_in Ntsc c d before less stop = omega (arith, less, stop)
+less_in Pal c d before less stop = omega (arith, less, stop)
+
+stamp_before : (r a : Region) (c d before : ℕ) → a ≡ r → c < d → rate_of r Console * d ≤ before → rate_of a Console * c < before
+stamp_before r a c d before e less stop =
+    let P : Region → Type 0 = λ x. rate_of x Console * c < before in
+    subst P (sym e) (less_in r c d before less stop)
+
+-- a run that ends by a stamp is one of the machine before that stamp
+to_silent : (before : ℕ) (n : ℕ) (w to : World) (r : Region) → w.rest.beam.h < 1364 → SilentWorlds n w to → region_of w ≡ r
+    → rate_of r Console * to.clock ≤ before → SilentSteps console_moves before n w to
+to_silent before zero w to r line run region stop = run
+to_silent before (suc n) w to r line (first, nothing, rest) region stop =
+    let s = step_keeps w (due_of w) 0 line in
+    let d = due_step (due_of w) w.rest.io.fast in
+    let step = s.clock in
+    let least = d.least in
+    let later = clock_later n (world_after w (due_of w) 0) to s.line rest in
+    let less : w.clock < to.clock = omega (arith, step, least, later) in
+    (first, stamp_before r (region_of w) w.clock to.clock before region less stop, nothing,
+    to_silent before n (world_after w (due_of w) 0) to r s.line rest (s.region ∙ region) stop)
+
+run_stands : (v x : ConsoleValue) (w : World) (k : ℕ) → StandsAt v w → (g : HasRun x.cpu x.rest w k) → x.region ≡ v.region
+    → x.stamp ≡ v.stamp + rate_of v.region Console * k → StandsAt x g.to
+run_stands v x w k h g region stamp = record {
+  at = g.at;
+  stamp = stamp_on v.region x.region v.stamp x.stamp w.clock g.to.clock k region stamp h.stamp g.after.clock;
+  console = record { region = g.after.region ∙ h.console.region ∙ sym region; line = g.after.line };
+}
+
+pub run_is_silent : (v x : ConsoleValue) (w : World) (k before : ℕ) (waited waits : List ℕ) → StandsAt v w → HasRun x.cpu x.rest w k → x.region ≡ v.region
+    → x.stamp ≡ v.stamp + rate_of v.region Console * k → x.stamp ≤ before → waited ≡ waits → IsSilent console_moves before (StandsAt x) waited w waits
+run_is_silent v x w k before waited waits h g region stamp early same =
+    let now = run_stands v x w k h g region stamp in
+    let P : ℕ → Type 0 = λ s. s ≤ before in
+    record {
+      steps = g.steps;
+      to = g.to;
+      now_stands = now;
+      silent = to_silent before g.steps w g.to x.region h.console.line g.run (h.console.region ∙ sym region) (subst P now.stamp early);
+      waits_is = same;
+    }
+
+pub run_keeps : (v x : ConsoleValue) (w : World) (k : ℕ) → StandsAt v w → HasRun x.cpu x.rest w k → x.region ≡ v.region
+    → x.stamp ≡ v.stamp + rate_of v.region Console * k → (u : World) × StandsAt x u
+run_keeps v x w k h g region stamp = (g.to, run_stands v x w k h g region stamp)

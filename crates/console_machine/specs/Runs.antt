@@ -1,0 +1,68 @@
+-- Many steps of the console in one call: quiet ones that emit nothing, told by the clocks that they last together; and
+-- those among them that only look, of which a round can be gone again.
+use Rattle.std.specs.Prelude.{◌≡◌, ℕ, zero, suc, ◌+◌, []}
+use Rattle.snes_defs.specs.declared.ports.Act.TheVariants.{Quiet}
+use Rattle.cpu65816.specs.declared.processor.Cpu.{Cpu}
+use Rattle.cpu65816.specs.Instruction.{next_of}
+use Rattle.beam.specs.Events.{passed}
+use Rattle.console_bus.specs.Rest.{Rest}
+use Rattle.console_steps.specs.World.{World, access_clocks, act_of, due_of, world_after, bytes_after, overscan_of}
+use Rattle.console_steps.specs.Stands.{IsAt}
+use Rattle.console_steps.specs.Plain.{IsCalm, IsLook}
+use Rattle.console_machine.specs.SideLaws.{IsAfter}
+
+-- so many quiet steps lead from a world to another, and emit nothing
+abbrev pub SilentWorlds : ℕ → World → World → Type 0
+SilentWorlds zero w to = w ≡ to
+SilentWorlds (suc n) w to = (act_of w.rest (due_of w) ≡ Quiet) × (bytes_after w (due_of w) 0 ≡ []) × SilentWorlds n (world_after w (due_of w) 0) to
+
+-- such steps lead from a world to one at which processor and bus are, and last so many clocks
+pub record HasRun (cpu : Cpu) (bus : Rest) (w : World) (clocks : ℕ) : Type 0 where
+  pub steps : ℕ
+  pub to : World
+  pub run : SilentWorlds steps w to
+  pub at : IsAt cpu bus to
+  pub after : IsAfter w to clocks
+
+-- ---- steps that only look
+
+-- the clocks of the processor's next access
+abbrev pub clocks_next : World → ℕ
+clocks_next w = access_clocks (next_of w.processor) w.rest.io.fast
+
+-- the next step is an access that only looks, in whose clocks nothing happens
+pub record IsLookStep (w : World) : Type 0 where
+  pub calm : IsCalm w.rest
+  pub look : IsLook w.rest (next_of w.processor)
+  pub nothing : passed (overscan_of w) w.rest.beam (clocks_next w) ≡ []
+
+-- after steps that lead to some world in some clocks comes one that only looks
+pub record LooksLast (Leads : World → ℕ → Type 0) (to : World) (clocks : ℕ) : Type 0 where
+  pub mid : World
+  pub before : ℕ
+  pub run : Leads mid before
+  pub step : IsLookStep mid
+  pub next : world_after mid (due_of mid) 0 ≡ to
+  pub sum : clocks ≡ before + clocks_next mid
+
+-- so many steps that only look lead from a world to another, and last so many clocks
+abbrev pub LookSteps : ℕ → World → World → ℕ → Type 0
+LookSteps zero w to clocks = (w ≡ to) × (clocks ≡ 0)
+LookSteps (suc n) w to clocks = LooksLast (λ mid before. LookSteps n w mid before) to clocks
+
+-- they lead to a world at which processor and bus are
+pub record LooksTo (cpu : Cpu) (bus : Rest) (w : World) (clocks : ℕ) : Type 0 where
+  pub steps : ℕ
+  pub to : World
+  pub run : LookSteps steps w to clocks
+  pub at : IsAt cpu bus to
+
+-- the clocks of so many rounds
+abbrev pub rounds_of : ℕ → ℕ → ℕ
+rounds_of zero round = 0
+rounds_of (suc n) round = rounds_of n round + round
+
+-- so many clocks are some rounds, of so many clocks each
+pub record IsRounds (round clocks : ℕ) : Type 0 where
+  pub number : ℕ
+  pub times : clocks ≡ rounds_of number round

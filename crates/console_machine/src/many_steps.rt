@@ -1,0 +1,196 @@
+// Many steps of the console in one call: accesses of the processor to the memory and internal cycles, up to the next place
+// of the beam at which something may happen. A loop that only looks, as one that waits for an interrupt, and a
+// processor that waits, come back to the state that they were in: then the whole rounds that still fit are passed at once.
+ghost use Rattle.std.specs.Prelude.{◌≡◌, ℕ, ◌+◌, ◌-◌, ◌<◌, ◌≤◌, [], None, IsTrue, IfSome};
+ghost use Rattle.cpu65816.specs.Instruction.{Standing};
+ghost use Rattle.cpu65816.specs.Stands.{Stands, access_of};
+ghost use Rattle.beam.specs.Places.{clocks_left};
+ghost use Rattle.console_steps.specs.World.{World};
+ghost use Rattle.console_steps.specs.Stands.{IsAt};
+ghost use Rattle.console_steps.specs.AtOnce.{gone_on, passed_in, IsMadeAtOnce};
+ghost use Rattle.console_steps.specs.Plain.{IsWired, IsCalm, IsLook};
+ghost use Rattle.console_machine.specs.Runs.{HasRun, IsRounds};
+
+use cart_map::Place;
+use console_bus::Bus;
+use console_steps::{is_calm, is_wired, try_look, try_plain};
+use cpu65816::Cpu;
+
+/// More accesses than a line has room for.
+const MOST_ACCESSES: u16 = 256;
+
+/// How many steps to the end of an instruction are made where a round is looked for.
+const MOST_TO_END: u16 = 8;
+
+/// How many steps a round may have.
+const MOST_OF_ROUND: u16 = 32;
+
+/// With fewer clocks to the next place than these no round is looked for.
+const FEW_CLOCKS: u16 = 128;
+
+/// Makes the processor's accesses one after another, as long as they are of the memory or internal cycles and nothing
+/// else happens in their clocks, and answers how many clocks they last together.
+#[inline(never)]
+fn make_accesses(cpu: &mut Cpu, bus: &mut Bus) -> u16
+    ensures run { (w : World) → IsAt cpu.old bus.old w → w.rest.beam.h < 1364 → HasRun cpu.new bus.new w result }
+    ensures left { result + clocks_left bus.new.beam ≡ clocks_left bus.old.beam }
+{
+    if !is_calm(bus) {
+        return 0;
+    }
+    if !is_wired(cpu, bus) {
+        return 0;
+    }
+    let _left = bus.left();
+    let mut gone: u16 = 0;
+    'steps: for _ in 0..MOST_ACCESSES {
+        match try_plain(cpu, bus) {
+            Some(clocks) => gone += clocks as u16,
+            None => return gone,
+        }
+    }
+    gone
+}
+
+/// One access that only looks.
+#[inline(never)]
+fn look_once(cpu: &mut Cpu, bus: &mut Bus) -> Option<u8>
+    ensures made { IsWired cpu.old bus.old → IfSome result (λ clocks. IsMadeAtOnce cpu.old cpu.new bus.old bus.new (access_of cpu.old) clocks) }
+    ensures looks { IfSome result (λ clocks. IsLook bus.old (access_of cpu.old)) }
+    ensures within { IfSome result (λ clocks. clocks < clocks_left bus.old.beam) }
+    ensures left { IfSome result (λ clocks. clocks_left bus.new.beam ≡ clocks_left bus.old.beam - clocks) }
+    ensures calm { IsCalm bus.old → IsCalm bus.new }
+    ensures bus_stays { result ≡ None → bus.new ≡ bus.old }
+    ensures cpu_stays { result ≡ None → cpu.new ≡ cpu.old }
+{
+    try_look(cpu, bus)
+}
+
+/// Makes accesses that only look up to the end of an instruction, and answers how many clocks they last.
+fn finish_instruction(cpu: &mut Cpu, bus: &mut Bus) -> u16
+    ensures run { (w : World) → IsAt cpu.old bus.old w → w.rest.beam.h < 1364 → HasRun cpu.new bus.new w result }
+    ensures left { result + clocks_left bus.new.beam ≡ clocks_left bus.old.beam }
+{
+    if !is_calm(bus) {
+        return 0;
+    }
+    if !is_wired(cpu, bus) {
+        return 0;
+    }
+    let _left = bus.left();
+    let mut gone: u16 = 0;
+    'steps: for _ in 0..MOST_TO_END {
+        if cpu.is_between() {
+            return gone;
+        }
+        match look_once(cpu, bus) {
+            Some(clocks) => gone += clocks as u16,
+            None => return gone,
+        }
+    }
+    gone
+}
+
+/// The byte last on the data bus: what an address with nothing there gives.
+#[inline(always)]
+fn last_byte(bus: &mut Bus) -> u8
+    ensures last { result ≡ bus.old.last }
+    ensures stays { bus.new ≡ bus.old }
+{
+    bus.read(Place::Open, 0)
+}
+
+/// Whether the processor does what another one does, and a byte is the last on the data bus.
+fn is_back(cpu: &Cpu, bus: &mut Bus, first: &Cpu, byte: u8) -> bool
+    ensures processor { IsTrue result → (s : Standing) → Stands cpu.now s → Stands first.now s }
+    ensures last { IsTrue result → bus.new.last ≡ byte }
+    ensures stays { bus.new ≡ bus.old }
+{
+    if !cpu.is_like(first) {
+        return false;
+    }
+    last_byte(bus) == byte
+}
+
+/// The clocks of the rounds, of so many clocks each, that end before the next place.
+#[tactic(auto, using(crate::proofs::Looks::no_rounds, crate::proofs::Looks::some_rounds, crate::proofs::Looks::rounds_within))]
+#[inline(always)]
+fn rounds_before(round: u16, left: u16) -> u16
+    requires { 0 < left }
+    ensures times { IsRounds round result }
+    ensures within { result < left }
+{
+    if round == 0 {
+        return 0;
+    }
+    (left - 1) / round * round
+}
+
+/// The beam goes on by the whole rounds, of so many clocks each, that end before the next place.
+#[inline(always)]
+fn go_rounds(bus: &mut Bus, round: u16) -> u16
+    ensures times { IsRounds round result }
+    ensures on { bus.new ≡ gone_on bus.old result }
+    ensures nothing { passed_in bus.old result ≡ [] }
+    ensures left { result + clocks_left bus.new.beam ≡ clocks_left bus.old.beam }
+{
+    let more = rounds_before(round, bus.left());
+    bus.go_on(more);
+    more
+}
+
+/// Makes accesses that only look, and where they come back to the processor and the byte on the data bus that they
+/// began with, passes the rounds that fit before the next place. Answers how many clocks all of them last.
+#[inline(never)]
+fn make_rounds(cpu: &mut Cpu, bus: &mut Bus) -> u16
+    ensures run { (w : World) → IsAt cpu.old bus.old w → w.rest.beam.h < 1364 → HasRun cpu.new bus.new w result }
+    ensures left { result + clocks_left bus.new.beam ≡ clocks_left bus.old.beam }
+{
+    if !is_calm(bus) {
+        return 0;
+    }
+    if !is_wired(cpu, bus) {
+        return 0;
+    }
+    let _left = bus.left();
+    let first = *cpu;
+    let byte = last_byte(bus);
+    let mut gone: u16 = 0;
+    'looks: for _ in 0..MOST_OF_ROUND {
+        match look_once(cpu, bus) {
+            Some(clocks) => gone += clocks as u16,
+            None => return gone,
+        }
+        if is_back(cpu, bus, &first, byte) {
+            let more = go_rounds(bus, gone);
+            return gone + more;
+        }
+    }
+    gone
+}
+
+/// Looks for a round where the next place is far enough.
+fn look_for_rounds(cpu: &mut Cpu, bus: &mut Bus) -> u16
+    ensures run { (w : World) → IsAt cpu.old bus.old w → w.rest.beam.h < 1364 → HasRun cpu.new bus.new w result }
+    ensures left { result + clocks_left bus.new.beam ≡ clocks_left bus.old.beam }
+{
+    let left = bus.left();
+    if left < FEW_CLOCKS {
+        return 0;
+    }
+    let first = finish_instruction(cpu, bus);
+    let rounds = make_rounds(cpu, bus);
+    first + rounds
+}
+
+/// Makes quiet steps that emit nothing, at most up to the next place of the beam, and answers how many clocks they last.
+pub(crate) fn make_plain_steps(cpu: &mut Cpu, bus: &mut Bus) -> u16
+    ensures run { (w : World) → IsAt cpu.old bus.old w → w.rest.beam.h < 1364 → HasRun cpu.new bus.new w result }
+    ensures left { result + clocks_left bus.new.beam ≡ clocks_left bus.old.beam }
+    ensures few { result ≤ 1364 }
+{
+    let _left = bus.left();
+    let rounds = look_for_rounds(cpu, bus);
+    let others = make_accesses(cpu, bus);
+    rounds + others
+}

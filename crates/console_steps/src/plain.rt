@@ -1,0 +1,196 @@
+// An access of the processor with its clocks, where nothing else happens in these, as `at_once` makes it; but
+// the levels of the processor's lines are not given again, since they are what they were. A caller that
+// makes many asks once whether a transfer is due and whether the levels are those that were given.
+ghost use Rattle.std.specs.Prelude.{◌≡◌, ◌+◌, ◌-◌, ◌<◌, ◌^◌, ℕ, [], None, IsTrue, IfSome, slice_index};
+ghost use Rattle.cpu_tables.specs.declared.access.Access.TheVariants.{Read, Write, Inner};
+ghost use Rattle.cpu_modes.specs.Plan.{gets_byte, is_write, is_inner};
+ghost use Rattle.cpu65816.specs.Instruction.{Standing, moved_on};
+ghost use Rattle.cpu65816.specs.Stands.{Stands, access_of};
+ghost use Rattle.beam.specs.Events.{beam_after, passed};
+ghost use Rattle.beam.specs.Places.{clocks_left};
+ghost use Rattle.console_bus.specs.Memory.{stored};
+ghost use Rattle.console_steps.specs.AtOnce.{IsMadeAtOnce};
+ghost use Rattle.console_steps.specs.Plain.{IsWired, IsCalm, IsLook};
+
+use console_bus::Bus;
+use cpu_tables::Access;
+use cpu65816::Cpu;
+
+/// Whether the processor was given the levels that its lines have now.
+#[inline(always)]
+pub fn is_wired(cpu: &Cpu, bus: &Bus) -> bool
+    ensures { IsTrue result → IsWired cpu.now bus.now }
+{
+    let (nmi, irq) = bus.lines();
+    let (given_nmi, given_irq) = cpu.levels();
+    given_nmi == nmi && given_irq == irq
+}
+
+/// Whether neither a reset, nor a refresh, nor a byte of a transfer is due.
+#[inline(always)]
+pub fn is_calm(bus: &Bus) -> bool
+    ensures { IsTrue result → IsCalm bus.now }
+{
+    !bus.is_busy()
+}
+
+/// The processor takes a byte of the memory, and the beam goes on.
+#[inline(always)]
+fn take_plainly(cpu: &mut Cpu, bus: &mut Bus, at: usize, clocks: u8)
+    requires gets { IsTrue (gets_byte (access_of cpu.old)) }
+    requires at { at < 131072 + bus.old.board.ram + bus.old.board.rom }
+    requires few { clocks < clocks_left bus.old.beam }
+    ensures rest { bus.new ≡ record bus.old { last = slice_index bus.old.memory at; beam = beam_after bus.old.picture.registers.settings.overscan bus.old.beam clocks } }
+    ensures nothing { passed bus.old.picture.registers.settings.overscan bus.old.beam clocks ≡ [] }
+    ensures left { clocks_left bus.new.beam ≡ clocks_left bus.old.beam - clocks }
+    ensures processor { (s : Standing) → Stands cpu.old s → Stands cpu.new (moved_on s (slice_index bus.old.memory at)) }
+{
+    let byte = bus.load(at);
+    bus.put(byte);
+    bus.go_on(clocks as u16);
+    cpu.took(byte);
+}
+
+/// A byte of the memory is written, and goes over the data bus.
+#[inline(always)]
+fn put_plainly(bus: &mut Bus, at: usize, v: u8)
+    requires { at < 131072 + bus.old.board.ram + bus.old.board.rom }
+    ensures rest { bus.new ≡ record (stored bus.old at v) { last = v } }
+    ensures beam { bus.new.beam ≡ bus.old.beam }
+    ensures picture { bus.new.picture ≡ bus.old.picture }
+    ensures channels { bus.new.channels ≡ bus.old.channels }
+    ensures refresh { bus.new.refresh ≡ bus.old.refresh }
+    ensures reset { bus.new.reset ≡ bus.old.reset }
+{
+    bus.store(at, v);
+    bus.put(v);
+}
+
+/// The processor has written a byte of the memory, and the beam goes on.
+#[inline(always)]
+fn give_plainly(cpu: &mut Cpu, bus: &mut Bus, at: usize, v: u8, clocks: u8)
+    requires writes { IsTrue (is_write (access_of cpu.old)) }
+    requires at { at < 131072 + bus.old.board.ram + bus.old.board.rom }
+    requires few { clocks < clocks_left bus.old.beam }
+    ensures rest { bus.new ≡ record (stored bus.old at v) { last = v; beam = beam_after bus.old.picture.registers.settings.overscan bus.old.beam clocks } }
+    ensures nothing { passed bus.old.picture.registers.settings.overscan bus.old.beam clocks ≡ [] }
+    ensures left { clocks_left bus.new.beam ≡ clocks_left bus.old.beam - clocks }
+    ensures calm { IsCalm bus.old → IsCalm bus.new }
+    ensures processor { (s : Standing) → Stands cpu.old s → Stands cpu.new (moved_on s 0) }
+{
+    put_plainly(bus, at, v);
+    bus.go_on(clocks as u16);
+    cpu.wrote();
+}
+
+/// The processor reads a byte of the memory.
+#[inline(always)]
+fn read_plainly(cpu: &mut Cpu, bus: &mut Bus, addr: u32) -> Option<u8>
+    requires gets { IsTrue (gets_byte (access_of cpu.old)) }
+    requires addr { addr < 2 ^ 24 }
+    ensures made { IsWired cpu.old bus.old → IfSome result (λ clocks. IsMadeAtOnce cpu.old cpu.new bus.old bus.new (Read addr) clocks) }
+    ensures looks { IfSome result (λ clocks. IsLook bus.old (Read addr)) }
+    ensures within { IfSome result (λ clocks. clocks < clocks_left bus.old.beam) }
+    ensures left { IfSome result (λ clocks. clocks_left bus.new.beam ≡ clocks_left bus.old.beam - clocks) }
+    ensures calm { IsCalm bus.old → IsCalm bus.new }
+    ensures bus_stays { result ≡ None → bus.new ≡ bus.old }
+    ensures cpu_stays { result ≡ None → cpu.new ≡ cpu.old }
+{
+    let access = bus.memory_at(addr)?;
+    if access.clocks as u16 >= bus.left() {
+        return None;
+    }
+    take_plainly(cpu, bus, access.at, access.clocks);
+    Some(access.clocks)
+}
+
+/// The processor writes a byte of the memory.
+#[inline(always)]
+fn write_plainly(cpu: &mut Cpu, bus: &mut Bus, addr: u32, v: u8) -> Option<u8>
+    requires writes { IsTrue (is_write (access_of cpu.old)) }
+    requires addr { addr < 2 ^ 24 }
+    ensures made { IsWired cpu.old bus.old → IfSome result (λ clocks. IsMadeAtOnce cpu.old cpu.new bus.old bus.new (Write addr v) clocks) }
+    ensures within { IfSome result (λ clocks. clocks < clocks_left bus.old.beam) }
+    ensures left { IfSome result (λ clocks. clocks_left bus.new.beam ≡ clocks_left bus.old.beam - clocks) }
+    ensures calm { IsCalm bus.old → IsCalm bus.new }
+    ensures bus_stays { result ≡ None → bus.new ≡ bus.old }
+    ensures cpu_stays { result ≡ None → cpu.new ≡ cpu.old }
+{
+    let access = bus.memory_at(addr)?;
+    if access.clocks as u16 >= bus.left() {
+        return None;
+    }
+    give_plainly(cpu, bus, access.at, v, access.clocks);
+    Some(access.clocks)
+}
+
+/// The processor makes an internal cycle, and the beam goes on.
+#[inline(always)]
+fn rest_plainly(cpu: &mut Cpu, bus: &mut Bus)
+    requires inner { IsTrue (is_inner (access_of cpu.old)) }
+    requires few { 6 < clocks_left bus.old.beam }
+    ensures rest { bus.new ≡ record bus.old { beam = beam_after bus.old.picture.registers.settings.overscan bus.old.beam 6 } }
+    ensures nothing { passed bus.old.picture.registers.settings.overscan bus.old.beam 6 ≡ [] }
+    ensures left { clocks_left bus.new.beam ≡ clocks_left bus.old.beam - 6 }
+    ensures processor { (s : Standing) → Stands cpu.old s → Stands cpu.new (moved_on s 0) }
+{
+    bus.go_on(6);
+    cpu.idle();
+}
+
+/// The processor makes an internal cycle.
+#[inline(always)]
+fn idle_plainly(cpu: &mut Cpu, bus: &mut Bus) -> Option<u8>
+    requires inner { IsTrue (is_inner (access_of cpu.old)) }
+    ensures made { IsWired cpu.old bus.old → IfSome result (λ clocks. IsMadeAtOnce cpu.old cpu.new bus.old bus.new Inner clocks) }
+    ensures within { IfSome result (λ clocks. clocks < clocks_left bus.old.beam) }
+    ensures left { IfSome result (λ clocks. clocks_left bus.new.beam ≡ clocks_left bus.old.beam - clocks) }
+    ensures calm { IsCalm bus.old → IsCalm bus.new }
+    ensures bus_stays { result ≡ None → bus.new ≡ bus.old }
+    ensures cpu_stays { result ≡ None → cpu.new ≡ cpu.old }
+{
+    if bus.left() <= 6 {
+        return None;
+    }
+    rest_plainly(cpu, bus);
+    Some(6)
+}
+
+/// Makes the processor's next access, and lets its clocks pass, where it is one of the memory or an internal
+/// cycle and nothing else happens in these clocks, and answers how many these are. Otherwise nothing has
+/// changed.
+#[inline(always)]
+pub fn try_plain(cpu: &mut Cpu, bus: &mut Bus) -> Option<u8>
+    ensures made { IsWired cpu.old bus.old → IfSome result (λ clocks. IsMadeAtOnce cpu.old cpu.new bus.old bus.new (access_of cpu.old) clocks) }
+    ensures within { IfSome result (λ clocks. clocks < clocks_left bus.old.beam) }
+    ensures left { IfSome result (λ clocks. clocks_left bus.new.beam ≡ clocks_left bus.old.beam - clocks) }
+    ensures calm { IsCalm bus.old → IsCalm bus.new }
+    ensures bus_stays { result ≡ None → bus.new ≡ bus.old }
+    ensures cpu_stays { result ≡ None → cpu.new ≡ cpu.old }
+{
+    match cpu.next() {
+        Access::Fetch(addr) => read_plainly(cpu, bus, addr),
+        Access::Read(addr) => read_plainly(cpu, bus, addr),
+        Access::Write(addr, v) => write_plainly(cpu, bus, addr, v),
+        Access::Inner => idle_plainly(cpu, bus),
+    }
+}
+
+/// The same of an access that only looks: a write it does not make.
+#[inline(always)]
+pub fn try_look(cpu: &mut Cpu, bus: &mut Bus) -> Option<u8>
+    ensures made { IsWired cpu.old bus.old → IfSome result (λ clocks. IsMadeAtOnce cpu.old cpu.new bus.old bus.new (access_of cpu.old) clocks) }
+    ensures looks { IfSome result (λ clocks. IsLook bus.old (access_of cpu.old)) }
+    ensures within { IfSome result (λ clocks. clocks < clocks_left bus.old.beam) }
+    ensures left { IfSome result (λ clocks. clocks_left bus.new.beam ≡ clocks_left bus.old.beam - clocks) }
+    ensures calm { IsCalm bus.old → IsCalm bus.new }
+    ensures bus_stays { result ≡ None → bus.new ≡ bus.old }
+    ensures cpu_stays { result ≡ None → cpu.new ≡ cpu.old }
+{
+    match cpu.next() {
+        Access::Fetch(addr) => read_plainly(cpu, bus, addr),
+        Access::Read(addr) => read_plainly(cpu, bus, addr),
+        Access::Write(_, _) => None,
+        Access::Inner => idle_plainly(cpu, bus),
+    }
+}

@@ -1,0 +1,12 @@
+pub mod Totals
+pub mod Entries
+pub mod Knowing
+pub mod Wording
+pub mod Moving
+pub mod Steps
+pub mod Seats
+pub mod Desks
+pub mod Calling
+pub mod Passing
+pub mod Reuniting
+pub mod Wholing

@@ -1,0 +1,11 @@
+pub mod Sums
+pub mod Layout
+pub mod Known
+pub mod Rule
+pub mod Steps
+pub mod WordsKnown
+pub mod Desks
+pub mod Called
+pub mod Passes
+pub mod Wholes
+pub mod WholeCalls

@@ -1,0 +1,67 @@
+ghost use Rattle.std.specs.Prelude.{◌<◌};
+
+use file_shelf::SureShelf;
+use std::alloc::Global;
+
+/// The bytes of a cartridge's file, and where its header and its vectors stand.
+const SIZE: usize = 32_768;
+
+const MAP_MODE: usize = 0x7FD5;
+
+const RESET: usize = 0x7FFC;
+
+/// The bytes of the boot ROM.
+const BOOT: usize = 64;
+
+/// A cartridge by its program, which begins at its first byte, and a boot ROM by its first bytes, with 0 behind
+/// them and its start in its last two.
+#[derive(Drop)]
+pub struct Programs {
+    pub cartridge: &'static [u8],
+    pub boot: &'static [u8],
+}
+
+/// So many zeros, and these bytes in front.
+fn filled(alloc: Global, size: usize, front: &[u8]) -> Option<Vec<u8>> {
+    let mut bytes = vec![in alloc; 0u8; size].ok()?;
+    for (place, byte) in front.iter().enumerate() {
+        set(&mut bytes, place, *byte)?;
+    }
+    Some(bytes)
+}
+
+fn set(bytes: &mut [u8], place: usize, byte: u8) -> Option<()> {
+    *bytes.get_mut(place)? = byte;
+    Some(())
+}
+
+/// A cartridge's file of LoROM, whose reset goes to the program.
+fn cartridge(alloc: Global, program: &[u8]) -> Option<Vec<u8>> {
+    let mut image = filled(alloc, SIZE, program)?;
+    set(&mut image, MAP_MODE, 0x20)?;
+    set(&mut image, RESET + 1, 0x80)?;
+    Some(image)
+}
+
+/// A boot ROM's file, which starts at its first byte.
+fn boot(alloc: Global, program: &[u8]) -> Option<Vec<u8>> {
+    let mut rom = filled(alloc, BOOT, program)?;
+    set(&mut rom, BOOT - 2, 0xC0)?;
+    set(&mut rom, BOOT - 1, 0xFF)?;
+    Some(rom)
+}
+
+/// A shelf that holds the four files of a run, and keeps the first bytes of what is put to it.
+pub fn shelf(alloc: Global, programs: &Programs) -> Option<SureShelf> {
+    let mut shelf = SureShelf::new(alloc, 4096).ok()?;
+    let table = vec![in alloc; 0u8; 1024].ok()?;
+    shelf
+        .hold("cart", cartridge(alloc, programs.cartridge)?.as_slice())
+        .ok()?;
+    shelf
+        .hold("boot", boot(alloc, programs.boot)?.as_slice())
+        .ok()?;
+    shelf.hold("table", table.as_slice()).ok()?;
+    shelf.hold("script", &[]).ok()?;
+    Some(shelf)
+}
