@@ -1,19 +1,35 @@
 #!/usr/bin/env bash
 # Runs everything that is no part of the gate, and ends with one line: `full check: N of M parts hold`.
 #
-# The parts: the edits can be made (check_edits.sh); each wrong body is refused (try_wrong_bodies.sh); each planted fault is seen by
-# its rows (try_row_faults.sh); each run by one worker is told (try_one_worker.sh); each refused request for memory (refuse_each_allocation.sh); full devices and failing ones,
-# by the built program; and a soak of two workers (soak.sh) of SOAK jobs (1000).
+#     tools/full_check.sh [PART | PART:ITEM ..]
 #
-# It wants the built programs (./snes demo 7 --frames 0; in crates/wild_jobs `rt run`), a C compiler, and some three hours of
-# four processors, of which the wrong bodies take nearly all: words choose parts, as in `tools/full_check.sh edits soak`. The
-# output of each part goes to a file of its name in the folder CHECKED (/tmp/snes-full-check). The status is 1 where a part doesn't hold.
+# Its parts, the cheap ones first, and the items of each:
+#
+#     edits        each wrong change can be made (check_edits.sh)
+#     device       full devices and names that can't be made, by the built program
+#     allocations  each request for memory is refused once (refuse_each_allocation.sh)
+#     soak         SOAK jobs (1000) by two workers, 50 an item (soak.sh)
+#     rows         the rows of the console without a fault, and each planted fault (try_row_faults.sh)
+#     workers      the bodies that make a run by one worker (try_one_worker.sh)
+#     bodies       the wrong bodies of each crate (try_wrong_bodies.sh)
+#
+# It can be ended at any time and called again. What held is noted in the file `held` of the folder CHECKED
+# (/tmp/snes-full-check), a line an item: a sum of all that the item rests on (sources, edits, scripts, built programs, toolchain),
+# part, item, date, commit. An item whose sum stands there is not tried again, at this commit or a later one.
+# The output of each item goes to CHECKED/PART-ITEM.
+#
+# It wants the built programs (./snes demo 7 --frames 0; in crates/wild_jobs `rt run`, or ONLY_BUILD=1 tools/run_built.sh
+# jobs wild_jobs), a C compiler, and some three hours of four processors, of which the wrong bodies take nearly all.
+# TREE, a clone of this repository that it may keep its proofs in, spares proofs of crates below. It
+# checks what is committed. The status is 1 where a part doesn't hold.
 top=$(cd "$(dirname "${BASH_SOURCE[0]}")/.." && pwd) || exit 2
 checked=${CHECKED:-/tmp/snes-full-check}
-mkdir -p "$checked" || exit 2
+mkdir -p "$checked" && touch "$checked/held" || exit 2
 export snes=${SNES:-$top/crates/snes_run/out/snes_run}
+jobs=${WILD_JOBS:-$top/crates/wild_jobs/out/wild_jobs}
+commit=$(git -C "$top" rev-parse --short HEAD) || exit 2
 parts=("$@")
-[ $# -gt 0 ] || parts=(edits rows workers device allocations soak bodies)
+[ $# -gt 0 ] || parts=(edits device allocations soak rows workers bodies)
 
 # A full device, a device that takes everything, a name that can't be made: what the program says and its status.
 device() {
@@ -42,22 +58,95 @@ device() {
   return $bad
 }
 
+# The sum of words and files.
+sum_of() {
+  local word
+  for word; do if [ -f "$word" ]; then sha256sum <"$word"; else echo "$word"; fi; done | sha256sum | cut -c 1-20
+}
+
+# What the check of a crate rests on: the committed sources of it and of all below, and the toolchain.
+sources_of() {
+  rt version
+  "$top/tools/lines_below.sh" "$1" | sed 's/[ :].*//' | sort | while read -r name; do
+    git -C "$top" ls-tree HEAD "crates/$name/src" "crates/$name/specs" "crates/$name/proofs"
+  done
+}
+
+# What is committed in a file or folder.
+committed() { git -C "$top" rev-parse "HEAD:$1"; }
+
+# Tries an item of a part, unless it is noted that all it rests on held before.
+item() {
+  local name=$1 sum=$2
+  shift 2
+  [ -z "$only" ] || [ "$only" = "$name" ] || return
+  items=$((items + 1))
+  if [ "$sum" != now ] && grep -q "^$sum $part $name " "$checked/held"; then
+    noted=$((noted + 1))
+  elif "$@" >"$checked/$part-$name" 2>&1; then
+    echo "$sum $part $name $(date -u +%Y-%m-%dT%H:%MZ) $commit" >>"$checked/held"
+  else
+    bad=$((bad + 1))
+    echo "$part, $name: $(tail -n 1 "$checked/$part-$name")"
+  fi
+}
+
+# These take a second and are tried each time.
+edits() {
+  item edits now "$top/tools/check_edits.sh"
+}
+
+allocations() {
+  item each "$(sum_of "$snes" "$top/tools/refuse_each_allocation.sh")" "$top/tools/refuse_each_allocation.sh" "$snes"
+}
+
+soak() {
+  local first count=${SOAK:-1000}
+  for ((first = 0; first < count; first += 50)); do
+    item "$first" "$(sum_of "$snes" "$jobs" "$top/tools/soak.sh" "$first")" "$top/tools/soak.sh" \
+      $((count - first < 50 ? count - first : 50)) "$first"
+  done
+}
+
+rows() {
+  local fault below
+  below=$(sum_of "$(sources_of console_rows)" "$(committed crates/console_rows)" "$(committed tools/try_row_faults.sh)")
+  item none "$below" "$top/tools/try_row_faults.sh" none
+  for fault in "$top"/tools/row_faults/*.edit; do
+    fault=$(basename "$fault" .edit)
+    item "$fault" "$(sum_of "$below" "$(committed "tools/row_faults/$fault.edit")")" "$top/tools/try_row_faults.sh" "$fault"
+  done
+}
+
+workers() {
+  item all "$(sum_of "$(sources_of worker_rows)" "$(committed crates/worker_rows)" "$(committed tools/one_worker)" \
+    "$(committed tools/try_one_worker.sh)")" "$top/tools/try_one_worker.sh"
+}
+
+bodies() {
+  local crate
+  for crate in "$top"/tools/wrong_bodies/*/; do
+    crate=$(basename "$crate")
+    item "$crate" "$(sum_of "$(sources_of "$crate")" "$(committed "tools/wrong_bodies/$crate")")" \
+      "$top/tools/try_wrong_bodies.sh" "$crate"
+  done
+}
+
+if [ -n "${TREE-}" ]; then
+  # Both parts that prove in it look at this commit.
+  cd "$TREE" && git fetch -q "$top" HEAD && git checkout -q --force --detach FETCH_HEAD && git clean -fdq crates || exit 2
+fi
 hold=0
 for part in "${parts[@]}"; do
-  started=$(date +%s)
+  started=$(date +%s) items=0 noted=0 bad=0 only=
+  [[ $part != *:* ]] || { only=${part#*:} && part=${part%%:*}; }
   case $part in
-    edits) "$top/tools/check_edits.sh" ;;
-    bodies) "$top/tools/try_wrong_bodies.sh" ;;
-    rows) "$top/tools/try_row_faults.sh" ;;
-    workers) "$top/tools/try_one_worker.sh" ;;
-    allocations) "$top/tools/refuse_each_allocation.sh" "$snes" ;;
-    device) device ;;
-    soak) "$top/tools/soak.sh" "${SOAK:-1000}" ;;
-    *) echo "no part of this name" && false ;;
-  esac >"$checked/$part" 2>&1
-  status=$?
-  [ $status = 0 ] && hold=$((hold + 1))
-  echo "$part: status $status, $(($(date +%s) - started)) s; $(tail -n 1 "$checked/$part")"
+    edits | allocations | soak | rows | workers | bodies) $part ;;
+    device) item all now device ;;
+    *) echo "no part of this name: $part" ;;
+  esac
+  [ $bad = 0 ] && [ $items -gt 0 ] && hold=$((hold + 1))
+  echo "$part${only:+, $only}: $items items, $bad don't hold, $noted are noted from before; $(($(date +%s) - started)) s"
 done
-echo "full check: $hold of ${#parts[@]} parts hold ($(git -C "$top" rev-parse --short HEAD), $(date -u +%Y-%m-%d))"
+echo "full check: $hold of ${#parts[@]} parts hold ($commit, $(date -u +%Y-%m-%d))"
 [ "$hold" = ${#parts[@]} ]

@@ -70,5 +70,6 @@ export -f one job
 started=$(date +%s)
 seq "$first" $((first + count - 1)) | xargs -P "${JOBS:-4}" -I {} bash -c 'job {}' >"$work/told"
 alike=$(grep -cx alike "$work/told")
-echo "$count jobs: $alike alike by serial, by run on all processors and by run on one, $((count - alike)) not, in $(($(date +%s) - started)) s"
+echo "$count jobs: $alike alike by serial, by run on all processors and by run on one, $((count - alike)) not, in $(($(date +%s) - started)) s" \
+  "(from $first on, at a load of $(cut -d ' ' -f 1 /proc/loadavg) on $(nproc) processors)"
 [ "$alike" = "$count" ]

@@ -3,9 +3,10 @@
 # it: their output has to differ from crates/console_rows/stdout. With no fault planted it has to be that.
 #
 # Nothing is proved here: `rt try` runs a program as it stands, so that a fault is met by the rows alone and not by a contract.
-# An edit is as in crates/*/must-fail, but that its file is named from the top. The words are names of faults; without words
-# all are tried, a minute or so each. Works on what is committed, in a folder of its own. It names the first row that
-# tells each fault. The status is 1 where a fault is not told, can't be planted, or doesn't run.
+# An edit is as in crates/*/must-fail, but that its file is named from the top. The words are names of faults, or `none` for the rows
+# with no fault planted; without words `none` and all faults are tried, a minute or so each. Works on what is committed, in a
+# folder of its own. It names the first row that tells each fault. The status is 1 where a fault is not told, can't be
+# planted, or doesn't run, or where the rows are not as they should be without one.
 top=$(cd "$(dirname "${BASH_SOURCE[0]}")/.." && pwd) || exit 2
 work=$(mktemp -d) || exit 2
 trap 'rm -rf "$work"' EXIT
@@ -38,32 +39,49 @@ for line in open(sys.argv[1], encoding="utf-8").read().split("\n"):
 P
 }
 
-if ! shown; then
-  echo "the rows don't run before any fault is planted"
-  tail -n 4 "$work/said" "$work/errors"
-  exit 1
-elif ! cmp -s "$work/rows" "$rows/stdout"; then
-  echo "the rows are not as they should be before any fault is planted"
-  diff "$work/rows" "$rows/stdout" | head -n 4
-  exit 1
-fi
+# Runs the rows with no fault planted.
+as_they_stand() {
+  if ! shown; then
+    echo "none: the rows don't run"
+    tail -n 4 "$work/said" "$work/errors"
+    return 1
+  elif ! cmp -s "$work/rows" "$rows/stdout"; then
+    echo "none: the rows are not as they should be"
+    diff "$work/rows" "$rows/stdout" | head -n 4
+    return 1
+  fi
+  echo "none: the rows are as they should be"
+}
+
+# Runs the rows with a fault planted, and names the first row that tells it.
+told() {
+  local line row
+  if ! plant "$work/snes/tools/row_faults/$1.edit"; then
+    echo "$1: can't be planted"
+    return 1
+  elif ! shown; then
+    echo "$1: doesn't run"
+    tail -n 2 "$work/errors"
+    return 1
+  elif cmp -s "$work/rows" "$rows/stdout"; then
+    echo "$1: NOT TOLD"
+    return 1
+  fi
+  line=$(cmp "$work/rows" "$rows/stdout" | sed 's/.*line //')
+  row=$(head -n "$line" "$rows/stdout" | grep -v '^bytes:\|^rows \|^frame \|^after ' | tail -n 1)
+  echo "$1: told by '$row'"
+}
+
 bad=0 tried=0
-if [ $# -gt 0 ]; then faults=("$@"); else mapfile -t faults < <(ls "$top/tools/row_faults" | sed 's/\.edit$//'); fi
+if [ $# -gt 0 ]; then faults=("$@"); else mapfile -t faults < <(echo none; ls "$top/tools/row_faults" | sed 's/\.edit$//'); fi
 for fault in "${faults[@]}"; do
   git checkout -q -- crates
-  tried=$((tried + 1))
-  if ! plant "$work/snes/tools/row_faults/$fault.edit"; then
-    echo "$fault: can't be planted" && bad=$((bad + 1))
-  elif ! shown; then
-    echo "$fault: doesn't run" && bad=$((bad + 1))
-    tail -n 2 "$work/errors"
-  elif cmp -s "$work/rows" "$rows/stdout"; then
-    echo "$fault: NOT TOLD" && bad=$((bad + 1))
+  if [ "$fault" = none ]; then
+    as_they_stand || bad=$((bad + 1))
   else
-    line=$(cmp "$work/rows" "$rows/stdout" | sed 's/.*line //')
-    told=$(head -n "$line" "$rows/stdout" | grep -v '^bytes:\|^rows \|^frame \|^after ' | tail -n 1)
-    echo "$fault: told by '$told'"
+    tried=$((tried + 1))
+    told "$fault" || bad=$((bad + 1))
   fi
 done
-echo "$tried faults, $((tried - bad)) told"
+echo "$tried faults tried, $((${#faults[@]} - bad)) of ${#faults[@]} runs as they should be"
 [ $bad = 0 ]

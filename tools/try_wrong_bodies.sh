@@ -1,19 +1,30 @@
 #!/usr/bin/env bash
 # Tries the wrong bodies in tools/wrong_bodies/CRATE/*.edit, each of which the check of its crate has to refuse.
 #
-# They are of the same form as those in crates/CRATE/must-fail, which the gate tries and which are tried here too: an edit
-# that can't be compiled counts for nothing there, and fails here. The gate has three or so of each crate, so that it
-# stays below 100 minutes on two processors; these are the others.
+#     tools/try_wrong_bodies.sh [--with-gate] [CRATE ..]
+#
+# They are of the same form as those in crates/CRATE/must-fail, which the gate tries: it has three or so of each crate, so that it
+# stays below 100 minutes on two processors; these are the others. With --with-gate those of the gate are tried too: an
+# edit that can't be compiled fails here, and not every toolchain's gate tells of it.
 #
 # The words are names of crates; without words all are tried, which takes some two hours of processor time and as
-# much for the proofs that stand below, where this machine has not made them yet. Works on what is committed, in
-# a folder of its own. Its status is that of `rt must-fail`.
+# much for the proofs that stand below, where they are not made yet. Works on what is committed, in a folder of its own, or
+# in the clone TREE, whose proofs are taken and kept (its sources are made those of this commit). The status is that of
+# `rt must-fail`.
 top=$(cd "$(dirname "${BASH_SOURCE[0]}")/.." && pwd) || exit 1
+with_gate=no
+if [ "${1-}" = --with-gate ]; then
+  with_gate=yes
+  shift
+fi
 work=$(mktemp -d) || exit 2
 trap 'rm -rf "$work"' EXIT
+tree=${TREE:-$work/snes}
 
-git clone -q "$top" "$work/snes" && cd "$work/snes" || exit 2
-if [ $# -gt 0 ]; then crates=("$@"); else mapfile -t crates < <((ls tools/wrong_bodies; ls -d crates/*/must-fail | cut -d/ -f2) | sort -u); fi
+[ -e "$tree/.git" ] || git clone -q --no-checkout "$top" "$tree" || exit 2
+cd "$tree" && git fetch -q "$top" HEAD && git checkout -q --force --detach FETCH_HEAD && git clean -fdq crates || exit 2
+if [ $# -gt 0 ]; then crates=("$@"); else mapfile -t crates < <((ls tools/wrong_bodies; [ $with_gate = no ] || ls -d crates/*/must-fail | cut -d/ -f2) | sort -u); fi
+[ $with_gate = yes ] || rm -rf crates/*/must-fail
 for crate in "${crates[@]}"; do
   [ -d "tools/wrong_bodies/$crate" ] || [ -d "crates/$crate/must-fail" ] || { echo "no edits of $crate" >&2; exit 2; }
   [ -d "tools/wrong_bodies/$crate" ] || continue
@@ -21,3 +32,6 @@ for crate in "${crates[@]}"; do
   cp "tools/wrong_bodies/$crate"/*.edit "crates/$crate/must-fail/" || exit 2
 done
 rt must-fail "${crates[@]}"
+status=$?
+git checkout -q --force HEAD && git clean -fdq crates
+exit $status

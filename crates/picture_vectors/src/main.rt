@@ -2,7 +2,8 @@
 //!
 //! The scenes come from outside: two other programs agreed on every read and every dot. Each row is drawn
 //! twice, by `ppu_line` and slowly by `picture_slow`, and both have to be so. The program prints the scene of
-//! each line that differs, counted from 1 in its file, and last how many there were.
+//! each line that differs, or is none of a scene, counted from 1 in its file, and last how many there were. The scenes of
+//! `data/differing.txt` are wrong in one thing each, and have to be named.
 #![tactic(auto)]
 
 use picture_scenes::{acts, read_holds, renew, row_holds, row_number};

@@ -8,5 +8,7 @@ pub mod Lists
 pub mod Loading
 pub mod MakeLemmas
 pub mod OutputLemmas
+pub mod PlayLemmas
 pub mod Putting
 pub mod RunLemmas
+pub mod SpcLemmas

@@ -6,8 +6,11 @@ pub mod Job
 pub mod Kinds
 pub mod Loads
 pub mod Make
+pub mod Play
+pub mod PutLaws
 pub mod Run
 pub mod Said
 pub mod Snes
+pub mod SoundOut
 pub mod Status
 pub mod Sums

@@ -1,16 +1,19 @@
 ghost use Rattle.std.specs.Prelude.{◌<◌};
 
-/// A fixed generator of numbers: a linear one, of which the upper bits are taken.
+use rand_core::utils::NextWord;
+use rand_pcg::Pcg32;
+
+/// Numbers below limits, from a seed.
 #[derive(Drop)]
 pub(crate) struct Dice {
-    state: u64,
+    words: Pcg32,
 }
 
 impl Dice {
     pub(crate) fn new(seed: u64) -> Dice {
-        let mut dice = Dice { state: seed };
-        let _first = dice.below(2);
-        dice
+        Dice {
+            words: Pcg32::new(seed, 0),
+        }
     }
 
     /// A number below a limit.
@@ -18,10 +21,6 @@ impl Dice {
         requires { 0 < limit }
         ensures { result < limit }
     {
-        self.state = self
-            .state
-            .wrapping_mul(6_364_136_223_846_793_005)
-            .wrapping_add(1_442_695_040_888_963_407);
-        (self.state >> 33) % limit
+        self.words.next_word() as u64 % limit
     }
 }

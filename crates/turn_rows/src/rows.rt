@@ -24,6 +24,9 @@ struct Compared {
     /// Pairs of which both sides heard something: they emitted a byte that is not 0. In twelve of a hundred one
     /// side only reads, so that the other one hears nothing.
     heard: u64,
+    /// Pairs that emitted what the pair before them did by the serial console, of other tapes: none, or the sums would tell
+    /// nothing.
+    as_before: u64,
 }
 
 /// A pair of tapes of a region: its style and its seed.
@@ -83,7 +86,12 @@ fn by_turns<R: AllocGlobal + Threads>(
 /// Runs the pairs of a region: four by `run_turns`, four by bare turns, and so on, and of these eight over the lock,
 /// then eight over words.
 fn compare<R: AllocGlobal + Threads>(rt: &R, region: Region) -> Result<Compared, Fail> {
-    let mut compared = Compared { alike: 0, heard: 0 };
+    let mut compared = Compared {
+        alike: 0,
+        heard: 0,
+        as_before: 0,
+    };
+    let mut before = Sums::new();
     for number in 0..PAIRS {
         let pair = Pair {
             region,
@@ -108,6 +116,10 @@ fn compare<R: AllocGlobal + Threads>(rt: &R, region: Region) -> Result<Compared,
         if serial.console.sounding > 0 && serial.sound.sounding > 0 {
             compared.heard = compared.heard.wrapping_add(1);
         }
+        if turns == before {
+            compared.as_before = compared.as_before.wrapping_add(1);
+        }
+        before = serial;
     }
     Ok(compared)
 }
@@ -118,7 +130,8 @@ fn turns_emit_what_the_serial_console_emits(rt: HostRuntime) -> Result<(), Fail>
         compare(&rt, Region::Ntsc)?,
         Compared {
             alike: 100,
-            heard: 88
+            heard: 88,
+            as_before: 0
         }
     );
     Ok(())
@@ -130,7 +143,8 @@ fn turns_emit_what_the_serial_console_emits_in_pal(rt: HostRuntime) -> Result<()
         compare(&rt, Region::Pal)?,
         Compared {
             alike: 100,
-            heard: 88
+            heard: 88,
+            as_before: 0
         }
     );
     Ok(())

@@ -1,3 +1,4 @@
+use case_text::{hashed, no_hash};
 use file_shelf::Failed;
 use run_drive::Sink;
 use snes_defs::Side;
@@ -10,20 +11,22 @@ pub(crate) struct Track {
     hash: u64,
 }
 
-/// Nothing emitted. The hash is 64-bit FNV-1a.
-const NOTHING: Track = Track {
-    count: 0,
-    sounding: 0,
-    hash: 0xCBF2_9CE4_8422_2325,
-};
-
 impl Track {
+    /// Nothing emitted.
+    fn new() -> Track {
+        Track {
+            count: 0,
+            sounding: 0,
+            hash: no_hash(),
+        }
+    }
+
     fn add(&mut self, byte: u8) {
         self.count = self.count.wrapping_add(1);
         if byte != 0 {
             self.sounding = self.sounding.wrapping_add(1);
         }
-        self.hash = (self.hash ^ byte as u64).wrapping_mul(0x100_0000_01B3);
+        self.hash = hashed(self.hash, byte);
     }
 }
 
@@ -37,8 +40,8 @@ pub(crate) struct Sums {
 impl Sums {
     pub(crate) fn new() -> Sums {
         Sums {
-            console: NOTHING,
-            sound: NOTHING,
+            console: Track::new(),
+            sound: Track::new(),
         }
     }
 }

@@ -2,6 +2,7 @@
 ghost use Rattle.std.specs.Prelude.{◌≡◌, ◌^◌, ◌≤◌, [], length};
 
 use crate::pairs::{rows, samples};
+use case_text::{hashed, no_hash};
 use clock_ratio::end_stamp;
 use file_shelf::Failed;
 use run_drive::{Sink, pour, run_serial};
@@ -21,16 +22,21 @@ pub struct Order {
     hash: u64,
 }
 
-/// Nothing taken.
-const NOTHING: Order = Order {
-    rows: 0,
-    samples: 0,
-    hash: 0xCBF2_9CE4_8422_2325,
-};
-
 impl Order {
+    /// Nothing taken.
+    fn new() -> Order {
+        Order {
+            rows: 0,
+            samples: 0,
+            hash: no_hash(),
+        }
+    }
+
+    /// A number more, its low byte first.
     fn add(&mut self, number: u64) {
-        self.hash = (self.hash ^ number).wrapping_mul(0x100_0000_01B3);
+        for byte in number.to_le_bytes() {
+            self.hash = hashed(self.hash, byte);
+        }
     }
 }
 
@@ -70,7 +76,7 @@ pub fn by_run(alloc: Global, frames: u32) -> Result<Order, NoMemory>
     let console = rows(alloc)?;
     let sound = samples(alloc)?;
     let mut buffer = [0u8; 1024];
-    let mut order = NOTHING;
+    let mut order = Order::new();
     let _ = run_serial(console, sound, end_stamp(frames), &mut buffer, &mut order);
     Ok(order)
 }
@@ -109,7 +115,7 @@ pub fn by_turns(alloc: Global, frames: u32) -> Result<Order, NoMemory>
     let console = rows(alloc)?;
     let sound = samples(alloc)?;
     let mut buffer = [0u8; 1024];
-    let mut order = NOTHING;
+    let mut order = Order::new();
     turn_by_turn(console, sound, end_stamp(frames), &mut buffer, &mut order);
     Ok(order)
 }

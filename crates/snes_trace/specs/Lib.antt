@@ -1,0 +1,5 @@
+pub mod Digits
+pub mod Mnemonics
+pub mod SpcMnemonics
+pub mod Position
+pub mod Tells

@@ -1,0 +1,160 @@
+//! Traces a run of `snes`: each step of both processors, for who debugs a cartridge.
+//!
+//! `trace --help` says what it takes. It makes the steps of the serial console (`serial_console`) one after another,
+//! the console's and the sound side's machine being those of `snes`, and looks at each before it is made, by what the
+//! machines lend. So what is told is what `snes serial` does. `docs/TRACE.md` says what a line says.
+//!
+//! The status is 0 where the trace was written, 1 where there are breakpoints and none was hit, and 2 where something
+//! could not be read or written or is refused, or where the command line is at fault.
+#![tactic(auto)]
+
+mod breaks;
+mod comma;
+mod digits;
+mod inputs;
+mod looks;
+mod mnemonics;
+mod operands;
+mod pair;
+mod parts;
+mod position;
+mod spc_mnemonics;
+mod spc_operands;
+mod step;
+mod text;
+mod trace;
+mod words;
+
+use anyhow::{Context, Result, bail};
+use clap::ArgMatches;
+use clock_ratio::end_stamp_in;
+use inputs::{Names, job_of};
+use pair::Pair;
+use snes_defs::{Job, MOST_FRAMES, Region, Side};
+use std::alloc::Global;
+use std::fs;
+use std::io::{self, BufWriter};
+use std::process::ExitCode;
+use std::rt::{Env, Files};
+use trace::{Wanted, write_trace};
+
+/// There are breakpoints, and none was hit.
+const NO_HIT: u8 = 1;
+
+/// Something could not be read or written or is refused, or the command line is at fault.
+const FAULT: u8 = 2;
+
+/// The stamp at which a frame begins.
+fn frame_stamp(region: Region, frame: u64) -> Result<u64> {
+    match u32::try_from(frame) {
+        Ok(frame) if frame <= MOST_FRAMES => Ok(end_stamp_in(region, frame)),
+        _ => bail!("a run has at most {MOST_FRAMES} frames"),
+    }
+}
+
+/// The first stamp that is told, and the one behind the last.
+fn range_of(region: Region, words: &ArgMatches<'_>) -> Result<(u64, u64)> {
+    let from = words.get_one::<u64>("from");
+    let to = words.get_one::<u64>("to");
+    match (from, to) {
+        (Some(from), Some(to)) => {
+            if to > end_stamp_in(region, MOST_FRAMES) {
+                bail!("a run has at most {MOST_FRAMES} frames");
+            }
+            Ok((from, to))
+        }
+        (None, None) => {
+            let first = words.get_one::<u64>("frame").unwrap_or(0);
+            let count = words.get_one::<u64>("frames").unwrap_or(1);
+            let from = frame_stamp(region, first)?;
+            Ok((from, frame_stamp(region, first.saturating_add(count))?))
+        }
+        _ => bail!("--from and --to go together"),
+    }
+}
+
+/// The side whose steps are told, or none for both.
+fn side_of(words: &ArgMatches<'_>) -> Option<Side> {
+    match words.get_str("side") {
+        Some("console") => Some(Side::Console),
+        Some("sound") => Some(Side::Sound),
+        _ => None,
+    }
+}
+
+/// The breakpoints of the file that is named, if one is.
+fn breaks_of<R: Files + AllocGlobal>(
+    rt: &R,
+    alloc: Global,
+    words: &ArgMatches<'_>,
+) -> Result<Vec<breaks::Break>> {
+    match words.get_str("break") {
+        Some(name) => {
+            let file = fs::read_to_string(rt, name).context(format_args!("cannot read {name}"))?;
+            breaks::read_breaks(alloc, name, file.as_str())
+        }
+        None => Ok(Vec::new(alloc)),
+    }
+}
+
+/// The job of the files that are named.
+fn job_in<R: Files + Print>(rt: &R, alloc: Global, words: &ArgMatches<'_>) -> Result<Job> {
+    let cart = words.get_str("cart").unwrap_or("");
+    let boot = words.get_str("boot").unwrap_or("");
+    let table = words.get_str("table").unwrap_or("");
+    let script = words.get_str("script").unwrap_or("");
+    let names = Names {
+        cart,
+        boot,
+        table,
+        script,
+    };
+    job_of(rt, alloc, names)
+}
+
+/// Does what the words ask for, and gives the status.
+fn obey<R: Files + Print + AllocGlobal>(rt: &R, words: &ArgMatches<'_>) -> Result<u8> {
+    let alloc = rt.alloc();
+    let job = job_in(rt, alloc, words)?;
+    let (from, to) = range_of(job.region, words)?;
+    let wanted = Wanted {
+        from,
+        to,
+        side: side_of(words),
+        instructions: words.get_flag("instructions"),
+        breaks: breaks_of(rt, alloc, words)?,
+        then: words.get_one::<u64>("then").unwrap_or(0),
+        lines: words.get_one::<u64>("lines").unwrap_or(u64::MAX),
+        is_csv: words.get_flag("csv"),
+    };
+    let Ok(mut pair) = Pair::new(alloc, &job) else {
+        bail!("no memory");
+    };
+    let mut out = BufWriter::new(alloc, io::writer(rt))?;
+    let told = write_trace(alloc, &mut pair, &wanted, &mut out)?;
+    Ok(if told.is_hit { 0 } else { NO_HIT })
+}
+
+/// Reads the words of the command line, and does what they ask for.
+fn run<R: Files + Print + Eprint + AllocGlobal + Env>(rt: &R) -> Result<u8> {
+    let alloc = rt.alloc();
+    let given: Vec<String> = std::env::args(rt)?.collect(alloc)?;
+    let command = words::command(alloc)?;
+    match command.try_get_matches_from(given.as_slice()) {
+        Ok(matches) => obey(rt, &matches),
+        Err(error) => {
+            error.print(rt)?;
+            Ok(if error.exit_code() == 0 { 0 } else { FAULT })
+        }
+    }
+}
+
+fn main(rt: HostRuntime) -> ExitCode {
+    match run(&rt) {
+        Ok(status) => ExitCode::from(status),
+        Err(error) => {
+            let _ = eprintln!(rt; "trace: {error:#}");
+            ExitCode::from(FAULT)
+        }
+    }
+}

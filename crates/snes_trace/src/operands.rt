@@ -1,0 +1,169 @@
+//! Operands of the 65C816, as they are written behind a mnemonic.
+
+ghost use Rattle.std.specs.Prelude.{◌≡◌};
+ghost use Rattle.cpu_alu.specs.Flow.{relative};
+ghost use Rattle.cpu_modes.specs.Addresses.{join};
+
+use crate::digits::{push_hex2, push_hex4, push_hex6, push_text};
+use cpu_tables::{INDEX_8, MEMORY_8, Mode, Op};
+use std::alloc::AllocError;
+
+/// The number in an operand.
+#[derive(Clone, Copy)]
+pub enum Number {
+    /// There is none.
+    Nothing,
+    /// A byte.
+    Byte,
+    /// A word, low byte first.
+    Word,
+    /// An address of three bytes, low byte first.
+    Long,
+    /// The address that a branch by a signed byte goes to.
+    Near,
+    /// The address that a branch by two bytes goes to.
+    Far,
+    /// Two banks. The bytes have that of the destination first, the text that of the source.
+    Banks,
+}
+
+/// How an operand is written: its number, with what stands before it and behind it.
+#[derive(Clone, Copy)]
+pub struct Operand {
+    pub front: &'static str,
+    pub number: Number,
+    pub back: &'static str,
+}
+
+impl Operand {
+    /// Whether nothing is written.
+    pub fn is_empty(&self) -> bool {
+        self.front.is_empty()
+    }
+}
+
+fn written(front: &'static str, number: Number, back: &'static str) -> Operand {
+    Operand {
+        front,
+        number,
+        back,
+    }
+}
+
+/// A number that is as wide as a flag of the status byte says: a byte where it is set.
+fn width(p: u8, flag: u8) -> Number {
+    if p & flag == 0 {
+        Number::Word
+    } else {
+        Number::Byte
+    }
+}
+
+/// The number of an immediate operand, where the status byte is `p`.
+fn immediate(op: Op, p: u8) -> Number {
+    match op {
+        Op::Rep | Op::Sep | Op::Wdm => Number::Byte,
+        Op::Ldx | Op::Ldy | Op::Cpx | Op::Cpy => width(p, INDEX_8),
+        _ => width(p, MEMORY_8),
+    }
+}
+
+/// The operand of what lives on the stack.
+fn on_stack(op: Op) -> Operand {
+    match op {
+        Op::Brk | Op::Cop => written("#$", Number::Byte, ""),
+        Op::Pea => written("$", Number::Word, ""),
+        Op::Pei => written("($", Number::Byte, ")"),
+        _ => written("", Number::Nothing, ""),
+    }
+}
+
+/// How the operand of an operation is written, where the status byte is `p` (W65C816S data sheet, "Addressing
+/// modes").
+pub fn operand_of(op: Op, mode: Mode, p: u8) -> Operand {
+    match mode {
+        Mode::Immediate => written("#$", immediate(op, p), ""),
+        Mode::Direct => written("$", Number::Byte, ""),
+        Mode::DirectX => written("$", Number::Byte, ",X"),
+        Mode::DirectY => written("$", Number::Byte, ",Y"),
+        Mode::DirectPointer => written("($", Number::Byte, ")"),
+        Mode::DirectXPointer => written("($", Number::Byte, ",X)"),
+        Mode::DirectPointerY => written("($", Number::Byte, "),Y"),
+        Mode::DirectLongPointer => written("[$", Number::Byte, "]"),
+        Mode::DirectLongPointerY => written("[$", Number::Byte, "],Y"),
+        Mode::Absolute => written("$", Number::Word, ""),
+        Mode::AbsoluteX => written("$", Number::Word, ",X"),
+        Mode::AbsoluteY => written("$", Number::Word, ",Y"),
+        Mode::Long => written("$", Number::Long, ""),
+        Mode::LongX => written("$", Number::Long, ",X"),
+        Mode::StackRelative => written("$", Number::Byte, ",S"),
+        Mode::StackPointerY => written("($", Number::Byte, ",S),Y"),
+        Mode::AbsolutePointer => written("($", Number::Word, ")"),
+        Mode::AbsoluteXPointer => written("($", Number::Word, ",X)"),
+        Mode::AbsoluteLongPointer => written("[$", Number::Word, "]"),
+        Mode::Relative => written("$", Number::Near, ""),
+        Mode::RelativeLong => written("$", Number::Far, ""),
+        Mode::Accumulator => written("A", Number::Nothing, ""),
+        Mode::Implied => written("", Number::Nothing, ""),
+        Mode::Stack => on_stack(op),
+        Mode::BlockMove => written("$", Number::Banks, ""),
+    }
+}
+
+/// A word of two bytes, low byte first: that which the processor joins.
+pub fn word(low: u8, high: u8) -> u16
+    ensures { result ≡ join low high }
+{
+    u16::from(low) + 256 * u16::from(high)
+}
+
+/// Where a branch by a signed byte goes to, from the address behind its instruction: where the processor goes.
+#[tactic(auto, unfolding(cpu_alu::specs::Flow::relative))]
+pub fn near(behind: u16, distance: u8) -> u16
+    ensures { result ≡ relative behind distance }
+{
+    let sum = u32::from(behind) + u32::from(distance);
+    if distance < 128 {
+        (sum % 65_536) as u16
+    } else {
+        ((sum + 65_280) % 65_536) as u16
+    }
+}
+
+/// Adds the number of an operand, whose bytes stand behind an opcode at `pc`.
+fn push_operand_number(
+    out: &mut Vec<u8>,
+    number: Number,
+    pc: u16,
+    bytes: [u8; 3],
+) -> Result<(), AllocError> {
+    let [first, second, third] = bytes;
+    match number {
+        Number::Nothing => Ok(()),
+        Number::Byte => push_hex2(out, first),
+        Number::Word => push_hex4(out, word(first, second)),
+        Number::Long => push_hex6(
+            out,
+            u32::from(word(first, second)) + 65_536 * u32::from(third),
+        ),
+        Number::Near => push_hex4(out, near(pc.wrapping_add(2), first)),
+        Number::Far => push_hex4(out, pc.wrapping_add(3).wrapping_add(word(first, second))),
+        Number::Banks => {
+            push_hex2(out, second)?;
+            push_text(out, ",$")?;
+            push_hex2(out, first)
+        }
+    }
+}
+
+/// Adds an operand, whose bytes stand behind an opcode at `pc`.
+pub fn push_operand(
+    out: &mut Vec<u8>,
+    operand: Operand,
+    pc: u16,
+    bytes: [u8; 3],
+) -> Result<(), AllocError> {
+    push_text(out, operand.front)?;
+    push_operand_number(out, operand.number, pc, bytes)?;
+    push_text(out, operand.back)
+}

@@ -1,0 +1,106 @@
+//! The two machines of a job, and each step of them as it is made.
+
+use crate::looks::{complete, look_at_console, look_at_sound, tell_dma};
+use crate::step::Step;
+use audio_side::AudioSide;
+use clock_ratio::console_first;
+use console_machine::ConsoleSide;
+use dma_hdma::Dma;
+use serial_console::Serial;
+use side_law::Machine;
+use snes_defs::{Job, NoMemory, Region};
+use std::alloc::Global;
+
+/// The last stamp at which a step may begin.
+const LAST: u64 = 1 << 62;
+
+/// The serial console of a job, and channels that hear of DMA alone.
+#[derive(Drop)]
+pub struct Pair {
+    serial: Serial<ConsoleSide, AudioSide>,
+    dma: Dma,
+    /// Where emitted bytes are dropped.
+    bytes: Vec<u8>,
+    region: Region,
+}
+
+/// Makes the next step of a serial console, where there is room for its bytes; whether it was made.
+fn make_turn<C: Machine, S: Machine>(serial: &mut Serial<C, S>, bytes: &mut [u8]) -> bool {
+    if serial.console().pending() > 0 {
+        let _count = serial.console().drain(bytes);
+    }
+    if serial.sound().pending() > 0 {
+        let _count = serial.sound().drain(bytes);
+    }
+    let (console, sound) = serial.machines();
+    if !console.ready() || !sound.ready() || console.stamp() > LAST || sound.stamp() > LAST {
+        return false;
+    }
+    let _side = serial.turn();
+    true
+}
+
+impl Pair {
+    /// The machines of a job before its first step.
+    pub fn new(alloc: Global, job: &Job) -> Result<Pair, NoMemory> {
+        let console = ConsoleSide::new(alloc, job)?;
+        let sound = AudioSide::new(alloc, job)?;
+        let Ok(bytes) = vec![in alloc; 0u8; 4096] else {
+            return Err(NoMemory);
+        };
+        Ok(Pair {
+            serial: Serial::new(console, sound),
+            dma: Dma::new(),
+            bytes,
+            region: job.region,
+        })
+    }
+
+    /// The region of the machines.
+    pub fn region(&self) -> Region {
+        self.region
+    }
+
+    /// Whether both machines stand at a stamp or behind it.
+    pub fn is_past(&self, end: u64) -> bool {
+        self.serial.finished(end)
+    }
+
+    /// Makes the next step of the console, and tells what it was.
+    fn next_of_console(&mut self) -> Option<Step> {
+        let (console, _) = self.serial.machines();
+        let mut step = look_at_console(console, &self.dma);
+        let place = match step.address {
+            Some(address) => Some(console.bus().place(address)),
+            None => None,
+        };
+        if !make_turn(&mut self.serial, self.bytes.as_mut_slice()) {
+            return None;
+        }
+        let (console, _) = self.serial.machines();
+        complete(console, &mut step);
+        tell_dma(&mut self.dma, place, &step);
+        Some(step)
+    }
+
+    /// Makes the next step of the sound side, and tells what it was.
+    fn next_of_sound(&mut self) -> Option<Step> {
+        let (incoming, _) = self.serial.ports();
+        let (_, sound) = self.serial.machines();
+        let step = look_at_sound(sound, incoming);
+        if !make_turn(&mut self.serial, self.bytes.as_mut_slice()) {
+            return None;
+        }
+        Some(step)
+    }
+
+    /// Makes the next step, that of the earlier machine, and tells what it was.
+    pub fn next(&mut self) -> Option<Step> {
+        let (console, sound) = self.serial.machines();
+        if console_first(console.stamp(), sound.stamp()) {
+            self.next_of_console()
+        } else {
+            self.next_of_sound()
+        }
+    }
+}

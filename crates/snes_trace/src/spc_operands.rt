@@ -1,0 +1,94 @@
+//! Operands of the SPC700, as they are written behind a mnemonic, in Sony's syntax.
+
+use crate::digits::{push_hex2, push_hex4, push_number, push_text};
+use crate::operands::{near, word};
+use spc_tables::SpcMode;
+use std::alloc::AllocError;
+
+/// Adds a number of a byte with what stands before it and behind it.
+fn push_byte(out: &mut Vec<u8>, front: &str, byte: u8, back: &str) -> Result<(), AllocError> {
+    push_text(out, front)?;
+    push_hex2(out, byte)?;
+    push_text(out, back)
+}
+
+/// Adds a number of a word with what stands before it and behind it.
+fn push_word(out: &mut Vec<u8>, front: &str, word: u16, back: &str) -> Result<(), AllocError> {
+    push_text(out, front)?;
+    push_hex4(out, word)?;
+    push_text(out, back)
+}
+
+/// Adds a bit's number behind its byte.
+fn push_bit(out: &mut Vec<u8>, bit: u8) -> Result<(), AllocError> {
+    push_text(out, ".")?;
+    push_number(out, u64::from(bit), 0)
+}
+
+/// Adds two places or numbers, the first of which comes second in the program.
+fn push_two(out: &mut Vec<u8>, between: &str, bytes: [u8; 2]) -> Result<(), AllocError> {
+    let [second, first] = bytes;
+    push_byte(out, "$", first, between)?;
+    push_hex2(out, second)
+}
+
+/// Adds a bit of the first 8 KiB.
+fn push_memory_bit(out: &mut Vec<u8>, place: u16) -> Result<(), AllocError> {
+    push_word(out, "$", place % 8192, "")?;
+    push_bit(out, (place / 8192) as u8)
+}
+
+/// Adds what comes before a branch's target, for the modes that have both.
+fn push_tested(out: &mut Vec<u8>, mode: SpcMode, byte: u8) -> Result<(), AllocError> {
+    match mode {
+        SpcMode::DirectBitRelative(bit) => {
+            push_byte(out, "$", byte, "")?;
+            push_bit(out, bit)?;
+            push_text(out, ",")
+        }
+        SpcMode::DirectXRelative => push_byte(out, "$", byte, "+X,"),
+        _ => push_byte(out, "$", byte, ","),
+    }
+}
+
+/// Adds the operand of a mode, whose bytes stand behind an opcode at `pc`.
+pub fn push_spc_operand(
+    out: &mut Vec<u8>,
+    mode: SpcMode,
+    pc: u16,
+    bytes: [u8; 2],
+) -> Result<(), AllocError> {
+    let [first, second] = bytes;
+    let both = word(first, second);
+    match mode {
+        SpcMode::Implied | SpcMode::Stack => Ok(()),
+        SpcMode::Accumulator => push_text(out, "A"),
+        SpcMode::Immediate => push_byte(out, "#$", first, ""),
+        SpcMode::Direct | SpcMode::HighPage => push_byte(out, "$", first, ""),
+        SpcMode::DirectX => push_byte(out, "$", first, "+X"),
+        SpcMode::DirectY => push_byte(out, "$", first, "+Y"),
+        SpcMode::Absolute => push_word(out, "!$", both, ""),
+        SpcMode::AbsoluteX => push_word(out, "!$", both, "+X"),
+        SpcMode::AbsoluteY => push_word(out, "!$", both, "+Y"),
+        SpcMode::IndirectX => push_text(out, "(X)"),
+        SpcMode::IndirectXIncrement => push_text(out, "(X)+"),
+        SpcMode::DirectXPointer => push_byte(out, "[$", first, "+X]"),
+        SpcMode::DirectPointerY => push_byte(out, "[$", first, "]+Y"),
+        SpcMode::DirectImmediate => push_two(out, ",#$", bytes),
+        SpcMode::DirectDirect => push_two(out, ",$", bytes),
+        SpcMode::IndirectXIndirectY => push_text(out, "(X),(Y)"),
+        SpcMode::DirectBit(bit) => {
+            push_byte(out, "$", first, "")?;
+            push_bit(out, bit)
+        }
+        SpcMode::DirectBitRelative(_) | SpcMode::DirectRelative | SpcMode::DirectXRelative => {
+            push_tested(out, mode, first)?;
+            push_word(out, "$", near(pc.wrapping_add(3), second), "")
+        }
+        SpcMode::MemoryBit => push_memory_bit(out, both),
+        SpcMode::Relative => push_word(out, "$", near(pc.wrapping_add(2), first), ""),
+        SpcMode::YRelative => push_word(out, "Y,$", near(pc.wrapping_add(2), first), ""),
+        SpcMode::AbsoluteXPointer => push_word(out, "[!$", both, "+X]"),
+        SpcMode::VectorTable(number) => push_number(out, u64::from(number), 0),
+    }
+}

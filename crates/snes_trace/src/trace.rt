@@ -1,0 +1,136 @@
+//! The trace: which steps are told, and how.
+
+use crate::breaks::{Break, hits};
+use crate::comma::{HEAD, push_row};
+use crate::pair::Pair;
+use crate::step::{Kind, Step};
+use crate::text::push_line;
+use anyhow::{Result, bail};
+use snes_defs::{Region, Side};
+use std::alloc::Global;
+use std::io::Write;
+
+/// Which steps are told.
+#[derive(Drop)]
+pub struct Wanted {
+    /// Those that begin at this stamp or later, and before the other.
+    pub from: u64,
+    pub to: u64,
+    /// Those of this side, or of both.
+    pub side: Option<Side>,
+    /// Only opcodes and resets, but for hits.
+    pub instructions: bool,
+    /// Those that hit, where there are breakpoints, and so many behind each hit.
+    pub breaks: Vec<Break>,
+    pub then: u64,
+    /// So many lines at most.
+    pub lines: u64,
+    /// Whether lines are CSV.
+    pub is_csv: bool,
+}
+
+/// What became of a trace.
+#[derive(Clone, Copy)]
+pub struct Told {
+    /// The lines that were written, but for a head.
+    pub lines: u64,
+    /// Whether a breakpoint was hit, or there is none.
+    pub is_hit: bool,
+}
+
+/// A trace under way.
+#[derive(Drop)]
+struct Telling<'a> {
+    wanted: &'a Wanted,
+    /// How many steps are still told behind the last hit.
+    left: u64,
+    told: Told,
+}
+
+impl Telling<'_> {
+    /// Whether a step is told, where breakpoints count from the side and the stamp alone.
+    fn is_in_range(&self, step: &Step) -> bool {
+        step.stamp >= self.wanted.from
+            && step.stamp < self.wanted.to
+            && !self.wanted.side.is_some_and(|side| side != step.side)
+    }
+
+    /// Whether a step is one of the kinds that are told.
+    fn is_of_kind(&self, step: &Step) -> bool {
+        !self.wanted.instructions || step.kind == Kind::Opcode || step.kind == Kind::Reset
+    }
+
+    /// Whether a step is told.
+    fn tells(&mut self, step: &Step) -> bool {
+        if !self.is_in_range(step) {
+            return false;
+        }
+        if self.wanted.breaks.is_empty() {
+            return self.is_of_kind(step);
+        }
+        if hits(self.wanted.breaks.as_slice(), step) {
+            self.told.is_hit = true;
+            self.left = self.wanted.then;
+            return true;
+        }
+        if self.left > 0 && self.is_of_kind(step) {
+            self.left -= 1;
+            return true;
+        }
+        false
+    }
+}
+
+/// Writes the line of a step.
+fn write_step<W: Write>(
+    out: &mut W,
+    line: &mut Vec<u8>,
+    region: Region,
+    step: &Step,
+    is_csv: bool,
+) -> Result<()> {
+    line.clear();
+    if is_csv {
+        push_row(line, region, step)?;
+    } else {
+        push_line(line, region, step)?;
+    }
+    out.write_all(line.as_slice())?;
+    Ok(())
+}
+
+/// Makes the steps up to the end of what is wanted, and writes those that are told.
+pub fn write_trace<W: Write>(
+    alloc: Global,
+    pair: &mut Pair,
+    wanted: &Wanted,
+    out: &mut W,
+) -> Result<Told> {
+    let region = pair.region();
+    let mut line = Vec::with_capacity(alloc, 256)?;
+    let mut telling = Telling {
+        wanted,
+        left: 0,
+        told: Told {
+            lines: 0,
+            is_hit: wanted.breaks.is_empty(),
+        },
+    };
+    if wanted.is_csv {
+        out.write_all(HEAD.as_bytes())?;
+    }
+    for _ in 0..u64::MAX {
+        if pair.is_past(wanted.to) || telling.told.lines >= wanted.lines {
+            break;
+        }
+        let Some(step) = pair.next() else {
+            bail!("the machines cannot go on");
+        };
+        if telling.tells(&step) {
+            write_step(out, &mut line, region, &step, wanted.is_csv)?;
+            telling.told.lines = telling.told.lines.saturating_add(1);
+        }
+    }
+    out.flush()?;
+    Ok(telling.told)
+}
