@@ -21,7 +21,7 @@ use crate::plays::{
 use crate::seats::{Clocks, Seats};
 use crate::views::{ListView, LockView};
 use atomic_table::Table;
-use port_log::PortLog;
+use port_log::{PortLog, across};
 use port_wire::PassLate;
 use snes_defs::{Region, Side};
 use std::alloc::Global;
@@ -35,17 +35,6 @@ fn number(side: Side) -> u64
     match side {
         Side::Console => 1,
         Side::Sound => 2,
-    }
-}
-
-/// The side across the ports.
-#[inline(always)]
-fn across(side: Side) -> Side
-    ensures { result ≡ other_side side }
-{
-    match side {
-        Side::Console => Side::Sound,
-        Side::Sound => Side::Console,
     }
 }
 

@@ -21,3 +21,4 @@ mod written;
 
 pub use late::Late;
 pub use port_log::PortLog;
+pub use seen::across;

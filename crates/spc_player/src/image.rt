@@ -1,6 +1,7 @@
 ghost use Rattle.std.specs.Prelude.{◌≡◌, ◌≤◌, ◌↔◌, Some, None, Err, IfOk, OnOk, length, take, drop};
 ghost use Rattle.spc_player.specs.SoundFile.{image_of, refusal_of, regs_of};
 
+use byteorder::{ByteOrder, LittleEndian};
 use snes_defs::NoMemory;
 use spc700::SpcRegs;
 use std::alloc::Global;
@@ -111,7 +112,7 @@ fn regs(file: &[u8]) -> SpcRegs
         x: file[0x28],
         y: file[0x29],
         sp: file[0x2B],
-        pc: u16::from(file[0x25]) + 256 * u16::from(file[0x26]),
+        pc: LittleEndian::read_u16(&file[0x25..]),
         psw: file[0x2A],
     }
 }
