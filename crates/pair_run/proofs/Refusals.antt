@@ -3,13 +3,12 @@ use Rattle.std.proofs.Common.{◌≡◌, ℕ, zero, suc, ◌+◌, ◌^◌, ◌<�
 use Rattle.std.proofs.lemmas.Bool.{cases_lt}
 use Rattle.std.specs.Prelude.{OnErr, IfErr, if◌then◌else◌}
 use Rattle.port_wire.specs.declared.late.PassLate.{PassLate}
-use Rattle.port_wire.specs.declared.late.PassLate.TheVariants.{Behind, Ahead, Held}
 use Rattle.port_wire.specs.declared.late.CallName.{CallName}
 use Rattle.port_wire.specs.declared.late.CallName.TheVariants.{Read, Clear, Write, Advance}
 use Rattle.port_wire.specs.Seen.{Half}
 use Rattle.port_wire.specs.Answers.{IsRefused, HasAdvanced}
 use Rattle.port_wire.specs.Tally.{Tally, same_name, is_again, counted_on, after_refusal, HasRisenBy}
-use Rattle.pair_run.specs.Leg.{IfHeldBack, IsSpent, end_of}
+use Rattle.pair_run.specs.Leg.{IsSpent}
 use Rattle.pair_run.specs.Tried.{IsHeldBack}
 
 -- the last calls, so many, were all of this name at this stamp, and each was refused
@@ -97,9 +96,3 @@ row_ends stands name at k tries first mid new (Ok done) row few all risen counte
 row_ends stands name at k tries first mid new (Err late) row few all risen counted held = λ x is before rose.
     row_is_spent (name x) at k tries late before mid new (row x is) few all
     (risen_on k before.tally.refused mid.tally.refused new.tally.refused (risen before.tally.refused rose) counted) (held x is).tally
-
--- what is said of the refusal by which a leg was held back
-pub of_refusal : (late : PassLate) (P : PassLate → Type 0) → P late → IfHeldBack (end_of late) P
-of_refusal (Behind need other) P h = h
-of_refusal (Ahead at other) P h = h
-of_refusal (Held by) P h = h

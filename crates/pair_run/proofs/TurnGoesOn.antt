@@ -16,7 +16,7 @@ use Rattle.pair_run.specs.declared.stepped.Stepped.TheVariants.{Made, Ended}
 use Rattle.port_wire.specs.Tally.{Tally, HasRisenBy}
 use Rattle.port_wire.specs.declared.late.CallName.{CallName}
 use Rattle.pair_run.specs.declared.ends.LegEnd.{LegEnd}
-use Rattle.pair_run.specs.declared.ends.LegEnd.TheVariants.{Done, Drain, Behind, Ahead, Held}
+use Rattle.pair_run.specs.declared.ends.LegEnd.TheVariants.{Done, Drain, HeldBack}
 use Rattle.port_wire.specs.declared.late.PassLate.{PassLate}
 use Rattle.pair_run.specs.Leg.{LegRan, IfHeldBack, IsSpent}
 use Rattle.pair_run.specs.Tried.{Tried, call_of, as_heard}
@@ -147,9 +147,7 @@ pub held_still : (end : LegEnd) (name : CallName) (at now tries : ℕ) (old mid 
     → IfHeldBack end (λ late. IsSpent name now late tries old new)
 held_still Done name at now tries old mid new h same is = tt
 held_still Drain name at now tries old mid new h same is = tt
-held_still (Behind need other) name at now tries old mid new h same is = spent_still name at now tries _ old mid new h same is
-held_still (Ahead too other) name at now tries old mid new h same is = spent_still name at now tries _ old mid new h same is
-held_still (Held by) name at now tries old mid new h same is = spent_still name at now tries _ old mid new h same is
+held_still (HeldBack late) name at now tries old mid new h same is = spent_still name at now tries late old mid new h same is
 
 -- a leg that ran, and what its side says of its end
 leg_ended : {State : Type 0} (side : Side) (moves : Moves State) (window end most cap at : ℕ) (mid : State → Type 0) (legs old new : Half)

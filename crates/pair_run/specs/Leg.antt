@@ -5,12 +5,11 @@ use Rattle.side_law.specs.Moves.{Moves}
 use Rattle.commute_laws.specs.History.{History}
 use Rattle.commute_laws.specs.Leg.{IsLeg}
 use Rattle.port_wire.specs.declared.late.PassLate.{PassLate}
-use Rattle.port_wire.specs.declared.late.PassLate.TheVariants as late
 use Rattle.port_wire.specs.declared.late.CallName.{CallName}
 use Rattle.port_wire.specs.Seen.{Half}
 use Rattle.port_wire.specs.Tally.{HasRisenBy}
 use Rattle.pair_run.specs.declared.ends.LegEnd.{LegEnd}
-use Rattle.pair_run.specs.declared.ends.LegEnd.TheVariants.{Done, Drain, Behind, Ahead, Held}
+use Rattle.pair_run.specs.declared.ends.LegEnd.TheVariants.{Done, Drain, HeldBack}
 
 -- from a history with the pass's entries the machine has run a leg against what the pass has heard: its
 -- state and entries are those of the leg, and the bytes of the leg wait
@@ -30,19 +29,11 @@ pub record HasRun {State : Type 0} (side : Side) (moves : Moves State) (window e
   pub from : (before : History State) → stood before.now → before.entries ≡ old.mine
       → LegRan side moves window end stands new waited waits before
 
--- the end of a leg that was held back for too long
-abbrev pub end_of : PassLate → LegEnd
-end_of (late.Behind need other) = Behind need other
-end_of (late.Ahead at other) = Ahead at other
-end_of (late.Held by) = Held by
-
 -- what is said of the refusal by which a leg was held back
 abbrev pub IfHeldBack : LegEnd → (PassLate → Type 0) → Type 0
 IfHeldBack Done P = Unit {0}
 IfHeldBack Drain P = Unit {0}
-IfHeldBack (Behind need other) P = P (late.Behind need other)
-IfHeldBack (Ahead at other) P = P (late.Ahead at other)
-IfHeldBack (Held by) P = P (late.Held by)
+IfHeldBack (HeldBack late) P = P late
 
 -- the last calls, as many as there are tries, were all this call at this stamp, all in this leg, and each
 -- was refused, the last of them so

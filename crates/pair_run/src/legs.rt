@@ -5,7 +5,7 @@ ghost use Rattle.pair_run.specs.Leg.{HasRun, IfHeldBack, IsSpent};
 ghost use Rattle.pair_run.specs.Tried.{call_of};
 
 use crate::again::{publish, step_by_call};
-use crate::ends::{LegEnd, held_back};
+use crate::ends::LegEnd;
 use crate::lone::run_alone;
 use port_wire::{Gate, Wire};
 use side_law::Machine;
@@ -47,7 +47,7 @@ pub fn leg<W: Wire, M: Machine, G: Gate>(
     'steps: while machine.stamp() < end && machine.ready() {
         match step_by_call(wire, pass, machine, tries) {
             Ok(()) => run_alone(wire, pass, machine, end),
-            Err(late) => return held_back(late),
+            Err(late) => return LegEnd::HeldBack(late),
         }
     }
     publish(wire, pass, machine.stamp());

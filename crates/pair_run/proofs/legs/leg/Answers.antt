@@ -1,9 +1,9 @@
 use Rattle.std.proofs.Common.{◌<◌, refl, sym, ◌∙◌, subst, arith}
 use Rattle.clock_ratio.specs.Stamp.{window_of}
-use Rattle.pair_run.specs.Leg.{LegRan, IfHeldBack, IsSpent}
+use Rattle.pair_run.specs.Leg.{LegRan, IsSpent}
 use Rattle.pair_run.specs.Tried.{Tried, call_of}
 use Rattle.pair_run.proofs.LegGoesOn.{leg_waits, leg_steps, leg_runs}
-use Rattle.pair_run.proofs.Refusals.{none_risen, of_refusal}
+use Rattle.pair_run.proofs.Refusals.{none_risen}
 use Rattle.pair_run.proofs.legs.leg.Goals as goal
 
 pub steps-init : goal.steps-init
@@ -79,10 +79,8 @@ returns-in-Err-clause-spent g c = λ m stands.
     let new = (wire.seen c.step_by_call.new.pass).half in
     let name = call_of (machine.moves.act m) in
     let there = subst (λ x. machine.stands x m) c.in-Err.ensures.stays stands in
-    subst (λ e. IfHeldBack e (λ late. IsSpent name (machine.stamp_of c.step_by_call.new.machine) late c.args.tries first new)) (sym c.held_back.ensures)
-    (of_refusal c.in-Err.late (λ late. IsSpent name (machine.stamp_of c.step_by_call.new.machine) late c.args.tries first new)
-    (subst (λ x. IsSpent name (machine.stamp_of x) c.in-Err.late c.args.tries first new) (sym c.in-Err.ensures.stays)
-    (c.in-Err.ensures.spent m there first (c.steps.invariant.counted first.tally.refused (none_risen first.tally.refused)))))
+    subst (λ x. IsSpent name (machine.stamp_of x) c.in-Err.late c.args.tries first new) (sym c.in-Err.ensures.stays)
+    (c.in-Err.ensures.spent m there first (c.steps.invariant.counted first.tally.refused (none_risen first.tally.refused)))
 
 pub returns-then-stamp-end-clause-ran : goal.returns-then-stamp-end-clause-ran
 returns-then-stamp-end-clause-ran g c = record {
