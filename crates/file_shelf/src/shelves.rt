@@ -2,7 +2,7 @@ ghost use Rattle.std.specs.Prelude.{◌≡◌, ◌+◌, ◌<◌, ◌≤◌, [], 
 ghost use Rattle.file_shelf.specs.Told.{Holds, Appends, AppendsSome, HasRisen};
 ghost use Rattle.file_shelf.specs.Shown.{Shown, IsUntouched, IsCreated, OnlyLoads, OnlyCreates, OnlyPuts};
 
-/// The four files that a run loads, in their order.
+/// The files that a command loads.
 #[derive(Clone, Copy, Debug, PartialEq, Eq)]
 pub enum Input {
     /// The cartridge.
@@ -13,6 +13,8 @@ pub enum Input {
     Table,
     /// The script of pads.
     Script,
+    /// The plan of a rewinder.
+    Plan,
 }
 
 /// The four places that the program writes to.

@@ -1,11 +1,25 @@
 -- What a plan of the rewinder says, line by line. This project's own format.
-use Rattle.std.specs.Prelude.{ℕ, ◌+◌, ◌-◌, Bool, true, false, ◌&&◌, nat_le, nat_eq, if◌then◌else◌, min, List, [], ◌∷◌, ◌++◌, length, map, codes, replicate, slice_index_or, slice_set, Option, Some, None, Result, Ok, Err}
+use Rattle.std.specs.Prelude.{ℕ, ◌+◌, ◌-◌, ◌<◌, Bool, true, false, ◌&&◌, nat_le, nat_eq, if◌then◌else◌, min, List, [], ◌∷◌, ◌++◌, length, map, codes, replicate, slice_index_or, slice_set, Option, Some, None, Result, Ok, Err}
 use Rattle.std.specs.Str.{bytes_eq}
 use Rattle.bstr.specs.Text.{lines_of, without_terminator}
 use Rattle.snes_defs.specs.declared.script.Span.{Span}
 use Rattle.input_files.specs.Fields.{span_of, word_of, behind}
 use Rattle.input_files.specs.declared.plan.PlanStep.{PlanStep}
 use Rattle.input_files.specs.declared.plan.PlanStep.TheVariants.{Go, Keep, Back}
+
+-- how many frames the goes of a plan last
+abbrev pub frames_in : List PlanStep → ℕ
+frames_in [] = 0
+frames_in (Go count pad1 pad2 ∷ rest) = count + frames_in rest
+frames_in (Keep slot ∷ rest) = frames_in rest
+frames_in (Back slot ∷ rest) = frames_in rest
+
+-- the slots that a plan names are below m
+abbrev pub NamesBelow : ℕ → List PlanStep → Type 0
+NamesBelow m [] = Unit {0}
+NamesBelow m (Go count pad1 pad2 ∷ rest) = NamesBelow m rest
+NamesBelow m (Keep slot ∷ rest) = (slot < m) × NamesBelow m rest
+NamesBelow m (Back slot ∷ rest) = (slot < m) × NamesBelow m rest
 
 -- what was read of a plan: its steps, the sum of the counts of its goes, and for each of the eight slots whether it was kept
 pub record PlanRead : Type 0 where

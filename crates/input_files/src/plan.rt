@@ -1,5 +1,5 @@
-ghost use Rattle.std.specs.Prelude.{◌≡◌, ℕ, Ok, Err, IfOk};
-ghost use Rattle.input_files.specs.Plan.{plan_of};
+ghost use Rattle.std.specs.Prelude.{◌≡◌, ◌≤◌, ℕ, Ok, Err, IfOk};
+ghost use Rattle.input_files.specs.Plan.{plan_of, frames_in, NamesBelow};
 
 use crate::planning::Planning;
 use bstr::ByteSlice;
@@ -26,23 +26,31 @@ pub struct Plan {
 impl Model for Plan {
     ghost use Rattle.std.specs.Prelude.{List};
     ghost use Rattle.input_files.specs.declared.plan.PlanStep.{PlanStep};
+    ghost use Rattle.std.specs.Prelude.{◌≤◌};
+    ghost use Rattle.input_files.specs.Plan.{frames_in, NamesBelow};
 
     ghost Value = { List PlanStep };
 
     ghost view = { λ p. p.steps.items };
+
+    ghost invariant = { λ p. (frames_in p.steps.items ≤ 36000) × NamesBelow 8 p.steps.items };
 }
 
 impl Plan {
     /// Keeps the steps. No memory is taken.
     pub(crate) fn of(steps: Vec<PlanStep>) -> Plan
+        requires few { frames_in steps.items ≤ 36000 }
+        requires slots { NamesBelow 8 steps.items }
         ensures { result ≡ steps.items }
     {
         Plan { steps }
     }
 
-    /// The steps, in order.
+    /// The steps, in order. Its goes last at most 36,000 frames, and its slots are below 8.
     pub fn steps(&self) -> &[PlanStep]
-        ensures { result.now ≡ self.now }
+        ensures all { result.now ≡ self.now }
+        ensures few { frames_in self.now ≤ 36000 }
+        ensures slots { NamesBelow 8 self.now }
     {
         self.steps.as_slice()
     }

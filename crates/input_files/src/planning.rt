@@ -22,11 +22,12 @@ impl Model for Planning {
 
     ghost Value = { PlanRead };
 
-    ghost use Rattle.std.specs.Prelude.{◌≤◌};
+    ghost use Rattle.std.specs.Prelude.{◌≡◌, ◌≤◌};
+    ghost use Rattle.input_files.specs.Plan.{frames_in, NamesBelow};
 
     ghost view = { λ p. record { steps = p.steps.items; frames = p.frames; kept = p.kept } };
 
-    ghost invariant = { λ p. p.frames ≤ 36000 };
+    ghost invariant = { λ p. (p.frames ≡ frames_in p.steps.items) × (p.frames ≤ 36000) × NamesBelow 8 p.steps.items };
 }
 
 /// The slot of one digit, 0 to 7.
@@ -92,6 +93,7 @@ impl Planning {
     }
 
     /// Takes a span, if there is one and the sum of the counts allows it.
+    #[tactic(auto, using(crate::proofs::Plans::more))]
     fn go_on(&mut self, number: u32, span: Option<Span>) -> Result<(), PlanEnd>
         ensures ok { OnOk result (after_go self.old span ≡ Some self.new) }
         ensures place { (k : ℕ) → result ≡ Err (PlanEnd.Line k) → k ≡ number }
@@ -116,6 +118,7 @@ impl Planning {
     }
 
     /// Takes a slot that is kept.
+    #[tactic(auto, using(crate::proofs::Plans::more))]
     fn keep(&mut self, number: u32, slot: Option<u8>) -> Result<(), PlanEnd>
         requires { IfSome slot (λ s. s < 8) }
         ensures ok { OnOk result (after_keep self.old slot ≡ Some self.new) }
@@ -133,6 +136,7 @@ impl Planning {
     }
 
     /// Takes a return, to a slot that was kept before.
+    #[tactic(auto, using(crate::proofs::Plans::more))]
     fn go_back(&mut self, number: u32, slot: Option<u8>) -> Result<(), PlanEnd>
         requires { IfSome slot (λ s. s < 8) }
         ensures ok { OnOk result (after_back self.old slot ≡ Some self.new) }

@@ -1,3 +1,4 @@
 pub mod Ends
 pub mod Plays
 pub mod Ready
+pub mod Planning

@@ -17,7 +17,7 @@ use std::thread::Threads;
 use turn_drive::run_turns;
 
 /// The bytes of the buffer that a run is drained through: as many as can wait in a side.
-const BUFFER: usize = 65_536;
+pub(crate) const BUFFER: usize = 65_536;
 
 /// The console of a job: both sides at their starts, the ports between them, the end of the job's frames,
 /// and a buffer.

@@ -2,10 +2,13 @@
 //
 // Stands on both sides of the console and on the loops that run two machines. `Console` is made from a job,
 // with both sides at their starts, and is a player: what it emits is the output of the serial console of
-// the two, from their starts to the end of the job's frames, however it is run (`specs/Start.antt`).
+// the two, from their starts to the end of the job's frames, however it is run (`specs/Start.antt`). It also plays
+// plans, by a rewinder of the two sides (`Planned`).
 #![tactic(auto)]
 
 mod console;
 mod door;
+mod planned;
 
 pub use console::{Console, play_by_turns};
+pub use planned::Planned;

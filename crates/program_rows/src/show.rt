@@ -5,7 +5,7 @@ use file_shelf::Out;
 use std::{io, str};
 
 /// An output is told by its runs of equal units where it has no more than so many.
-const MOST_RUNS: usize = 6;
+const MOST_RUNS: usize = 8;
 
 /// A longer name is told by its length.
 const MOST_LETTERS: usize = 64;

@@ -32,7 +32,7 @@ demo_text frames samples video sound =
 abbrev pub image_text : List ℕ
 image_text = codes "image 524288"
 
--- a file is no cartridge, boot ROM, table or script
+-- a file is no cartridge, boot ROM, table, script or plan
 abbrev pub cart_refused_text : CartRefused → List ℕ
 cart_refused_text cart.TooShort = codes "cart refused: too short"
 cart_refused_text cart.TooLong = codes "cart refused: too long"
@@ -49,6 +49,9 @@ table_refused_text entry = codes "table refused at " ++ decimal entry
 abbrev pub script_refused_text : ℕ → List ℕ
 script_refused_text line = codes "script refused at line " ++ decimal line
 
+abbrev pub plan_refused_text : ℕ → List ℕ
+plan_refused_text line = codes "plan refused at line " ++ decimal line
+
 -- the words are in no form
 abbrev pub usage_text : List ℕ
 usage_text = codes "usage: snes run, serial, make or demo"
@@ -59,6 +62,7 @@ cannot_read_text input.Cart = codes "cannot read cart"
 cannot_read_text input.Boot = codes "cannot read boot"
 cannot_read_text input.Table = codes "cannot read table"
 cannot_read_text input.Script = codes "cannot read script"
+cannot_read_text input.Plan = codes "cannot read plan"
 
 -- an output was not written; there is no line for the output that the lines themselves go to
 abbrev pub cannot_write_text : Out → Option (List ℕ)

@@ -13,6 +13,7 @@ input_option input.Cart = codes "--cart"
 input_option input.Boot = codes "--boot"
 input_option input.Table = codes "--table"
 input_option input.Script = codes "--script"
+input_option input.Plan = codes "--plan"
 
 -- the option of an output; the lines have none
 abbrev pub output_option : Out → List ℕ

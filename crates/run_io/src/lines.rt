@@ -1,7 +1,7 @@
 ghost use Rattle.std.specs.Prelude.{◌≡◌, ◌+◌, ◌<◌, ◌≤◌, ◌++◌, length, decimal, []};
 ghost use Rattle.std.specs.Option.{option_map};
 ghost use Rattle.cart_map.specs.declared.refused.CartRefused.{CartRefused};
-ghost use Rattle.run_io.specs.Line.{line_of, hex_digit, hex_byte, frames_text, demo_text, image_text, cart_refused_text, boot_refused_text, table_refused_text, script_refused_text, usage_text, cannot_read_text, cannot_write_text, no_memory_text};
+ghost use Rattle.run_io.specs.Line.{line_of, hex_digit, hex_byte, frames_text, demo_text, image_text, cart_refused_text, boot_refused_text, table_refused_text, script_refused_text, plan_refused_text, usage_text, cannot_read_text, cannot_write_text, no_memory_text};
 
 use arrayvec::ArrayString;
 use cart_map::CartRefused;
@@ -129,7 +129,7 @@ pub fn usage_line() -> Line
     whole("usage: snes run, serial, make or demo\n")
 }
 
-/// A file was not loaded: `cannot read cart`, or `boot`, `table`, `script`.
+/// A file was not loaded: `cannot read cart`, or `boot`, `table`, `script`, `plan`.
 pub fn cannot_read_line(input: Input) -> Line
     ensures text { result ≡ line_of (cannot_read_text input) }
 {
@@ -138,6 +138,7 @@ pub fn cannot_read_line(input: Input) -> Line
         Input::Boot => "cannot read boot\n",
         Input::Table => "cannot read table\n",
         Input::Script => "cannot read script\n",
+        Input::Plan => "cannot read plan\n",
     })
 }
 
@@ -187,6 +188,13 @@ pub fn script_refused_line(line: u32) -> Line
     ensures text { result ≡ line_of (script_refused_text line) }
 {
     numbered_line("script refused at line ", u64::from(line))
+}
+
+/// A file is no plan: `plan refused at line 3`, at 0 for its length and else at its first bad line.
+pub fn plan_refused_line(line: u32) -> Line
+    ensures text { result ≡ line_of (plan_refused_text line) }
+{
+    numbered_line("plan refused at line ", u64::from(line))
 }
 
 fn coprocessor_line(chip: u8) -> Line

@@ -19,6 +19,7 @@ pub(crate) fn option_of_input(input: Input) -> &'static str
         Input::Boot => "--boot",
         Input::Table => "--table",
         Input::Script => "--script",
+        Input::Plan => "--plan",
     }
 }
 

@@ -15,7 +15,8 @@ use Rattle.console_machine.specs.Playing.{rest_with_room, value_with_room}
 use Rattle.audio_side.specs.Board.{table_of}
 use Rattle.audio_side.specs.Sound.{SoundState}
 use Rattle.snapshot.specs.declared.run.Run.{Run}
-use Rattle.snapshot.specs.Path.{Paths, path_script, start_of, end_of_path, kept, back}
+use Rattle.plan_drive.specs.Paths.{Paths, path_script, kept, back}
+use Rattle.snapshot.specs.Path.{start_of, end_of_path}
 use Rattle.snapshot.specs.declared.rewind.Rewind.{Rewind}
 use Rattle.snapshot.specs.Standing.{IsDone, IsRested, CanCopy, HoldsPath, copy_of}
 use Rattle.snapshot.proofs.Effects.{rom_of}

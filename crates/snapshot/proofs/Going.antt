@@ -22,7 +22,8 @@ use Rattle.audio_side.specs.Sound.{AudioValue, SoundState, sound_moves}
 use Rattle.audio_side.specs.Sound as sound_side
 use Rattle.snapshot.specs.declared.run.Run.{Run}
 use Rattle.snapshot.specs.declared.rewind.Rewind.{Rewind}
-use Rattle.snapshot.specs.Path.{Paths, gone, path_script, start_of, end_of_path}
+use Rattle.plan_drive.specs.Paths.{Paths, gone, path_script}
+use Rattle.snapshot.specs.Path.{start_of, end_of_path}
 use Rattle.snapshot.specs.Standing.{IsDone, IsRested, IsGoing}
 use Rattle.snapshot.proofs.Runs.{goes_on, frames_more}
 use Rattle.snapshot.proofs.Copying.{done_script}

@@ -10,3 +10,4 @@ pub mod Going
 pub mod Starting
 pub mod Drives
 pub mod Over
+pub mod Steps

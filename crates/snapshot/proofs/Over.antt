@@ -20,7 +20,8 @@ use Rattle.audio_side.specs.Sound as sound_side
 use Rattle.audio_side.specs.SoundLaws.{stamp_stands as sound_stamp}
 use Rattle.snapshot.specs.declared.run.Run.{Run}
 use Rattle.snapshot.specs.declared.rewind.Rewind.{Rewind}
-use Rattle.snapshot.specs.Path.{Paths, start_of, end_of_path}
+use Rattle.plan_drive.specs.Paths.{Paths}
+use Rattle.snapshot.specs.Path.{start_of, end_of_path}
 use Rattle.snapshot.specs.Standing.{IsDone, IsRested, IsGoing, IsBeyond}
 use Rattle.snes_defs.specs.declared.region.Region.TheVariants.{Ntsc}
 use Rattle.side_law.specs.SerialRun.{IsOutput}

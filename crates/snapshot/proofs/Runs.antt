@@ -26,7 +26,8 @@ use Rattle.console_machine.specs.Playing.{world_played}
 use Rattle.audio_side.specs.Board.{table_of, board_at_start}
 use Rattle.audio_side.specs.Clock.{reset_frames}
 use Rattle.audio_side.specs.Sound.{SoundState, sound_moves}
-use Rattle.snapshot.specs.Path.{start_of, end_of_path, path_script, console_of_path}
+use Rattle.plan_drive.specs.Paths.{path_script}
+use Rattle.snapshot.specs.Path.{start_of, end_of_path, console_of_path}
 use Rattle.snapshot.proofs.Effects.{rom_of}
 use Rattle.snapshot.proofs.Clocks.{IsTimed, Agree, Alike, world_put, words_of}
 use Rattle.snapshot.proofs.Worlds.{IsOwn, step_own, step_alike, step_act, clocks_timed, effect_timed}

@@ -14,7 +14,8 @@ use Rattle.console_machine.specs.Side as console_side
 use Rattle.console_machine.specs.Playing.{world_with_room}
 use Rattle.audio_side.specs.Sound.{AudioValue, SoundState, sound_start, sound_moves}
 use Rattle.audio_side.specs.Sound as sound_side
-use Rattle.snapshot.specs.Path.{path_script, start_of, end_of_path, console_of_path, sound_of_path}
+use Rattle.plan_drive.specs.Paths.{path_script}
+use Rattle.snapshot.specs.Path.{start_of, end_of_path, console_of_path, sound_of_path}
 use Rattle.snapshot.specs.Standing.{IsDone}
 
 pub first_done : (job : Job) (spans : ℕ) (s : Serial ConsoleValue AudioValue) (old new : ConsoleValue) (sound : AudioValue)

@@ -5,7 +5,8 @@ use Rattle.snes_defs.specs.declared.ports.Side.{Side}
 use Rattle.snes_defs.specs.declared.ports.Side.TheVariants.{Console, Sound}
 use Rattle.snes_defs.specs.declared.script.Span.{Span}
 use Rattle.snapshot.specs.declared.rewind.Rewind.{Rewind}
-use Rattle.snapshot.specs.Path.{Paths, PathEmits}
+use Rattle.plan_drive.specs.Paths.{Paths}
+use Rattle.snapshot.specs.Path.{PathEmits}
 use Rattle.snapshot.specs.Standing.{IsRested, IsBeyond}
 
 module _ (job : Job) (n : ℕ) (paths : Paths) (before : List Span) (base : Side → List ℕ) (holds : Side → List ℕ → Type 0) where

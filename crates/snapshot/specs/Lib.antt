@@ -1,5 +1,4 @@
 pub mod Path
-pub mod Plans
 pub mod Standing
 pub mod Driven
 pub mod Handed

@@ -18,7 +18,9 @@ use Rattle.audio_side.specs.Sound.{AudioValue, SoundState, sound_moves}
 use Rattle.audio_side.specs.Sound as sound_side
 use Rattle.snapshot.specs.declared.run.Run.{Run}
 use Rattle.snapshot.specs.declared.rewind.Rewind.{Rewind}
-use Rattle.snapshot.specs.Path.{Paths, PathEmits, start_of, end_of_path}
+use Rattle.plan_drive.specs.Paths.{Paths}
+use Rattle.plan_drive.specs.Joins.{Extends}
+use Rattle.snapshot.specs.Path.{PathEmits, start_of, end_of_path}
 
 -- THE MACHINES OF A PATH at its end: they stand where the serial run of the path's job ends, which has emitted this
 -- video and this audio, and no byte waits
@@ -104,8 +106,5 @@ pub record IsGoing (job : Job) (n : ℕ) (paths : Paths) (before : List Span) (v
   pub slots : AreHeld job n paths r
 
 -- WHAT A GO HANDS OUT: what the run of the path has beyond that of the path before it
-pub record IsBeyond (job : Job) (n : ℕ) (before path : List Span) (video audio : List ℕ) : Type 0 where
-  pub first_video : List ℕ
-  pub first_audio : List ℕ
-  pub first : PathEmits job n before first_video first_audio
-  pub whole : PathEmits job n path (first_video ++ video) (first_audio ++ audio)
+abbrev pub IsBeyond : Job → ℕ → (before path : List Span) → (video audio : List ℕ) → Type 0
+IsBeyond job n = Extends (PathEmits job n)

@@ -2,8 +2,7 @@
 ghost use Rattle.std.specs.Prelude.{◌≡◌, ◌<◌, ℕ, [], length, max, slice_index_or, IfOk};
 ghost use Rattle.snes_defs.specs.declared.region.Region.TheVariants.{Ntsc};
 ghost use Rattle.snapshot.specs.declared.run.Run.{Run};
-ghost use Rattle.snapshot.specs.Path.{path_script};
-ghost use Rattle.snapshot.specs.Plans.{goes_of, slots_of};
+ghost use Rattle.plan_drive.specs.Paths.{path_script, goes_of, slots_of};
 ghost use Rattle.snapshot.specs.Standing.{HoldsPath};
 
 use crate::run::{Run, first_run};
@@ -26,7 +25,7 @@ pub fn count_goes(steps: &[PlanStep]) -> usize
     count
 }
 
-/// How many slots there are up to the highest that a plan keeps.
+/// How many slots there are up to the highest that a plan names.
 pub fn count_slots(steps: &[PlanStep]) -> usize
     ensures { result ≡ slots_of steps.now }
 {
@@ -35,7 +34,7 @@ pub fn count_slots(steps: &[PlanStep]) -> usize
         match step {
             PlanStep::Go { .. } => {}
             PlanStep::Keep(slot) => count = count.max(*slot as usize + 1),
-            PlanStep::Back(_) => {}
+            PlanStep::Back(slot) => count = count.max(*slot as usize + 1),
         }
     }
     count

@@ -1,13 +1,15 @@
-ghost use Rattle.std.specs.Prelude.{◌≡◌, ◌+◌, ◌<◌, ◌≤◌, ◌↔◌, ℕ, List, [], length, max, IfOk, IfSome, IsSome, IsNone};
+ghost use Rattle.std.specs.Prelude.{◌≡◌, ◌+◌, ◌<◌, ◌≤◌, ◌↔◌, ℕ, List, [], length, max, OnOk, IfOk, IfSome, IsSome, IsNone};
 ghost use Rattle.snes_defs.specs.declared.cart.Job.{Job};
 ghost use Rattle.snes_defs.specs.declared.script.Span.{Span};
 ghost use Rattle.snes_defs.specs.declared.region.Region.TheVariants.{Ntsc};
 ghost use Rattle.snes_defs.specs.Script.{frames_of};
-ghost use Rattle.snapshot.specs.Path.{Paths, no_paths, gone, kept, back, path_script};
-ghost use Rattle.snapshot.specs.Plans.{goes_of, slots_of};
+ghost use Rattle.plan_drive.specs.Paths.{Paths, no_paths, gone, kept, back, path_script, goes_of, slots_of};
 ghost use Rattle.side_law.specs.Serial.{SerialState, turn};
 ghost use Rattle.console_steps.specs.World.{World, console_moves};
 ghost use Rattle.audio_side.specs.Sound.{SoundState, sound_moves};
+ghost use Rattle.run_drive.specs.Played.{IsPlayable};
+ghost use Rattle.plan_drive.specs.Joins.{Joins};
+ghost use Rattle.snapshot.specs.Path.{PathEmits};
 ghost use Rattle.snapshot.specs.Standing.{IsRested, IsGoing, StandsIn, HasEnded, next_side, slot_count, video_waiting, audio_waiting};
 
 use crate::memory::{count_goes, count_slots, first_runs};
@@ -18,6 +20,7 @@ use snes_defs::{Job, NoMemory, Side, Span};
 use std::alloc::Global;
 
 mod going;
+mod playing;
 
 /// A console and a sound side on a path, and the moments that are kept in slots.
 #[derive(Drop)]
@@ -34,6 +37,7 @@ impl Rewind {
         requires region { job.now.region ≡ Ntsc }
         ensures rested { IfOk result (λ r. IsRested job.now (max job.now.script.room (goes_of plan.now)) no_paths r) }
         ensures slots { IfOk result (λ r. slot_count r ≡ slots_of plan.now) }
+        ensures ends { OnOk result (IsPlayable (Joins (PathEmits job.now (max job.now.script.room (goes_of plan.now))) plan.now no_paths)) }
     {
         let goes = count_goes(plan.steps());
         let run = first_run(alloc, job, goes)?;

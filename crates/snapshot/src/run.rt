@@ -1,7 +1,7 @@
 // The machines of a path, and how they are copied.
 ghost use Rattle.std.specs.Prelude.{◌≡◌, ◌+◌, [], length, max, IfOk};
 ghost use Rattle.snes_defs.specs.declared.region.Region.TheVariants.{Ntsc};
-ghost use Rattle.snapshot.specs.Path.{path_script};
+ghost use Rattle.plan_drive.specs.Paths.{path_script};
 ghost use Rattle.snapshot.specs.Standing.{CanCopy, IsDone, copy_of};
 
 use audio_side::AudioSide;

@@ -8,10 +8,12 @@ use Rattle.cart_map.specs.declared.refused.CartRefused.TheVariants.{TooLong}
 use Rattle.cart_map.specs.Accept.{verdict, image_of}
 use Rattle.input_files.specs.Table.{IsTableFile, IsFirstLarge, IsRefusedAt}
 use Rattle.input_files.specs.Script.{script_of}
+use Rattle.input_files.specs.Plan.{plan_of}
+use Rattle.input_files.specs.declared.plan.PlanStep.{PlanStep}
 use Rattle.file_shelf.specs.declared.shelves.Input.TheVariants as input
 use Rattle.snes_call.specs.declared.status.Why.{Why}
 use Rattle.snes_call.specs.declared.status.Why.TheVariants as why
-use Rattle.snes_call.specs.Kinds.{input_of, AreRefused, AreAccepted, IsCartIn, IsScriptIn}
+use Rattle.snes_call.specs.Kinds.{input_of, AreRefused, AreAccepted, IsCartIn, IsScriptIn, IsPlanIn}
 
 -- an answer is not both, and refuses for one cause
 not_both : {A B : Type 0} (r : Result A B) (a : A) (b : B) → r ≡ Ok a → r ≡ Err b → ⊥
@@ -45,6 +47,7 @@ cart_accepted bytes cart h = record { unrefused = go }
     go why.Boot is refused = cc
     go (why.Table entry) is refused = cc
     go (why.Script line) is refused = cc
+    go (why.Plan line) is refused = cc
 
 pub ruleset cart = (cart_longer, cart_accepted)
 
@@ -60,6 +63,7 @@ boot_accepted bytes size = record { unrefused = go }
     go why.Boot is refused = refused size
     go (why.Table entry) is refused = cc
     go (why.Script line) is refused = cc
+    go (why.Plan line) is refused = cc
 
 pub ruleset boot = (boot_longer, boot_accepted)
 
@@ -85,6 +89,7 @@ table_accepted bytes table h = record { unrefused = go }
         let first = large_entry bytes entry h.size refused in
         absurd (omega (arith, h.small entry first.within, first.large))
     go (why.Script line) is refused = cc
+    go (why.Plan line) is refused = cc
 
 pub ruleset table = (table_longer, table_accepted)
 
@@ -121,6 +126,7 @@ script_accepted bytes script few h = record { unrefused = go }
     go why.Boot is refused = cc
     go (why.Table entry) is refused = cc
     go (why.Script line) is refused = not_both (script_of bytes) script line h (bad_line bytes line few refused)
+    go (why.Plan line) is refused = cc
 
 pub ruleset script = (script_longer, script_refused, script_accepted)
 
@@ -132,10 +138,48 @@ one_line bytes a b =
       | false ↦ λ h k. one_refusal (script_of bytes) a b h k
     ]
 
+-- THE PLAN
+pub plan_longer : (bytes : List ℕ) → 1048576 < length bytes → AreRefused bytes (why.Plan 0)
+plan_longer bytes long =
+    let more : nat_lt 1048576 (length bytes) ≡ true = lt-ltb 1048576 (length bytes) long in
+    subst (λ b. MatchBool b (◌≡◌ {A = ℕ} 0 0) (plan_of bytes ≡ Err 0)) (sym more) refl
+
+-- a plan of few enough bytes is refused at its first bad line
+bad_plan_line : (bytes : List ℕ) (line : ℕ) → length bytes ≤ 1048576 → AreRefused bytes (why.Plan line) → plan_of bytes ≡ Err line
+bad_plan_line bytes line few h =
+    let short : nat_lt 1048576 (length bytes) ≡ false = le-ltb 1048576 (length bytes) few in
+    subst (λ b. MatchBool b (line ≡ 0) (plan_of bytes ≡ Err line)) short h
+
+pub plan_refused : (bytes : List ℕ) (line : ℕ) → length bytes ≤ 1048576 → plan_of bytes ≡ Err line → AreRefused bytes (why.Plan line)
+plan_refused bytes line few h =
+    let short : nat_lt 1048576 (length bytes) ≡ false = le-ltb 1048576 (length bytes) few in
+    subst (λ b. MatchBool b (line ≡ 0) (plan_of bytes ≡ Err line)) (sym short) h
+
+pub plan_accepted : (bytes : List ℕ) (steps : List PlanStep) → length bytes ≤ 1048576 → IsPlanIn bytes steps → AreAccepted input.Plan bytes
+plan_accepted bytes steps few h = record { unrefused = go }
+  where
+    go : (cause : Why) → input_of cause ≡ input.Plan → ¬ AreRefused bytes cause
+    go (why.Cart cause) is refused = cc
+    go why.Boot is refused = cc
+    go (why.Table entry) is refused = cc
+    go (why.Script line) is refused = cc
+    go (why.Plan line) is refused = not_both (plan_of bytes) steps line h (bad_plan_line bytes line few refused)
+
+pub ruleset plan = (plan_longer, plan_refused, plan_accepted)
+
+-- a plan is refused at one line
+one_plan_line : (bytes : List ℕ) (a b : ℕ) → AreRefused bytes (why.Plan a) → AreRefused bytes (why.Plan b) → a ≡ b
+one_plan_line bytes a b =
+    elim (nat_lt 1048576 (length bytes)) as (λ long. MatchBool long (a ≡ 0) (plan_of bytes ≡ Err a) → MatchBool long (b ≡ 0) (plan_of bytes ≡ Err b) → a ≡ b) [
+      | true ↦ λ h k. h ∙ sym k
+      | false ↦ λ h k. one_refusal (plan_of bytes) a b h k
+    ]
+
 -- the bytes of an input are refused for one cause
 pub one_cause : (bytes : List ℕ) (a b : Why) → input_of a ≡ input_of b → AreRefused bytes a → AreRefused bytes b → a ≡ b
 one_cause bytes (why.Cart a) (why.Cart b) same h k = ap why.Cart (one_refusal (verdict bytes) a b h k)
 one_cause bytes why.Boot why.Boot same h k = refl
 one_cause bytes (why.Table a) (why.Table b) same h k = ap why.Table (one_entry bytes a b h k)
 one_cause bytes (why.Script a) (why.Script b) same h k = ap why.Script (one_line bytes a b h k)
+one_cause bytes (why.Plan a) (why.Plan b) same h k = ap why.Plan (one_plan_line bytes a b h k)
 one_cause bytes _ _ same h k = absurd cc

@@ -9,4 +9,5 @@ pub mod Loading
 pub mod MakeLemmas
 pub mod OutputLemmas
 pub mod Putting
+pub mod RewindLemmas
 pub mod RunLemmas

@@ -23,7 +23,7 @@ pub few : (order : Order) → Fits run_form order → order.count ≤ 36000
 few order h = h.count Frames refl
 
 -- these bytes in video and sound
-both : List ℕ → List ℕ → Out → List ℕ
+pub both : List ℕ → List ℕ → Out → List ℕ
 both video audio Video = video
 both video audio Sound = audio
 both video audio Image = []

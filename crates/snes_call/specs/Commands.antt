@@ -7,6 +7,7 @@ use Rattle.snes_call.specs.Command.{Command}
 use Rattle.snes_call.specs.Run.{run}
 use Rattle.snes_call.specs.Make.{make}
 use Rattle.snes_call.specs.Demo.{demo}
+use Rattle.snes_call.specs.Rewind.{rewind}
 
 -- what words ask for: a command and what they give it, or nothing where they are in no form
 pub data Wish : Type 1 where
@@ -31,8 +32,9 @@ asked_by emits name words =
     where_true (bytes_eq name (codes "run")) (asks (run emits) words) (
     where_true (bytes_eq name (codes "serial")) (asks (run emits) words) (
     where_true (bytes_eq name (codes "make")) (asks make words) (
-    where_true (bytes_eq name (codes "demo")) (asks (demo emits) words)
-    Nothing)))
+    where_true (bytes_eq name (codes "demo")) (asks (demo emits) words) (
+    where_true (bytes_eq name (codes "rewind")) (asks (rewind emits) words)
+    Nothing))))
 
 -- the first word is the name
 abbrev pub asked : (Job → List ℕ → List ℕ → Type 0) → List (List ℕ) → Wish

@@ -6,6 +6,8 @@ use Rattle.snes_defs.specs.Script.{Script}
 use Rattle.cart_map.specs.Accept.{verdict, image_of, rom_of}
 use Rattle.input_files.specs.Table.{IsRefusedAt}
 use Rattle.input_files.specs.Script.{script_of}
+use Rattle.input_files.specs.Plan.{plan_of}
+use Rattle.input_files.specs.declared.plan.PlanStep.{PlanStep}
 use Rattle.file_shelf.specs.declared.shelves.Input.{Input}
 use Rattle.file_shelf.specs.declared.shelves.Input.TheVariants as input
 use Rattle.snes_call.specs.declared.status.Why.{Why}
@@ -17,24 +19,29 @@ input_of (why.Cart cause) = input.Cart
 input_of why.Boot = input.Boot
 input_of (why.Table entry) = input.Table
 input_of (why.Script line) = input.Script
+input_of (why.Plan line) = input.Plan
 
 -- why the bytes of an input are refused: the cartridge by the first rule that it breaks, the boot ROM
--- where it hasn't 64 bytes, the table at 512 for its length or at its first large entry, the script at
--- 0 for its length or at its first bad line
+-- where it hasn't 64 bytes, the table at 512 for its length or at its first large entry, the script and
+-- the plan at 0 for their length or at their first bad line
 abbrev pub AreRefused : List ℕ → Why → Type 0
 AreRefused bytes (why.Cart cause) = verdict bytes ≡ Err cause
 AreRefused bytes why.Boot = length bytes ≢ 64
 AreRefused bytes (why.Table entry) = IsRefusedAt bytes entry
 AreRefused bytes (why.Script line) = MatchBool (nat_lt 1048576 (length bytes)) (line ≡ 0) (script_of bytes ≡ Err line)
+AreRefused bytes (why.Plan line) = MatchBool (nat_lt 1048576 (length bytes)) (line ≡ 0) (plan_of bytes ≡ Err line)
 
 -- the bytes of an input are accepted: nothing refuses them
 pub record AreAccepted (input : Input) (bytes : List ℕ) : Type 0 where
   pub unrefused : (cause : Why) → input_of cause ≡ input → ¬ AreRefused bytes cause
 
--- the cartridge that is read of an accepted file, and the script
+-- the cartridge that is read of an accepted file, the script, and the plan
 pub record IsCartIn (bytes : List ℕ) (cart : Cart) : Type 0 where
   pub header : verdict bytes ≡ Ok (record { map = cart.map; ram = cart.ram })
   pub rom : cart.rom ≡ rom_of (image_of bytes)
 
 abbrev pub IsScriptIn : List ℕ → Script → Type 0
 IsScriptIn bytes script = script_of bytes ≡ Ok script
+
+abbrev pub IsPlanIn : List ℕ → List PlanStep → Type 0
+IsPlanIn bytes steps = plan_of bytes ≡ Ok steps

@@ -6,6 +6,7 @@ pub mod Job
 pub mod Kinds
 pub mod Loads
 pub mod Make
+pub mod Rewind
 pub mod Run
 pub mod Said
 pub mod Snes

@@ -6,11 +6,13 @@ use crate::command::Performs;
 use crate::demo::Demo;
 use crate::make::Make;
 use crate::perform::perform;
+use crate::rewind::Rewind;
 use crate::run::{Run, Way};
 use crate::say::{refuse, say};
 use crate::status::Status;
 use file_shelf::Shelf;
-use run_drive::{Player, Workers};
+use plan_drive::PlanPlayer;
+use run_drive::Workers;
 use run_io::{Argv, Asked, Word, read_form};
 
 /// Does what a command asks for, says how it ended, and gives the answer.
@@ -45,7 +47,7 @@ fn call<C: Performs, R: AllocGlobal + Workers, H: Shelf>(
 
 /// Calls the command of this name. THE COMMANDS are listed here, and in `asked_by`.
 #[tactic(auto, unfolding(crate::specs::Commands::asked_by))]
-fn call_named<P: Player, R: AllocGlobal + Workers, H: Shelf>(
+fn call_named<P: PlanPlayer, R: AllocGlobal + Workers, H: Shelf>(
     rt: &R,
     name: &str,
     words: &[Word],
@@ -65,12 +67,15 @@ fn call_named<P: Player, R: AllocGlobal + Workers, H: Shelf>(
     if name == "demo" {
         return call(&Demo::<P>::new(), rt, words, shelf);
     }
+    if name == "rewind" {
+        return call(&Rewind::<P>::new(), rt, words, shelf);
+    }
     refuse(shelf, Status::Usage)
 }
 
 /// Does what the words ask for, says how it ended, and gives the answer.
 #[tactic(auto, using(crate::proofs::Ending::reads))]
-pub(crate) fn called<P: Player, R: AllocGlobal + Workers, H: Shelf>(
+pub(crate) fn called<P: PlanPlayer, R: AllocGlobal + Workers, H: Shelf>(
     rt: &R,
     words: &Argv,
     shelf: &mut H,

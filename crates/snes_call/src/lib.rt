@@ -5,8 +5,8 @@
 // words, files and lines are.
 //
 // What all commands share stands in `call`, `perform`, `loads`, `outputs` and `say`. A command is a
-// file of its own (`run`, `make`, `demo`) and what it means, in `specs/`; a kind of input is a file of `cart`, `boot`,
-// `table`, `script`. `docs/ARCHITECTURE.md` says how one is added.
+// file of its own (`run`, `make`, `demo`, `rewind`) and what it means, in `specs/`; a kind of input is a file of `cart`, `boot`,
+// `table`, `script`, `plan`. `docs/ARCHITECTURE.md` says how one is added.
 #![tactic(auto)]
 
 mod boot;
@@ -19,7 +19,9 @@ mod loads;
 mod make;
 mod outputs;
 mod perform;
+mod plan;
 mod put_whole;
+mod rewind;
 mod run;
 mod say;
 mod script;

@@ -9,7 +9,7 @@ use crate::status::{Status, Why};
 use file_shelf::{Out, Shelf};
 use run_io::{
     Line, boot_refused_line, cannot_read_line, cannot_write_line, cart_refused_line,
-    no_memory_line, script_refused_line, table_refused_line, usage_line,
+    no_memory_line, plan_refused_line, script_refused_line, table_refused_line, usage_line,
 };
 
 /// The line of an input that was refused.
@@ -21,6 +21,7 @@ fn refused_line(cause: Why) -> Line
         Why::Boot => boot_refused_line(),
         Why::Table(entry) => table_refused_line(entry),
         Why::Script(line) => script_refused_line(line),
+        Why::Plan(line) => plan_refused_line(line),
     }
 }
 

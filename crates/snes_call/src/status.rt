@@ -16,6 +16,8 @@ pub enum Why {
     /// The script has more than 1,048,576 bytes (0), or this is its first line that is in no form,
     /// from 1.
     Script(u32),
+    /// The plan has more than 1,048,576 bytes (0), or this is its first line that is in no form, from 1.
+    Plan(u32),
 }
 
 /// How a call of the program ended.

@@ -15,7 +15,8 @@ ghost use Rattle.snes_call.specs.Snes.{OrNoMemory, IsEarly, IsLate, IsOver, IsDu
 use crate::call::called;
 use crate::status::Status;
 use file_shelf::Shelf;
-use run_drive::{Player, Workers};
+use plan_drive::PlanPlayer;
+use run_drive::Workers;
 use run_io::Argv;
 
 /// Does all that the program does: reads the words; loads and accepts the inputs of their command in
@@ -25,7 +26,7 @@ use run_io::Argv;
 ///
 /// Each clause speaks of what the shelf tells; of a shelf that tells nothing, of the words and of counts
 /// alone. `NoMemory` is the one answer that no input and no count causes.
-pub fn snes<P: Player, R: AllocGlobal + Workers, H: Shelf>(
+pub fn snes<P: PlanPlayer, R: AllocGlobal + Workers, H: Shelf>(
     rt: &R,
     words: &Argv,
     shelf: &mut H,

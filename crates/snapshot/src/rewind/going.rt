@@ -3,7 +3,7 @@ ghost use Rattle.std.specs.Prelude.{◌≡◌, ◌≤◌, ◌+◌, ℕ, List, []
 ghost use Rattle.snes_defs.specs.declared.cart.Job.{Job};
 ghost use Rattle.snes_defs.specs.declared.ports.Side.{Side};
 ghost use Rattle.snes_defs.specs.declared.script.Span.{Span};
-ghost use Rattle.snapshot.specs.Path.{Paths};
+ghost use Rattle.plan_drive.specs.Paths.{Paths};
 ghost use Rattle.snapshot.specs.Standing.{IsRested, IsGoing, IsBeyond, slot_count, video_waiting, audio_waiting};
 ghost use Rattle.snapshot.specs.Handed.{Gave, GaveSome};
 
@@ -26,6 +26,8 @@ impl Rewind {
         ensures audio_left { side ≡ Side.Sound → audio_waiting self.new ≡ drop result (audio_waiting self.old) }
         ensures audio { side ≡ Side.Sound → (job : Job) (n : ℕ) (paths : Paths) (before : List Span) (video audio : List ℕ) → IsGoing job n paths before video audio self.old
             → IsGoing job n paths before video (audio ++ take result (audio_waiting self.old)) self.new }
+        ensures audio_stays { side ≡ Side.Console → audio_waiting self.new ≡ audio_waiting self.old }
+        ensures video_stays { side ≡ Side.Sound → video_waiting self.new ≡ video_waiting self.old }
         ensures slots { slot_count self.new ≡ slot_count self.old }
     {
         match side {

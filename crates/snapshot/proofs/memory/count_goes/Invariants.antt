@@ -1,5 +1,5 @@
 use Rattle.std.proofs.Common.{◌≡◌, ◌≤◌, ◌+◌, drop}
-use Rattle.snapshot.specs.Plans.{goes_of}
+use Rattle.plan_drive.specs.Paths.{goes_of}
 use Rattle.snapshot.proofs.memory.count_goes.Given as goal
 
 abbrev pub invariant-loop-step : goal.invariant-loop-step

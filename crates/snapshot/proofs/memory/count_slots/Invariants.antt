@@ -1,5 +1,5 @@
 use Rattle.std.proofs.Common.{◌≡◌, drop}
-use Rattle.snapshot.specs.Plans.{slots_from}
+use Rattle.plan_drive.specs.Paths.{slots_from}
 use Rattle.snapshot.proofs.memory.count_slots.Given as goal
 
 abbrev pub invariant-loop-step : goal.invariant-loop-step

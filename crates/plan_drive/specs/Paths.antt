@@ -1,0 +1,65 @@
+-- A path: the spans that a console has played from the start of its job, one after another; the job of a path; and the
+-- paths of a plan.
+use Rattle.std.specs.Prelude.{ℕ, ◌+◌, ◌==◌, max, List, [], ◌∷◌, ◌++◌, if◌then◌else◌}
+use Rattle.snes_defs.specs.declared.cart.Job.{Job}
+use Rattle.snes_defs.specs.declared.region.Region.TheVariants.{Ntsc}
+use Rattle.snes_defs.specs.declared.script.Span.{Span}
+use Rattle.snes_defs.specs.Script.{Script, frames_of}
+use Rattle.input_files.specs.declared.plan.PlanStep.{PlanStep}
+use Rattle.input_files.specs.declared.plan.PlanStep.TheVariants.{Go, Keep, Back}
+
+-- THE PATHS of a plan on its way: the one that it is on, and the one that each slot holds
+pub record Paths : Type 0 where
+  pub path : List Span
+  pub held : ℕ → List Span
+
+-- at first all are empty
+abbrev pub no_paths : Paths
+no_paths = record { path = []; held = λ slot. [] }
+
+-- a go appends its span to the path
+abbrev pub gone : Paths → Span → Paths
+gone p span = record { path = p.path ++ span ∷ []; held = p.held }
+
+-- a keep stores the path in a slot
+abbrev pub kept : Paths → ℕ → Paths
+kept p slot = record { path = p.path; held = λ k. if k == slot then p.path else p.held k }
+
+-- a return makes the stored path the path
+abbrev pub back : Paths → ℕ → Paths
+back p slot = record { path = p.held slot; held = p.held }
+
+-- the paths after a step, and after some steps
+abbrev pub after_step : Paths → PlanStep → Paths
+after_step p (Go count pad1 pad2) = gone p (record { count = count; pad1 = pad1; pad2 = pad2 })
+after_step p (Keep slot) = kept p slot
+after_step p (Back slot) = back p slot
+
+abbrev pub after_steps : List PlanStep → Paths → Paths
+after_steps [] p = p
+after_steps (step ∷ rest) p = after_steps rest (after_step p step)
+
+-- THE JOB of a path: the machines of a job, played with an Ntsc script of just the path, without resets; the run ends with
+-- the path. The script has memory for n spans, at which no machine looks
+abbrev pub path_script : ℕ → List Span → Script
+path_script n path = record { region = Ntsc; spans = path; resets = []; room = n }
+
+abbrev pub path_job : Job → ℕ → List Span → Job
+path_job job n path = record { cart = job.cart; boot = job.boot; table = job.table; script = path_script n path; frames = frames_of path; region = Ntsc }
+
+-- How much memory a plan needs: a span for each of its goes, and the slots up to the highest that it names.
+abbrev pub goes_of : List PlanStep → ℕ
+goes_of [] = 0
+goes_of (Go count pad1 pad2 ∷ rest) = goes_of rest + 1
+goes_of (Keep slot ∷ rest) = goes_of rest
+goes_of (Back slot ∷ rest) = goes_of rest
+
+-- where n are needed by what went before
+abbrev pub slots_from : List PlanStep → ℕ → ℕ
+slots_from [] n = n
+slots_from (Go count pad1 pad2 ∷ rest) n = slots_from rest n
+slots_from (Keep slot ∷ rest) n = slots_from rest (max n (slot + 1))
+slots_from (Back slot ∷ rest) n = slots_from rest (max n (slot + 1))
+
+abbrev pub slots_of : List PlanStep → ℕ
+slots_of steps = slots_from steps 0

@@ -1,0 +1,45 @@
+ghost use Rattle.std.specs.Prelude.{◌≡◌, ℕ, List, [], OnOk, IfOk, IfErr};
+ghost use Rattle.snes_defs.specs.declared.cart.Job.{Job};
+ghost use Rattle.snes_defs.specs.declared.region.Region.TheVariants.{Ntsc};
+ghost use Rattle.input_files.specs.declared.plan.PlanStep.{PlanStep};
+ghost use Rattle.run_drive.specs.Played.{IsPlayable, PlayedWhole, PlayedFirst};
+ghost use Rattle.plan_drive.specs.Paths.{path_script};
+ghost use Rattle.plan_drive.specs.Joins.{PlanEmits};
+
+use input_files::Plan;
+use run_drive::{Player, Sink};
+use snes_defs::{Job, NoMemory, Side};
+use std::alloc::Global;
+
+/// What plays a plan: a console whose moments can be kept and gone back to.
+///
+/// A plan emits what runs of the player's jobs emit, piece by piece: that of its goes, each the run of its path from the
+/// start on, without what the path before had emitted.
+pub trait PlanPlayer: Player {
+    /// The machines of a job, and all the memory that a plan takes.
+    type Planned: Drop;
+
+    // It stands at the start of the job, and has the memory for a plan of these steps.
+    ghost plans: { Self.Planned → Job → List PlanStep → Type 0 };
+
+    /// Makes the machines of an Ntsc job without a script, and takes all the memory that a plan needs.
+    fn ready_plan(alloc: Global, job: &Job, plan: &Plan) -> Result<Self::Planned, NoMemory>
+        requires script { job.now.script ≡ path_script 0 [] }
+        requires region { job.now.region ≡ Ntsc }
+        ensures starts { IfOk result (λ planned. plans planned job.now plan.now) }
+        ensures ends { OnOk result (IsPlayable (PlanEmits Self.emits job.now plan.now)) };
+
+    /// Plays a plan.
+    fn play_plan<K: Sink>(
+        planned: Self::Planned,
+        plan: &Plan,
+        sink: &mut K,
+    ) -> Result<(), Side>
+        requires at_start { (job : Job) × plans planned job plan.now }
+        requires no_video { K.holds sink.old Side.Console [] }
+        requires no_sound { K.holds sink.old Side.Sound [] }
+        ensures whole { OnOk result ((job : Job) → plans planned job plan.now → PlayedWhole (PlanEmits Self.emits job plan.now) (K.holds sink.new)) }
+        ensures first { (job : Job) → plans planned job plan.now → PlayedFirst (PlanEmits Self.emits job plan.now) (K.holds sink.new) }
+        ensures failed { IfErr result (K.failed sink.old sink.new) }
+        ensures only { K.only_takes sink.old sink.new };
+}

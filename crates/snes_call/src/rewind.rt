@@ -1,0 +1,162 @@
+ghost use Rattle.std.specs.Prelude.{◌≡◌, ℕ, List, [], Option, OnOk, IfErr};
+ghost use Rattle.snes_defs.specs.declared.cart.Job.{Job};
+ghost use Rattle.snes_defs.specs.declared.region.Region.TheVariants.{Ntsc};
+ghost use Rattle.file_shelf.specs.declared.shelves.Input.{Input};
+ghost use Rattle.file_shelf.specs.Told.{Holds, HasRisen};
+ghost use Rattle.run_drive.specs.Outputs.{OnlyFills, output_of};
+ghost use Rattle.run_drive.specs.Played.{PlayedWhole, PlayedFirst};
+ghost use Rattle.plan_drive.specs.Paths.{path_script};
+ghost use Rattle.plan_drive.specs.Joins.{PlanEmits};
+ghost use Rattle.snes_call.specs.Rewind.{ShowsPlan, plan_line};
+
+use crate::boot::BootFile;
+use crate::cart::CartFile;
+use crate::command::Performs;
+use crate::loads::Loads;
+use crate::plan::PlanFile;
+use crate::table::TableFile;
+use file_shelf::{Input, Out, Shelf};
+use input_files::Plan;
+use plan_drive::{Lengths, PlanPlayer, measure};
+use run_drive::out_of;
+use run_io::{Asked, Form, Line, frames_line};
+use snes_defs::{Job, NoMemory, Region, Side, Spans};
+use std::alloc::Global;
+use std::marker::PhantomData;
+use run_drive::Workers;
+
+/// The command `rewind`: a plan of kept moments is played on the console that three inputs make, and its goes become
+/// video and sound.
+#[derive(Drop)]
+pub(crate) struct Rewind<P> {
+    player: PhantomData<P>,
+}
+
+/// What plays the plan, the plan, and its line.
+#[derive(Drop)]
+pub(crate) struct ReadyRewind<N> {
+    planned: N,
+    plan: Plan,
+    line: Line,
+}
+
+/// The inputs of the command, in their order.
+type PlanFiles = (CartFile, (BootFile, (TableFile, PlanFile)));
+
+static INPUTS: [Input; 4] = [Input::Cart, Input::Boot, Input::Table, Input::Plan];
+
+static OUTPUTS: [Out; 2] = [Out::Video, Out::Sound];
+
+impl<P: PlanPlayer> Rewind<P> {
+    pub(crate) fn new() -> Rewind<P> {
+        Rewind {
+            player: PhantomData,
+        }
+    }
+}
+
+/// The machines that the inputs make, as an Ntsc job without a script, and the plan.
+fn machines_of(alloc: Global, files: <PlanFiles as Loads>::Value) -> (Job, Plan)
+    ensures script { result.0.script ≡ path_script 0 [] }
+    ensures region { result.0.region ≡ Ntsc }
+    ensures shows { (told : Input → Option (List ℕ)) → ⟦<PlanFiles as Loads>⟧.reads told files → ShowsPlan told result.0 result.1 }
+{
+    let (cart, (boot, (table, plan))) = files;
+    let job = Job {
+        cart,
+        boot,
+        table,
+        script: Spans::of(alloc, Vec::new(alloc)),
+        frames: 0,
+        region: Region::Ntsc,
+    };
+    (job, plan)
+}
+
+/// The line of a plan that was played.
+fn line_of_plan(plan: &Plan) -> Line
+    ensures { result ≡ plan_line plan.now }
+{
+    let Lengths { frames, samples } = measure(plan);
+    frames_line(frames, samples)
+}
+
+/// Plays a plan into video and sound.
+fn play_into<P: PlanPlayer, H: Shelf>(
+    planned: P::Planned,
+    plan: &Plan,
+    shelf: &mut H,
+) -> Result<(), Side>
+    requires at_start { (job : Job) × P.plans planned job plan.now }
+    requires video_created { Holds ((H.shown shelf.old).written Out.Video) [] }
+    requires sound_created { Holds ((H.shown shelf.old).written Out.Sound) [] }
+    ensures whole { OnOk result ((job : Job) → P.plans planned job plan.now → PlayedWhole (PlanEmits P.emits job plan.now) (λ side bytes. Holds ((H.shown shelf.new).written (output_of side)) bytes)) }
+    ensures first { (job : Job) → P.plans planned job plan.now → PlayedFirst (PlanEmits P.emits job plan.now) (λ side bytes. Holds ((H.shown shelf.new).written (output_of side)) bytes) }
+    ensures failed { IfErr result (λ side. HasRisen ((H.shown shelf.old).write_faults (output_of side)) ((H.shown shelf.new).write_faults (output_of side))) }
+    ensures only { OnlyFills (H.shown shelf.old) (H.shown shelf.new) }
+{
+    P::play_plan(planned, plan, shelf)
+}
+
+impl<P: PlanPlayer> Performs for Rewind<P> {
+    ghost use Rattle.std.specs.Prelude.{◌≡◌, refl};
+    ghost use Rattle.snes_defs.specs.declared.cart.Job.{Job};
+    ghost use Rattle.run_drive.specs.Played.{IsPlayable};
+    ghost use Rattle.plan_drive.specs.Joins.{PlanEmits};
+    ghost use Rattle.snes_call.specs.Rewind.{ShowsPlan, plan_line, rewind};
+
+    type Inputs = PlanFiles;
+
+    type Ready = ReadyRewind<P::Planned>;
+
+    ghost command = { rewind P.emits };
+
+    ghost is_ready = { λ order told ready. (job : Job) × ShowsPlan told job ready.plan × P.plans ready.planned job ready.plan × IsPlayable (PlanEmits P.emits job ready.plan) × (ready.line ≡ plan_line ready.plan) };
+
+    fn form() -> Form {
+        Form {
+            numbered: false,
+            inputs: &INPUTS,
+            count: None,
+            outputs: &OUTPUTS,
+        }
+    }
+
+    fn ready(
+        &self,
+        alloc: Global,
+        _asked: &Asked<'_>,
+        inputs: <PlanFiles as Loads>::Value,
+    ) -> Result<ReadyRewind<P::Planned>, NoMemory> {
+        let (job, plan) = machines_of(alloc, inputs);
+        let planned = P::ready_plan(alloc, &job, &plan)?;
+        let line = line_of_plan(&plan);
+        Ok(ReadyRewind {
+            planned,
+            plan,
+            line,
+        })
+    }
+
+    fn fill<R: Workers, H: Shelf>(
+        &self,
+        _rt: &R,
+        _asked: &Asked<'_>,
+        ready: ReadyRewind<P::Planned>,
+        shelf: &mut H,
+    ) -> Result<Line, Out> {
+        let ReadyRewind {
+            planned,
+            plan,
+            line,
+        } = ready;
+        match play_into::<P, H>(planned, &plan, shelf) {
+            Ok(()) => Ok(line),
+            Err(side) => Err(out_of(side)),
+        }
+    }
+
+    ghost inputs_are = { refl };
+
+    ghost outputs_apart = { refl };
+}
