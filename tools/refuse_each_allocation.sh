@@ -1,6 +1,7 @@
 #!/usr/bin/env bash
 # Refuses each request for memory of the built program in turn, on a run of one red frame, by `run` and by
-# `serial`: each time the answer is that of the whole run, or it is `no memory` with no output created.
+# `serial`, and on two samples of a sound file, by `play`: each time the answer is that of the whole run, or it is
+# `no memory` with no output created.
 #
 # It is no part of the gate. It needs the program (`./snes demo 7 --frames 0` builds it) and a C compiler,
 # with which it makes a small library, outside of the repository, that stands before malloc and realloc.
@@ -53,16 +54,31 @@ yes "$(printf '\x1f')" | head -c 229376 | tr '\n' '\0' >"$work/red"
 head -c 15360 /dev/zero >>"$work/red"
 head -c 2128 /dev/zero >"$work/silence"
 
+# A sound file of one voice of noise, by the registers of the S-DSP, and its first two samples.
+{ printf 'SNES-SPC700 Sound File Data' && head -c 66021 /dev/zero; } >"$work/hiss.spc"
+for register in 00:7f 07:7f 0c:7f 3d:01 4c:01 6c:20; do
+  printf "\\x${register#*:}" |
+    dd of="$work/hiss.spc" bs=1 seek=$((16#10100 + 16#${register%:*})) conv=notrunc status=none
+done
+printf '\0\0\0\0\xfa\x82\0\0' >"$work/noise"
+
 # Calls the program with one request refused, and tells what came of it: whole, none or neither.
 call() {
   rm -f "$work/video" "$work/audio" "$work/mark"
-  REFUSED=$2 MARK=$work/mark LD_PRELOAD=./refuse.so "$program" "$1" \
-    --cart "$data/red.sfc" --boot "$data/boot.bin" --table "$data/table.bin" --script "$data/script.txt" \
-    --frames 1 --video "$work/video" --audio "$work/audio" >"$work/said" 2>"$work/errors"
+  if [ "$1" = play ]; then
+    words=(--spc "$work/hiss.spc" --table "$data/table.bin" --samples 2)
+    line='samples 2' sound=$work/noise
+  else
+    words=(--cart "$data/red.sfc" --boot "$data/boot.bin" --table "$data/table.bin" --script "$data/script.txt"
+      --frames 1 --video "$work/video")
+    line='frames 1 samples 532' sound=$work/silence
+  fi
+  REFUSED=$2 MARK=$work/mark LD_PRELOAD=./refuse.so "$program" "$1" "${words[@]}" --audio "$work/audio" \
+    >"$work/said" 2>"$work/errors"
   status=$?
   said=$(cat "$work/said")
-  if [ $status -eq 0 ] && [ "$said" = 'frames 1 samples 532' ] &&
-    cmp -s "$work/video" "$work/red" && cmp -s "$work/audio" "$work/silence"; then
+  if [ $status -eq 0 ] && [ "$said" = "$line" ] && cmp -s "$work/audio" "$sound" &&
+    { [ "$1" = play ] || cmp -s "$work/video" "$work/red"; }; then
     came=whole
   elif [ $status -eq 5 ] && [ ! -e "$work/video" ] && [ ! -e "$work/audio" ] &&
     { [ -z "$said" ] || [ "$said" = 'no memory' ]; }; then
@@ -73,7 +89,7 @@ call() {
 }
 
 bad=0
-for command in run serial; do
+for command in run serial play; do
   whole=0 none=0 ended=no
   for number in $(seq "${MOST:-5000}"); do
     call "$command" "$number"

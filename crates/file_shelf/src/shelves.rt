@@ -2,13 +2,15 @@ ghost use Rattle.std.specs.Prelude.{◌≡◌, ◌+◌, ◌<◌, ◌≤◌, [], 
 ghost use Rattle.file_shelf.specs.Told.{Holds, Appends, AppendsSome, HasRisen};
 ghost use Rattle.file_shelf.specs.Shown.{Shown, IsUntouched, IsCreated, OnlyLoads, OnlyCreates, OnlyPuts};
 
-/// The files that a command loads.
+/// The kinds of files that the program loads.
 #[derive(Clone, Copy, Debug, PartialEq, Eq)]
 pub enum Input {
     /// The cartridge.
     Cart,
     /// The boot ROM of the sound side.
     Boot,
+    /// The sound file that is played.
+    Spc,
     /// The interpolation table of the S-DSP.
     Table,
     /// The script of pads.
@@ -22,7 +24,7 @@ pub enum Input {
 pub enum Out {
     /// The frames of a run.
     Video,
-    /// The samples of a run.
+    /// The samples of a run, or of a sound file.
     Sound,
     /// A cartridge that the program makes.
     Image,

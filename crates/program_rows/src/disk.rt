@@ -17,7 +17,7 @@ fn lay<R: Files>(rt: &R, rows: &Rows, words: &str) -> io::Result<()> {
     Ok(())
 }
 
-/// Removes the files that the words name, and the two outputs of a row unless they are devices.
+/// Removes the files that the words name, and the outputs of a row for video and sound unless they are devices.
 fn clear<R: Files>(rt: &R, rows: &Rows, words: &str, row: &Outcome) -> io::Result<()> {
     for word in words.split(' ') {
         if rows.files.find(word).is_some() {
@@ -26,14 +26,15 @@ fn clear<R: Files>(rt: &R, rows: &Rows, words: &str, row: &Outcome) -> io::Resul
     }
     for out in [Out::Video, Out::Sound] {
         let name = row.shelf.named(out);
-        if !name.starts_with("/") {
+        if !name.is_empty() && !name.starts_with("/") {
             fs::remove_file(rt, name)?;
         }
     }
     Ok(())
 }
 
-/// Prints whether an output on the disk has the bytes of the output in memory. A device may go on without end.
+/// Prints whether an output that was created has on the disk the bytes that it has in memory. A device may go on
+/// without end.
 fn compare<R: AllocGlobal + Files + Print>(
     rt: &R,
     what: &str,
@@ -41,6 +42,9 @@ fn compare<R: AllocGlobal + Files + Print>(
     row: &Outcome,
 ) -> io::Result<()> {
     let name = row.shelf.named(out);
+    if name.is_empty() {
+        return Ok(());
+    }
     if name.starts_with("/") {
         return println!(rt; "  {what} on a device, which isn't read back");
     }

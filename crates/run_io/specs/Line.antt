@@ -32,7 +32,11 @@ demo_text frames samples video sound =
 abbrev pub image_text : List ℕ
 image_text = codes "image 524288"
 
--- a file is no cartridge, boot ROM, table, script or plan
+-- a sound file was played
+abbrev pub samples_text : ℕ → List ℕ
+samples_text samples = codes "samples " ++ decimal samples
+
+-- a file is no cartridge, boot ROM, table, script, plan or sound file
 abbrev pub cart_refused_text : CartRefused → List ℕ
 cart_refused_text cart.TooShort = codes "cart refused: too short"
 cart_refused_text cart.TooLong = codes "cart refused: too long"
@@ -42,6 +46,16 @@ cart_refused_text (cart.RamSize size) = codes "cart refused: ram size " ++ decim
 
 abbrev pub boot_refused_text : List ℕ
 boot_refused_text = codes "boot refused"
+
+-- a sound file has too many bytes or too few, or does not begin with its text
+abbrev pub spc_too_long_text : List ℕ
+spc_too_long_text = codes "spc refused: too long"
+
+abbrev pub spc_too_short_text : List ℕ
+spc_too_short_text = codes "spc refused: too short"
+
+abbrev pub spc_no_text_text : List ℕ
+spc_no_text_text = codes "spc refused: no text"
 
 abbrev pub table_refused_text : ℕ → List ℕ
 table_refused_text entry = codes "table refused at " ++ decimal entry
@@ -60,6 +74,7 @@ usage_text = codes "usage: snes run, serial, make or demo"
 abbrev pub cannot_read_text : Input → List ℕ
 cannot_read_text input.Cart = codes "cannot read cart"
 cannot_read_text input.Boot = codes "cannot read boot"
+cannot_read_text input.Spc = codes "cannot read spc"
 cannot_read_text input.Table = codes "cannot read table"
 cannot_read_text input.Script = codes "cannot read script"
 cannot_read_text input.Plan = codes "cannot read plan"

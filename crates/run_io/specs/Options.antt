@@ -11,6 +11,7 @@ use Rattle.run_io.specs.declared.options.Count.TheVariants as count
 abbrev pub input_option : Input → List ℕ
 input_option input.Cart = codes "--cart"
 input_option input.Boot = codes "--boot"
+input_option input.Spc = codes "--spc"
 input_option input.Table = codes "--table"
 input_option input.Script = codes "--script"
 input_option input.Plan = codes "--plan"
@@ -25,9 +26,12 @@ output_option out.Say = []
 -- the option of a number, the most decimal digits that it has, and its greatest value
 abbrev pub count_option : Count → List ℕ
 count_option count.Frames = codes "--frames"
+count_option count.Samples = codes "--samples"
 
 abbrev pub digits_of : Count → ℕ
 digits_of count.Frames = 5
+digits_of count.Samples = 8
 
 abbrev pub most_of : Count → ℕ
 most_of count.Frames = 36000
+most_of count.Samples = 19200000

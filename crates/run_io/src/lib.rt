@@ -18,7 +18,8 @@ pub use file_shelf::{
 pub use forms::{Asked, Form, read_form};
 pub use lines::{
     Line, boot_refused_line, cannot_read_line, cannot_write_line, cart_refused_line, demo_line,
-    frames_line, image_line, no_memory_line, plan_refused_line, script_refused_line, table_refused_line, usage_line,
+    frames_line, image_line, no_memory_line, plan_refused_line, samples_line, script_refused_line,
+    spc_no_text_line, spc_too_long_line, spc_too_short_line, table_refused_line, usage_line,
 };
 pub use options::Count;
 pub use pairs::{input_name, output_name};

@@ -1,7 +1,7 @@
 ghost use Rattle.std.specs.Prelude.{◌≡◌, ◌+◌, ◌<◌, ◌≤◌, ◌++◌, length, decimal, []};
 ghost use Rattle.std.specs.Option.{option_map};
 ghost use Rattle.cart_map.specs.declared.refused.CartRefused.{CartRefused};
-ghost use Rattle.run_io.specs.Line.{line_of, hex_digit, hex_byte, frames_text, demo_text, image_text, cart_refused_text, boot_refused_text, table_refused_text, script_refused_text, plan_refused_text, usage_text, cannot_read_text, cannot_write_text, no_memory_text};
+ghost use Rattle.run_io.specs.Line.{line_of, hex_digit, hex_byte, frames_text, demo_text, image_text, cart_refused_text, boot_refused_text, samples_text, spc_too_long_text, spc_too_short_text, spc_no_text_text, table_refused_text, script_refused_text, plan_refused_text, usage_text, cannot_read_text, cannot_write_text, no_memory_text};
 
 use arrayvec::ArrayString;
 use cart_map::CartRefused;
@@ -122,6 +122,13 @@ pub fn image_line() -> Line
     whole("image 524288\n")
 }
 
+/// A sound file was played: `samples N`.
+pub fn samples_line(samples: u32) -> Line
+    ensures text { result ≡ line_of (samples_text samples) }
+{
+    numbered_line("samples ", u64::from(samples))
+}
+
 /// The words are in no form.
 pub fn usage_line() -> Line
     ensures text { result ≡ line_of usage_text }
@@ -129,13 +136,14 @@ pub fn usage_line() -> Line
     whole("usage: snes run, serial, make or demo\n")
 }
 
-/// A file was not loaded: `cannot read cart`, or `boot`, `table`, `script`, `plan`.
+/// A file was not loaded: `cannot read cart`, or `boot`, `spc`, `table`, `script`, `plan`.
 pub fn cannot_read_line(input: Input) -> Line
     ensures text { result ≡ line_of (cannot_read_text input) }
 {
     whole(match input {
         Input::Cart => "cannot read cart\n",
         Input::Boot => "cannot read boot\n",
+        Input::Spc => "cannot read spc\n",
         Input::Table => "cannot read table\n",
         Input::Script => "cannot read script\n",
         Input::Plan => "cannot read plan\n",
@@ -174,6 +182,27 @@ pub fn boot_refused_line() -> Line
     ensures text { result ≡ line_of boot_refused_text }
 {
     whole("boot refused\n")
+}
+
+/// A sound file has more bytes than one has: `spc refused: too long`.
+pub fn spc_too_long_line() -> Line
+    ensures text { result ≡ line_of spc_too_long_text }
+{
+    whole("spc refused: too long\n")
+}
+
+/// A sound file has fewer bytes than one has: `spc refused: too short`.
+pub fn spc_too_short_line() -> Line
+    ensures text { result ≡ line_of spc_too_short_text }
+{
+    whole("spc refused: too short\n")
+}
+
+/// A sound file does not begin with its text: `spc refused: no text`.
+pub fn spc_no_text_line() -> Line
+    ensures text { result ≡ line_of spc_no_text_text }
+{
+    whole("spc refused: no text\n")
 }
 
 /// A file is no table: `table refused at 511`, at 512 for its length and else at its first large entry.

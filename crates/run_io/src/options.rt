@@ -8,6 +8,8 @@ use file_shelf::{Input, Out};
 pub enum Count {
     /// Frames of a run: 1 to 5 decimal digits, at most 36,000.
     Frames,
+    /// Samples of a sound file: 1 to 8 decimal digits, at most 19,200,000.
+    Samples,
 }
 
 /// The option of an input.
@@ -17,6 +19,7 @@ pub(crate) fn option_of_input(input: Input) -> &'static str
     match input {
         Input::Cart => "--cart",
         Input::Boot => "--boot",
+        Input::Spc => "--spc",
         Input::Table => "--table",
         Input::Script => "--script",
         Input::Plan => "--plan",
@@ -42,6 +45,7 @@ impl Count {
     {
         match self {
             Count::Frames => "--frames",
+            Count::Samples => "--samples",
         }
     }
 
@@ -51,6 +55,7 @@ impl Count {
     {
         match self {
             Count::Frames => 5,
+            Count::Samples => 8,
         }
     }
 
@@ -60,6 +65,7 @@ impl Count {
     {
         match self {
             Count::Frames => 36_000,
+            Count::Samples => 19_200_000,
         }
     }
 }

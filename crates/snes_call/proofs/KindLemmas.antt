@@ -11,9 +11,11 @@ use Rattle.input_files.specs.Script.{script_of}
 use Rattle.input_files.specs.Plan.{plan_of}
 use Rattle.input_files.specs.declared.plan.PlanStep.{PlanStep}
 use Rattle.file_shelf.specs.declared.shelves.Input.TheVariants as input
+use Rattle.spc_player.specs.SoundFile.{refusal_of}
 use Rattle.snes_call.specs.declared.status.Why.{Why}
 use Rattle.snes_call.specs.declared.status.Why.TheVariants as why
 use Rattle.snes_call.specs.Kinds.{input_of, AreRefused, AreAccepted, IsCartIn, IsScriptIn, IsPlanIn}
+use Rattle.snes_call.proofs.SpcLemmas.{one_refused}
 
 -- an answer is not both, and refuses for one cause
 not_both : {A B : Type 0} (r : Result A B) (a : A) (b : B) → r ≡ Ok a → r ≡ Err b → ⊥
@@ -45,6 +47,7 @@ cart_accepted bytes cart h = record { unrefused = go }
     go : (cause : Why) → input_of cause ≡ input.Cart → ¬ AreRefused bytes cause
     go (why.Cart cause) is refused = not_both (verdict bytes) _ cause h.header refused
     go why.Boot is refused = cc
+    go (why.Spc cause) is refused = cc
     go (why.Table entry) is refused = cc
     go (why.Script line) is refused = cc
     go (why.Plan line) is refused = cc
@@ -61,6 +64,7 @@ boot_accepted bytes size = record { unrefused = go }
     go : (cause : Why) → input_of cause ≡ input.Boot → ¬ AreRefused bytes cause
     go (why.Cart cause) is refused = cc
     go why.Boot is refused = refused size
+    go (why.Spc cause) is refused = cc
     go (why.Table entry) is refused = cc
     go (why.Script line) is refused = cc
     go (why.Plan line) is refused = cc
@@ -85,6 +89,7 @@ table_accepted bytes table h = record { unrefused = go }
     go : (cause : Why) → input_of cause ≡ input.Table → ¬ AreRefused bytes cause
     go (why.Cart cause) is refused = cc
     go why.Boot is refused = cc
+    go (why.Spc cause) is refused = cc
     go (why.Table entry) is refused =
         let first = large_entry bytes entry h.size refused in
         absurd (omega (arith, h.small entry first.within, first.large))
@@ -124,6 +129,7 @@ script_accepted bytes script few h = record { unrefused = go }
     go : (cause : Why) → input_of cause ≡ input.Script → ¬ AreRefused bytes cause
     go (why.Cart cause) is refused = cc
     go why.Boot is refused = cc
+    go (why.Spc cause) is refused = cc
     go (why.Table entry) is refused = cc
     go (why.Script line) is refused = not_both (script_of bytes) script line h (bad_line bytes line few refused)
     go (why.Plan line) is refused = cc
@@ -179,6 +185,7 @@ one_plan_line bytes a b =
 pub one_cause : (bytes : List ℕ) (a b : Why) → input_of a ≡ input_of b → AreRefused bytes a → AreRefused bytes b → a ≡ b
 one_cause bytes (why.Cart a) (why.Cart b) same h k = ap why.Cart (one_refusal (verdict bytes) a b h k)
 one_cause bytes why.Boot why.Boot same h k = refl
+one_cause bytes (why.Spc a) (why.Spc b) same h k = ap why.Spc (one_refused (refusal_of bytes) a b h k)
 one_cause bytes (why.Table a) (why.Table b) same h k = ap why.Table (one_entry bytes a b h k)
 one_cause bytes (why.Script a) (why.Script b) same h k = ap why.Script (one_line bytes a b h k)
 one_cause bytes (why.Plan a) (why.Plan b) same h k = ap why.Plan (one_plan_line bytes a b h k)

@@ -8,6 +8,8 @@ pub mod Lists
 pub mod Loading
 pub mod MakeLemmas
 pub mod OutputLemmas
+pub mod PlayLemmas
 pub mod Putting
 pub mod RewindLemmas
 pub mod RunLemmas
+pub mod SpcLemmas

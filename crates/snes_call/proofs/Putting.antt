@@ -5,20 +5,7 @@ use Rattle.file_shelf.specs.declared.shelves.Out.{Out}
 use Rattle.file_shelf.specs.Told.{Holds, Appends, AppendsSome, HasRisen}
 use Rattle.file_shelf.specs.Shown.{Shown, OnlyPuts}
 use Rattle.run_drive.specs.OutputLaws.{risen_since}
-
-pub puts_then : (a b c : Shown) (out : Out) → OnlyPuts a b out → OnlyPuts b c out → OnlyPuts a c out
-puts_then a b c out first then = record {
-  held = then.held ∙ first.held;
-  load_faults = then.load_faults ∙ first.load_faults;
-  named = then.named ∙ first.named;
-  write_faults = λ any. omega (arith, first.write_faults any, then.write_faults any);
-  others = λ other differ. record {
-    written = (then.others other differ).written ∙ (first.others other differ).written;
-    named = (then.others other differ).named ∙ (first.others other differ).named;
-    unwritten = (then.others other differ).unwritten ∙ (first.others other differ).unwritten;
-    write_faults = (then.others other differ).write_faults ∙ (first.others other differ).write_faults;
-  };
-}
+use Rattle.snes_call.specs.PutLaws.{puts_then}
 
 -- a fault of the flush is a fault since before the put
 pub risen_then : (a b c : Shown) (out : Out) → OnlyPuts a b out → HasRisen (b.write_faults out) (c.write_faults out) → HasRisen (a.write_faults out) (c.write_faults out)

@@ -6,6 +6,7 @@ use Rattle.run_io.specs.Form.{Order, order_in}
 use Rattle.snes_call.specs.Command.{Command}
 use Rattle.snes_call.specs.Run.{run}
 use Rattle.snes_call.specs.Make.{make}
+use Rattle.snes_call.specs.Play.{play}
 use Rattle.snes_call.specs.Demo.{demo}
 use Rattle.snes_call.specs.Rewind.{rewind}
 
@@ -31,10 +32,11 @@ unfoldable pub asked_by : (Job → List ℕ → List ℕ → Type 0) → List �
 asked_by emits name words =
     where_true (bytes_eq name (codes "run")) (asks (run emits) words) (
     where_true (bytes_eq name (codes "serial")) (asks (run emits) words) (
+    where_true (bytes_eq name (codes "play")) (asks play words) (
     where_true (bytes_eq name (codes "make")) (asks make words) (
     where_true (bytes_eq name (codes "demo")) (asks (demo emits) words) (
     where_true (bytes_eq name (codes "rewind")) (asks (rewind emits) words)
-    Nothing))))
+    Nothing)))))
 
 -- the first word is the name
 abbrev pub asked : (Job → List ℕ → List ℕ → Type 0) → List (List ℕ) → Wish

@@ -6,9 +6,12 @@ pub mod Job
 pub mod Kinds
 pub mod Loads
 pub mod Make
+pub mod Play
+pub mod PutLaws
 pub mod Rewind
 pub mod Run
 pub mod Said
 pub mod Snes
+pub mod SoundOut
 pub mod Status
 pub mod Sums

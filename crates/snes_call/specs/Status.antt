@@ -1,7 +1,8 @@
 -- The exit status of each answer, and its line for the user.
 use Rattle.std.specs.Prelude.{ℕ, List, Option, Some, None}
 use Rattle.std.specs.Option.{option_map}
-use Rattle.run_io.specs.Line.{line_of, usage_text, cannot_read_text, cannot_write_text, no_memory_text, cart_refused_text, boot_refused_text, table_refused_text, script_refused_text, plan_refused_text}
+use Rattle.run_io.specs.Line.{line_of, usage_text, cannot_read_text, cannot_write_text, no_memory_text, cart_refused_text, boot_refused_text, spc_too_long_text, spc_too_short_text, spc_no_text_text, table_refused_text, script_refused_text, plan_refused_text}
+use Rattle.spc_player.specs.declared.image.SpcRefused.TheVariants.{TooLong, TooShort, NoText}
 use Rattle.snes_call.specs.declared.status.Why.{Why}
 use Rattle.snes_call.specs.declared.status.Why.TheVariants as why
 use Rattle.snes_call.specs.declared.status.Status.{Status}
@@ -19,6 +20,9 @@ exit_of NoMemory = 5
 abbrev pub refused_text : Why → List ℕ
 refused_text (why.Cart cause) = cart_refused_text cause
 refused_text why.Boot = boot_refused_text
+refused_text (why.Spc TooLong) = spc_too_long_text
+refused_text (why.Spc TooShort) = spc_too_short_text
+refused_text (why.Spc NoText) = spc_no_text_text
 refused_text (why.Table entry) = table_refused_text entry
 refused_text (why.Script line) = script_refused_text line
 refused_text (why.Plan line) = plan_refused_text line

@@ -6,6 +6,7 @@ use crate::command::Performs;
 use crate::demo::Demo;
 use crate::make::Make;
 use crate::perform::perform;
+use crate::play::Play;
 use crate::rewind::Rewind;
 use crate::run::{Run, Way};
 use crate::say::{refuse, say};
@@ -60,6 +61,9 @@ fn call_named<P: PlanPlayer, R: AllocGlobal + Workers, H: Shelf>(
     }
     if name == "serial" {
         return call(&Run::<P>::by(Way::Serial), rt, words, shelf);
+    }
+    if name == "play" {
+        return call(&Play, rt, words, shelf);
     }
     if name == "make" {
         return call(&Make, rt, words, shelf);

@@ -9,8 +9,10 @@ use crate::status::{Status, Why};
 use file_shelf::{Out, Shelf};
 use run_io::{
     Line, boot_refused_line, cannot_read_line, cannot_write_line, cart_refused_line,
-    no_memory_line, plan_refused_line, script_refused_line, table_refused_line, usage_line,
+    no_memory_line, plan_refused_line, script_refused_line, spc_no_text_line, spc_too_long_line,
+    spc_too_short_line, table_refused_line, usage_line,
 };
+use spc_player::SpcRefused;
 
 /// The line of an input that was refused.
 fn refused_line(cause: Why) -> Line
@@ -19,6 +21,9 @@ fn refused_line(cause: Why) -> Line
     match cause {
         Why::Cart(cause) => cart_refused_line(cause),
         Why::Boot => boot_refused_line(),
+        Why::Spc(SpcRefused::TooLong) => spc_too_long_line(),
+        Why::Spc(SpcRefused::TooShort) => spc_too_short_line(),
+        Why::Spc(SpcRefused::NoText) => spc_no_text_line(),
         Why::Table(entry) => table_refused_line(entry),
         Why::Script(line) => script_refused_line(line),
         Why::Plan(line) => plan_refused_line(line),

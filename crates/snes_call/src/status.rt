@@ -3,6 +3,7 @@ ghost use Rattle.snes_call.specs.Status.{exit_of};
 
 use cart_map::CartRefused;
 use file_shelf::{Input, Out};
+use spc_player::SpcRefused;
 
 /// Why an input was not accepted.
 #[derive(Clone, Copy, Debug, PartialEq, Eq)]
@@ -11,6 +12,8 @@ pub enum Why {
     Cart(CartRefused),
     /// The boot ROM hasn't 64 bytes.
     Boot,
+    /// The file is no sound file.
+    Spc(SpcRefused),
     /// The interpolation table hasn't 1,024 bytes (512), or this is its first entry above 2047.
     Table(u16),
     /// The script has more than 1,048,576 bytes (0), or this is its first line that is in no form,

@@ -1,0 +1,66 @@
+// The output for sound of a shelf, as a sink.
+ghost use Rattle.std.specs.Prelude.{◌≡◌, ◌≢◌, ℕ, List, OnOk, OnErr};
+ghost use Rattle.snes_defs.specs.declared.ports.Side.{Side};
+ghost use Rattle.file_shelf.specs.Told.{Holds, HasRisen};
+ghost use Rattle.file_shelf.specs.Shown.{OnlyPuts};
+ghost use Rattle.run_drive.specs.Run.{Adds, AddsSome};
+ghost use Rattle.spc_player.specs.Play.{Playing};
+ghost use Rattle.spc_player.specs.Player.{IsPlaying, TookPairs, TookSome, stamp_of, waiting_of};
+
+use file_shelf::{Failed, Out, Shelf};
+use run_drive::Sink;
+use snes_defs::Side;
+use spc_player::Player;
+
+/// The output for sound: the sound side's bytes are put to it, and those of a console are passed over. So no other
+/// output is touched.
+#[derive(Drop)]
+struct SoundOut<'a, H> {
+    shelf: &'a mut H,
+}
+
+impl<H: Shelf> Sink for SoundOut<'_, H> {
+    ghost use Rattle.std.specs.Prelude.{◌≡◌, refl, ◌∙◌};
+    ghost use Rattle.file_shelf.specs.Told.{HasRisen};
+    ghost use Rattle.file_shelf.specs.Shown.{OnlyPuts};
+    ghost use Rattle.snes_call.specs.SoundOut.{HoldsSound};
+    ghost use Rattle.run_drive.specs.OutputLaws.{risen_since};
+    ghost use Rattle.snes_call.specs.PutLaws.{puts_none, puts_then};
+
+    ghost holds = { λ sink. HoldsSound (H.shown sink.shelf.now) };
+
+    // it is the output of the same shelf
+    ghost only_takes = { λ a b. (b.shelf.ghost_name ≡ a.shelf.ghost_name) × OnlyPuts (H.shown a.shelf.now) (H.shown b.shelf.now) Out.Sound };
+
+    ghost failed = { λ a b side. HasRisen ((H.shown a.shelf.now).write_faults Out.Sound) ((H.shown b.shelf.now).write_faults Out.Sound) };
+
+    fn take(&mut self, side: Side, bytes: &[u8]) -> Result<(), Failed> {
+        match side {
+            Side::Console => Ok(()),
+            Side::Sound => self.shelf.put(Out::Sound, bytes),
+        }
+    }
+
+    ghost takes_none = { λ a. (refl, puts_none (H.shown a.shelf.now) Out.Sound) };
+
+    ghost takes_more = { λ a b c first then. (then.0 ∙ first.0, puts_then _ _ _ Out.Sound first.1 then.1) };
+
+    ghost failed_since = { λ a b c side first then. risen_since _ _ _ (first.1.write_faults Out.Sound) then };
+}
+
+/// Plays so many samples into the output for sound, and nothing else.
+pub(crate) fn play_sound<H: Shelf>(
+    player: &mut Player,
+    samples: u32,
+    shelf: &mut H,
+) -> Result<(), Failed>
+    requires early { stamp_of player.old ≡ 0 }
+    requires empty { waiting_of player.old ≡ [] }
+    ensures whole { OnOk result ((w : Playing) → IsPlaying player.old w → TookPairs w samples (Holds ((H.shown shelf.old).written Out.Sound)) (Holds ((H.shown shelf.new).written Out.Sound))) }
+    ensures first { (w : Playing) → IsPlaying player.old w → TookSome w samples (Holds ((H.shown shelf.old).written Out.Sound)) (Holds ((H.shown shelf.new).written Out.Sound)) }
+    ensures failed { OnErr result (HasRisen ((H.shown shelf.old).write_faults Out.Sound) ((H.shown shelf.new).write_faults Out.Sound)) }
+    ensures only { OnlyPuts (H.shown shelf.old) (H.shown shelf.new) Out.Sound }
+{
+    let mut sink = SoundOut { shelf };
+    player.play(samples, &mut sink)
+}

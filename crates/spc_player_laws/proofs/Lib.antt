@@ -1,0 +1,4 @@
+pub mod Memory
+pub mod PlayOn
+pub mod Ports
+pub mod Rates

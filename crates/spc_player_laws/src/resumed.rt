@@ -1,0 +1,16 @@
+ghost use Rattle.std.specs.Prelude.{◌≡◌, ◌*◌, ℕ, List};
+ghost use Rattle.spc_tables.specs.declared.regs.SpcRegs.{SpcRegs};
+ghost use Rattle.audio_side.specs.Board.{Board};
+ghost use Rattle.spc_player.specs.Play.{output, play_start};
+ghost use Rattle.spc_player_laws.specs.PlaysOn.{GivesBack, StaysBlind, period, file_of, goes_on};
+
+/// A sound file plays what its job's sound side emits from where it was taken, step by step, as long as nobody writes
+/// to the ports: of a job in Ntsc without resets, at the start of an instruction in a cycle that 983,040 divides, where
+/// the file gives back the board, and from there on no sample looks at RAM that the processor doesn't see, and F1
+/// neither shows nor hides the boot ROM.
+#[tactic(none)]
+pub fn a_file_plays_on()
+    ensures { (regs : SpcRegs) (b : Board) (dsp table ports : List ℕ) (times : ℕ)
+        → GivesBack b dsp table ports → StaysBlind b.boot_seen (goes_on regs b (period * times) ports)
+        → (steps : ℕ) → output (play_start (file_of regs b dsp ports) table) steps ≡ output (goes_on regs b (period * times) ports) steps }
+{}
