@@ -18,12 +18,11 @@ use crate::table::TableFile;
 use file_shelf::{Input, Out, Shelf};
 use input_files::Plan;
 use plan_drive::{Lengths, PlanPlayer, measure};
-use run_drive::out_of;
+use run_drive::{Workers, out_of};
 use run_io::{Asked, Form, Line, frames_line};
 use snes_defs::{Job, NoMemory, Region, Side, Spans};
 use std::alloc::Global;
 use std::marker::PhantomData;
-use run_drive::Workers;
 
 /// The command `rewind`: a plan of kept moments is played on the console that three inputs make, and its goes become
 /// video and sound.
