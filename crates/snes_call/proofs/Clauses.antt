@@ -1,11 +1,10 @@
 -- The clauses of `snes`, each from how the call ended.
-use Rattle.std.proofs.Common.{◌≡◌, ◌≢◌, ℕ, List, [], ◌∷◌, length, Option, None, Some, IfSome, IsSomeAnd, refl, sym, ap, ◌∙◌, subst, inl, inr, ⊎_elim, arith}
+use Rattle.std.proofs.Common.{◌≡◌, ◌≢◌, ℕ, List, [], ◌∷◌, Option, None, Some, IfSome, IsSomeAnd, refl, sym, ap, ◌∙◌, subst, inl, inr, ⊎_elim, arith}
 use Rattle.std.specs.Prelude.{◌⊎◌}
-use Rattle.std.proofs.lemmas.List.{take_all}
 use Rattle.file_shelf.specs.declared.shelves.Input.{Input}
 use Rattle.file_shelf.specs.declared.shelves.Out.{Out}
 use Rattle.file_shelf.specs.declared.shelves.Out.TheVariants as out
-use Rattle.file_shelf.specs.Told.{Holds, HasRisen}
+use Rattle.file_shelf.specs.Told.{HasRisen}
 use Rattle.file_shelf.specs.Shown.{Shown, IsKept, OnlyPuts}
 use Rattle.run_io.specs.Form.{Order}
 use Rattle.run_io.specs.Lists.{AllOf, FirstThat, IsOneOf}
@@ -14,12 +13,13 @@ use Rattle.snes_call.specs.declared.status.Status.{Status}
 use Rattle.snes_call.specs.declared.status.Status.TheVariants.{Ok, Usage, LoadFault, Refused, WriteFault, NoMemory}
 use Rattle.snes_call.specs.Kinds.{AreRefused, AreAccepted}
 use Rattle.snes_call.specs.Loads.{told_in, ShowsAccepted, ShowsRefused, TellsAccepted, TellsRefused, HasFailed, EndsInput, EndsInputs}
-use Rattle.snes_call.specs.Command.{Command}
+use Rattle.snes_call.specs.Command.{Command, HoldsFirst}
 use Rattle.snes_call.specs.Commands.{Wish, Nothing, Asks, IfAsks, IsNothing}
 use Rattle.snes_call.specs.Said.{IsSaid}
 use Rattle.snes_call.specs.Status.{refusal_of}
 use Rattle.snes_call.specs.Ends.{OnlySays, IsNamed, IsMade, IsBegun, IsLeft, IsDone, IsWriteFault, IsAnswered, EndsShort, EndsCall, EndsWish}
 use Rattle.snes_call.specs.Snes.{OrNoMemory, IsEarly, IsLate, IsOver, IsDue, IsFaultBefore, AreBegun, IsClean}
+use Rattle.snes_call.proofs.Ending.{whole_first}
 use Rattle.snes_call.proofs.KindLemmas.{one_cause}
 use Rattle.snes_call.proofs.Lists.{all_map, all_both, one_of, all_at}
 
@@ -80,19 +80,9 @@ module _ (command : Command) (order : Order) (before after : Shown) where
   -- what stands whole was begun
   done_begun : (line : List ℕ) → IsDone command order before after line → AllOf (IsBegun command order before after) command.form.outputs
   done_begun line h =
-      let contents = h.whole.contents in
-      all_both (λ o. Holds (after.written o) (contents o)) (IsNamed order after.named) (IsBegun command order before after)
-      (λ o w n. record {
-        named = n;
-        first = record {
-          contents = contents;
-          line = line;
-          makes = h.whole.makes;
-          count = length (contents o);
-          holds = subst (Holds (after.written o)) (sym (take_all (length (contents o)) (contents o) (omega arith))) w;
-        };
-      })
-      command.form.outputs h.whole.holds h.named
+      all_both (HoldsFirst command order (told_in before order.pairs) after.written) (IsNamed order after.named) (IsBegun command order before after)
+      (λ o first named. record { first = first; named = named })
+      command.form.outputs (whole_first command order (told_in before order.pairs) after.written line h.whole) h.named
 
   module _ (others : AllOf (λ o. o ≢ out.Say) command.form.outputs) where
     -- an output that was not written is not that of the lines
@@ -234,10 +224,10 @@ module _ (before after : Shown) (status : Status) where
   wish_formless Nothing h e = h.only
   wish_formless (Asks command order) h e = absurd e
 
-  pub wish_asks : (P : Command → Order → Type 0) → ((command : Command) (order : Order) → EndsCall command order before after status → P command order)
-      → (wish : Wish) → EndsWish wish before after status → IfAsks wish P
-  wish_asks P f Nothing h = tt
-  wish_asks P f (Asks command order) h = f command order h
+  pub wish_asks : (wish : Wish) → EndsWish wish before after status → (P : Command → Order → Type 0)
+      → ((command : Command) (order : Order) → EndsCall command order before after status → P command order) → IfAsks wish P
+  wish_asks Nothing h P f = tt
+  wish_asks (Asks command order) h P f = f command order h
 
   pub wish_kept : (wish : Wish) → EndsWish wish before after status → IsKept before after
   wish_kept Nothing h = record { held = h.only.held; load_faults = λ name. omega (arith, ap (λ (f : List ℕ → ℕ). f name) h.only.load_faults); write_faults = h.only.write_faults }
