@@ -1,5 +1,5 @@
 -- What a run leaves in video and sound is what its command makes.
-use Rattle.std.proofs.Common.{◌≡◌, ◌≤◌, ℕ, List, [], ◌∷◌, Option, refl, sym, inl, inr}
+use Rattle.std.proofs.Common.{◌≡◌, ℕ, List, [], ◌∷◌, Option, refl, sym, inl, inr}
 use Rattle.snes_defs.specs.declared.cart.Job.{Job}
 use Rattle.snes_defs.specs.declared.ports.Side.{Side}
 use Rattle.snes_defs.specs.declared.ports.Side.TheVariants as side
@@ -10,17 +10,12 @@ use Rattle.file_shelf.specs.Told.{Holds, HasRisen}
 use Rattle.file_shelf.specs.Shown.{Shown}
 use Rattle.run_drive.specs.Outputs.{output_of, OnlyFills}
 use Rattle.run_drive.specs.Played.{IsPlayable, PlayedWhole, PlayedFirst}
-use Rattle.run_io.specs.declared.options.Count.TheVariants.{Frames}
-use Rattle.run_io.specs.Form.{Order, Fits}
+use Rattle.run_io.specs.Form.{Order}
 use Rattle.run_io.specs.Lists.{AllOf, IsOneOf}
 use Rattle.snes_call.specs.Command.{CanMake, HoldsWhole, HoldsFirst}
 use Rattle.snes_call.specs.Ends.{OnlyTouches}
 use Rattle.snes_call.specs.Job.{ShowsJob, run_line}
-use Rattle.snes_call.specs.Run.{run_form, run}
-
--- the frames are few
-pub few : (order : Order) → Fits run_form order → order.count ≤ 36000
-few order h = h.count Frames refl
+use Rattle.snes_call.specs.Run.{run}
 
 -- these bytes in video and sound
 pub both : List ℕ → List ℕ → Out → List ℕ

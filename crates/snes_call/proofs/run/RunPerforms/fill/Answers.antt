@@ -9,12 +9,6 @@ returns-in-Ok-clause-whole g c =
     let r = c.requires.ready in
     run_whole g.P.Player.emits (order_by c.args._asked.now) (told_in (shows c.args.shelf.now) c.args._asked.now.pairs.now) r.0 r.1 (shows c.play_by.new.shelf) _ r.4 (c.in-Ok.ensures.whole r.0 r.2)
 
-pub returns-in-Ok-clause-first : goal.returns-in-Ok-clause-first
-returns-in-Ok-clause-first g c =
-    let shows = g.H.Shelf.shown in
-    let r = c.requires.ready in
-    run_first g.P.Player.emits (order_by c.args._asked.now) (told_in (shows c.args.shelf.now) c.args._asked.now.pairs.now) r.0 r.1 (shows c.play_by.new.shelf) (c.play_by.ensures.first r.0 r.2)
-
 pub returns-in-Err-clause-first : goal.returns-in-Err-clause-first
 returns-in-Err-clause-first g c =
     let shows = g.H.Shelf.shown in
