@@ -27,9 +27,6 @@ spc_accepted bytes h = record { unrefused = go }
   where
     go : (cause : Why) → input_of cause ≡ input.Spc → ¬ AreRefused bytes cause
     go (why.Spc cause) is refused = none_refused (refusal_of bytes) cause h refused
-    go (why.Cart cause) is refused = cc
-    go why.Boot is refused = cc
-    go (why.Table entry) is refused = cc
-    go (why.Script line) is refused = cc
+    go _ is refused = cc
 
 pub ruleset spc = (spc_longer, spc_accepted)
