@@ -3,20 +3,21 @@
 # serial run. Their bytes are the same, so these bodies meet every contract, and the program `worker_rows` has to tell them: its
 # output has to differ from crates/worker_rows/stdout. With none of them it has to be that.
 #
-# The program is run unproved (`rt try`), which needs no proof below it: three minutes of processor time each. An edit is as
-# in crates/*/must-fail, but that its file is named from the top. The words are names of bodies; without words all are tried.
-# Works on what is committed, in a folder of its own. The status is 1 where a body is not told, can't be made, or doesn't end.
+# Each is proved before it is run, since only a proved program is built (`rt run`). An edit is as in crates/*/must-fail, but
+# that its file is named from the top. The words are names of bodies; without words all are tried, some minutes each. Works
+# on what is committed, in a clone of its own, where all that stands below is proved first: an hour. TREE names a clone
+# where it is proved already, with nothing changed in it, and is left so. The status is 1 where a body is not told, can't be
+# made, or isn't proved.
 top=$(cd "$(dirname "${BASH_SOURCE[0]}")/.." && pwd) || exit 2
 work=$(mktemp -d) || exit 2
 trap 'rm -rf "$work"' EXIT
-git clone -q "$top" "$work/snes" && cd "$work/snes" || exit 2
-rows=$work/snes/crates/worker_rows
+tree=${TREE:-$work/snes}
+[ -n "${TREE:-}" ] || git clone -q "$top" "$tree" || exit 2
+cd "$tree" && git diff --quiet -- crates || exit 2
+rows=$tree/crates/worker_rows
 
-# What the program prints, without what `rt try` says of itself behind it. The status is not 0 where it doesn't end well.
-shown() {
-  (cd "$rows" && rt try --steps 100000000000 --seconds 900) >"$work/all" 2>"$work/errors" || return 1
-  sed '/^checked: ended/,$d' "$work/all" >"$work/rows"
-}
+# What the program prints; nothing where it isn't proved or doesn't end well.
+shown() { (cd "$rows" && rt run) >"$work/rows" 2>"$work/errors"; }
 
 # Makes a body.
 make_body() {
@@ -39,7 +40,7 @@ P
 
 if ! shown; then
   echo "the program doesn't run as it stands"
-  tail -n 4 "$work/all" "$work/errors"
+  tail -n 4 "$work/rows" "$work/errors"
   exit 1
 elif ! cmp -s "$work/rows" "$rows/stdout"; then
   echo "the rows are not as they should be as it stands"
@@ -51,10 +52,10 @@ if [ $# -gt 0 ]; then bodies=("$@"); else mapfile -t bodies < <(ls "$top/tools/o
 for body in "${bodies[@]}"; do
   git checkout -q -- crates
   tried=$((tried + 1))
-  if ! make_body "$work/snes/tools/one_worker/$body.edit"; then
+  if ! make_body "$top/tools/one_worker/$body.edit"; then
     echo "$body: can't be made" && bad=$((bad + 1))
   elif ! shown; then
-    echo "$body: doesn't run" && bad=$((bad + 1))
+    echo "$body: isn't proved, or doesn't run" && bad=$((bad + 1))
     tail -n 2 "$work/errors"
   elif cmp -s "$work/rows" "$rows/stdout"; then
     echo "$body: NOT TOLD" && bad=$((bad + 1))
@@ -62,5 +63,6 @@ for body in "${bodies[@]}"; do
     echo "$body: told by $(diff "$rows/stdout" "$work/rows" | grep -c '^>') lines, the first $(diff "$rows/stdout" "$work/rows" | sed -n 's/^> //p' | head -n 1)"
   fi
 done
+git checkout -q -- crates
 echo "$tried bodies, $((tried - bad)) told"
 [ $bad = 0 ]
