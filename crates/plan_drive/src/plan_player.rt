@@ -30,11 +30,7 @@ pub trait PlanPlayer: Player {
         ensures ends { OnOk result (IsPlayable (PlanEmits Self.emits job.now plan.now)) };
 
     /// Plays a plan.
-    fn play_plan<K: Sink>(
-        planned: Self::Planned,
-        plan: &Plan,
-        sink: &mut K,
-    ) -> Result<(), Side>
+    fn play_plan<K: Sink>(planned: Self::Planned, plan: &Plan, sink: &mut K) -> Result<(), Side>
         requires at_start { (job : Job) × plans planned job plan.now }
         requires no_video { K.holds sink.old Side.Console [] }
         requires no_sound { K.holds sink.old Side.Sound [] }
