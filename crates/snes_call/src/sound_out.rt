@@ -1,5 +1,5 @@
 // The output for sound of a shelf, as a sink.
-ghost use Rattle.std.specs.Prelude.{◌≡◌, ◌≢◌, ℕ, List, OnOk, OnErr};
+ghost use Rattle.std.specs.Prelude.{◌≡◌, ◌≢◌, ℕ, List, [], OnOk, OnErr};
 ghost use Rattle.snes_defs.specs.declared.ports.Side.{Side};
 ghost use Rattle.file_shelf.specs.Told.{Holds, HasRisen};
 ghost use Rattle.file_shelf.specs.Shown.{OnlyPuts};
@@ -20,7 +20,9 @@ struct SoundOut<'a, H> {
 }
 
 impl<H: Shelf> Sink for SoundOut<'_, H> {
-    ghost use Rattle.std.specs.Prelude.{◌≡◌, refl, ◌∙◌};
+    ghost use Rattle.std.specs.Prelude.{◌≡◌, refl};
+    ghost use Rattle.std.proofs.Common.{◌∙◌};
+    ghost use Rattle.file_shelf.specs.declared.shelves.Out.TheVariants as out;
     ghost use Rattle.file_shelf.specs.Told.{HasRisen};
     ghost use Rattle.file_shelf.specs.Shown.{OnlyPuts};
     ghost use Rattle.snes_call.specs.SoundOut.{HoldsSound};
@@ -30,9 +32,9 @@ impl<H: Shelf> Sink for SoundOut<'_, H> {
     ghost holds = { λ sink. HoldsSound (H.shown sink.shelf.now) };
 
     // it is the output of the same shelf
-    ghost only_takes = { λ a b. (b.shelf.ghost_name ≡ a.shelf.ghost_name) × OnlyPuts (H.shown a.shelf.now) (H.shown b.shelf.now) Out.Sound };
+    ghost only_takes = { λ a b. (b.shelf.ghost_name ≡ a.shelf.ghost_name) × OnlyPuts (H.shown a.shelf.now) (H.shown b.shelf.now) out.Sound };
 
-    ghost failed = { λ a b side. HasRisen ((H.shown a.shelf.now).write_faults Out.Sound) ((H.shown b.shelf.now).write_faults Out.Sound) };
+    ghost failed = { λ a b side. HasRisen ((H.shown a.shelf.now).write_faults out.Sound) ((H.shown b.shelf.now).write_faults out.Sound) };
 
     fn take(&mut self, side: Side, bytes: &[u8]) -> Result<(), Failed> {
         match side {
@@ -41,11 +43,11 @@ impl<H: Shelf> Sink for SoundOut<'_, H> {
         }
     }
 
-    ghost takes_none = { λ a. (refl, puts_none (H.shown a.shelf.now) Out.Sound) };
+    ghost takes_none = { λ a. (refl, puts_none (H.shown a.shelf.now) out.Sound) };
 
-    ghost takes_more = { λ a b c first then. (then.0 ∙ first.0, puts_then _ _ _ Out.Sound first.1 then.1) };
+    ghost takes_more = { λ a b c first then. (then.0 ∙ first.0, puts_then _ _ _ out.Sound first.1 then.1) };
 
-    ghost failed_since = { λ a b c side first then. risen_since _ _ _ (first.1.write_faults Out.Sound) then };
+    ghost failed_since = { λ a b c side first then. risen_since _ _ _ (first.1.write_faults out.Sound) then };
 }
 
 /// Plays so many samples into the output for sound, and nothing else.

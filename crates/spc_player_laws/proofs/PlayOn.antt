@@ -1,15 +1,14 @@
 -- Two sound sides that play by themselves, whose memories differ where nobody looks and whose cycles lie a number of periods
 -- apart: they emit the same.
-use Rattle.std.proofs.Common.{◌≡◌, ℕ, Bool, true, false, zero, suc, ◌+◌, ◌*◌, ◌/◌, ◌%◌, ◌==◌, ◌&&◌, nat_lt, if◌then◌else◌, List, [], ◌++◌, refl, ap, sym, subst, ◌∙◌, arith}
-use Rattle.snes_defs.specs.declared.ports.Act.{Act}
+use Rattle.std.proofs.Common.{◌≡◌, ℕ, Bool, true, false, zero, suc, ◌+◌, ◌*◌, ◌/◌, ◌%◌, ◌==◌, ◌&&◌, if◌then◌else◌, List, [], ◌++◌, refl, ap, sym, subst, ◌∙◌, arith}
 use Rattle.snes_defs.specs.declared.region.Region.TheVariants.{Ntsc}
 use Rattle.spc700.specs.Instruction.{Standing, moved_on, next_of}
 use Rattle.side_law.specs.Serial.{got_of, incoming_after}
 use Rattle.audio_side.specs.Board.{Board}
-use Rattle.audio_side.specs.Clock.{Clock, gone_on, is_reset_due}
+use Rattle.audio_side.specs.Clock.{is_reset_due}
 use Rattle.audio_side.specs.Effect.{act_of, effect, emitted, given, passed, sampled, sample_bytes, timed}
-use Rattle.audio_side.specs.Sound.{SoundState, sound_act, sound_moves, processor_after, board_before_end}
-use Rattle.spc_player.specs.Play.{Playing, after_steps, got, output, step_emits, stepped}
+use Rattle.audio_side.specs.Sound.{SoundState, sound_act, processor_after, board_before_end}
+use Rattle.spc_player.specs.Play.{Playing, after_steps, output, step_emits, stepped}
 use Rattle.spc_player_laws.specs.PlaysOn.{IsAlike, IsBlind, StaysBlind, with_memory, at_end}
 use Rattle.spc_player_laws.proofs.Memory.{Follows, effect_follows, given_same, timed_follows}
 use Rattle.spc_player_laws.proofs.Rates.{sample_again, bytes_again}

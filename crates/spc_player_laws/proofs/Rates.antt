@@ -1,7 +1,7 @@
 -- Events by a rate come again after 30,720 samples, so a sample that much later makes the same.
 use Rattle.std.proofs.Common.{◌≡◌, ℕ, zero, suc, ◌+◌, ◌*◌, ◌/◌, ◌%◌, ◌==◌, ◌<◌, not, ◌&&◌, ℤ, List, [], ◌∷◌, length, slice_index, refl, ap, sym, ◌∙◌, arith}
 use Rattle.std.proofs.Math.Nat.{add-mul-mod_self_left, mul_assoc}
-use Rattle.sdsp_voice.specs.Envelope.{periods, is_due, after_attack, after_decay, after_sustain, after_gain, after_phase, after_envelope}
+use Rattle.sdsp_voice.specs.Envelope.{is_due, after_attack, after_decay, after_sustain, after_gain, after_phase, after_envelope}
 use Rattle.sdsp_voice.specs.Noise.{after_noise}
 use Rattle.sdsp_voice.specs.Keys.{after_keys}
 use Rattle.sdsp_voice.specs.Registers.{kept, setting}
@@ -11,7 +11,6 @@ use Rattle.sdsp_voice.specs.declared.voice.Phase.TheVariants.{Attack, Decay, Sus
 use Rattle.sdsp_voice.specs.declared.setting.Setting.{Setting}
 use Rattle.sdsp_voice.specs.declared.voice.Voice.{Voice}
 use Rattle.sdsp_voice.specs.declared.voices.Voices.{Voices}
-use Rattle.sdsp_voice.specs.declared.sums.Sums.{Sums}
 use Rattle.audio_side.specs.Board.{Board}
 use Rattle.audio_side.specs.Effect.{sampled, sample_bytes}
 

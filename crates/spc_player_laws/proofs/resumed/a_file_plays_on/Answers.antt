@@ -1,10 +1,10 @@
-use Rattle.std.proofs.Common.{◌≡◌, ℕ, ◌+◌, ◌*◌, List, ap, sym, ◌∙◌, arith}
+use Rattle.std.proofs.Common.{◌≡◌, ℕ, ◌+◌, ◌*◌, List, ap, ◌∙◌, arith}
 use Rattle.spc700.specs.Instruction.{between}
 use Rattle.audio_side.specs.Board.{Board}
 use Rattle.audio_side.specs.Kept.{kept_ram}
 use Rattle.spc_player.specs.Play.{play_start}
 use Rattle.spc_player_laws.specs.PlaysOn.{with_memory, goes_on, file_of}
-use Rattle.spc_player_laws.proofs.PlayOn.{IsBeside, same_output}
+use Rattle.spc_player_laws.proofs.PlayOn.{same_output}
 use Rattle.spc_player_laws.proofs.Ports.{under_ports, ports_come_back}
 use Rattle.spc_player_laws.proofs.resumed.a_file_plays_on.Goals as goal
 
