@@ -1,11 +1,10 @@
 -- The clauses of `snes`, each from how the call ended.
-use Rattle.std.proofs.Common.{◌≡◌, ◌≢◌, ℕ, List, [], ◌∷◌, length, Option, None, Some, IfSome, IsSomeAnd, refl, sym, ap, ◌∙◌, subst, inl, inr, ⊎_elim, arith}
+use Rattle.std.proofs.Common.{◌≡◌, ◌≢◌, ℕ, List, [], ◌∷◌, Option, None, Some, IfSome, IsSomeAnd, refl, sym, ap, ◌∙◌, subst, inl, inr, ⊎_elim, arith}
 use Rattle.std.specs.Prelude.{◌⊎◌}
-use Rattle.std.proofs.lemmas.List.{take_all}
 use Rattle.file_shelf.specs.declared.shelves.Input.{Input}
 use Rattle.file_shelf.specs.declared.shelves.Out.{Out}
 use Rattle.file_shelf.specs.declared.shelves.Out.TheVariants as out
-use Rattle.file_shelf.specs.Told.{Holds, HasRisen}
+use Rattle.file_shelf.specs.Told.{HasRisen}
 use Rattle.file_shelf.specs.Shown.{Shown, IsKept, OnlyPuts}
 use Rattle.run_io.specs.Form.{Order}
 use Rattle.run_io.specs.Lists.{AllOf, FirstThat, IsOneOf}
@@ -14,37 +13,38 @@ use Rattle.snes_call.specs.declared.status.Status.{Status}
 use Rattle.snes_call.specs.declared.status.Status.TheVariants.{Ok, Usage, LoadFault, Refused, WriteFault, NoMemory}
 use Rattle.snes_call.specs.Kinds.{AreRefused, AreAccepted}
 use Rattle.snes_call.specs.Loads.{told_in, ShowsAccepted, ShowsRefused, TellsAccepted, TellsRefused, HasFailed, EndsInput, EndsInputs}
-use Rattle.snes_call.specs.Command.{Command}
+use Rattle.snes_call.specs.Command.{Command, HoldsFirst}
 use Rattle.snes_call.specs.Commands.{Wish, Nothing, Asks, IfAsks, IsNothing}
 use Rattle.snes_call.specs.Said.{IsSaid}
 use Rattle.snes_call.specs.Status.{refusal_of}
 use Rattle.snes_call.specs.Ends.{OnlySays, IsNamed, IsMade, IsBegun, IsLeft, IsDone, IsWriteFault, IsAnswered, EndsShort, EndsCall, EndsWish}
-use Rattle.snes_call.specs.Snes.{OrNoMemory, IsEarly, IsLate, IsOver, IsDue, IsFaultBefore, AreBegun, IsClean}
+use Rattle.snes_call.specs.Snes.{OrNoMemory, stage_of, IsEarly, IsLate, IsOver, IsDue, IsFaultBefore, AreBegun, IsClean}
+use Rattle.snes_call.proofs.Ending.{whole_first}
 use Rattle.snes_call.proofs.KindLemmas.{one_cause}
 use Rattle.snes_call.proofs.Lists.{all_map, all_both, one_of, all_at}
 
 -- THE FIRST INPUT THAT ISN'T ACCEPTED DECIDES
+-- of bytes that are told, two facts
+both_told : (told : Option (List ℕ)) (P R : List ℕ → Type 0) (Q : Type 0) → ((bytes : List ℕ) → P bytes → R bytes → Q) → IfSome told P → IsSomeAnd told R → Q
+both_told None P R Q f h k = absurd k
+both_told (Some bytes) P R Q f h k = f bytes h k
+
 -- what is told can't be both refused and accepted
 told_both : (told : Input → Option (List ℕ)) (cause : Why) (input : Input) → TellsRefused told cause input → ShowsAccepted told input → ⊥
-told_both told cause input (is, h) k = both (told input) h k
-  where
-    both : (bytes : Option (List ℕ)) → IsSomeAnd bytes (λ b. AreRefused b cause) → IfSome bytes (AreAccepted input) → ⊥
-    both None h k = absurd h
-    both (Some b) h k = k.unrefused cause is h
+told_both told cause input (is, h) k = both_told (told input) (AreAccepted input) (λ b. AreRefused b cause) ⊥ (λ b a r. a.unrefused cause is r) k h
 
 shown_both : (told : Input → Option (List ℕ)) (cause : Why) (input : Input) → ShowsRefused told cause input → TellsAccepted told input → ⊥
-shown_both told cause input (is, h) k = both (told input) h k
-  where
-    both : (bytes : Option (List ℕ)) → IfSome bytes (λ b. AreRefused b cause) → IsSomeAnd bytes (AreAccepted input) → ⊥
-    both None h k = absurd k
-    both (Some b) h k = k.unrefused cause is h
+shown_both told cause input (is, h) k = both_told (told input) (λ b. AreRefused b cause) (AreAccepted input) ⊥ (λ b r a. a.unrefused cause is r) h k
 
 told_causes : (told : Input → Option (List ℕ)) (a b : Why) (input : Input) → ShowsRefused told a input → TellsRefused told b input → a ≡ b
-told_causes told a b input (is, h) (too, k) = both (told input) h k
-  where
-    both : (bytes : Option (List ℕ)) → IfSome bytes (λ x. AreRefused x a) → IsSomeAnd bytes (λ x. AreRefused x b) → a ≡ b
-    both None h k = absurd k
-    both (Some x) h k = one_cause x a b (is ∙ sym too) h k
+told_causes told a b input (is, h) (too, k) = both_told (told input) (λ x. AreRefused x a) (λ x. AreRefused x b) (a ≡ b) (λ x r s. one_cause x a b (is ∙ sym too) r s) h k
+
+-- the stage of an output that was not written
+second : (o : Out) → o ≢ out.Say → stage_of (WriteFault o) ≡ 2
+second out.Say differ = absurd (differ refl)
+second out.Video differ = refl
+second out.Sound differ = refl
+second out.Image differ = refl
 
 module _ (told : Input → Option (List ℕ)) (cause : Why) where
   -- not all are accepted
@@ -80,19 +80,9 @@ module _ (command : Command) (order : Order) (before after : Shown) where
   -- what stands whole was begun
   done_begun : (line : List ℕ) → IsDone command order before after line → AllOf (IsBegun command order before after) command.form.outputs
   done_begun line h =
-      let contents = h.whole.contents in
-      all_both (λ o. Holds (after.written o) (contents o)) (IsNamed order after.named) (IsBegun command order before after)
-      (λ o w n. record {
-        named = n;
-        first = record {
-          contents = contents;
-          line = line;
-          makes = h.whole.makes;
-          count = length (contents o);
-          holds = subst (Holds (after.written o)) (sym (take_all (length (contents o)) (contents o) (omega arith))) w;
-        };
-      })
-      command.form.outputs h.whole.holds h.named
+      all_both (HoldsFirst command order (told_in before order.pairs) after.written) (IsNamed order after.named) (IsBegun command order before after)
+      (λ o first named. record { first = first; named = named })
+      command.form.outputs (whole_first command order (told_in before order.pairs) after.written line h.whole) h.named
 
   module _ (others : AllOf (λ o. o ≢ out.Say) command.form.outputs) where
     -- an output that was not written is not that of the lines
@@ -122,13 +112,7 @@ module _ (command : Command) (order : Order) (before after : Shown) where
     pub headline : (status : Status) → Answered status ⊎ Short status → IsOver status → Answered status
     headline =
         by (λ s. IsOver s → Answered s) (λ a late. a) (λ a risen late. a) (λ i k late. absurd (omega arith)) (λ i k late. absurd (omega arith))
-        (λ o differ k late. absurd (early o differ late)) (λ k late. absurd (omega arith))
-      where
-        early : (o : Out) → o ≢ out.Say → ¬ IsOver (WriteFault o)
-        early out.Say differ late = differ refl
-        early out.Video differ late = absurd (omega arith)
-        early out.Sound differ late = absurd (omega arith)
-        early out.Image differ late = absurd (omega arith)
+        (λ o differ k late. absurd (omega (arith, late, second o differ))) (λ k late. absurd (omega arith))
 
     pub usage : (status : Status) → Answered status ⊎ Short status → status ≡ Usage → ⊥
     usage = by (λ s. s ≡ Usage → ⊥) (λ a e. cc) (λ a risen e. cc) (λ i k e. cc) (λ i k e. cc) (λ o differ k e. cc) (λ k e. cc)
@@ -179,13 +163,7 @@ module _ (command : Command) (order : Order) (before after : Shown) where
     pub untouched : (status : Status) → Answered status ⊎ Short status → IsEarly status → OnlySays before after
     untouched =
         by (λ s. IsEarly s → OnlySays before after) (λ a early. absurd (omega arith)) (λ a risen early. absurd (omega arith))
-        (λ i k early. k.1) (λ i k early. k.1) (λ o differ k early. absurd (late o early)) (λ k early. k)
-      where
-        late : (o : Out) → ¬ IsEarly (WriteFault o)
-        late out.Say early = absurd (omega arith)
-        late out.Video early = absurd (omega arith)
-        late out.Sound early = absurd (omega arith)
-        late out.Image early = absurd (omega arith)
+        (λ i k early. k.1) (λ i k early. k.1) (λ o differ k early. absurd (omega (arith, early, second o differ))) (λ k early. k)
 
     abbrev AllLeft : Type 0
     AllLeft = AllOf (IsLeft command order before after) command.form.outputs
@@ -234,10 +212,10 @@ module _ (before after : Shown) (status : Status) where
   wish_formless Nothing h e = h.only
   wish_formless (Asks command order) h e = absurd e
 
-  pub wish_asks : (P : Command → Order → Type 0) → ((command : Command) (order : Order) → EndsCall command order before after status → P command order)
-      → (wish : Wish) → EndsWish wish before after status → IfAsks wish P
-  wish_asks P f Nothing h = tt
-  wish_asks P f (Asks command order) h = f command order h
+  pub wish_asks : (wish : Wish) → EndsWish wish before after status → (P : Command → Order → Type 0)
+      → ((command : Command) (order : Order) → EndsCall command order before after status → P command order) → IfAsks wish P
+  wish_asks Nothing h P f = tt
+  wish_asks (Asks command order) h P f = f command order h
 
   pub wish_kept : (wish : Wish) → EndsWish wish before after status → IsKept before after
   wish_kept Nothing h = record { held = h.only.held; load_faults = λ name. omega (arith, ap (λ (f : List ℕ → ℕ). f name) h.only.load_faults); write_faults = h.only.write_faults }

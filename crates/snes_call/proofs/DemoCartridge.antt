@@ -21,42 +21,30 @@ module _ (number : ℕ) (image : List ℕ) (h : IsImage number image) where
   unfolding head_of header
   map = h.bytes_are 0x7fd5 (omega arith)
 
-  chip : slice_index image 0x7fd6 ≡ 0
+  chip : (slice_index image 0x7fd6 ≡ 0) × (slice_index image 0x7fd8 ≡ 0)
   unfolding head_of header
-  chip = h.bytes_are 0x7fd6 (omega arith)
+  chip = (h.bytes_are 0x7fd6 (omega arith), h.bytes_are 0x7fd8 (omega arith))
 
-  ram_size : slice_index image 0x7fd8 ≡ 0
+  complement : (slice_index image 0x7fdc ≡ 0xff) × (slice_index image 0x7fdd ≡ 0xff)
   unfolding head_of header
-  ram_size = h.bytes_are 0x7fd8 (omega arith)
+  complement = (h.bytes_are 0x7fdc (omega arith), h.bytes_are 0x7fdd (omega arith))
 
-  complement_low : slice_index image 0x7fdc ≡ 0xff
+  checksum : (slice_index image 0x7fde ≡ 0) × (slice_index image 0x7fdf ≡ 0)
   unfolding head_of header
-  complement_low = h.bytes_are 0x7fdc (omega arith)
-
-  complement_high : slice_index image 0x7fdd ≡ 0xff
-  unfolding head_of header
-  complement_high = h.bytes_are 0x7fdd (omega arith)
-
-  checksum_low : slice_index image 0x7fde ≡ 0
-  unfolding head_of header
-  checksum_low = h.bytes_are 0x7fde (omega arith)
-
-  checksum_high : slice_index image 0x7fdf ≡ 0
-  unfolding head_of header
-  checksum_high = h.bytes_are 0x7fdf (omega arith)
+  checksum = (h.bytes_are 0x7fde (omega arith), h.bytes_are 0x7fdf (omega arith))
 
   stands_low : stands LoRom image ≡ true
   stands_low = ap (is_map_byte LoRom) map
 
   adds : sums_add image 0x7fc0 ≡ true
-  adds = rw (complement_low, complement_high, checksum_low, checksum_high) refl
+  adds = rw (complement.0, complement.1, checksum.0, checksum.1) refl
 
   is_chosen : chosen image ≡ Some LoRom
   is_chosen = rw (stands_low, adds) (choice (stands HiRom image) (sums_add image 0xffc0))
 
   is_judged : judged image ≡ Ok (record { map = LoRom; ram = 0 })
   unfolding judged
-  is_judged = rw (is_chosen, chip, ram_size) refl
+  is_judged = rw (is_chosen, chip.0, chip.1) refl
 
   -- the image lacks no front and no end
   no_front : image_of image ≡ image

@@ -1,22 +1,17 @@
 -- The line of a demo has the sums of all that its run emits.
-use Rattle.std.proofs.Common.{◌≡◌, ◌≤◌, ℕ, List, [], Option, refl, ap, ◌∙◌}
+use Rattle.std.proofs.Common.{◌≡◌, ℕ, List, [], Option, refl, ap, ◌∙◌}
 use Rattle.snes_defs.specs.declared.cart.Job.{Job}
 use Rattle.snes_defs.specs.declared.region.Region.TheVariants.{Ntsc}
 use Rattle.clock_ratio.specs.Stamp.{end_stamp_of, samples_before_of}
 use Rattle.file_shelf.specs.declared.shelves.Input.{Input}
 use Rattle.file_shelf.specs.Shown.{Shown}
 use Rattle.run_drive.specs.Played.{IsPlayable, PlayedWhole}
-use Rattle.run_io.specs.declared.options.Count.TheVariants.{Frames}
-use Rattle.run_io.specs.Form.{Order, Fits}
+use Rattle.run_io.specs.Form.{Order}
 use Rattle.run_io.specs.Line.{line_of, demo_text}
 use Rattle.snes_call.specs.declared.sums.Sums.{Sums}
 use Rattle.snes_call.specs.Command.{CanMake, HoldsWhole}
-use Rattle.snes_call.specs.Demo.{demo_form, IsDemoJob, demo, sum_in}
+use Rattle.snes_call.specs.Demo.{IsDemoJob, demo, sum_in}
 use Rattle.snes_call.specs.Sums.{HasTaken}
-
--- the frames are few
-pub few : (order : Order) → Fits demo_form order → order.count ≤ 36000
-few order h = h.count Frames refl
 
 module _ (emits : Job → List ℕ → List ℕ → Type 0) (order : Order) (told : Input → Option (List ℕ)) (job : Job) (of_number : IsDemoJob order.number order.count job) where
   pub demo_can : IsPlayable (emits job) → CanMake (demo emits) order told

@@ -1,6 +1,7 @@
 -- How a call ends, from how its loads, creations and fills ended and what was said.
-use Rattle.std.proofs.Common.{◌≡◌, ◌≢◌, ℕ, true, List, [], take, Option, None, Some, IfSome, Result, Ok as good, Err, IfOk, IfErr, refl, sym, ap, ◌∙◌, subst, inl, inr, ⊎_elim, arith}
+use Rattle.std.proofs.Common.{◌≡◌, ◌≢◌, ℕ, true, List, [], length, take, Option, None, Some, IfSome, Result, Ok as good, Err, IfOk, IfErr, refl, sym, ap, ◌∙◌, subst, inl, inr, ⊎_elim, arith}
 use Rattle.std.specs.Prelude.{◌⊎◌}
+use Rattle.std.proofs.lemmas.List.{take_all}
 use Rattle.file_shelf.specs.declared.shelves.Input.{Input}
 use Rattle.file_shelf.specs.declared.shelves.Out.{Out}
 use Rattle.file_shelf.specs.declared.shelves.Out.TheVariants as out
@@ -31,6 +32,20 @@ loads_over z a loads any = record {
 
 pub loads_say : (z a : Shown) → OnlyLoads z a → OnlySays z a
 loads_say z a loads any not_say = loads_over z a loads any
+
+-- what an output holds whole it holds the first bytes of
+pub whole_first : (command : Command) (order : Order) (told : Input → Option (List ℕ)) (written : Out → Option (List ℕ)) (line : List ℕ)
+    → HoldsWhole command order told written line → AllOf (HoldsFirst command order told written) command.form.outputs
+whole_first command order told written line h =
+    all_map (λ o. Holds (written o) (h.contents o)) (HoldsFirst command order told written)
+    (λ o w. record {
+      contents = h.contents;
+      line = line;
+      makes = h.makes;
+      count = length (h.contents o);
+      holds = subst (Holds (written o)) (sym (take_all (length (h.contents o)) (h.contents o) (omega arith))) w;
+    })
+    command.form.outputs h.holds
 
 module _ (command : Command) (order : Order) (z a : Shown) (loads : OnlyLoads z a) where
   -- inputs were not taken

@@ -46,11 +46,7 @@ cart_accepted bytes cart h = record { unrefused = go }
   where
     go : (cause : Why) → input_of cause ≡ input.Cart → ¬ AreRefused bytes cause
     go (why.Cart cause) is refused = not_both (verdict bytes) _ cause h.header refused
-    go why.Boot is refused = cc
-    go (why.Spc cause) is refused = cc
-    go (why.Table entry) is refused = cc
-    go (why.Script line) is refused = cc
-    go (why.Plan line) is refused = cc
+    go _ is refused = cc
 
 pub ruleset cart = (cart_longer, cart_accepted)
 
@@ -62,12 +58,8 @@ pub boot_accepted : (bytes : List ℕ) → length bytes ≡ 64 → AreAccepted i
 boot_accepted bytes size = record { unrefused = go }
   where
     go : (cause : Why) → input_of cause ≡ input.Boot → ¬ AreRefused bytes cause
-    go (why.Cart cause) is refused = cc
     go why.Boot is refused = refused size
-    go (why.Spc cause) is refused = cc
-    go (why.Table entry) is refused = cc
-    go (why.Script line) is refused = cc
-    go (why.Plan line) is refused = cc
+    go _ is refused = cc
 
 pub ruleset boot = (boot_longer, boot_accepted)
 
@@ -87,14 +79,10 @@ pub table_accepted : (bytes table : List ℕ) → IsTableFile bytes table → Ar
 table_accepted bytes table h = record { unrefused = go }
   where
     go : (cause : Why) → input_of cause ≡ input.Table → ¬ AreRefused bytes cause
-    go (why.Cart cause) is refused = cc
-    go why.Boot is refused = cc
-    go (why.Spc cause) is refused = cc
     go (why.Table entry) is refused =
         let first = large_entry bytes entry h.size refused in
         absurd (omega (arith, h.small entry first.within, first.large))
-    go (why.Script line) is refused = cc
-    go (why.Plan line) is refused = cc
+    go _ is refused = cc
 
 pub ruleset table = (table_longer, table_accepted)
 
@@ -127,12 +115,8 @@ pub script_accepted : (bytes : List ℕ) (script : Script) → length bytes ≤ 
 script_accepted bytes script few h = record { unrefused = go }
   where
     go : (cause : Why) → input_of cause ≡ input.Script → ¬ AreRefused bytes cause
-    go (why.Cart cause) is refused = cc
-    go why.Boot is refused = cc
-    go (why.Spc cause) is refused = cc
-    go (why.Table entry) is refused = cc
     go (why.Script line) is refused = not_both (script_of bytes) script line h (bad_line bytes line few refused)
-    go (why.Plan line) is refused = cc
+    go _ is refused = cc
 
 pub ruleset script = (script_longer, script_refused, script_accepted)
 
@@ -165,12 +149,8 @@ pub plan_accepted : (bytes : List ℕ) (steps : List PlanStep) → length bytes 
 plan_accepted bytes steps few h = record { unrefused = go }
   where
     go : (cause : Why) → input_of cause ≡ input.Plan → ¬ AreRefused bytes cause
-    go (why.Cart cause) is refused = cc
-    go why.Boot is refused = cc
-    go (why.Table entry) is refused = cc
-    go (why.Spc cause) is refused = cc
-    go (why.Script line) is refused = cc
     go (why.Plan line) is refused = not_both (plan_of bytes) steps line h (bad_plan_line bytes line few refused)
+    go _ is refused = cc
 
 pub ruleset plan = (plan_longer, plan_refused, plan_accepted)
 

@@ -1,6 +1,5 @@
 -- What is put to the image is what its command makes.
-use Rattle.std.proofs.Common.{◌≡◌, ℕ, List, [], ◌∷◌, length, Option, refl, sym, subst, arith}
-use Rattle.std.proofs.lemmas.List.{take_all}
+use Rattle.std.proofs.Common.{◌≡◌, ℕ, List, [], ◌∷◌, Option, refl}
 use Rattle.file_shelf.specs.declared.shelves.Input.{Input}
 use Rattle.file_shelf.specs.declared.shelves.Out.TheVariants.{Image}
 use Rattle.file_shelf.specs.Told.{Holds, Appends, AppendsSome}
@@ -23,15 +22,3 @@ module _ (order : Order) (told : Input → Option (List ℕ)) (bytes : List ℕ)
     make_first puts =
         let some = puts [] empty in
         (record { contents = λ o. bytes; line = line_of image_text; makes = record { image = image; says = refl }; count = some.0; holds = some.1 }, tt)
-
-    pub make_all : Appends (before.written Image) (after.written Image) bytes → AllOf (HoldsFirst make order told after.written) (Image ∷ [])
-    make_all puts = (
-      record {
-        contents = λ o. bytes;
-        line = line_of image_text;
-        makes = record { image = image; says = refl };
-        count = length bytes;
-        holds = subst (Holds (after.written Image)) (sym (take_all (length bytes) bytes (omega arith))) (puts [] empty);
-      },
-      tt,
-    )

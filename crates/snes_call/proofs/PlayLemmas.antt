@@ -1,9 +1,9 @@
 -- What is put to the output for sound is what `play` makes.
-use Rattle.std.proofs.Common.{◌≡◌, ℕ, List, [], ◌∷◌, Option, refl, sym}
+use Rattle.std.proofs.Common.{◌≡◌, ℕ, List, [], ◌∷◌, Option, refl}
 use Rattle.file_shelf.specs.declared.shelves.Input.{Input}
 use Rattle.file_shelf.specs.declared.shelves.Out.TheVariants.{Sound}
 use Rattle.file_shelf.specs.Told.{Holds}
-use Rattle.file_shelf.specs.Shown.{Shown, OnlyPuts}
+use Rattle.file_shelf.specs.Shown.{Shown}
 use Rattle.run_io.specs.Line.{line_of, samples_text}
 use Rattle.run_io.specs.Form.{Order}
 use Rattle.run_io.specs.Lists.{AllOf}
@@ -12,7 +12,6 @@ use Rattle.spc_player.specs.Play.{play_start}
 use Rattle.spc_player.specs.Player.{TookPairs, TookSome}
 use Rattle.spc_player.proofs.Pairs.{pairs_of, are_first}
 use Rattle.snes_call.specs.Command.{CanMake, HoldsWhole, HoldsFirst}
-use Rattle.snes_call.specs.Ends.{OnlyTouches}
 use Rattle.snes_call.specs.Play.{ShowsSound, play}
 
 module _ (order : Order) (told : Input → Option (List ℕ)) (image : Image) (table : List ℕ) (shows : ShowsSound told image table) where
@@ -46,11 +45,3 @@ module _ (order : Order) (told : Input → Option (List ℕ)) (image : Image) (t
           },
           tt,
         )
-
-pub play_only : (a b : Shown) → OnlyPuts a b Sound → OnlyTouches (Sound ∷ []) a b
-play_only a b h = record {
-  held = h.held;
-  load_faults = h.load_faults;
-  write_faults = h.write_faults;
-  others = λ other none. h.others other (λ e. none.0 (sym e));
-}

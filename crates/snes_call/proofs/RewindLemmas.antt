@@ -1,41 +1,14 @@
--- What a plan leaves in video and sound is what its command makes.
-use Rattle.std.proofs.Common.{◌≡◌, ℕ, List, ◌∷◌, [], Option, refl}
+-- What a plan emits is what its command makes.
+use Rattle.std.proofs.Common.{◌≡◌, ℕ, List, Option}
 use Rattle.snes_defs.specs.declared.cart.Job.{Job}
 use Rattle.file_shelf.specs.declared.shelves.Input.{Input}
-use Rattle.file_shelf.specs.declared.shelves.Out.TheVariants.{Video, Sound}
-use Rattle.file_shelf.specs.Told.{Holds}
-use Rattle.file_shelf.specs.Shown.{Shown}
 use Rattle.input_files.specs.declared.plan.PlanStep.{PlanStep}
 use Rattle.plan_drive.specs.Joins.{PlanEmits}
-use Rattle.run_drive.specs.Outputs.{output_of}
-use Rattle.run_drive.specs.Played.{IsPlayable, PlayedWhole, PlayedFirst}
 use Rattle.run_io.specs.Form.{Order}
-use Rattle.run_io.specs.Lists.{AllOf}
-use Rattle.snes_call.specs.Command.{CanMake, HoldsWhole, HoldsFirst}
-use Rattle.snes_call.specs.Rewind.{ShowsPlan, plan_line, rewind}
-use Rattle.snes_call.proofs.RunLemmas.{both}
+use Rattle.snes_call.specs.Rewind.{ShowsPlan, plan_line, MakesRewind}
+use Rattle.snes_call.proofs.FilmLemmas.{both}
 
-module _ (emits : Job → List ℕ → List ℕ → Type 0) (order : Order) (told : Input → Option (List ℕ)) (job : Job) (steps : List PlanStep) (shows : ShowsPlan told job steps) where
-  pub rewind_can : IsPlayable (PlanEmits emits job steps) → CanMake (rewind emits) order told
-  unfolding both
-  rewind_can h = record { contents = both h.video h.audio; line = plan_line steps; makes = record { job = job; steps = steps; shows = shows; emitted = h.emitted; says = refl } }
-
-  module _ (after : Shown) where
-    pub rewind_whole : (line : List ℕ) → line ≡ plan_line steps → PlayedWhole (PlanEmits emits job steps) (λ side bytes. Holds (after.written (output_of side)) bytes)
-        → HoldsWhole (rewind emits) order told after.written line
-    unfolding both
-    rewind_whole line says h = record {
-      contents = both h.video h.audio;
-      makes = record { job = job; steps = steps; shows = shows; emitted = h.emitted; says = says };
-      holds = (h.video_taken, (h.audio_taken, tt));
-    }
-
-    pub rewind_first : PlayedFirst (PlanEmits emits job steps) (λ side bytes. Holds (after.written (output_of side)) bytes)
-        → AllOf (HoldsFirst (rewind emits) order told after.written) (Video ∷ (Sound ∷ []))
-    unfolding both
-    rewind_first h =
-        let video : HoldsFirst (rewind emits) order told after.written Video
-        = record { contents = both h.video h.audio; line = plan_line steps; makes = record { job = job; steps = steps; shows = shows; emitted = h.emitted; says = refl }; count = h.video_count; holds = h.video_taken } in
-        let sound : HoldsFirst (rewind emits) order told after.written Sound
-        = record { contents = both h.video h.audio; line = plan_line steps; makes = record { job = job; steps = steps; shows = shows; emitted = h.emitted; says = refl }; count = h.audio_count; holds = h.audio_taken } in
-        (video, (sound, tt))
+pub rewind_makes : (emits : Job → List ℕ → List ℕ → Type 0) (order : Order) (told : Input → Option (List ℕ)) (job : Job) (steps : List PlanStep) → ShowsPlan told job steps
+    → (line : List ℕ) → line ≡ plan_line steps → (video audio : List ℕ) → PlanEmits emits job steps video audio → MakesRewind emits order told (both video audio) line
+unfolding both
+rewind_makes emits order told job steps shows line says video audio emitted = record { job = job; steps = steps; shows = shows; emitted = emitted; says = says }

@@ -2,6 +2,7 @@
 use Rattle.std.proofs.Common.{◌≡◌, ℕ, ◌<◌, true, nat_lt, List, length, refl, Option, Some, None}
 use Rattle.std.proofs.lemmas.Bool.{lt-ltb}
 use Rattle.file_shelf.specs.declared.shelves.Input.TheVariants as input
+use Rattle.spc_player.specs.declared.image.SpcRefused.{SpcRefused}
 use Rattle.spc_player.specs.declared.image.SpcRefused.TheVariants.{TooLong}
 use Rattle.spc_player.specs.SoundFile.{refusal_of}
 use Rattle.snes_call.specs.declared.status.Why.{Why}
@@ -26,10 +27,6 @@ spc_accepted bytes h = record { unrefused = go }
   where
     go : (cause : Why) → input_of cause ≡ input.Spc → ¬ AreRefused bytes cause
     go (why.Spc cause) is refused = none_refused (refusal_of bytes) cause h refused
-    go (why.Cart cause) is refused = cc
-    go why.Boot is refused = cc
-    go (why.Table entry) is refused = cc
-    go (why.Script line) is refused = cc
-    go (why.Plan line) is refused = cc
+    go _ is refused = cc
 
 pub ruleset spc = (spc_longer, spc_accepted)

@@ -1,4 +1,4 @@
-ghost use Rattle.std.specs.Prelude.{◌≡◌, ℕ, List, [], true, OnOk, IfOk, IfErr, Option};
+ghost use Rattle.std.specs.Prelude.{◌≡◌, ℕ, List, [], true, OnOk, OnErr, IfOk, IfErr, Option};
 ghost use Rattle.file_shelf.specs.Told.{Holds, HasRisen};
 ghost use Rattle.run_io.specs.Lists.{AllOf, IsOneOf};
 ghost use Rattle.run_io.specs.Form.{Order, form_by, order_by, Fits};
@@ -58,7 +58,7 @@ pub(crate) trait Performs {
         requires fits { Fits command.form (order_by asked.now) }
         requires created { AllOf (λ out. Holds ((H.shown shelf.old).written out) []) command.form.outputs }
         ensures whole { IfOk result (λ line. HoldsWhole command (order_by asked.now) (told_in (H.shown shelf.old) asked.now.pairs.now) (H.shown shelf.new).written line) }
-        ensures first { AllOf (HoldsFirst command (order_by asked.now) (told_in (H.shown shelf.old) asked.now.pairs.now) (H.shown shelf.new).written) command.form.outputs }
+        ensures first { OnErr result (AllOf (HoldsFirst command (order_by asked.now) (told_in (H.shown shelf.old) asked.now.pairs.now) (H.shown shelf.new).written) command.form.outputs) }
         ensures failed { IfErr result (λ out. IsOneOf command.form.outputs out × HasRisen ((H.shown shelf.old).write_faults out) ((H.shown shelf.new).write_faults out)) }
         ensures named { (H.shown shelf.new).named ≡ (H.shown shelf.old).named }
         ensures only { OnlyTouches command.form.outputs (H.shown shelf.old) (H.shown shelf.new) };

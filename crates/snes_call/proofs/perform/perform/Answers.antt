@@ -12,7 +12,7 @@ use Rattle.snes_call.specs.Command.{HoldsWhole, HoldsFirst}
 use Rattle.snes_call.specs.Ends.{IsMade, IsFresh, OnlyTouches, EndsShort}
 use Rattle.snes_call.proofs.Lists.{all_map}
 use Rattle.snes_call.proofs.OutputLemmas.{touches_then}
-use Rattle.snes_call.proofs.Ending.{loads_end, create_fails, all_done, fill_fails}
+use Rattle.snes_call.proofs.Ending.{whole_first, loads_end, create_fails, all_done, fill_fails}
 use Rattle.snes_call.proofs.perform.perform.Goals as goal
 
 pub returns-in_err-inputs-clause-ends : goal.returns-in_err-inputs-clause-ends
@@ -65,7 +65,7 @@ returns-in-Err-fill-clause-ends g c =
     let opens = subst (λ (o : List Out). OnlyTouches o a b) are c.create_all.ensures.only in
     let created = subst (λ (o : List Out). AllOf (IsFresh order b) o) are c.in_default-create_all.ensures.created in
     fill_fails command order z a c.load.ensures.only made b opens created (shows c.fill.new.shelf) c.fill.ensures.only c.fill.ensures.named c.in-Err-fill.out
-    c.fill.ensures.first c.in-Err-fill.ensures.failed.0 c.in-Err-fill.ensures.failed.1
+    c.in-Err-fill.ensures.first c.in-Err-fill.ensures.failed.0 c.in-Err-fill.ensures.failed.1
 
 pub returns-in-Ok-flush_all-clause-done : goal.returns-in-Ok-flush_all-clause-done
 returns-in-Ok-flush_all-clause-done g c =
@@ -106,6 +106,7 @@ returns-in-Err-flush_all-clause-ends g c =
     let d = shows c.flush_all.new.shelf in
     let fills = touches_then command.form.outputs b (shows c.fill.new.shelf) d c.fill.ensures.only (subst (λ (o : List Out). OnlyTouches o (shows c.fill.new.shelf) d) are c.flush_all.ensures.only) in
     fill_fails command order z a c.load.ensures.only made b opens created d fills (c.flush_all.ensures.named ∙ c.fill.ensures.named) c.in-Err-flush_all.out
-    (subst (λ (w : Out → Option (List ℕ)). AllOf (HoldsFirst command order (told_in b order.pairs) w) command.form.outputs) (sym c.flush_all.ensures.written) c.fill.ensures.first)
+    (subst (λ (w : Out → Option (List ℕ)). AllOf (HoldsFirst command order (told_in b order.pairs) w) command.form.outputs) (sym c.flush_all.ensures.written)
+    (whole_first command order (told_in b order.pairs) (shows c.fill.new.shelf).written c.in-Ok-fill.line c.in-Ok-fill.ensures.whole))
     (subst (λ (o : List Out). IsOneOf o c.in-Err-flush_all.out) are c.in-Err-flush_all.ensures.failed.0)
     (risen_since (b.write_faults c.in-Err-flush_all.out) ((shows c.fill.new.shelf).write_faults c.in-Err-flush_all.out) (d.write_faults c.in-Err-flush_all.out) (c.fill.ensures.only.write_faults c.in-Err-flush_all.out) c.in-Err-flush_all.ensures.failed.1)

@@ -2,56 +2,31 @@ use Rattle.snes_call.specs.Commands.{asked}
 use Rattle.snes_call.proofs.Clauses as clause
 use Rattle.snes_call.proofs.top.snes.Goals as goal
 
-pub returns-clause-headline : goal.returns-clause-headline
-returns-clause-headline g c = clause.wish_asks (g.H.Shelf.shown c.args.shelf.now) (g.H.Shelf.shown c.called.new.shelf) c.called.result _ (λ k o h. clause.headline k o _ _ h.not_lines _ h.ends) (asked g.P.Player.emits c.args.words.now) c.called.ensures
-
-pub returns-clause-complete : goal.returns-clause-complete
-returns-clause-complete g c = clause.wish_asks (g.H.Shelf.shown c.args.shelf.now) (g.H.Shelf.shown c.called.new.shelf) c.called.result _ (λ k o h. clause.complete k o _ _ h.not_lines _ h.ends) (asked g.P.Player.emits c.args.words.now) c.called.ensures
-
-pub returns-clause-load_fault : goal.returns-clause-load_fault
-returns-clause-load_fault g c = clause.wish_asks (g.H.Shelf.shown c.args.shelf.now) (g.H.Shelf.shown c.called.new.shelf) c.called.result _ (λ k o h. clause.load_fault k o _ _ h.not_lines _ h.ends) (asked g.P.Player.emits c.args.words.now) c.called.ensures
-
-pub returns-clause-write_fault : goal.returns-clause-write_fault
-returns-clause-write_fault g c = clause.wish_asks (g.H.Shelf.shown c.args.shelf.now) (g.H.Shelf.shown c.called.new.shelf) c.called.result _ (λ k o h. clause.write_fault k o _ _ h.not_lines _ h.ends) (asked g.P.Player.emits c.args.words.now) c.called.ensures
-
-pub returns-clause-refused : goal.returns-clause-refused
-returns-clause-refused g c = clause.wish_asks (g.H.Shelf.shown c.args.shelf.now) (g.H.Shelf.shown c.called.new.shelf) c.called.result _ (λ k o h. clause.refused k o _ _ h.not_lines _ h.ends) (asked g.P.Player.emits c.args.words.now) c.called.ensures
-
-pub returns-clause-refused_always : goal.returns-clause-refused_always
-returns-clause-refused_always g c = clause.wish_asks (g.H.Shelf.shown c.args.shelf.now) (g.H.Shelf.shown c.called.new.shelf) c.called.result _ (λ k o h. clause.refused_always k o _ _ h.not_lines _ h.ends) (asked g.P.Player.emits c.args.words.now) c.called.ensures
-
-pub returns-clause-accepted : goal.returns-clause-accepted
-returns-clause-accepted g c = clause.wish_asks (g.H.Shelf.shown c.args.shelf.now) (g.H.Shelf.shown c.called.new.shelf) c.called.result _ (λ k o h. clause.accepted k o _ _ h.not_lines _ h.ends) (asked g.P.Player.emits c.args.words.now) c.called.ensures
-
-pub returns-clause-untouched : goal.returns-clause-untouched
-returns-clause-untouched g c = clause.wish_asks (g.H.Shelf.shown c.args.shelf.now) (g.H.Shelf.shown c.called.new.shelf) c.called.result _ (λ k o h. clause.untouched k o _ _ h.not_lines _ h.ends) (asked g.P.Player.emits c.args.words.now) c.called.ensures
-
-pub returns-clause-left : goal.returns-clause-left
-returns-clause-left g c = clause.wish_asks (g.H.Shelf.shown c.args.shelf.now) (g.H.Shelf.shown c.called.new.shelf) c.called.result _ (λ k o h. clause.left k o _ _ h.not_lines _ h.ends) (asked g.P.Player.emits c.args.words.now) c.called.ensures
-
-pub returns-clause-begun : goal.returns-clause-begun
-returns-clause-begun g c = clause.wish_asks (g.H.Shelf.shown c.args.shelf.now) (g.H.Shelf.shown c.called.new.shelf) c.called.result _ (λ k o h. clause.begun k o _ _ h.not_lines _ h.ends) (asked g.P.Player.emits c.args.words.now) c.called.ensures
-
-pub returns-clause-others : goal.returns-clause-others
-returns-clause-others g c = clause.wish_asks (g.H.Shelf.shown c.args.shelf.now) (g.H.Shelf.shown c.called.new.shelf) c.called.result _ (λ k o h. h.others) (asked g.P.Player.emits c.args.words.now) c.called.ensures
-
-pub returns-clause-loads_none : goal.returns-clause-loads_none
-returns-clause-loads_none g c = clause.wish_asks (g.H.Shelf.shown c.args.shelf.now) (g.H.Shelf.shown c.called.new.shelf) c.called.result _ (λ k o h. h.loads) (asked g.P.Player.emits c.args.words.now) c.called.ensures
-
-pub returns-clause-usage : goal.returns-clause-usage
-returns-clause-usage g c = clause.wish_usage (g.H.Shelf.shown c.args.shelf.now) (g.H.Shelf.shown c.called.new.shelf) c.called.result (asked g.P.Player.emits c.args.words.now) c.called.ensures
-
-pub returns-clause-usage_always : goal.returns-clause-usage_always
-returns-clause-usage_always g c = clause.wish_usage_always (g.H.Shelf.shown c.args.shelf.now) (g.H.Shelf.shown c.called.new.shelf) c.called.result (asked g.P.Player.emits c.args.words.now) c.called.ensures
-
-pub returns-clause-formless : goal.returns-clause-formless
-returns-clause-formless g c = clause.wish_formless (g.H.Shelf.shown c.args.shelf.now) (g.H.Shelf.shown c.called.new.shelf) c.called.result (asked g.P.Player.emits c.args.words.now) c.called.ensures
-
-pub returns-clause-kept : goal.returns-clause-kept
-returns-clause-kept g c = clause.wish_kept (g.H.Shelf.shown c.args.shelf.now) (g.H.Shelf.shown c.called.new.shelf) c.called.result (asked g.P.Player.emits c.args.words.now) c.called.ensures
-
-pub returns-clause-unnamed : goal.returns-clause-unnamed
-returns-clause-unnamed g c = clause.wish_unnamed (g.H.Shelf.shown c.args.shelf.now) (g.H.Shelf.shown c.called.new.shelf) c.called.result (asked g.P.Player.emits c.args.words.now) c.called.ensures
-
-pub returns-clause-refusal : goal.returns-clause-refusal
-returns-clause-refusal g c = clause.wish_said (g.H.Shelf.shown c.args.shelf.now) (g.H.Shelf.shown c.called.new.shelf) c.called.result (asked g.P.Player.emits c.args.words.now) c.called.ensures
+-- each clause of the call, from how it has ended
+pub returns : goal.returns
+returns g c =
+    let before = g.H.Shelf.shown c.args.shelf.now in
+    let after = g.H.Shelf.shown c.called.new.shelf in
+    let wish = asked g.P.Player.emits c.args.words.now in
+    let ends = c.called.ensures in
+    let each = clause.wish_asks before after c.called.result wish ends in
+    record {
+      headline = each _ (λ k o h. clause.headline k o before after h.not_lines _ h.ends);
+      complete = each _ (λ k o h. clause.complete k o before after h.not_lines _ h.ends);
+      usage = clause.wish_usage before after c.called.result wish ends;
+      usage_always = clause.wish_usage_always before after c.called.result wish ends;
+      formless = clause.wish_formless before after c.called.result wish ends;
+      load_fault = each _ (λ k o h. clause.load_fault k o before after h.not_lines _ h.ends);
+      write_fault = each _ (λ k o h. clause.write_fault k o before after h.not_lines _ h.ends);
+      refused = each _ (λ k o h. clause.refused k o before after h.not_lines _ h.ends);
+      refused_always = each _ (λ k o h. clause.refused_always k o before after h.not_lines _ h.ends);
+      accepted = each _ (λ k o h. clause.accepted k o before after h.not_lines _ h.ends);
+      untouched = each _ (λ k o h. clause.untouched k o before after h.not_lines _ h.ends);
+      left = each _ (λ k o h. clause.left k o before after h.not_lines _ h.ends);
+      begun = each _ (λ k o h. clause.begun k o before after h.not_lines _ h.ends);
+      kept = clause.wish_kept before after c.called.result wish ends;
+      others = each _ (λ k o h. h.others);
+      loads_none = each _ (λ k o h. h.loads);
+      unnamed = clause.wish_unnamed before after c.called.result wish ends;
+      refusal = clause.wish_said before after c.called.result wish ends;
+    }

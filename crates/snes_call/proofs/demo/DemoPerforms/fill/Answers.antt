@@ -1,13 +1,14 @@
-use Rattle.std.proofs.Common.{ap, ◌∙◌}
+use Rattle.std.proofs.Common.{refl, ap, ◌∙◌}
 use Rattle.snes_defs.specs.declared.region.Region.TheVariants.{Ntsc}
 use Rattle.clock_ratio.specs.Stamp.{samples_before_of}
+use Rattle.run_io.specs.declared.options.Count.TheVariants.{Frames}
 use Rattle.run_io.specs.Form.{order_by}
 use Rattle.snes_call.specs.Loads.{told_in}
-use Rattle.snes_call.proofs.DemoLemmas.{few, demo_whole}
+use Rattle.snes_call.proofs.DemoLemmas.{demo_whole}
 use Rattle.snes_call.proofs.demo.DemoPerforms.fill.Goals as goal
 
 pub end_stamp-requires : goal.end_stamp-requires
-end_stamp-requires g c = few (order_by c.args.asked.now) c.requires.fits
+end_stamp-requires g c = c.requires.fits.count Frames refl
 
 pub returns-clause-whole : goal.returns-clause-whole
 returns-clause-whole g c =

@@ -1,10 +1,11 @@
-use Rattle.std.proofs.Common.{arith}
+use Rattle.std.proofs.Common.{◌≤◌, refl, arith}
+use Rattle.run_io.specs.declared.options.Count.TheVariants.{Frames}
 use Rattle.run_io.specs.Form.{order_by}
-use Rattle.snes_call.proofs.DemoLemmas.{few, demo_can}
+use Rattle.snes_call.proofs.DemoLemmas.{demo_can}
 use Rattle.snes_call.proofs.demo.DemoPerforms.ready.Goals as goal
 
 pub ready-requires : goal.ready-requires
-ready-requires g c = let le = few (order_by c.args.asked.now) c.requires in let is = c.in_ok-job.ensures.frames_are in omega arith
+ready-requires g c = let le : c.args.asked.now.count ≤ 36000 = c.requires.count Frames refl in let is = c.in_ok-job.ensures.frames_are in omega arith
 
 pub returns-clause-ready : goal.returns-clause-ready
 returns-clause-ready g c = λ told reads. (c.in_ok-job.job, c.in_ok-job.ensures, c.in_ok-player.ensures.starts, c.in_ok-player.ensures.ends)
