@@ -1,0 +1,5 @@
+pub mod Filled
+pub mod Inputs
+pub mod Played
+pub mod SliceLaws
+pub mod Slices

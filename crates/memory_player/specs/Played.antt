@@ -1,0 +1,54 @@
+-- HOW A JOB ENDS that is played from slices into slices.
+use Rattle.std.specs.Prelude.{◌≡◌, ℕ, ◌<◌, List, length, take, Option}
+use Rattle.snes_defs.specs.declared.cart.Job.{Job}
+use Rattle.snes_defs.specs.declared.ports.Side.{Side}
+use Rattle.snes_defs.specs.declared.ports.Side.TheVariants.{Console, Sound}
+use Rattle.file_shelf.specs.declared.shelves.Input.{Input}
+use Rattle.snes_call.specs.Job.{ShowsJob}
+use Rattle.memory_player.specs.declared.inputs.End.{End}
+use Rattle.memory_player.specs.declared.inputs.End.TheVariants.{Frames, Refused, NoMemory, TooShort}
+use Rattle.memory_player.specs.Filled.{in_front}
+use Rattle.memory_player.specs.Inputs.{EndsInputs}
+
+module _ (emits : Job → List ℕ → List ℕ → Type 0) (told : Input → Option (List ℕ)) (frames : ℕ) (video_old sound_old video_new sound_new : List ℕ) where
+  -- the inputs make a job, and the slices hold its whole output in front: so many bytes of video, and of sound
+  pub record PlayedInto (video_count sound_count : ℕ) : Type 0 where
+    pub job : Job
+    pub shows : ShowsJob told frames job
+    pub video : List ℕ
+    pub sound : List ℕ
+    pub emitted : emits job video sound
+    pub video_is : video_new ≡ in_front video video_old
+    pub sound_is : sound_new ≡ in_front sound sound_old
+    pub video_count_is : video_count ≡ length video
+    pub sound_count_is : sound_count ≡ length sound
+
+  -- the slice of that side is shorter than its output
+  abbrev pub IsShort : Side → List ℕ → List ℕ → Type 0
+  IsShort Console video sound = length video_old < length video
+  IsShort Sound video sound = length sound_old < length sound
+
+  -- they make one, but the slice of a side is shorter than its output: both hold first bytes of theirs in front
+  pub record PlayedShort (side : Side) : Type 0 where
+    pub job : Job
+    pub shows : ShowsJob told frames job
+    pub video : List ℕ
+    pub sound : List ℕ
+    pub emitted : emits job video sound
+    pub video_first : ℕ
+    pub video_is : video_new ≡ in_front (take video_first video) video_old
+    pub sound_first : ℕ
+    pub sound_is : sound_new ≡ in_front (take sound_first sound) sound_old
+    pub short : IsShort side video sound
+
+  -- both slices are as they were
+  pub record AreAsBefore : Type 0 where
+    pub video : video_new ≡ video_old
+    pub sound : sound_new ≡ sound_old
+
+  -- why it was not played to its end, and what stands in the slices then
+  abbrev pub EndsShort : End → Type 0
+  EndsShort Frames = (36000 < frames) × AreAsBefore
+  EndsShort (Refused cause) = EndsInputs told (Refused cause) × AreAsBefore
+  EndsShort NoMemory = AreAsBefore
+  EndsShort (TooShort side) = PlayedShort side

@@ -1,0 +1,77 @@
+ghost use Rattle.std.specs.Prelude.{◌≡◌};
+ghost use Rattle.snes_library.specs.Answer.{status_of, cause_of, place_of, IsToldAs};
+
+use cart_map::CartRefused;
+use memory_player::End;
+use snes_call::Why;
+use snes_defs::Side;
+
+/// What a call tells beside its status.
+#[repr(C)]
+#[derive(Clone, Copy, Debug, PartialEq, Eq)]
+pub struct SnesAnswer {
+    /// Why the job was not played to its end, by the numbers of `snes.h`; 0 at status 0.
+    pub cause: u32,
+    /// Where: the cartridge's chip or RAM size byte, the table's entry, the script's line; 0 for the other causes.
+    pub place: u32,
+    /// How many bytes of video stand in front of its slice, at status 0.
+    pub video: usize,
+    /// The same of sound.
+    pub sound: usize,
+}
+
+/// The status of an end: the exit status that the program has for it.
+fn status(end: End) -> u32
+    ensures { result ≡ status_of end }
+{
+    match end {
+        End::Frames => 1,
+        End::Refused(_) => 3,
+        End::TooShort(_) => 4,
+        End::NoMemory => 5,
+    }
+}
+
+/// The number of a cause.
+fn cause(end: End) -> u32
+    ensures { result ≡ cause_of end }
+{
+    match end {
+        End::Refused(Why::Cart(CartRefused::TooShort)) => 1,
+        End::Refused(Why::Cart(CartRefused::TooLong)) => 2,
+        End::Refused(Why::Cart(CartRefused::NoHeader)) => 3,
+        End::Refused(Why::Cart(CartRefused::Coprocessor(_))) => 4,
+        End::Refused(Why::Cart(CartRefused::RamSize(_))) => 5,
+        End::Refused(Why::Boot) => 6,
+        End::Refused(Why::Table(_)) => 7,
+        End::Refused(Why::Script(_)) => 8,
+        End::TooShort(Side::Console) => 9,
+        End::TooShort(Side::Sound) => 10,
+        End::Frames => 11,
+        End::NoMemory => 12,
+    }
+}
+
+/// The place of a cause in its input.
+fn place(end: End) -> u32
+    ensures { result ≡ place_of end }
+{
+    match end {
+        End::Refused(Why::Cart(CartRefused::Coprocessor(chip))) => u32::from(chip),
+        End::Refused(Why::Cart(CartRefused::RamSize(size))) => u32::from(size),
+        End::Refused(Why::Table(entry)) => u32::from(entry),
+        End::Refused(Why::Script(line)) => line,
+        _ => 0,
+    }
+}
+
+/// Writes why a job was not played to its end, and gives the status.
+pub(crate) fn told(end: End, answer: &mut SnesAnswer) -> u32
+    ensures { IsToldAs end result answer.new }
+{
+    answer.cause = cause(end);
+    answer.place = place(end);
+    answer.video = 0;
+    answer.sound = 0;
+    status(end)
+}

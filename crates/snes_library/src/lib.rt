@@ -1,0 +1,59 @@
+// The console for programs that are not written in Rattle: a static library with one call, `snes_play`.
+//
+// Thin over `memory_player` and the console that plays a job. `embed/snes.h` declares the call for C, and
+// `docs/EMBEDDING.md` says what is proved of it, and what a caller has to keep that nothing checks.
+#![tactic(auto)]
+
+ghost use Rattle.std.specs.Prelude.{◌≡◌, ◌≢◌};
+ghost use Rattle.job_player.specs.Start.{Emits};
+ghost use Rattle.memory_player.specs.declared.inputs.End.{End};
+ghost use Rattle.memory_player.specs.Inputs.{told_of};
+ghost use Rattle.memory_player.specs.Played.{PlayedInto, EndsShort};
+ghost use Rattle.snes_library.specs.Answer.{IsToldAs};
+
+mod answer;
+
+use answer::told;
+use job_player::Console;
+use memory_player::{Inputs, play};
+use std::alloc::Global;
+
+pub use answer::SnesAnswer;
+
+/// Plays a job of so many frames by the serial console, and answers a status: 0 where it was done.
+///
+/// The cartridge, boot ROM, interpolation table and script are the bytes of the files that `snes serial` takes. At
+/// most 36,000 frames. Video takes 244,736 bytes a frame, sound 4 bytes a sample. `answer` says how many bytes of
+/// each stand in front of its slice, or the cause. All memory that it takes is given back before it returns.
+#[unsafe(no_mangle)]
+pub extern "C" fn snes_play(
+    alloc: Global,
+    cart: &[u8],
+    boot: &[u8],
+    table: &[u8],
+    script: &[u8],
+    frames: u32,
+    video: &mut [u8],
+    sound: &mut [u8],
+    answer: &mut SnesAnswer,
+) -> u32
+    ensures whole { result ≡ 0 → PlayedInto Emits (told_of cart.now boot.now table.now script.now) frames video.old sound.old video.new sound.new answer.new.video answer.new.sound }
+    ensures ends { result ≢ 0 → (end : End) × IsToldAs end result answer.new × EndsShort Emits (told_of cart.now boot.now table.now script.now) frames video.old sound.old video.new sound.new end }
+{
+    let inputs = Inputs {
+        cart,
+        boot,
+        table,
+        script,
+    };
+    match play::<Console>(alloc, inputs, frames, video, sound) {
+        Ok(counts) => {
+            answer.cause = 0;
+            answer.place = 0;
+            answer.video = counts.video;
+            answer.sound = counts.sound;
+            0
+        }
+        Err(end) => told(end, answer),
+    }
+}
