@@ -1,3 +1,4 @@
-pub mod Filling
+pub mod Playing
+pub mod Puts
 pub mod Reading
-pub mod Slices
+pub mod Takes

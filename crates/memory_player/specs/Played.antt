@@ -10,36 +10,49 @@ use Rattle.memory_player.specs.declared.inputs.End.TheVariants.{Frames, Refused,
 use Rattle.memory_player.specs.Filled.{in_front}
 use Rattle.memory_player.specs.Inputs.{EndsInputs}
 
-module _ (emits : Job → List ℕ → List ℕ → Type 0) (told : Input → Option (List ℕ)) (frames : ℕ) (video_old sound_old video_new sound_new : List ℕ) where
-  -- the inputs make a job, and the slices hold its whole output in front: so many bytes of video, and of sound
-  pub record PlayedInto (video_count sound_count : ℕ) : Type 0 where
-    pub job : Job
-    pub shows : ShowsJob told frames job
+-- the slice for a side is shorter than its output
+abbrev pub IsShort : (video_slice sound_slice video sound : List ℕ) → Side → Type 0
+IsShort video_slice sound_slice video sound Console = length video_slice < length video
+IsShort video_slice sound_slice video sound Sound = length sound_slice < length sound
+
+module _ (emits : List ℕ → List ℕ → Type 0) (video_old sound_old video_new sound_new : List ℕ) where
+  -- the slices hold all that is emitted in front: so many bytes of video, and of sound
+  pub record FilledWhole (video_count sound_count : ℕ) : Type 0 where
     pub video : List ℕ
     pub sound : List ℕ
-    pub emitted : emits job video sound
+    pub emitted : emits video sound
     pub video_is : video_new ≡ in_front video video_old
     pub sound_is : sound_new ≡ in_front sound sound_old
     pub video_count_is : video_count ≡ length video
     pub sound_count_is : sound_count ≡ length sound
 
-  -- the slice of that side is shorter than its output
-  abbrev pub IsShort : Side → List ℕ → List ℕ → Type 0
-  IsShort Console video sound = length video_old < length video
-  IsShort Sound video sound = length sound_old < length sound
-
-  -- they make one, but the slice of a side is shorter than its output: both hold first bytes of theirs in front
-  pub record PlayedShort (side : Side) : Type 0 where
-    pub job : Job
-    pub shows : ShowsJob told frames job
+  -- the slice for a side is shorter than what is emitted: both hold first bytes of theirs in front
+  pub record FilledShort (side : Side) : Type 0 where
     pub video : List ℕ
     pub sound : List ℕ
-    pub emitted : emits job video sound
+    pub emitted : emits video sound
     pub video_first : ℕ
     pub video_is : video_new ≡ in_front (take video_first video) video_old
     pub sound_first : ℕ
     pub sound_is : sound_new ≡ in_front (take sound_first sound) sound_old
-    pub short : IsShort side video sound
+    pub short : IsShort video_old sound_old video sound side
+
+  abbrev pub FillsShort : End → Type 0
+  FillsShort (TooShort side) = FilledShort side
+  FillsShort _ = ⊥
+
+module _ (emits : Job → List ℕ → List ℕ → Type 0) (told : Input → Option (List ℕ)) (frames : ℕ) (video_old sound_old video_new sound_new : List ℕ) where
+  -- the inputs make a job, and the slices hold its whole output in front
+  pub record PlayedInto (video_count sound_count : ℕ) : Type 0 where
+    pub job : Job
+    pub shows : ShowsJob told frames job
+    pub filled : FilledWhole (emits job) video_old sound_old video_new sound_new video_count sound_count
+
+  -- they make one, but the slice for a side is shorter than its output
+  pub record PlayedShort (side : Side) : Type 0 where
+    pub job : Job
+    pub shows : ShowsJob told frames job
+    pub filled : FilledShort (emits job) video_old sound_old video_new sound_new side
 
   -- both slices are as they were
   pub record AreAsBefore : Type 0 where

@@ -1,4 +1,4 @@
-ghost use Rattle.std.specs.Prelude.{◌≡◌, ◌<◌, ℕ, List, ◌++◌, length, take, OnOk, OnErr};
+ghost use Rattle.std.specs.Prelude.{◌≡◌, ◌<◌, nat_lt, length, OnOk, OnErr};
 ghost use Rattle.run_drive.specs.Run.{Adds, AddsSome};
 ghost use Rattle.memory_player.specs.Filled.{Handed, OnlyFront};
 
@@ -29,9 +29,16 @@ impl<'a> Filling<'a> {
         self.count
     }
 
+    /// Whether more was handed to it than it has room for.
+    pub(crate) fn is_overfull(&self) -> bool
+        ensures { result ≡ nat_lt (length self.now.slice.now) self.now.count }
+    {
+        self.count > self.slice.len()
+    }
+
     /// Puts bytes behind those that were put before. Refused exactly where the slice is too short for them, and
     /// filled to its end then.
-    #[tactic(auto, using(crate::proofs::Filling::puts))]
+    #[tactic(auto, using(crate::proofs::Puts::puts))]
     pub(crate) fn put(&mut self, bytes: &[u8]) -> Result<(), Failed>
         ensures same_reference { self.new.slice.ghost_name ≡ self.old.slice.ghost_name }
         ensures whole { OnOk result (Adds (Handed self.old.slice.now self.old.count) (Handed self.new.slice.now self.new.count) bytes.now) }

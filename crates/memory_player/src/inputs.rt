@@ -44,8 +44,8 @@ pub enum End {
 #[tactic(auto, using(crate::proofs::Reading::reads))]
 pub(crate) fn job_in(alloc: Global, inputs: Inputs<'_>, frames: u32) -> Result<Job, End>
     ensures frames { IfOk result (λ job. job.frames ≡ frames) }
-    ensures shows { IfOk result (ShowsJob (told_of inputs.cart.now inputs.boot.now inputs.table.now inputs.script.now) frames) }
-    ensures ends { IfErr result (EndsInputs (told_of inputs.cart.now inputs.boot.now inputs.table.now inputs.script.now)) }
+    ensures shows { IfOk result (ShowsJob (told_of inputs.entry.cart.now inputs.entry.boot.now inputs.entry.table.now inputs.entry.script.now) frames) }
+    ensures ends { IfErr result (EndsInputs (told_of inputs.entry.cart.now inputs.entry.boot.now inputs.entry.table.now inputs.entry.script.now)) }
 {
     let cart = cart_in(alloc, inputs.cart)?;
     let boot = boot_in(inputs.boot)?;

@@ -8,8 +8,9 @@
 
 mod filling;
 mod inputs;
-mod play;
+mod playing;
 mod slices;
 
 pub use inputs::{End, Inputs};
-pub use play::{Counts, play};
+pub use playing::play;
+pub use slices::Counts;

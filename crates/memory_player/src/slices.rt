@@ -1,20 +1,50 @@
 // Two slices of the caller take the bytes of a run: the console's go to the first, the sound side's to the second.
-ghost use Rattle.std.specs.Prelude.{◌≡◌, ◌≢◌, ℕ, List, OnOk, OnErr};
+ghost use Rattle.std.specs.Prelude.{◌≡◌, ◌≢◌, ◌≤◌, ℕ, List, length, OnOk, OnErr, IfOk, IfErr};
 ghost use Rattle.snes_defs.specs.declared.ports.Side.{Side};
 ghost use Rattle.run_drive.specs.Run.{Adds, AddsSome};
-ghost use Rattle.memory_player.specs.Slices.{HoldsIn, OnlyFills, IsOverfull};
+ghost use Rattle.memory_player.specs.Slices.{HoldsIn, OnlyFills, IsOverfull, ShortIn};
 ghost use Rattle.memory_player.specs.SliceLaws.{fills_none, fills_more};
 
 use crate::filling::Filling;
+use crate::inputs::End;
 use file_shelf::Failed;
 use run_drive::Sink;
 use snes_defs::Side;
+
+/// How many bytes stand in front of each slice.
+#[derive(Clone, Copy, Debug, PartialEq, Eq)]
+pub struct Counts {
+    pub video: usize,
+    pub sound: usize,
+}
 
 /// The slices for video and sound.
 #[derive(Drop)]
 pub(crate) struct Slices<'a> {
     pub(crate) video: Filling<'a>,
     pub(crate) sound: Filling<'a>,
+}
+
+impl<'a> Slices<'a> {
+    /// How many bytes stand in front of each slice. Refused exactly where one was handed more than it has room for.
+    pub(crate) fn counts(&self) -> Result<Counts, End>
+        ensures video { IfOk result (λ counts. counts.video ≡ self.now.video.count) }
+        ensures sound { IfOk result (λ counts. counts.sound ≡ self.now.sound.count) }
+        ensures video_fits { OnOk result (self.now.video.count ≤ length self.now.video.slice.now) }
+        ensures sound_fits { OnOk result (self.now.sound.count ≤ length self.now.sound.slice.now) }
+        ensures short { IfErr result (ShortIn self.now) }
+    {
+        if self.video.is_overfull() {
+            return Err(End::TooShort(Side::Console));
+        }
+        if self.sound.is_overfull() {
+            return Err(End::TooShort(Side::Sound));
+        }
+        Ok(Counts {
+            video: self.video.count(),
+            sound: self.sound.count(),
+        })
+    }
 }
 
 impl<'a> Sink for Slices<'a> {
@@ -25,7 +55,7 @@ impl<'a> Sink for Slices<'a> {
     ghost failed = { λ a b side. IsOverfull b side };
 
     #[inline(always)]
-    #[tactic(auto, using(crate::proofs::Slices::takes))]
+    #[tactic(auto, using(crate::proofs::Takes::takes))]
     fn take(&mut self, side: Side, bytes: &[u8]) -> Result<(), Failed> {
         match side {
             Side::Console => self.video.put(bytes),

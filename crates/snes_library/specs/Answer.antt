@@ -36,7 +36,13 @@ place_of (Refused (why.Cart (cart.Coprocessor chip))) = chip
 place_of (Refused (why.Cart (cart.RamSize size))) = size
 place_of (Refused (why.Table entry)) = entry
 place_of (Refused (why.Script line)) = line
-place_of _ = 0
+place_of (Refused (why.Cart cart.TooShort)) = 0
+place_of (Refused (why.Cart cart.TooLong)) = 0
+place_of (Refused (why.Cart cart.NoHeader)) = 0
+place_of (Refused why.Boot) = 0
+place_of (TooShort side) = 0
+place_of Frames = 0
+place_of NoMemory = 0
 
 -- an end is told by these numbers
 pub record IsToldAs (end : End) (status : ℕ) (answer : SnesAnswer) : Type 0 where

@@ -61,7 +61,13 @@ fn place(end: End) -> u32
         End::Refused(Why::Cart(CartRefused::RamSize(size))) => u32::from(size),
         End::Refused(Why::Table(entry)) => u32::from(entry),
         End::Refused(Why::Script(line)) => line,
-        _ => 0,
+        End::Refused(Why::Cart(CartRefused::TooShort)) => 0,
+        End::Refused(Why::Cart(CartRefused::TooLong)) => 0,
+        End::Refused(Why::Cart(CartRefused::NoHeader)) => 0,
+        End::Refused(Why::Boot) => 0,
+        End::TooShort(_) => 0,
+        End::Frames => 0,
+        End::NoMemory => 0,
     }
 }
 

@@ -13,12 +13,11 @@ ghost use Rattle.snes_library.specs.Answer.{IsToldAs};
 
 mod answer;
 
+pub use answer::SnesAnswer;
 use answer::told;
 use job_player::Console;
 use memory_player::{Inputs, play};
 use std::alloc::Global;
-
-pub use answer::SnesAnswer;
 
 /// Plays a job of so many frames by the serial console, and answers a status: 0 where it was done.
 ///

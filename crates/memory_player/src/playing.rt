@@ -1,0 +1,55 @@
+ghost use Rattle.std.specs.Prelude.{◌≡◌, IfOk, IfErr};
+ghost use Rattle.snes_defs.specs.declared.cart.Job.{Job};
+ghost use Rattle.memory_player.specs.Inputs.{told_of};
+ghost use Rattle.memory_player.specs.Played.{FilledWhole, FillsShort, PlayedInto, EndsShort};
+
+use crate::filling::Filling;
+use crate::inputs::{End, Inputs, job_in};
+use crate::slices::{Counts, Slices};
+use run_drive::Player;
+use snes_defs::MOST_FRAMES;
+use std::alloc::Global;
+
+/// Reads a job of so many frames from four slices, plays it by the serial console, and fills a slice with its video
+/// and one with its sound.
+///
+/// A frame has 244,736 bytes of video; a sample, of which there are some 533 a frame, has 4 bytes. At Ok both slices
+/// hold the whole output of the job in front, and behind it what they held before. At `TooShort` they hold first
+/// bytes of it, and that slice is shorter than its output. At every other end they are as they were.
+#[tactic(auto, using(crate::proofs::Playing::ends))]
+pub fn play<P: Player>(
+    alloc: Global,
+    inputs: Inputs<'_>,
+    frames: u32,
+    video: &mut [u8],
+    sound: &mut [u8],
+) -> Result<Counts, End>
+    ensures whole { IfOk result (λ counts. PlayedInto P.emits (told_of inputs.entry.cart.now inputs.entry.boot.now inputs.entry.table.now inputs.entry.script.now) frames video.old sound.old video.new sound.new counts.video counts.sound) }
+    ensures ends { IfErr result (EndsShort P.emits (told_of inputs.entry.cart.now inputs.entry.boot.now inputs.entry.table.now inputs.entry.script.now) frames video.old sound.old video.new sound.new) }
+{
+    if frames > MOST_FRAMES {
+        return Err(End::Frames);
+    }
+    let job = job_in(alloc, inputs, frames)?;
+    let Ok(player) = P::ready(alloc, &job) else {
+        return Err(End::NoMemory);
+    };
+    fill_from(player, video, sound)
+}
+
+/// Plays a job, and fills the slices with what it emits.
+#[tactic(auto, using(crate::proofs::Playing::fills))]
+fn fill_from<P: Player>(player: P, video: &mut [u8], sound: &mut [u8]) -> Result<Counts, End>
+    requires { (job : Job) × P.plays player job }
+    ensures whole { (job : Job) → P.plays player job → IfOk result (λ counts. FilledWhole (P.emits job) video.old sound.old video.new sound.new counts.video counts.sound) }
+    ensures short { (job : Job) → P.plays player job → IfErr result (FillsShort (P.emits job) video.old sound.old video.new sound.new) }
+{
+    let mut slices = Slices {
+        video: Filling::new(video),
+        sound: Filling::new(sound),
+    };
+    match player.play_serial(&mut slices) {
+        Ok(()) => slices.counts(),
+        Err(side) => Err(End::TooShort(side)),
+    }
+}

@@ -1,0 +1,56 @@
+#!/usr/bin/env bash
+# Builds what web/index.html needs: web/built.js, with the console as a WebAssembly module of 64-bit memory, and the scene.
+#
+#     tools/build_page.sh
+#
+# The library is proved and built as everywhere (`rt lib` in crates/snes_library). Its LLVM module, of which rt makes the
+# code for C programs, is kept on the way, and the same compiler makes a second code of it, for wasm64. (A line
+# `wasm64` in crates.txt does not serve yet: the toolchain compiles no call of the heap for that target, and its gate
+# has no place for such a crate.) SCENE may name a built program in place of ./scene.
+top=$(cd "$(dirname "${BASH_SOURCE[0]}")/.." && pwd) || exit 1
+kit=$(dirname "$(dirname "$(readlink -f "$(command -v rt)")")") || exit 1
+scene=${SCENE:-$top/scene}
+work=$(mktemp -d) || exit 1
+trap 'rm -rf "$work"' EXIT
+
+# The toolchain by links, with a compiler that keeps the module that it is given.
+mkdir -p "$work/kit/bin" "$work/kit/toolchain/bin"
+for one in "$kit"/*; do
+  case ${one##*/} in bin | toolchain) ;; *) ln -s "$one" "$work/kit/" ;; esac
+done
+for one in "$kit"/bin/*; do
+  case ${one##*/} in rt | rtlib.py) cp "$one" "$work/kit/bin/" ;; *) ln -s "$one" "$work/kit/bin/" ;; esac
+done
+ln -s "$kit/toolchain/lib" "$work/kit/toolchain/lib"
+for one in "$kit"/toolchain/bin/*; do
+  [ "${one##*/}" = clang ] || ln -s "$one" "$work/kit/toolchain/bin/"
+done
+cat >"$work/kit/toolchain/bin/clang" <<TEXT
+#!/bin/sh
+for word; do case \$word in *.bc) cp "\$word" "$work/module.bc" ;; esac; done
+exec "$kit/toolchain/bin/clang" "\$@"
+TEXT
+chmod +x "$work/kit/toolchain/bin/clang"
+(cd "$top/crates/snes_library" && "$work/kit/bin/rt" lib "$@") || exit 1
+[ -f "$work/module.bc" ] || { echo "build_page: the toolchain made no LLVM module" >&2; exit 1; }
+
+# The second code, and what it takes memory by.
+clang=$kit/toolchain/bin/clang
+target=(--no-default-config --target=wasm64-unknown-unknown -mbulk-memory -msign-ext -mnontrapping-fptoint -O3)
+"$clang" "${target[@]}" -Wno-override-module -c -x ir "$work/module.bc" -o "$work/snes.o" 2>"$work/said" || { cat "$work/said" >&2; exit 1; }
+grep -v "is not a recognized processor for this target" "$work/said" >&2
+"$clang" "${target[@]}" -ffreestanding -Wall -Wextra -Werror -c "$top/web/heap.c" -o "$work/heap.o" || exit 1
+(exec -a wasm-ld "$clang" -mwasm64 --no-entry --gc-sections --strip-all -z stack-size=1048576 \
+  --export=snes_play --export=page_alloc --export=page_free -o "$work/snes.wasm" "$work/snes.o" "$work/heap.o") || exit 1
+
+"$scene" "$work/scene" >/dev/null || exit 1
+{
+  echo '// Made by tools/build_page.sh.'
+  echo 'const BUILT = {'
+  for one in module:snes.wasm cart:scene/scene.sfc boot:scene/boot.bin table:scene/table.bin script:scene/script.txt; do
+    echo "  ${one%%:*}: '$(base64 -w 0 "$work/${one#*:}")',"
+  done
+  echo '};'
+} >"$top/web/built.js"
+echo "snes.wasm: $(stat -c %s "$work/snes.wasm") bytes, sha256 $(sha256sum "$work/snes.wasm" | cut -d ' ' -f 1)"
+echo "open $top/web/index.html"
