@@ -1,4 +1,4 @@
-pub mod Playing
+pub mod Fronts
 pub mod Puts
 pub mod Reading
 pub mod Takes

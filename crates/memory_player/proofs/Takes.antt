@@ -9,10 +9,10 @@ use Rattle.memory_player.specs.Slices.{HoldsIn}
 
 pub sound_stays : (a b : Slices) (other : Side) (had : List ℕ) → b.sound ≡ a.sound → other ≢ Console → HoldsIn a other had → HoldsIn b other had
 sound_stays a b Console had same differ h = absurd (differ refl)
-sound_stays a b Sound had same differ h = subst (λ (f : Filling). Handed f.slice.now f.count had) (sym same) h
+sound_stays a b Sound had same differ h = subst (λ (f : Filling). Handed f.bytes.items f.count had) (sym same) h
 
 pub video_stays : (a b : Slices) (other : Side) (had : List ℕ) → b.video ≡ a.video → other ≢ Sound → HoldsIn a other had → HoldsIn b other had
-video_stays a b Console had same differ h = subst (λ (f : Filling). Handed f.slice.now f.count had) (sym same) h
+video_stays a b Console had same differ h = subst (λ (f : Filling). Handed f.bytes.items f.count had) (sym same) h
 video_stays a b Sound had same differ h = absurd (differ refl)
 
 pub ruleset takes = (sound_stays, video_stays)

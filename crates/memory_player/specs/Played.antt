@@ -37,9 +37,11 @@ module _ (emits : List ℕ → List ℕ → Type 0) (video_old sound_old video_n
     pub sound_is : sound_new ≡ in_front (take sound_first sound) sound_old
     pub short : IsShort video_old sound_old video sound side
 
-  abbrev pub FillsShort : End → Type 0
-  FillsShort (TooShort side) = FilledShort side
-  FillsShort _ = ⊥
+  -- why they do not hold all: one is too short, or there was no memory and they are as they were
+  abbrev pub EndsFill : End → Type 0
+  EndsFill (TooShort side) = FilledShort side
+  EndsFill NoMemory = (video_new ≡ video_old) × (sound_new ≡ sound_old)
+  EndsFill _ = ⊥
 
 module _ (emits : Job → List ℕ → List ℕ → Type 0) (told : Input → Option (List ℕ)) (frames : ℕ) (video_old sound_old video_new sound_new : List ℕ) where
   -- the inputs make a job, and the slices hold its whole output in front

@@ -19,12 +19,11 @@ front_then a b c i j k first then = record {
 }
 
 filled_none : (a : Filling) → OnlyFilled a a
-filled_none a = record { same = refl; front = record { size = refl; back = refl; more = omega arith } }
+filled_none a = record { front = record { size = refl; back = refl; more = omega arith } }
 
 filled_more : (a b c : Filling) → OnlyFilled a b → OnlyFilled b c → OnlyFilled a c
 filled_more a b c first then = record {
-  same = then.same ∙ first.same;
-  front = front_then a.slice.now b.slice.now c.slice.now a.count b.count c.count first.front then.front;
+  front = front_then a.bytes.items b.bytes.items c.bytes.items a.count b.count c.count first.front then.front;
 }
 
 pub fills_none : (a : Slices) → OnlyFills a a

@@ -15,11 +15,11 @@ filling_of s Sound = s.sound
 
 -- these are all the bytes of a side that were handed to its slice
 abbrev pub HoldsIn : Slices → Side → List ℕ → Type 0
-HoldsIn s side bytes = Handed (filling_of s side).slice.now (filling_of s side).count bytes
+HoldsIn s side bytes = Handed (filling_of s side).bytes.items (filling_of s side).count bytes
 
 -- the slice of a side was handed more than it has room for
 abbrev pub IsOverfull : Slices → Side → Type 0
-IsOverfull s side = length (filling_of s side).slice.now < (filling_of s side).count
+IsOverfull s side = length (filling_of s side).bytes.items < (filling_of s side).count
 
 -- an end names a side whose slice was handed more
 abbrev pub ShortIn : Slices → End → Type 0
@@ -28,8 +28,7 @@ ShortIn s _ = ⊥
 
 -- it is the same slice of the caller, of which only the front was changed
 pub record OnlyFilled (a b : Filling) : Type 0 where
-  pub same : b.slice.ghost_name ≡ a.slice.ghost_name
-  pub front : OnlyFront a.slice.now b.slice.now a.count b.count
+  pub front : OnlyFront a.bytes.items b.bytes.items a.count b.count
 
 pub record OnlyFills (a b : Slices) : Type 0 where
   pub video : OnlyFilled a.video b.video

@@ -1,25 +1,29 @@
-ghost use Rattle.std.specs.Prelude.{◌≡◌, ◌<◌, nat_lt, length, OnOk, OnErr};
+ghost use Rattle.std.specs.Prelude.{◌≡◌, ◌<◌, nat_lt, length, IfOk, OnOk, OnErr};
 ghost use Rattle.run_drive.specs.Run.{Adds, AddsSome};
 ghost use Rattle.memory_player.specs.Filled.{Handed, OnlyFront};
 
 use file_shelf::Failed;
+use snes_defs::NoMemory;
+use std::alloc::Global;
 
 /// A slice of the caller that is filled from its front.
 #[derive(Drop)]
-pub(crate) struct Filling<'a> {
-    slice: &'a mut [u8],
+pub(crate) struct Filling {
+    pub(crate) bytes: Vec<u8>,
     /// How many bytes were handed to it: one more than it has where they did not fit.
-    count: usize,
+    pub(crate) count: usize,
 }
 
-impl<'a> Filling<'a> {
-    /// Nothing was handed to the slice yet.
-    pub(crate) fn new(slice: &'a mut [u8]) -> Filling<'a>
-        ensures same_reference { result.slice.ghost_name ≡ slice.entry.ghost_name }
-        ensures now { result.slice.now ≡ slice.old }
-        ensures count { result.count ≡ 0 }
+impl Filling {
+    /// A copy of what the slice holds, to which nothing was handed yet. Refused only for want of memory.
+    pub(crate) fn over(alloc: Global, slice: &[u8]) -> Result<Filling, NoMemory>
+        ensures now { IfOk result (λ f. f.bytes.items ≡ slice.now) }
+        ensures count { IfOk result (λ f. f.count ≡ 0) }
     {
-        Filling { slice, count: 0 }
+        let Ok(bytes) = Vec::from_slice(alloc, slice) else {
+            return Err(NoMemory);
+        };
+        Ok(Filling { bytes, count: 0 })
     }
 
     /// How many bytes were handed to it.
@@ -31,34 +35,44 @@ impl<'a> Filling<'a> {
 
     /// Whether more was handed to it than it has room for.
     pub(crate) fn is_overfull(&self) -> bool
-        ensures { result ≡ nat_lt (length self.now.slice.now) self.now.count }
+        ensures { result ≡ nat_lt (length self.now.bytes.items) self.now.count }
     {
-        self.count > self.slice.len()
+        self.count > self.bytes.len()
     }
 
     /// Puts bytes behind those that were put before. Refused exactly where the slice is too short for them, and
     /// filled to its end then.
-    #[tactic(auto, using(crate::proofs::Puts::puts))]
     pub(crate) fn put(&mut self, bytes: &[u8]) -> Result<(), Failed>
-        ensures same_reference { self.new.slice.ghost_name ≡ self.old.slice.ghost_name }
-        ensures whole { OnOk result (Adds (Handed self.old.slice.now self.old.count) (Handed self.new.slice.now self.new.count) bytes.now) }
-        ensures some { OnErr result (AddsSome (Handed self.old.slice.now self.old.count) (Handed self.new.slice.now self.new.count) bytes.now) }
-        ensures only { OnlyFront self.old.slice.now self.new.slice.now self.old.count self.new.count }
-        ensures failed { OnErr result (length self.new.slice.now < self.new.count) }
+        ensures whole { OnOk result (Adds (Handed self.old.bytes.items self.old.count) (Handed self.new.bytes.items self.new.count) bytes.now) }
+        ensures some { OnErr result (AddsSome (Handed self.old.bytes.items self.old.count) (Handed self.new.bytes.items self.new.count) bytes.now) }
+        ensures only { OnlyFront self.old.bytes.items self.new.bytes.items self.old.count self.new.count }
+        ensures failed { OnErr result (length self.new.bytes.items < self.new.count) }
     {
-        let size = self.slice.len();
-        if self.count > size {
-            return Err(Failed);
-        }
-        let room = size - self.count;
-        if bytes.len() > room {
-            self.slice[self.count..].copy_from_slice(&bytes[..room]);
-            self.count = size + 1;
-            return Err(Failed);
-        }
-        let end = self.count + bytes.len();
-        self.slice[self.count..end].copy_from_slice(bytes);
-        self.count = end;
-        Ok(())
+        put_at(self.bytes.as_mut_slice(), &mut self.count, bytes)
     }
+}
+
+/// Puts bytes into a slice behind those that were put before, so many.
+#[tactic(auto, using(crate::proofs::Puts::puts))]
+fn put_at(slice: &mut [u8], count: &mut usize, bytes: &[u8]) -> Result<(), Failed>
+    ensures whole { OnOk result (Adds (Handed slice.old count.old) (Handed slice.new count.new) bytes.now) }
+    ensures some { OnErr result (AddsSome (Handed slice.old count.old) (Handed slice.new count.new) bytes.now) }
+    ensures only { OnlyFront slice.old slice.new count.old count.new }
+    ensures failed { OnErr result (length slice.new < count.new) }
+{
+    let size = slice.len();
+    let had = *count;
+    if had > size {
+        return Err(Failed);
+    }
+    let room = size - had;
+    if bytes.len() > room {
+        slice[had..].copy_from_slice(&bytes[..room]);
+        *count = size + 1;
+        return Err(Failed);
+    }
+    let end = had + bytes.len();
+    slice[had..end].copy_from_slice(bytes);
+    *count = end;
+    Ok(())
 }

@@ -1,7 +1,8 @@
 ghost use Rattle.std.specs.Prelude.{◌≡◌, IfOk, IfErr};
 ghost use Rattle.snes_defs.specs.declared.cart.Job.{Job};
 ghost use Rattle.memory_player.specs.Inputs.{told_of};
-ghost use Rattle.memory_player.specs.Played.{FilledWhole, FillsShort, PlayedInto, EndsShort};
+ghost use Rattle.memory_player.specs.Slices.{OnlyFills};
+ghost use Rattle.memory_player.specs.Played.{FilledWhole, EndsFill, PlayedInto, EndsShort};
 
 use crate::filling::Filling;
 use crate::inputs::{End, Inputs, job_in};
@@ -16,7 +17,7 @@ use std::alloc::Global;
 /// A frame has 244,736 bytes of video; a sample, of which there are some 533 a frame, has 4 bytes. At Ok both slices
 /// hold the whole output of the job in front, and behind it what they held before. At `TooShort` they hold first
 /// bytes of it, and that slice is shorter than its output. At every other end they are as they were.
-#[tactic(auto, using(crate::proofs::Playing::ends))]
+#[tactic(auto, using(crate::proofs::Fronts::ends))]
 pub fn play<P: Player>(
     alloc: Global,
     inputs: Inputs<'_>,
@@ -34,21 +35,48 @@ pub fn play<P: Player>(
     let Ok(player) = P::ready(alloc, &job) else {
         return Err(End::NoMemory);
     };
-    fill_from(player, video, sound)
+    fill_from(alloc, player, video, sound)
 }
 
-/// Plays a job, and fills the slices with what it emits.
-#[tactic(auto, using(crate::proofs::Playing::fills))]
-fn fill_from<P: Player>(player: P, video: &mut [u8], sound: &mut [u8]) -> Result<Counts, End>
+/// Plays a job, and fills the slices with what it emits. The run goes into copies, which the slices get at its end: of
+/// a slice that is kept in a sink nobody would know that it is still the caller's.
+fn fill_from<P: Player>(
+    alloc: Global,
+    player: P,
+    video: &mut [u8],
+    sound: &mut [u8],
+) -> Result<Counts, End>
     requires { (job : Job) × P.plays player job }
     ensures whole { (job : Job) → P.plays player job → IfOk result (λ counts. FilledWhole (P.emits job) video.old sound.old video.new sound.new counts.video counts.sound) }
-    ensures short { (job : Job) → P.plays player job → IfErr result (FillsShort (P.emits job) video.old sound.old video.new sound.new) }
+    ensures short { (job : Job) → P.plays player job → IfErr result (EndsFill (P.emits job) video.old sound.old video.new sound.new) }
 {
-    let mut slices = Slices {
-        video: Filling::new(video),
-        sound: Filling::new(sound),
+    let Ok(video_copy) = Filling::over(alloc, video) else {
+        return Err(End::NoMemory);
     };
-    match player.play_serial(&mut slices) {
+    let Ok(sound_copy) = Filling::over(alloc, sound) else {
+        return Err(End::NoMemory);
+    };
+    let mut slices = Slices {
+        video: video_copy,
+        sound: sound_copy,
+    };
+    let filled = run_into(player, &mut slices);
+    video.copy_from_slice(slices.video.bytes.as_slice());
+    sound.copy_from_slice(slices.sound.bytes.as_slice());
+    filled
+}
+
+/// Plays a job into the copies of the slices.
+#[tactic(auto, using(crate::proofs::Fronts::fills))]
+fn run_into<P: Player>(player: P, slices: &mut Slices) -> Result<Counts, End>
+    requires at_start { (job : Job) × P.plays player job }
+    requires no_video { slices.old.video.count ≡ 0 }
+    requires no_sound { slices.old.sound.count ≡ 0 }
+    ensures whole { (job : Job) → P.plays player job → IfOk result (λ counts. FilledWhole (P.emits job) slices.old.video.bytes.items slices.old.sound.bytes.items slices.new.video.bytes.items slices.new.sound.bytes.items counts.video counts.sound) }
+    ensures short { (job : Job) → P.plays player job → IfErr result (EndsFill (P.emits job) slices.old.video.bytes.items slices.old.sound.bytes.items slices.new.video.bytes.items slices.new.sound.bytes.items) }
+    ensures only { OnlyFills slices.old slices.new }
+{
+    match player.play_serial(slices) {
         Ok(()) => slices.counts(),
         Err(side) => Err(End::TooShort(side)),
     }

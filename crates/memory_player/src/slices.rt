@@ -20,18 +20,18 @@ pub struct Counts {
 
 /// The slices for video and sound.
 #[derive(Drop)]
-pub(crate) struct Slices<'a> {
-    pub(crate) video: Filling<'a>,
-    pub(crate) sound: Filling<'a>,
+pub(crate) struct Slices {
+    pub(crate) video: Filling,
+    pub(crate) sound: Filling,
 }
 
-impl<'a> Slices<'a> {
+impl Slices {
     /// How many bytes stand in front of each slice. Refused exactly where one was handed more than it has room for.
     pub(crate) fn counts(&self) -> Result<Counts, End>
         ensures video { IfOk result (λ counts. counts.video ≡ self.now.video.count) }
         ensures sound { IfOk result (λ counts. counts.sound ≡ self.now.sound.count) }
-        ensures video_fits { OnOk result (self.now.video.count ≤ length self.now.video.slice.now) }
-        ensures sound_fits { OnOk result (self.now.sound.count ≤ length self.now.sound.slice.now) }
+        ensures video_fits { OnOk result (self.now.video.count ≤ length self.now.video.bytes.items) }
+        ensures sound_fits { OnOk result (self.now.sound.count ≤ length self.now.sound.bytes.items) }
         ensures short { IfErr result (ShortIn self.now) }
     {
         if self.video.is_overfull() {
@@ -47,7 +47,7 @@ impl<'a> Slices<'a> {
     }
 }
 
-impl<'a> Sink for Slices<'a> {
+impl Sink for Slices {
     ghost holds = { HoldsIn };
 
     ghost only_takes = { OnlyFills };

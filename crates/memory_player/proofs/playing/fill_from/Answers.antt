@@ -1,18 +1,11 @@
 use Rattle.std.proofs.Common.{rules}
-use Rattle.memory_player.proofs.Playing.{counts_whole, counts_short, first_short}
+use Rattle.memory_player.proofs.Fronts.{whole_moved, ends_moved}
 use Rattle.memory_player.proofs.playing.fill_from.Goals as goal
 
-pub returns-in-Ok-clause-whole : goal.returns-in-Ok-clause-whole
-returns-in-Ok-clause-whole g c = λ job plays.
-    counts_whole c.play_serial.ensures.only (search rules) (search rules) (search rules) (search rules) c.counts.result (c.in-Ok.ensures.whole job plays)
-    c.counts.ensures.video c.counts.ensures.sound c.counts.ensures.video_fits c.counts.ensures.sound_fits
+pub returns-clause-whole : goal.returns-clause-whole
+returns-clause-whole g c = λ job plays.
+    whole_moved (g.P.Player.emits job) _ _ _ _ _ _ _ _ _ (c.run_into-filled.ensures.whole job plays) (search rules) (search rules) (search rules) (search rules)
 
-pub returns-in-Ok-clause-short : goal.returns-in-Ok-clause-short
-returns-in-Ok-clause-short g c = λ job plays.
-    counts_short c.play_serial.ensures.only (search rules) (search rules) (search rules) (search rules) c.counts.result (c.in-Ok.ensures.whole job plays)
-    c.counts.ensures.short
-
-pub returns-in-Err-clause-short : goal.returns-in-Err-clause-short
-returns-in-Err-clause-short g c = λ job plays.
-    first_short c.play_serial.ensures.only (search rules) (search rules) (search rules) (search rules) _ (c.play_serial.ensures.first job plays)
-    c.in-Err.ensures.failed
+pub returns-clause-short : goal.returns-clause-short
+returns-clause-short g c = λ job plays.
+    ends_moved (g.P.Player.emits job) _ _ _ _ _ _ _ _ _ (c.run_into-filled.ensures.short job plays) (search rules) (search rules) (search rules) (search rules)
