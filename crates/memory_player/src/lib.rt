@@ -8,9 +8,11 @@
 
 mod filling;
 mod inputs;
+mod player;
 mod playing;
 mod slices;
 
 pub use inputs::{End, Inputs};
+pub use player::SerialPlayer;
 pub use playing::play;
 pub use slices::Counts;

@@ -6,8 +6,8 @@ ghost use Rattle.memory_player.specs.Played.{FilledWhole, EndsFill, PlayedInto, 
 
 use crate::filling::Filling;
 use crate::inputs::{End, Inputs, job_in};
+use crate::player::SerialPlayer;
 use crate::slices::{Counts, Slices};
-use run_drive::Player;
 use snes_defs::MOST_FRAMES;
 use std::alloc::Global;
 
@@ -18,7 +18,7 @@ use std::alloc::Global;
 /// hold the whole output of the job in front, and behind it what they held before. At `TooShort` they hold first
 /// bytes of it, and that slice is shorter than its output. At every other end they are as they were.
 #[tactic(auto, using(crate::proofs::Fronts::ends))]
-pub fn play<P: Player>(
+pub fn play<P: SerialPlayer>(
     alloc: Global,
     inputs: Inputs<'_>,
     frames: u32,
@@ -40,7 +40,7 @@ pub fn play<P: Player>(
 
 /// Plays a job, and fills the slices with what it emits. The run goes into copies, which the slices get at its end: of
 /// a slice that is kept in a sink nobody would know that it is still the caller's.
-fn fill_from<P: Player>(
+fn fill_from<P: SerialPlayer>(
     alloc: Global,
     player: P,
     video: &mut [u8],
@@ -68,7 +68,7 @@ fn fill_from<P: Player>(
 
 /// Plays a job into the copies of the slices.
 #[tactic(auto, using(crate::proofs::Fronts::fills))]
-fn run_into<P: Player>(player: P, slices: &mut Slices) -> Result<Counts, End>
+fn run_into<P: SerialPlayer>(player: P, slices: &mut Slices) -> Result<Counts, End>
     requires at_start { (job : Job) × P.plays player job }
     requires no_video { slices.old.video.count ≡ 0 }
     requires no_sound { slices.old.sound.count ≡ 0 }

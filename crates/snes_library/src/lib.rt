@@ -1,6 +1,6 @@
 // The console for programs that are not written in Rattle: a static library with one call, `snes_play`.
 //
-// Thin over `memory_player` and the console that plays a job. `embed/snes.h` declares the call for C, and
+// Thin over `memory_player`: a player that has both sides of the console, and no lock and no thread. `embed/snes.h` declares the call for C, and
 // `docs/EMBEDDING.md` says what is proved of it, and what a caller has to keep that nothing checks.
 #![tactic(auto)]
 
@@ -12,10 +12,11 @@ ghost use Rattle.memory_player.specs.Played.{PlayedInto, EndsShort};
 ghost use Rattle.snes_library.specs.Answer.{IsToldAs};
 
 mod answer;
+mod console;
 
 pub use answer::SnesAnswer;
 use answer::told;
-use job_player::Console;
+use console::SerialConsole;
 use memory_player::{Inputs, play};
 use std::alloc::Global;
 
@@ -45,7 +46,7 @@ pub extern "C" fn snes_play(
         table,
         script,
     };
-    match play::<Console>(alloc, inputs, frames, video, sound) {
+    match play::<SerialConsole>(alloc, inputs, frames, video, sound) {
         Ok(counts) => {
             answer.cause = 0;
             answer.place = 0;

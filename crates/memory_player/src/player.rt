@@ -1,0 +1,32 @@
+ghost use Rattle.std.specs.Prelude.{◌≡◌, ℕ, ◌≤◌, List, [], OnOk, IfOk, IfErr};
+ghost use Rattle.snes_defs.specs.declared.cart.Job.{Job};
+ghost use Rattle.run_drive.specs.Played.{PlayedWhole, PlayedFirst};
+
+use run_drive::Sink;
+use snes_defs::{Job, NoMemory, Side};
+use std::alloc::Global;
+
+/// What plays a job by the serial console alone: its machines at their start, and all memory that their run takes. A
+/// library for other languages may link no lock and no thread, so that a player by two workers is none.
+pub trait SerialPlayer: Drop {
+    // A run of the job emits this video and this audio.
+    ghost emits: { Job → List ℕ → List ℕ → Type 0 };
+
+    // The player stands at the start of the job.
+    ghost plays: { Self → Job → Type 0 };
+
+    /// Makes the machines at the start of a job, and takes all the memory of their run.
+    fn ready(alloc: Global, job: &Job) -> Result<Self, NoMemory>
+        requires { job.now.frames ≤ 36000 }
+        ensures starts { IfOk result (λ player. plays player job.now) };
+
+    /// Runs the job by the serial console.
+    fn play_serial<K: Sink>(self, sink: &mut K) -> Result<(), Side>
+        requires at_start { (job : Job) × plays self job }
+        requires no_video { K.holds sink.old Side.Console [] }
+        requires no_sound { K.holds sink.old Side.Sound [] }
+        ensures whole { OnOk result ((job : Job) → plays self job → PlayedWhole (emits job) (K.holds sink.new)) }
+        ensures first { (job : Job) → plays self job → PlayedFirst (emits job) (K.holds sink.new) }
+        ensures failed { IfErr result (K.failed sink.old sink.new) }
+        ensures only { K.only_takes sink.old sink.new };
+}
