@@ -5,9 +5,8 @@ ghost use Rattle.snes_call.specs.Job.{ShowsJob};
 ghost use Rattle.snes_call.specs.Kinds.{AreAccepted, IsCartIn, IsScriptIn};
 ghost use Rattle.memory_player.specs.Inputs.{told_of, EndsInput, EndsInputs};
 
-use cart_map::{CartEnd, accept};
+use cart_map::{CartEnd, CartRefused, accept};
 use input_files::{ScriptEnd, read_boot, read_script, read_table};
-use snes_call::Why;
 use snes_defs::{Cart, Job, Side, Spans, Table};
 use std::alloc::Global;
 
@@ -25,6 +24,19 @@ pub struct Inputs<'a> {
     pub table: &'a [u8],
     /// The script of pads.
     pub script: &'a [u8],
+}
+
+/// Why an input was not accepted.
+#[derive(Clone, Copy, Debug, PartialEq, Eq)]
+pub enum Why {
+    /// The bytes are no cartridge of this console.
+    Cart(CartRefused),
+    /// The boot ROM hasn't 64 bytes.
+    Boot,
+    /// The interpolation table hasn't 1,024 bytes (512), or this is its first entry above 2047.
+    Table(u16),
+    /// The script has more than 1,048,576 bytes (0), or this is its first line that is in no form, from 1.
+    Script(u32),
 }
 
 /// Why a job was not played to its end.

@@ -2,7 +2,7 @@
 use Rattle.std.specs.Prelude.{◌≡◌, ℕ}
 use Rattle.snes_defs.specs.declared.ports.Side.TheVariants.{Console, Sound}
 use Rattle.cart_map.specs.declared.refused.CartRefused.TheVariants as cart
-use Rattle.snes_call.specs.declared.status.Why.TheVariants as why
+use Rattle.memory_player.specs.declared.inputs.Why.TheVariants as why
 use Rattle.memory_player.specs.declared.inputs.End.{End}
 use Rattle.memory_player.specs.declared.inputs.End.TheVariants.{Frames, Refused, NoMemory, TooShort}
 use Rattle.snes_library.specs.declared.answer.SnesAnswer.{SnesAnswer}

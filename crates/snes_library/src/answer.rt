@@ -2,8 +2,7 @@ ghost use Rattle.std.specs.Prelude.{◌≡◌};
 ghost use Rattle.snes_library.specs.Answer.{status_of, cause_of, place_of, IsToldAs};
 
 use cart_map::CartRefused;
-use memory_player::End;
-use snes_call::Why;
+use memory_player::{End, Why};
 use snes_defs::Side;
 
 /// What a call tells beside its status.
