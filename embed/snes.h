@@ -60,7 +60,7 @@ struct snes_answer {
  * the room behind it in bytes. At SNES_OK both hold the whole output in front, and behind it what they held before. At
  * SNES_TOO_SHORT both hold first bytes of it, and the named one is full. At every other status they are as they were.
  *
- * While it plays it takes by malloc 11 MB, and as much as the cartridge and both rooms have; all is given back.
+ * While it plays it takes by malloc a few megabytes, and as much as the cartridge and both rooms have; all is given back.
  *
  * The caller keeps, and nothing checks: no pointer is null, also where its size is 0; outputs and `answer` overlap
  * neither each other nor an input; nothing else touches them during the call. Calls in several threads at once are

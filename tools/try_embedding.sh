@@ -54,7 +54,7 @@ check 'Python: the answer' "$(sed -n 1p <<<"$said")" "status 0 cause 0 place 0 v
 check 'Python: all video' "$(sed -n 's/^video //p' <<<"$said")" "$(sum_of video.raw)"
 check 'Python: all sound' "$(sed -n 's/^sound //p' <<<"$said")" "$(sum_of audio.raw)"
 check 'Python: bytes touched behind the output' "$(sed -n 's/^behind //p' <<<"$said")" '0 0'
-check 'no frames' "$(python3 "$top/embed/play.py" ./libsnes.so "${inputs[@]}" 0 | head -n 1)" 'status 0 cause 0 place 0 video 0 sound 0'
+check 'no frames' "$(python3 "$top/embed/play.py" ./libsnes.so "${inputs[@]}" 0 | sed -n 1p)" 'status 0 cause 0 place 0 video 0 sound 0'
 
 # Refusals: the inputs in their order, one of them changed; then too many frames, and rooms that are too short.
 refused() {
@@ -97,7 +97,7 @@ refused 'two refused inputs: the first is told' '3 cause 1 place 0' short.sfc "$
 refused '36,001 frames' '1 cause 11 place 0' "${inputs[@]}" 36001 0 0
 refused 'a video room that lacks a byte' '4 cause 9 place 0' "${inputs[@]}" 2 489471
 refused 'a sound room that lacks a byte' '4 cause 10 place 0' "${inputs[@]}" "$frames" "$video_size" $((sound_size - 1))
-(ulimit -v 60000; ./frame "${inputs[@]}" 1 frame.raw sound.raw >small.txt; echo "exit $?" >>small.txt) 2>/dev/null
-echo "with little memory: $(tr '\n' ' ' <small.txt)"
+said=$(ulimit -v 36500; ./frame "${inputs[@]}" 1 frame.raw sound.raw 2>/dev/null)
+check 'too little memory' "$said" 'status 5 cause 12 place 0 video 0 sound 0'
 echo "$passed passed, $failed failed"
 [ "$failed" -eq 0 ]
