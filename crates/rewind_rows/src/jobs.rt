@@ -1,0 +1,43 @@
+ghost use Rattle.std.specs.Prelude.{◌≡◌, [], IfSome};
+ghost use Rattle.snes_defs.specs.declared.region.Region.TheVariants.{Ntsc};
+ghost use Rattle.plan_drive.specs.Paths.{path_script};
+
+use cart_map::accept;
+use demo_files::{demo_boot_rom, demo_table};
+use snes_defs::{Job, Region, Spans};
+use std::alloc::Global;
+
+/// SEI, CLC, XCE; then, over and over: 2140 to 2141, INC, to 2140.
+const TALK: [u8; 15] = [
+    0x78, 0x18, 0xfb, 0xad, 0x40, 0x21, 0x8d, 0x41, 0x21, 0x1a, 0x8d, 0x40, 0x21, 0x80, 0xf4,
+];
+
+/// The job of an image, with the demo's boot ROM and table.
+fn job_of(alloc: Global, image: Vec<u8>) -> Option<Job>
+    ensures script { IfSome result (λ job. job.script ≡ path_script 0 []) }
+    ensures region { IfSome result (λ job. job.region ≡ Ntsc) }
+{
+    Some(Job {
+        cart: accept(image).ok()?,
+        boot: demo_boot_rom(),
+        table: demo_table(),
+        script: Spans::of(alloc, Vec::new(alloc)),
+        frames: 0,
+        region: Region::Ntsc,
+    })
+}
+
+/// A cartridge of 32 KiB that reads and writes the ports all the time.
+pub fn talking_job(alloc: Global) -> Option<Job>
+    ensures script { IfSome result (λ job. job.script ≡ path_script 0 []) }
+    ensures region { IfSome result (λ job. job.region ≡ Ntsc) }
+{
+    let mut image = vec![in alloc; 0u8; 32_768].ok()?;
+    let bytes = image.as_mut_slice();
+    for (place, byte) in TALK.iter().enumerate() {
+        *bytes.get_mut(place)? = *byte;
+    }
+    *bytes.get_mut(0x7fd5)? = 0x20;
+    *bytes.get_mut(0x7ffd)? = 0x80;
+    job_of(alloc, image)
+}
