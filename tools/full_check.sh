@@ -37,7 +37,7 @@ device() {
   work=$(mktemp -d) || return 2
   try() {
     local want=$1 words=$2 video=$3 audio=$4 command
-    for command in run serial; do
+    for command in run serial lockless; do
       said=$(timeout 60 "$snes" $command --cart "$data/red.sfc" --boot "$data/boot.bin" --table "$data/table.bin" \
         --script "$data/script.txt" --frames 1 --video "$video" --audio "$audio")
       status=$?

@@ -6,7 +6,7 @@
 # The jobs: `scene` (the cartridge of ./scene), `seven` (that of `snes make 7`) and `red` (the one of snes_run's stored
 # run: a backdrop, a loop of two instructions, and a sound processor that has halted). For each it prints, of `serial`,
 # the million instructions a frame (callgrind; the difference of a run of 25 frames and one of 5, over 20; a `-` where
-# there is no valgrind), and the frames a second of processor time of `serial` and of `run`, by the clock too for `run`:
+# there is no valgrind), and the frames a second of processor time of `serial`, `run` and `lockless`, by the clock too for the last two:
 # the best of RUNS (5) runs of FRAMES (600) frames, the programs in turn. All outputs go to the null device, so that no
 # figure has the writing of files in it. An OTHER is a program with the same words, which is measured beside.
 #
@@ -75,13 +75,14 @@ seconds() {
 }
 
 programs=("$snes" "$@")
-printf '%-8s %-28s %14s %16s %13s %16s\n' job program 'M instr/frame' 'serial, proc/s' 'run, proc/s' 'run, by clock/s'
+printf '%-8s %-28s %14s %16s %13s %16s %18s %21s\n' job program 'M instr/frame' 'serial, proc/s' 'run, proc/s' \
+  'run, by clock/s' 'lockless, proc/s' 'lockless, by clock/s'
 for job in ${JOBS:-scene seven red}; do
   files_of "$job" || exit 2
   declare -A best=()
   for _ in $(seq "$runs"); do
     for program in "${programs[@]}"; do
-      for command in serial run; do
+      for command in serial run lockless; do
         # shellcheck disable=SC2034
         read -r clock user < <(seconds "$program" "$command" "$job")
         for kind in clock user; do
@@ -93,7 +94,8 @@ for job in ${JOBS:-scene seven red}; do
   done
   for program in "${programs[@]}"; do
     rate() { awk -v n="$frames" -v t="${best[$1]}" 'BEGIN { printf "%.0f", n / (t > 0 ? t : 0.001) }'; }
-    printf '%-8s %-28s %14s %16s %13s %16s\n' "$job" "$(basename "$program")" "$(instructions_of "$program" "$job")" \
-      "$(rate "$program serial user")" "$(rate "$program run user")" "$(rate "$program run clock")"
+    printf '%-8s %-28s %14s %16s %13s %16s %18s %21s\n' "$job" "$(basename "$program")" "$(instructions_of "$program" "$job")" \
+      "$(rate "$program serial user")" "$(rate "$program run user")" "$(rate "$program run clock")" \
+      "$(rate "$program lockless user")" "$(rate "$program lockless clock")"
   done
 done

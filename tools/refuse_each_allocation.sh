@@ -1,6 +1,6 @@
 #!/usr/bin/env bash
-# Refuses each request for memory of the built program in turn, on a run of one red frame, by `run` and by
-# `serial`, and on two samples of a sound file, by `play`: each time the answer is that of the whole run, or it is
+# Refuses each request for memory of the built program in turn, on a run of one red frame, by `run`, `serial` and
+# `lockless`, and on two samples of a sound file, by `play`: each time the answer is that of the whole run, or it is
 # `no memory` with no output created.
 #
 # It is no part of the gate. It needs the program (`./snes demo 7 --frames 0` builds it) and a C compiler,
@@ -89,7 +89,7 @@ call() {
 }
 
 bad=0
-for command in run serial play; do
+for command in run serial lockless play; do
   whole=0 none=0 ended=no
   for number in $(seq "${MOST:-5000}"); do
     call "$command" "$number"

@@ -1,5 +1,5 @@
 #!/usr/bin/env bash
-# Runs jobs at random by `serial` and by two workers, and compares every byte, the line that is said and the exit status.
+# Runs jobs at random by `serial` and by two workers over either wire, and compares every byte, the line that is said and the exit status.
 #
 # `tools/soak.sh COUNT [FIRST]`: the jobs of the numbers FIRST (0, where it isn't given) to FIRST + COUNT - 1, made by the program of
 # crates/wild_jobs. Each is run by `serial` once, by `run` on all processors, and by `run` on one processor, while as many
@@ -49,11 +49,12 @@ job() {
   one "$folder" serial "$frames" serial env
   one "$folder" all "$frames" run env
   one "$folder" one "$frames" run taskset -c "$processor"
+  one "$folder" lockless "$frames" lockless env
   local same=alike part name
   grep -q '^frames ' "$folder/serial.said" && grep -qx 'status 0' "$folder/serial.said" || same=none
   # A frame has 244,736 bytes; a run without pictures would compare nothing.
   [ "$(stat -c %s "$folder/serial.video")" = $((244736 * frames)) ] || same=none
-  for name in all one; do
+  for name in all one lockless; do
     for part in said video audio; do
       cmp -s "$folder/serial.$part" "$folder/$name.$part" || same=other
     done
@@ -70,6 +71,6 @@ export -f one job
 started=$(date +%s)
 seq "$first" $((first + count - 1)) | xargs -P "${JOBS:-4}" -I {} bash -c 'job {}' >"$work/told"
 alike=$(grep -cx alike "$work/told")
-echo "$count jobs: $alike alike by serial, by run on all processors and by run on one, $((count - alike)) not, in $(($(date +%s) - started)) s" \
+echo "$count jobs: $alike alike by serial, by run on all processors and on one, and by lockless, $((count - alike)) not, in $(($(date +%s) - started)) s" \
   "(from $first on, at a load of $(cut -d ' ' -f 1 /proc/loadavg) on $(nproc) processors)"
 [ "$alike" = "$count" ]

@@ -1,6 +1,6 @@
 //! Runs the jobs of the files that it is given, as `data/console.txt`, on the whole console and the whole
-//! sound side, by the serial console's loop and by turns of two workers, and compares each frame of the picture
-//! and of the sound.
+//! sound side, by the serial console's loop and by turns of two workers over either wire, and compares each frame of the
+//! picture and of the sound.
 //!
 //! The jobs come from outside: two other programs agreed on them. The program stands on `console_machine`,
 //! `audio_side` and `run_drive`, and on `job_player` for the run by turns. It names each job that differs, and
@@ -57,8 +57,13 @@ fn main(rt: HostRuntime) -> io::Result<()> {
         }
     }
     println!(rt;
-        "{} jobs: {} differ, {} differ by turns, the workers met in {}",
-        tally.jobs, tally.different, tally.different_by_turns, tally.met
+        "{} jobs: {} differ, {} differ by turns, {} without a lock, the workers met in {} and {}",
+        tally.jobs,
+        tally.different,
+        tally.different_by_turns,
+        tally.different_without_lock,
+        tally.met,
+        tally.met_without_lock
     )?;
     println!(rt;
         "{} hashes of first steps: {} differ",

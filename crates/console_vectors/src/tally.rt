@@ -2,6 +2,7 @@ use crate::case::Case;
 use crate::play::play;
 use crate::steps::record_steps;
 use crate::turns::play_on_two;
+use job_player::Carrier;
 use run_drive::Watch;
 use std::alloc::Global;
 use std::io;
@@ -13,8 +14,11 @@ pub struct Tally {
     pub jobs: u64,
     pub different: u64,
     pub different_by_turns: u64,
+    pub different_without_lock: u64,
     /// The jobs in which both workers were seen under way at once, of those that ask for it.
     pub met: u64,
+    /// The same over words without a lock.
+    pub met_without_lock: u64,
     /// The hashes of first steps, and those that differ.
     pub beginnings: usize,
     pub beginnings_different: usize,
@@ -26,7 +30,9 @@ impl Tally {
             jobs: 0,
             different: 0,
             different_by_turns: 0,
+            different_without_lock: 0,
             met: 0,
+            met_without_lock: 0,
             beginnings: 0,
             beginnings_different: 0,
         }
@@ -78,13 +84,13 @@ struct ByTurns {
     met: bool,
 }
 
-/// Runs a job by turns, or nothing where it is no job.
-fn by_turns<R: AllocGlobal + Threads>(rt: &R, case: &Case) -> Option<ByTurns> {
+/// Runs a job by turns over a wire, or nothing where it is no job.
+fn by_turns<R: AllocGlobal + Threads>(rt: &R, case: &Case, carrier: Carrier) -> Option<ByTurns> {
     let alloc = rt.alloc();
     let job = case.job(alloc)?;
     let mut marks = case.marks(alloc)?;
     let watch = Watch::new();
-    let turns = play_on_two(rt, &job, &watch, &mut marks)?;
+    let turns = play_on_two(rt, &job, carrier, &watch, &mut marks)?;
     Some(ByTurns {
         agrees: marks.video.agrees() && marks.sound.agrees(),
         counted: watch.counted(turns) && turns <= case.turns,
@@ -92,7 +98,7 @@ fn by_turns<R: AllocGlobal + Threads>(rt: &R, case: &Case) -> Option<ByTurns> {
     })
 }
 
-/// Compares a job both ways, counts it, and names what is wrong.
+/// Compares a job each way, counts it, and names what is wrong.
 pub fn compare<R: AllocGlobal + Threads + Print>(
     rt: &R,
     case: &Case,
@@ -100,22 +106,33 @@ pub fn compare<R: AllocGlobal + Threads + Print>(
 ) -> io::Result<()> {
     tally.jobs = tally.jobs.saturating_add(1);
     let job = tally.jobs;
-    let (Some(agrees), Some(by_turns)) = (agrees(rt.alloc(), case), by_turns(rt, case)) else {
+    let (Some(agrees), Some(locked), Some(lockless)) = (
+        agrees(rt.alloc(), case),
+        by_turns(rt, case, Carrier::Lock),
+        by_turns(rt, case, Carrier::Words),
+    ) else {
         return println!(rt; "job {job} is none");
     };
     if !agrees {
         tally.different = tally.different.saturating_add(1);
         println!(rt; "job {job} differs")?;
     }
-    if !by_turns.agrees {
+    if !locked.agrees {
         tally.different_by_turns = tally.different_by_turns.saturating_add(1);
         println!(rt; "job {job} differs by turns")?;
     }
-    if !by_turns.counted {
+    if !lockless.agrees {
+        tally.different_without_lock = tally.different_without_lock.saturating_add(1);
+        println!(rt; "job {job} differs without a lock")?;
+    }
+    if !locked.counted || !lockless.counted {
         println!(rt; "job {job} has other turns")?;
     }
-    if case.meets && by_turns.met {
+    if case.meets && locked.met {
         tally.met = tally.met.saturating_add(1);
+    }
+    if case.meets && lockless.met {
+        tally.met_without_lock = tally.met_without_lock.saturating_add(1);
     }
     compare_steps(rt, case, tally)
 }

@@ -1,14 +1,15 @@
 use crate::marks::Marks;
-use job_player::{Console, play_by_turns};
+use job_player::{Carrier, Console, play_by_turns};
 use port_wire::Gate;
 use run_drive::Player;
 use snes_defs::Job;
 use std::thread::Threads;
 
-/// Runs a job on two workers, marks what they emit, and answers how many turns they made.
+/// Runs a job on two workers over this wire, marks what they emit, and answers how many turns they made.
 pub fn play_on_two<R: AllocGlobal + Threads, G: Gate>(
     rt: &R,
     job: &Job,
+    carrier: Carrier,
     gate: &G,
     marks: &mut Marks,
 ) -> Option<u64> {
@@ -18,5 +19,5 @@ pub fn play_on_two<R: AllocGlobal + Threads, G: Gate>(
     let Ok(player) = Console::ready(rt.alloc(), job) else {
         return None;
     };
-    play_by_turns(player, rt, gate, marks).ok()
+    play_by_turns(player, rt, carrier, gate, marks).ok()
 }

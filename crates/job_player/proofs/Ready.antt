@@ -13,11 +13,13 @@ use Rattle.audio_side.specs.Sound.{AudioValue, SoundState, IsSound, sound_moves}
 use Rattle.audio_side.specs.Sound as sound_side
 use Rattle.port_lock.specs.PortsKnown.{PortsKnown}
 use Rattle.port_lock.specs.Wholes.{WholeValue}
+use Rattle.word_log.specs.WordsKnown.{WordsKnown}
+use Rattle.word_log.specs.Wholes as words
 use Rattle.run_laws.specs.TurnBound.{most_turns}
 use Rattle.run_drive.specs.Run.{TookRun, TookFirst}
 use Rattle.run_drive.specs.Played.{PlayedWhole, PlayedFirst}
 use Rattle.turn_drive.specs.Cycle.{StepsByCycle}
-use Rattle.job_player.specs.Start.{console_of, sound_of, Emits, IsReady}
+use Rattle.job_player.specs.Start.{console_of, sound_of, Emits, IsAtStart, IsReady}
 use Rattle.job_player.proofs.Plays.{played_whole, played_first}
 
 -- a fact of what an Ok carries gives another
@@ -41,20 +43,31 @@ steps_by_cycle region = λ m got valid byte.
     subst (λ (r : Region). rate_of m.clock.region side.Sound * (m.clock.cycle + 1) ≡ rate_of m.clock.region side.Sound * m.clock.cycle + rate_of r side.Sound * 1)
     valid (cycle_rises m.clock.region m.clock.cycle)
 
-module _ (holds : Side → List ℕ → Type 0) (c : ConsoleValue) (s : AudioValue) (ports : PortsKnown) (both : WholeValue) (end size : ℕ) where
+module _ (holds : Side → List ℕ → Type 0) (c : ConsoleValue) (s : AudioValue) (ports : PortsKnown) (both : WholeValue) (of_words : WordsKnown) (word_both : words.WholeValue) (end size : ℕ) where
   pub ready_whole : ((m : ConsoleState) (n : SoundState) → console_side.StandsAt c m → sound_side.StandsAt s n → TookRun console_moves sound_moves m n end holds)
-      → (job : Job) → IsReady c s ports both end size job → PlayedWhole (Emits job) holds
+      → (job : Job) → IsReady c s ports both of_words word_both end size job → PlayedWhole (Emits job) holds
   ready_whole took job h = played_whole holds c s end size took job h.start
 
   pub ready_first : ((m : ConsoleState) (n : SoundState) → console_side.StandsAt c m → sound_side.StandsAt s n → TookFirst console_moves sound_moves m n end holds)
-      → (job : Job) → IsReady c s ports both end size job → PlayedFirst (Emits job) holds
+      → (job : Job) → IsReady c s ports both of_words word_both end size job → PlayedFirst (Emits job) holds
   ready_first took job h = played_first holds c s end size took job h.start
 
-module _ (c : ConsoleValue) (s : AudioValue) (ports : PortsKnown) (both : WholeValue) (end size turns : ℕ) where
+module _ (c : ConsoleValue) (s : AudioValue) (ports : PortsKnown) (both : WholeValue) (of_words : WordsKnown) (word_both : words.WholeValue) (end size turns : ℕ) where
+  -- a bound on turns by the region that a wire has
+  bounded_by : (region : Region) → ((m : ConsoleState) (n : SoundState) (frames : ℕ) → console_side.StandsAt c m → sound_side.StandsAt s n → console_moves.stamp m ≡ 0 → sound_moves.stamp n ≡ 0
+      → StepsByCycle region (IsSound region) sound_moves → end ≡ end_stamp_of region frames → turns ≤ most_turns region frames)
+      → (job : Job) → region ≡ job.region → IsAtStart c s end size job → turns ≤ most_turns job.region job.frames
+  bounded_by region bound job is h =
+      subst (λ (r : Region). turns ≤ most_turns r job.frames) is
+      (bound (console_of job) (sound_of job) job.frames h.console h.sound (at_zero job.region side.Console) (at_zero job.region side.Sound)
+      (steps_by_cycle region) (subst (λ (r : Region). end ≡ end_stamp_of r job.frames) (sym is) h.end_is))
+
   pub ready_bounded : ((m : ConsoleState) (n : SoundState) (frames : ℕ) → console_side.StandsAt c m → sound_side.StandsAt s n → console_moves.stamp m ≡ 0 → sound_moves.stamp n ≡ 0
       → StepsByCycle ports.region (IsSound ports.region) sound_moves → end ≡ end_stamp_of ports.region frames → turns ≤ most_turns ports.region frames)
-      → (job : Job) → IsReady c s ports both end size job → turns ≤ most_turns job.region job.frames
-  ready_bounded bound job h =
-      subst (λ (r : Region). turns ≤ most_turns r job.frames) h.region_is
-      (bound (console_of job) (sound_of job) job.frames h.start.console h.start.sound (at_zero job.region side.Console) (at_zero job.region side.Sound)
-      (steps_by_cycle ports.region) (subst (λ (r : Region). end ≡ end_stamp_of r job.frames) (sym h.region_is) h.start.end_is))
+      → (job : Job) → IsReady c s ports both of_words word_both end size job → turns ≤ most_turns job.region job.frames
+  ready_bounded bound job h = bounded_by ports.region bound job h.region_is h.start
+
+  pub words_bounded : ((m : ConsoleState) (n : SoundState) (frames : ℕ) → console_side.StandsAt c m → sound_side.StandsAt s n → console_moves.stamp m ≡ 0 → sound_moves.stamp n ≡ 0
+      → StepsByCycle of_words.region (IsSound of_words.region) sound_moves → end ≡ end_stamp_of of_words.region frames → turns ≤ most_turns of_words.region frames)
+      → (job : Job) → IsReady c s ports both of_words word_both end size job → turns ≤ most_turns job.region job.frames
+  words_bounded bound job h = bounded_by of_words.region bound job h.words_region_is h.start

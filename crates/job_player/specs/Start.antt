@@ -6,6 +6,8 @@ use Rattle.side_law.specs.Serial.{serial_of}
 use Rattle.side_law.specs.SerialRun.{IsOutput}
 use Rattle.port_lock.specs.PortsKnown.{PortsKnown}
 use Rattle.port_lock.specs.Wholes.{WholeValue, new_whole}
+use Rattle.word_log.specs.WordsKnown.{WordsKnown}
+use Rattle.word_log.specs.Wholes as words
 use Rattle.console_steps.specs.ConsoleState.{ConsoleState, console_start, console_moves}
 use Rattle.console_machine.specs.Side.{ConsoleValue}
 use Rattle.console_machine.specs.Side as console_side
@@ -41,8 +43,10 @@ pub record IsAtStart (c : ConsoleValue) (s : AudioValue) (end size : ℕ) (job :
   pub end_is : end ≡ end_of job
   pub size_is : size ≡ 65536
 
--- the console is at its start, and the ports between its sides are new and of the job's region
-pub record IsReady (c : ConsoleValue) (s : AudioValue) (ports : PortsKnown) (both : WholeValue) (end size : ℕ) (job : Job) : Type 0 where
+-- the console is at its start, and the ports between its sides, of either wire, are new and of the job's region
+pub record IsReady (c : ConsoleValue) (s : AudioValue) (ports : PortsKnown) (both : WholeValue) (of_words : WordsKnown) (word_both : words.WholeValue) (end size : ℕ) (job : Job) : Type 0 where
   pub start : IsAtStart c s end size job
   pub region_is : ports.region ≡ job.region
   pub both_are : both ≡ new_whole ports
+  pub words_region_is : of_words.region ≡ job.region
+  pub words_are : word_both ≡ words.new_whole of_words

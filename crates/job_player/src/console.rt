@@ -15,20 +15,32 @@ use snes_defs::{Job, NoMemory, Side};
 use std::alloc::Global;
 use std::thread::Threads;
 use turn_drive::run_turns;
+use word_log::Words;
 
 /// The bytes of the buffer that a run is drained through: as many as can wait in a side.
 pub(crate) const BUFFER: usize = 65_536;
 
-/// The console of a job: both sides at their starts, the ports between them, the end of the job's frames,
-/// and a buffer.
+/// The console of a job: both sides at their starts, the ports between them by either wire, the end of the job's
+/// frames, and a buffer.
 #[derive(Drop)]
 pub struct Console {
     console: ConsoleSide,
     sound: AudioSide,
     ports: Ports,
     whole: Whole,
+    words: Words,
+    word_whole: word_log::Whole,
     end: u64,
     buffer: Vec<u8>,
+}
+
+/// What carries the entries of both sides between two workers. What a run emits is the same.
+#[derive(Clone, Copy, Debug, PartialEq, Eq)]
+pub enum Carrier {
+    /// One log behind a lock.
+    Lock,
+    /// Words without a lock.
+    Words,
 }
 
 /// Runs a job's console on two workers, each of which passes the gate as it sets out on a turn, and
@@ -36,15 +48,16 @@ pub struct Console {
 pub fn play_by_turns<R: Threads, G: Gate, K: Sink>(
     player: Console,
     rt: &R,
+    carrier: Carrier,
     gate: &G,
     sink: &mut K,
 ) -> Result<u64, Side>
-    requires at_start { (job : Job) × IsReady player.console player.sound player.ports player.whole player.end (vec_len player.buffer) job }
+    requires at_start { (job : Job) × IsReady player.console player.sound player.ports player.whole player.words player.word_whole player.end (vec_len player.buffer) job }
     requires no_video { K.holds sink.old Side.Console [] }
     requires no_sound { K.holds sink.old Side.Sound [] }
-    ensures whole { OnOk result ((job : Job) → IsReady player.console player.sound player.ports player.whole player.end (vec_len player.buffer) job → PlayedWhole (Emits job) (K.holds sink.new)) }
-    ensures first { (job : Job) → IsReady player.console player.sound player.ports player.whole player.end (vec_len player.buffer) job → PlayedFirst (Emits job) (K.holds sink.new) }
-    ensures bounded { IfOk result (λ turns. (job : Job) → IsReady player.console player.sound player.ports player.whole player.end (vec_len player.buffer) job → turns ≤ most_turns job.region job.frames) }
+    ensures whole { OnOk result ((job : Job) → IsReady player.console player.sound player.ports player.whole player.words player.word_whole player.end (vec_len player.buffer) job → PlayedWhole (Emits job) (K.holds sink.new)) }
+    ensures first { (job : Job) → IsReady player.console player.sound player.ports player.whole player.words player.word_whole player.end (vec_len player.buffer) job → PlayedFirst (Emits job) (K.holds sink.new) }
+    ensures bounded { IfOk result (λ turns. (job : Job) → IsReady player.console player.sound player.ports player.whole player.words player.word_whole player.end (vec_len player.buffer) job → turns ≤ most_turns job.region job.frames) }
     ensures failed { IfErr result (K.failed sink.old sink.new) }
     ensures only { K.only_takes sink.old sink.new }
 {
@@ -53,31 +66,47 @@ pub fn play_by_turns<R: Threads, G: Gate, K: Sink>(
         sound,
         ports,
         whole,
+        words,
+        word_whole,
         end,
         mut buffer,
     } = player;
-    run_turns(
-        rt,
-        &ports,
-        whole,
-        console,
-        sound,
-        gate,
-        end,
-        buffer.as_mut_slice(),
-        sink,
-    )
+    match carrier {
+        Carrier::Lock => run_turns(
+            rt,
+            &ports,
+            whole,
+            console,
+            sound,
+            gate,
+            end,
+            buffer.as_mut_slice(),
+            sink,
+        ),
+        Carrier::Words => run_turns(
+            rt,
+            &words,
+            word_whole,
+            console,
+            sound,
+            gate,
+            end,
+            buffer.as_mut_slice(),
+            sink,
+        ),
+    }
 }
 
 impl Player for Console {
     ghost emits = { Emits };
 
-    ghost plays = { λ player job. IsReady player.console player.sound player.ports player.whole player.end (vec_len player.buffer) job };
+    ghost plays = { λ player job. IsReady player.console player.sound player.ports player.whole player.words player.word_whole player.end (vec_len player.buffer) job };
 
     fn ready(alloc: Global, job: &Job) -> Result<Console, NoMemory> {
         let console = ConsoleSide::new(alloc, job)?;
         let sound = AudioSide::new(alloc, job)?;
         let (ports, whole) = Ports::open(alloc, job.region)?;
+        let (words, word_whole) = Words::open(alloc, job.region)?;
         let Ok(buffer) = vec![in alloc; 0u8; BUFFER] else {
             return Err(NoMemory);
         };
@@ -86,6 +115,8 @@ impl Player for Console {
             sound,
             ports,
             whole,
+            words,
+            word_whole,
             end: end_stamp_in(job.region, job.frames),
             buffer,
         })
@@ -97,6 +128,8 @@ impl Player for Console {
             sound,
             ports: _,
             whole: _,
+            words: _,
+            word_whole: _,
             end,
             mut buffer,
         } = self;
@@ -105,7 +138,15 @@ impl Player for Console {
 
     fn play_turns<R: Workers, K: Sink>(self, rt: &R, sink: &mut K) -> Result<(), Side> {
         let door = Door { watch: rt.watch() };
-        match play_by_turns(self, rt, &door, sink) {
+        match play_by_turns(self, rt, Carrier::Lock, &door, sink) {
+            Ok(_) => Ok(()),
+            Err(side) => Err(side),
+        }
+    }
+
+    fn play_words<R: Workers, K: Sink>(self, rt: &R, sink: &mut K) -> Result<(), Side> {
+        let door = Door { watch: rt.watch() };
+        match play_by_turns(self, rt, Carrier::Words, &door, sink) {
             Ok(_) => Ok(()),
             Err(side) => Err(side),
         }

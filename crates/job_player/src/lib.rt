@@ -10,5 +10,5 @@ mod console;
 mod door;
 mod planned;
 
-pub use console::{Console, play_by_turns};
+pub use console::{Carrier, Console, play_by_turns};
 pub use planned::Planned;

@@ -50,37 +50,47 @@ fn opening<R: AllocGlobal + Threads + Print>(rt: &R, rows: &Rows, words: &str) -
     }
 }
 
-/// Runs the same files by `run` and by `serial`.
-fn by_both<R: AllocGlobal + Threads>(
-    rt: &R,
-    rows: &Rows,
-    words: &str,
-) -> Option<(Outcome, Outcome)> {
+/// What the three commands that run a job made of the same files.
+#[derive(Drop)]
+struct Thrice {
+    by_turns: Outcome,
+    serially: Outcome,
+    lockless: Outcome,
+}
+
+/// Runs the same files by `run`, by `serial` and by `lockless`.
+fn by_each<R: AllocGlobal + Threads>(rt: &R, rows: &Rows, words: &str) -> Option<Thrice> {
     let alloc = rt.alloc();
     let by_turns = format!(in alloc; "run {words}").ok()?;
     let serially = format!(in alloc; "serial {words}").ok()?;
-    Some((
-        performed(rt, rows, by_turns.as_str(), None)?,
-        performed(rt, rows, serially.as_str(), None)?,
-    ))
+    let lockless = format!(in alloc; "lockless {words}").ok()?;
+    Some(Thrice {
+        by_turns: performed(rt, rows, by_turns.as_str(), None)?,
+        serially: performed(rt, rows, serially.as_str(), None)?,
+        lockless: performed(rt, rows, lockless.as_str(), None)?,
+    })
 }
 
-/// A row that is run by `run` and by `serial`: prints what `run` left, and whether `serial` left the same.
+/// A row that is run by `run`, by `serial` and by `lockless`: prints what `run` left, and whether each of the others
+/// left the same.
 fn both<R: AllocGlobal + Threads + Print>(
     rt: &R,
     rows: &Rows,
     words: &str,
     detail: Detail,
 ) -> io::Result<()> {
-    let Some((by_turns, serially)) = by_both(rt, rows, words) else {
+    let Some(ends) = by_each(rt, rows, words) else {
         return println!(rt; "{NO_ROW}");
     };
-    show_answer(rt, &by_turns)?;
-    show_outputs(rt, &by_turns, detail)?;
-    if are_alike(&by_turns, &serially) {
-        println!(rt; "  run and serial alike")
-    } else {
-        println!(rt; "  run and serial differ")
+    show_answer(rt, &ends.by_turns)?;
+    show_outputs(rt, &ends.by_turns, detail)?;
+    let serially = are_alike(&ends.by_turns, &ends.serially);
+    let lockless = are_alike(&ends.by_turns, &ends.lockless);
+    match (serially, lockless) {
+        (true, true) => println!(rt; "  run, serial and lockless alike"),
+        (true, false) => println!(rt; "  run and lockless differ"),
+        (false, true) => println!(rt; "  run and serial differ"),
+        (false, false) => println!(rt; "  run, serial and lockless differ"),
     }
 }
 

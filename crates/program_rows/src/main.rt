@@ -18,8 +18,8 @@
 //! Lines that run something:
 //!
 //! - `$ WORDS`: these words, with one space between two of them. `*N` stands for a word of N letters.
-//! - `both WORDS`, `alike WORDS`: the command line `run WORDS`, and `serial WORDS`, which has to leave the same; of
-//!   `alike` only the lengths are printed.
+//! - `both WORDS`, `alike WORDS`: the command line `run WORDS`, and `serial WORDS` and `lockless WORDS`, which have to
+//!   leave the same; of `alike` only the lengths are printed.
 //! - `opening WORDS`: prints the line up to its sums.
 //! - `each WORDS`: each put fails in turn.
 //! - `part WORDS`: prints the answer, and whether first bytes are left of what the row leaves without a failure, at least

@@ -44,4 +44,14 @@ pub trait Player: Drop {
         ensures first { (job : Job) → plays self job → PlayedFirst (emits job) (K.holds sink.new) }
         ensures failed { IfErr result (K.failed sink.old sink.new) }
         ensures only { K.only_takes sink.old sink.new };
+
+    /// Runs the job by two workers whose ports are words without a lock.
+    fn play_words<R: Workers, K: Sink>(self, rt: &R, sink: &mut K) -> Result<(), Side>
+        requires at_start { (job : Job) × plays self job }
+        requires no_video { K.holds sink.old Side.Console [] }
+        requires no_sound { K.holds sink.old Side.Sound [] }
+        ensures whole { OnOk result ((job : Job) → plays self job → PlayedWhole (emits job) (K.holds sink.new)) }
+        ensures first { (job : Job) → plays self job → PlayedFirst (emits job) (K.holds sink.new) }
+        ensures failed { IfErr result (K.failed sink.old sink.new) }
+        ensures only { K.only_takes sink.old sink.new };
 }

@@ -27,16 +27,17 @@ abbrev pub where_true : Bool → Wish → Wish → Wish
 where_true true one other = one
 where_true false one other = other
 
--- each command under its name, by the words behind it; `serial` has the words of `run`, and makes the same
+-- each command under its name, by the words behind it; `serial` and `lockless` have the words of `run`, and make the same
 unfoldable pub asked_by : (Job → List ℕ → List ℕ → Type 0) → List ℕ → List (List ℕ) → Wish
 asked_by emits name words =
     where_true (bytes_eq name (codes "run")) (asks (run emits) words) (
     where_true (bytes_eq name (codes "serial")) (asks (run emits) words) (
+    where_true (bytes_eq name (codes "lockless")) (asks (run emits) words) (
     where_true (bytes_eq name (codes "play")) (asks play words) (
     where_true (bytes_eq name (codes "make")) (asks make words) (
     where_true (bytes_eq name (codes "demo")) (asks (demo emits) words) (
     where_true (bytes_eq name (codes "rewind")) (asks (rewind emits) words)
-    Nothing)))))
+    Nothing))))))
 
 -- the first word is the name
 abbrev pub asked : (Job → List ℕ → List ℕ → Type 0) → List (List ℕ) → Wish

@@ -1,4 +1,4 @@
--- THE COMMANDS `run` AND `serial`: four inputs make a job, and its run becomes video and sound.
+-- THE COMMANDS `run`, `serial` AND `lockless`: four inputs make a job, and its run becomes video and sound.
 use Rattle.std.specs.Prelude.{◌≡◌, ℕ, false, List, [], ◌∷◌, Option, Some}
 use Rattle.snes_defs.specs.declared.cart.Job.{Job}
 use Rattle.file_shelf.specs.declared.shelves.Input.{Input}

@@ -62,6 +62,9 @@ fn call_named<P: PlanPlayer, R: AllocGlobal + Workers, H: Shelf>(
     if name == "serial" {
         return call(&Run::<P>::by(Way::Serial), rt, words, shelf);
     }
+    if name == "lockless" {
+        return call(&Run::<P>::by(Way::Words), rt, words, shelf);
+    }
     if name == "play" {
         return call(&Play, rt, words, shelf);
     }

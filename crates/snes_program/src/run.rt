@@ -23,9 +23,11 @@ pub(crate) enum Way {
     Serial,
     /// By two workers, turn by turn.
     Turns,
+    /// By two workers, whose ports are words without a lock.
+    Words,
 }
 
-/// The commands `run` and `serial`: the run of the job that four inputs make becomes video and sound.
+/// The commands `run`, `serial` and `lockless`: the run of the job that four inputs make becomes video and sound.
 #[derive(Drop)]
 pub(crate) struct Run<P> {
     way: Way,
@@ -71,6 +73,7 @@ fn play_by<P: Player, R: Workers, H: Shelf>(
     match way {
         Way::Serial => player.play_serial(shelf),
         Way::Turns => player.play_turns(rt, shelf),
+        Way::Words => player.play_words(rt, shelf),
     }
 }
 

@@ -53,6 +53,14 @@ pub fn polling() -> Row {
     }
 }
 
+/// The same over words without a lock.
+pub fn lockless() -> Row {
+    Row {
+        words: "lockless --cart cart --boot boot --table table --script script --video video --audio audio --frames 2",
+        ..polling()
+    }
+}
+
 /// Sixty frames of a cartridge that the program makes.
 pub fn demo() -> Row {
     Row {

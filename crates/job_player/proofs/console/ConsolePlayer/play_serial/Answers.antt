@@ -5,8 +5,8 @@ use Rattle.job_player.proofs.console.ConsolePlayer.play_serial.Goals as goal
 
 pub returns-clause-whole : goal.returns-clause-whole
 returns-clause-whole g c = on_ok _ c.run_serial.ensures.whole
-    (ready_whole (g.K.Sink.holds c.run_serial.new.sink) c.args.self.console c.args.self.sound c.args.self.ports c.args.self.whole c.args.self.end (vec_len c.args.self.buffer))
+    (ready_whole (g.K.Sink.holds c.run_serial.new.sink) c.args.self.console c.args.self.sound c.args.self.ports c.args.self.whole c.args.self.words c.args.self.word_whole c.args.self.end (vec_len c.args.self.buffer))
 
 pub returns-clause-first : goal.returns-clause-first
 returns-clause-first g c =
-    ready_first (g.K.Sink.holds c.run_serial.new.sink) c.args.self.console c.args.self.sound c.args.self.ports c.args.self.whole c.args.self.end (vec_len c.args.self.buffer) c.run_serial.ensures.first
+    ready_first (g.K.Sink.holds c.run_serial.new.sink) c.args.self.console c.args.self.sound c.args.self.ports c.args.self.whole c.args.self.words c.args.self.word_whole c.args.self.end (vec_len c.args.self.buffer) c.run_serial.ensures.first
