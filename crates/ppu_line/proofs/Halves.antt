@@ -1,5 +1,5 @@
 -- Dots from their even and odd halves.
-use Rattle.std.proofs.Common.{◌≡◌, ℕ, ◌+◌, ◌*◌, ◌/◌, ◌%◌, ◌<◌, ◌≤◌, ◌==◌, Bool, true, false, List, get_or, refl, ap, ◌∙◌, if◌then◌else◌, ⊎_elim, arith}
+use Rattle.std.proofs.Common.{◌≡◌, ℕ, ◌+◌, ◌*◌, ◌/◌, ◌%◌, ◌<◌, ◌≤◌, ◌==◌, Bool, true, false, Option, None, Some, IfSome, List, get_or, refl, ap, ◌∙◌, if◌then◌else◌, ⊎_elim, arith}
 use Rattle.std.proofs.lemmas.Bool.{cases_lt}
 use Rattle.ppu_regs.specs.Picture.{Picture}
 use Rattle.scanline_ops.specs.RankedPixels.{RankedPixel, no_pixel}
@@ -45,4 +45,10 @@ bare_pixel p row e c main sub even odd =
     (ap (λ (i : RankedPixel). odd_dot p (e / 2) i (sub_front p row (e / 2))) (main (e / 2))
     ∙ ap (λ (i : RankedPixel). odd_dot p (e / 2) (backdrop p.registers) i) (sub (e / 2)) ∙ odd (e / 2))
 
-pub ruleset alike = (blank_pixel, bare_pixel)
+pub ruleset blank = blank_pixel
+
+pub some_alike : (p : Picture) (row : ℕ) (colour : Option ℕ) → ((x : ℕ) → main_front p row x ≡ backdrop p.registers) →
+    ((x : ℕ) → sub_front p row x ≡ no_pixel) → IfSome colour (λ c. (x : ℕ) → even_dot p x (backdrop p.registers) no_pixel ≡ c) →
+    IfSome colour (λ c. (x : ℕ) → odd_dot p x (backdrop p.registers) no_pixel ≡ c) → IfSome colour (λ c. (e : ℕ) → pixel p row e ≡ c)
+some_alike p row None main sub even odd = tt
+some_alike p row (Some c) main sub even odd = λ e. bare_pixel p row e c main sub even odd

@@ -1,6 +1,7 @@
 -- Painted layers as ranked pixels.
-use Rattle.std.proofs.Common.{◌≡◌, ◌≢◌, ℕ, zero, suc, ◌+◌, ◌*◌, ◌/◌, ◌<◌, ◌≤◌, ◌==◌, ◌&&◌, not, nat_lt, Bool, true, false, [], ◌∷◌, get_or, refl, sym, ap, ◌∙◌, if◌then◌else◌, ⊎_elim, arith}
-use Rattle.std.proofs.lemmas.Bool.{le-ltb}
+use Rattle.std.proofs.Common.{◌≡◌, ◌≢◌, ℕ, zero, suc, ◌+◌, ◌*◌, ◌/◌, ◌<◌, ◌≤◌, ◌==◌, ◌&&◌, not, nat_lt, Bool, true, false, List, [], ◌∷◌, length, get_or, refl, sym, ap, ◌∙◌, if◌then◌else◌, ⊎_elim, arith}
+use Rattle.std.proofs.lemmas.Bool.{le-ltb, eqb-true}
+use Rattle.std.proofs.lemmas.List.{nil_from_length}
 use Rattle.std.proofs.lemmas.Bool.Decides.{eqb_tells}
 use Rattle.ppu_regs.specs.declared.dots.LayerDot.{LayerDot}
 use Rattle.ppu_regs.specs.Picture.{Picture, screens_of}
@@ -11,6 +12,7 @@ use Rattle.ppu_tiles.specs.Backgrounds.{background_layer_dot, layer_dot_at, laye
 use Rattle.ppu_mode7.specs.Rotated.{rotated_layer_dot}
 use Rattle.ppu_mode7.specs.Rotated as rotated
 use Rattle.ppu_objects.specs.Slivers.{nothing, drawn_slivers, object_layer_dot}
+use Rattle.ppu_objects.specs.declared.slivers.Sliver.{Sliver}
 use Rattle.ppu_objects.specs.Ranks.{object_rank, rank_byte, IsOfObjects}
 use Rattle.scanline_ops.specs.RankedPixels.{RankedPixel, nearest, is_nearer, chosen}
 use Rattle.ppu_screens.specs.Order.{layer_rank, rank_base}
@@ -168,6 +170,12 @@ unfolding sub_pixel on_sub
 unshown_sub front p row x layer h = rw h (nearest_unseen _ _ front _)
 
 pub ruleset unshown = (unshown_main, unshown_sub)
+
+-- an empty list of slivers
+pub empty_drawn : (slivers drawn : List Sliver) (b : Bool) → slivers ≡ drawn → b ≡ (length slivers == 0) → b ≡ true → drawn ≡ []
+empty_drawn slivers drawn b same is h = sym same ∙ nil_from_length slivers (eqb-true (length slivers) 0 (sym is ∙ h))
+
+pub ruleset empty = empty_drawn
 
 -- where no sliver is drawn the objects have nothing
 sliverless : (p : Picture) (row x : ℕ) → drawn_slivers p row ≡ [] → object_layer_dot p row x ≡ nothing

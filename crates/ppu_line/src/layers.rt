@@ -1,6 +1,6 @@
 //! The layers of a row, each painted and laid over both screens.
 
-ghost use Rattle.std.specs.Prelude.{◌≡◌, ℕ, ◌+◌, ◌*◌, ◌<◌, ◌≤◌, ◌==◌, true, false};
+ghost use Rattle.std.specs.Prelude.{◌≡◌, ℕ, ◌+◌, ◌*◌, ◌<◌, ◌≤◌, ◌==◌, true, false, []};
 ghost use Rattle.scanline_ops.specs.RankedPixels.{RankedPixel, nearest};
 ghost use Rattle.tile_cache.specs.Bitplanes.{IsInStep};
 ghost use Rattle.ppu_regs.specs.Reads.{bit_of};
@@ -252,6 +252,16 @@ pub fn is_seen(p: &Ppu, layer: u8) -> bool
     has(p.registers().mode, layer) && (screens.main || screens.sub)
 }
 
+/// Whether no sliver is drawn on a row.
+#[inline(always)]
+#[tactic(auto, using(crate::proofs::Painted::empty))]
+fn is_sliverless(p: &Ppu, row: u16, slivers: &ArrayVec<Sliver, 34>) -> bool
+    requires slivers { slivers.now.items ≡ drawn_slivers p.now row }
+    ensures { result ≡ true → drawn_slivers p.now row ≡ [] }
+{
+    slivers.is_empty()
+}
+
 /// Whether the objects may have anything on a row of either screen: there are slivers, and a screen shows them.
 #[inline(always)]
 #[tactic(auto, using(crate::proofs::Painted::objectless, crate::proofs::Painted::unshown))]
@@ -261,7 +271,7 @@ pub fn are_objects_seen(p: &Ppu, row: u16, slivers: &ArrayVec<Sliver, 34>) -> bo
     ensures sub { (front : RankedPixel) → (x : ℕ) → result ≡ false → nearest front (sub_pixel p.now row x 5) ≡ front }
 {
     let screens = *p.registers().screens(5);
-    !slivers.is_empty() && (screens.main || screens.sub)
+    !is_sliverless(p, row, slivers) && (screens.main || screens.sub)
 }
 
 /// Paints the objects.
@@ -269,7 +279,7 @@ pub fn are_objects_seen(p: &Ppu, row: u16, slivers: &ArrayVec<Sliver, 34>) -> bo
 fn paint_objects(p: &Ppu, row: u16, slivers: &ArrayVec<Sliver, 34>, out: &mut RankedRow)
     requires row { row < 239 }
     requires slivers { slivers.now.items ≡ drawn_slivers p.now row }
-    ensures ranked_pixels { (x : ℕ) → x < 256 → ranked_pixel_at out.new x ≡ ranked_pixel_of p.now 5 (object_layer_dot p.now row x) }
+    ensures { (x : ℕ) → x < 256 → ranked_pixel_at out.new x ≡ ranked_pixel_of p.now 5 (object_layer_dot p.now row x) }
 {
     let r = p.registers();
     let first = base(r, 5, 0, false);

@@ -1,6 +1,6 @@
 //! A row from its layers.
 
-ghost use Rattle.std.specs.Prelude.{◌≡◌, ℕ, ◌+◌, ◌-◌, ◌*◌, ◌<◌, ◌≤◌, IfSome, true, length, slice_index};
+ghost use Rattle.std.specs.Prelude.{◌≡◌, ℕ, ◌+◌, ◌-◌, ◌*◌, ◌<◌, ◌≤◌, IfSome, true, false, length, slice_index};
 ghost use Rattle.scanline_ops.specs.RankedPixels.{no_pixel};
 ghost use Rattle.tile_cache.specs.Bitplanes.{IsInStep};
 ghost use Rattle.ppu_objects.specs.Objects.{passes_range};
@@ -68,6 +68,17 @@ fn draw_layers(
     finish(p, &main, &sub, out);
 }
 
+#[inline(always)]
+fn is_none(first: bool, second: bool, third: bool, fourth: bool, objects: bool) -> bool
+    ensures first { result ≡ true → first ≡ false }
+    ensures second { result ≡ true → second ≡ false }
+    ensures third { result ≡ true → third ≡ false }
+    ensures fourth { result ≡ true → fourth ≡ false }
+    ensures objects { result ≡ true → objects ≡ false }
+{
+    !first && !second && !third && !fourth && !objects
+}
+
 /// Whether no layer has anything on a row, by the registers and the slivers of the objects there.
 #[inline(always)]
 fn is_bare(p: &Ppu, row: u16, slivers: &ArrayVec<Sliver, 34>) -> bool
@@ -80,12 +91,12 @@ fn is_bare(p: &Ppu, row: u16, slivers: &ArrayVec<Sliver, 34>) -> bool
     let third = is_seen(p, 3);
     let fourth = is_seen(p, 4);
     let objects = are_objects_seen(p, row, slivers);
-    !first && !second && !third && !fourth && !objects
+    is_none(first, second, third, fourth, objects)
 }
 
 /// The colour of all dots of a row, where it is easily seen that they are alike: in forced blank, and where there is nothing
 /// but the backdrop.
-#[tactic(auto, using(crate::proofs::Halves::alike))]
+#[tactic(auto, using(crate::proofs::Halves::blank))]
 fn one_colour(p: &Ppu, row: u16, slivers: &ArrayVec<Sliver, 34>) -> Option<u16>
     requires slivers { slivers.now.items ≡ drawn_slivers p.now row }
     ensures { IfSome result (λ c. (e : ℕ) → pixel p.now row e ≡ c) }

@@ -66,26 +66,36 @@ unfolding pixel_colour is_found
 unfound_colour cgram true low high = refl
 unfound_colour cgram false low high = refl
 
+unnamed_backdrop : (p : Picture) → p.registers.colour.backdrop ≡ false → backdrop p.registers ≡ no_pixel
+unfolding backdrop
+unnamed_backdrop p h = ap (λ (b : Bool). let i : RankedPixel = record { key = if b then 8 else 0; number = 0 } in i) h
+
 -- the main screen's colour where no layer stands, the backdrop isn't named for arithmetic, and main isn't black
-bare_main : (p : Picture) (x : ℕ) → p.registers.colour.backdrop ≡ false → p.registers.colour.black ≡ Never →
-    main_colour p x (backdrop p.registers) no_pixel ≡ slice_index p.cgram 0
-unfolding main_colour front_pixel_colour backdrop
-bare_main p x unnamed black =
-    rw unnamed
-    (sym (unmixed_is p.registers.colour (is_inside p.registers 6 x) _ false _ _ black refl)
-    ∙ unfound_colour p.cgram (has_direct p.registers) (layer_rank p.registers 1 0) (layer_rank p.registers 1 1))
+bare_main : (p : Picture) (x : ℕ) → p.registers.colour.black ≡ Never → main_colour p x no_pixel no_pixel ≡ slice_index p.cgram 0
+unfolding main_colour front_pixel_colour
+bare_main p x black =
+    sym (unmixed_is p.registers.colour (is_inside p.registers 6 x) _ false _ _ black refl)
+    ∙ unfound_colour p.cgram (has_direct p.registers) (layer_rank p.registers 1 0) (layer_rank p.registers 1 1)
+
+other_of : (b : Bool) (one two : ℕ) → b ≡ false → (if b then one else two) ≡ two
+other_of b one two h = ap (λ (t : Bool). if t then one else two) h
 
 pub bare_even : (p : Picture) (x : ℕ) → p.registers.display.blanked ≡ false → is_halved p.registers ≡ false →
     p.registers.colour.backdrop ≡ false → p.registers.colour.black ≡ Never →
     even_dot p x (backdrop p.registers) no_pixel ≡ dimmed p.registers.display.brightness (slice_index p.cgram 0)
 unfolding even_dot
 bare_even p x shown whole unnamed black =
-    rw (shown, whole) (ap (dimmed p.registers.display.brightness) (bare_main p x unnamed black))
+    ap (λ (i : RankedPixel). even_dot p x i no_pixel) (unnamed_backdrop p unnamed)
+    ∙ other_of p.registers.display.blanked 0 _ shown
+    ∙ ap (dimmed p.registers.display.brightness) (other_of (is_halved p.registers) _ _ whole ∙ bare_main p x black)
 
 pub bare_odd : (p : Picture) (x : ℕ) → p.registers.display.blanked ≡ false → p.registers.colour.backdrop ≡ false →
     p.registers.colour.black ≡ Never →
     odd_dot p x (backdrop p.registers) no_pixel ≡ dimmed p.registers.display.brightness (slice_index p.cgram 0)
 unfolding odd_dot
-bare_odd p x shown unnamed black = rw shown (ap (dimmed p.registers.display.brightness) (bare_main p x unnamed black))
+bare_odd p x shown unnamed black =
+    ap (λ (i : RankedPixel). odd_dot p x i no_pixel) (unnamed_backdrop p unnamed)
+    ∙ other_of p.registers.display.blanked 0 _ shown
+    ∙ ap (dimmed p.registers.display.brightness) (bare_main p x black)
 
 pub ruleset bare = (bare_even, bare_odd)

@@ -11,8 +11,8 @@ paint_drawn-requires-clause-bases c =
     bases_small c.base-first.result c.base-second.result c.base-third.result c.base-fourth.result (omega arith) (omega arith)
     (omega arith) (omega arith)
 
-pub returns-clause-ranked_pixels : goal.returns-clause-ranked_pixels
-returns-clause-ranked_pixels c x h =
+pub returns : goal.returns
+returns c x h =
     let first : c.base-first.result ≡ rank_base (layer_rank c.args.p.now.registers 5 0) false = cc in
     let second : c.base-second.result ≡ rank_base (layer_rank c.args.p.now.registers 5 1) false = cc in
     let third : c.base-third.result ≡ rank_base (layer_rank c.args.p.now.registers 5 2) false = cc in
