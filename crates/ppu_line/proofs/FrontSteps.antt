@@ -1,5 +1,5 @@
 -- Five layers laid one after another.
-use Rattle.std.proofs.Common.{◌≡◌, ℕ, ap, ◌∙◌}
+use Rattle.std.proofs.Common.{◌≡◌, ℕ, refl, ap, sym, ◌∙◌}
 use Rattle.scanline_ops.specs.RankedPixels.{RankedPixel, nearest}
 use Rattle.ppu_line.specs.Line.{front}
 
@@ -12,3 +12,12 @@ pub front_five : (ranked_pixels : ℕ → RankedPixel) (behind zeroth first seco
 unfolding front
 front_five ranked_pixels behind zeroth first second third fourth fifth z a b c d e =
     step ranked_pixels 5 _ _ _ (step ranked_pixels 4 _ _ _ (step ranked_pixels 3 _ _ _ (step ranked_pixels 2 _ _ _ (step ranked_pixels 1 _ _ _ z a) b) c) d) e
+
+-- five layers that have nothing
+pub front_bare : (ranked_pixels : ℕ → RankedPixel) (behind : RankedPixel) → ((front : RankedPixel) → nearest front (ranked_pixels 1) ≡ front) →
+    ((front : RankedPixel) → nearest front (ranked_pixels 2) ≡ front) → ((front : RankedPixel) → nearest front (ranked_pixels 3) ≡ front) →
+    ((front : RankedPixel) → nearest front (ranked_pixels 4) ≡ front) → ((front : RankedPixel) → nearest front (ranked_pixels 5) ≡ front) →
+    front ranked_pixels behind 5 ≡ behind
+front_bare ranked_pixels behind a b c d e =
+    sym (front_five ranked_pixels behind behind behind behind behind behind behind refl (sym (a behind)) (sym (b behind)) (sym (c behind))
+    (sym (d behind)) (sym (e behind)))

@@ -1,6 +1,7 @@
 -- Painted layers as ranked pixels.
-use Rattle.std.proofs.Common.{◌≡◌, ◌≢◌, ℕ, zero, suc, ◌+◌, ◌*◌, ◌/◌, ◌<◌, ◌≤◌, ◌==◌, ◌&&◌, not, nat_lt, Bool, true, false, [], ◌∷◌, get_or, refl, sym, ap, ◌∙◌, if◌then◌else◌, ⊎_elim, arith}
-use Rattle.std.proofs.lemmas.Bool.{le-ltb}
+use Rattle.std.proofs.Common.{◌≡◌, ◌≢◌, ℕ, zero, suc, ◌+◌, ◌*◌, ◌/◌, ◌<◌, ◌≤◌, ◌==◌, ◌&&◌, not, nat_lt, Bool, true, false, List, [], ◌∷◌, length, get_or, refl, sym, ap, ◌∙◌, if◌then◌else◌, ⊎_elim, arith}
+use Rattle.std.proofs.lemmas.Bool.{le-ltb, eqb-true}
+use Rattle.std.proofs.lemmas.List.{nil_from_length}
 use Rattle.std.proofs.lemmas.Bool.Decides.{eqb_tells}
 use Rattle.ppu_regs.specs.declared.dots.LayerDot.{LayerDot}
 use Rattle.ppu_regs.specs.Picture.{Picture, screens_of}
@@ -10,7 +11,8 @@ use Rattle.ppu_tiles.specs.Modes.{is_hires}
 use Rattle.ppu_tiles.specs.Backgrounds.{background_layer_dot, layer_dot_at, layer_dot_of}
 use Rattle.ppu_mode7.specs.Rotated.{rotated_layer_dot}
 use Rattle.ppu_mode7.specs.Rotated as rotated
-use Rattle.ppu_objects.specs.Slivers.{nothing, object_layer_dot}
+use Rattle.ppu_objects.specs.Slivers.{nothing, drawn_slivers, object_layer_dot}
+use Rattle.ppu_objects.specs.declared.slivers.Sliver.{Sliver}
 use Rattle.ppu_objects.specs.Ranks.{object_rank, rank_byte, IsOfObjects}
 use Rattle.scanline_ops.specs.RankedPixels.{RankedPixel, nearest, is_nearer, chosen}
 use Rattle.ppu_screens.specs.Order.{layer_rank, rank_base}
@@ -168,6 +170,35 @@ unfolding sub_pixel on_sub
 unshown_sub front p row x layer h = rw h (nearest_unseen _ _ front _)
 
 pub ruleset unshown = (unshown_main, unshown_sub)
+
+-- an empty list of slivers
+pub empty_drawn : (slivers drawn : List Sliver) (b : Bool) → slivers ≡ drawn → b ≡ (length slivers == 0) → b ≡ true → drawn ≡ []
+empty_drawn slivers drawn b same is h = sym same ∙ nil_from_length slivers (eqb-true (length slivers) 0 (sym is ∙ h))
+
+pub ruleset empty = empty_drawn
+
+-- where no sliver is drawn the objects have nothing
+sliverless : (p : Picture) (row x : ℕ) → drawn_slivers p row ≡ [] → object_layer_dot p row x ≡ nothing
+unfolding object_layer_dot
+sliverless p row x none = rw none refl
+
+pub objectless_main : (front : RankedPixel) (p : Picture) (row x : ℕ) → drawn_slivers p row ≡ [] →
+    nearest front (main_pixel p row x 5) ≡ front
+unfolding main_pixel on_main
+objectless_main front p row x none =
+    let half : (2 * x + 1) / 2 ≡ x = omega arith in
+    nearest_keyless front _
+    (standing_keyless _ _ _ _ (rw (layer_objects p row (2 * x + 1) x half) (rw (sliverless p row x none) (pixel_of_nothing p 5))))
+
+pub objectless_sub : (front : RankedPixel) (p : Picture) (row x : ℕ) → drawn_slivers p row ≡ [] →
+    nearest front (sub_pixel p row x 5) ≡ front
+unfolding sub_pixel on_sub
+objectless_sub front p row x none =
+    let half : 2 * x / 2 ≡ x = omega arith in
+    nearest_keyless front _
+    (standing_keyless _ _ _ _ (rw (layer_objects p row (2 * x) x half) (rw (sliverless p row x none) (pixel_of_nothing p 5))))
+
+pub ruleset objectless = (objectless_main, objectless_sub)
 
 -- the bases of the objects' priorities
 pub bases_small : (a b c d : ℕ) → a ≤ 240 → b ≤ 240 → c ≤ 240 → d ≤ 240 → (k : ℕ) → get_or (a ∷ b ∷ c ∷ d ∷ []) k 0 ≤ 240

@@ -1,18 +1,18 @@
 //! The layers of a row, each painted and laid over both screens.
 
-ghost use Rattle.std.specs.Prelude.{◌≡◌, ℕ, ◌+◌, ◌*◌, ◌<◌, ◌≤◌, ◌==◌, true, false};
-ghost use Rattle.scanline_ops.specs.RankedPixels.{nearest};
+ghost use Rattle.std.specs.Prelude.{◌≡◌, ℕ, ◌+◌, ◌*◌, ◌<◌, ◌≤◌, ◌==◌, true, false, []};
+ghost use Rattle.scanline_ops.specs.RankedPixels.{RankedPixel, nearest};
 ghost use Rattle.tile_cache.specs.Bitplanes.{IsInStep};
 ghost use Rattle.ppu_regs.specs.Reads.{bit_of};
 ghost use Rattle.ppu_tiles.specs.Modes.{is_hires, depth_of};
-ghost use Rattle.ppu_objects.specs.Objects.{passes_range};
-ghost use Rattle.ppu_objects.specs.Slivers.{passes_time, object_layer_dot};
+ghost use Rattle.ppu_objects.specs.Slivers.{drawn_slivers, object_layer_dot};
 ghost use Rattle.ppu_screens.specs.Screens.{ranked_pixel_at};
 ghost use Rattle.ppu_line.specs.Line.{has_background, has_depth, plane_layer_dot, ranked_pixel_of, main_pixel, sub_pixel};
 
+use arrayvec::ArrayVec;
 use ppu_mode7::m7_planes;
-use ppu_objects::obj_planes;
-use ppu_regs::{Over, Ppu, RankedRow};
+use ppu_objects::{Sliver, paint_drawn};
+use ppu_regs::{Ppu, RankedRow};
 use ppu_screens::{base, lay_layer};
 use ppu_tiles::{depth, ranked_row};
 use tile_cache::TileCache;
@@ -239,13 +239,47 @@ pub fn add_background(
     }
 }
 
+/// Whether a background may have anything on either screen: the mode has it, and a screen shows it.
+#[inline(always)]
+#[tactic(auto, using(crate::proofs::Painted::absent, crate::proofs::Painted::unshown))]
+pub fn is_seen(p: &Ppu, layer: u8) -> bool
+    requires first { 1 ≤ layer }
+    requires last { layer ≤ 4 }
+    ensures main { (front : RankedPixel) → (row x : ℕ) → result ≡ false → nearest front (main_pixel p.now row x layer) ≡ front }
+    ensures sub { (front : RankedPixel) → (row x : ℕ) → result ≡ false → nearest front (sub_pixel p.now row x layer) ≡ front }
+{
+    let screens = *p.registers().screens(layer);
+    has(p.registers().mode, layer) && (screens.main || screens.sub)
+}
+
+/// Whether no sliver is drawn on a row.
+#[inline(always)]
+#[tactic(auto, using(crate::proofs::Painted::empty))]
+fn is_sliverless(p: &Ppu, row: u16, slivers: &ArrayVec<Sliver, 34>) -> bool
+    requires slivers { slivers.now.items ≡ drawn_slivers p.now row }
+    ensures { result ≡ true → drawn_slivers p.now row ≡ [] }
+{
+    slivers.is_empty()
+}
+
+/// Whether the objects may have anything on a row of either screen: there are slivers, and a screen shows them.
+#[inline(always)]
+#[tactic(auto, using(crate::proofs::Painted::objectless, crate::proofs::Painted::unshown))]
+pub fn are_objects_seen(p: &Ppu, row: u16, slivers: &ArrayVec<Sliver, 34>) -> bool
+    requires slivers { slivers.now.items ≡ drawn_slivers p.now row }
+    ensures main { (front : RankedPixel) → (x : ℕ) → result ≡ false → nearest front (main_pixel p.now row x 5) ≡ front }
+    ensures sub { (front : RankedPixel) → (x : ℕ) → result ≡ false → nearest front (sub_pixel p.now row x 5) ≡ front }
+{
+    let screens = *p.registers().screens(5);
+    !is_sliverless(p, row, slivers) && (screens.main || screens.sub)
+}
+
 /// Paints the objects.
 #[inline(always)]
-fn paint_objects(p: &Ppu, row: u16, out: &mut RankedRow) -> Over
+fn paint_objects(p: &Ppu, row: u16, slivers: &ArrayVec<Sliver, 34>, out: &mut RankedRow)
     requires row { row < 239 }
-    ensures ranked_pixels { (x : ℕ) → x < 256 → ranked_pixel_at out.new x ≡ ranked_pixel_of p.now 5 (object_layer_dot p.now row x) }
-    ensures range { result.range ≡ passes_range p.now row }
-    ensures time { result.time ≡ passes_time p.now row }
+    requires slivers { slivers.now.items ≡ drawn_slivers p.now row }
+    ensures { (x : ℕ) → x < 256 → ranked_pixel_at out.new x ≡ ranked_pixel_of p.now 5 (object_layer_dot p.now row x) }
 {
     let r = p.registers();
     let first = base(r, 5, 0, false);
@@ -253,24 +287,42 @@ fn paint_objects(p: &Ppu, row: u16, out: &mut RankedRow) -> Over
     let third = base(r, 5, 2, false);
     let fourth = base(r, 5, 3, false);
     let bases = [first, second, third, fourth];
-    obj_planes(p, row, &bases, r.screens(5).arithmetic, out)
+    paint_drawn(p, row, slivers, &bases, r.screens(5).arithmetic, out);
 }
 
-/// Adds the objects to both screens, and answers which of their limits were passed.
-pub fn add_objects(
+/// Lays the objects over both screens.
+fn lay_objects(
     p: &Ppu,
     row: u16,
+    slivers: &ArrayVec<Sliver, 34>,
     work: &mut RankedRow,
     main: &mut RankedRow,
     sub: &mut RankedRow,
-) -> Over
+)
     requires row { row < 239 }
+    requires slivers { slivers.now.items ≡ drawn_slivers p.now row }
     ensures main { (x : ℕ) → x < 256 → ranked_pixel_at main.new x ≡ nearest (ranked_pixel_at main.old x) (main_pixel p.now row x 5) }
     ensures sub { (x : ℕ) → x < 256 → ranked_pixel_at sub.new x ≡ nearest (ranked_pixel_at sub.old x) (sub_pixel p.now row x 5) }
-    ensures range { result.range ≡ passes_range p.now row }
-    ensures time { result.time ≡ passes_time p.now row }
 {
-    let over = paint_objects(p, row, work);
+    paint_objects(p, row, slivers, work);
     lay_layer(p, 5, work, work, main, sub);
-    over
+}
+
+/// Adds the objects, whose drawn slivers on the row these are, to both screens.
+pub fn add_objects(
+    p: &Ppu,
+    row: u16,
+    slivers: &ArrayVec<Sliver, 34>,
+    work: &mut RankedRow,
+    main: &mut RankedRow,
+    sub: &mut RankedRow,
+)
+    requires row { row < 239 }
+    requires slivers { slivers.now.items ≡ drawn_slivers p.now row }
+    ensures main { (x : ℕ) → x < 256 → ranked_pixel_at main.new x ≡ nearest (ranked_pixel_at main.old x) (main_pixel p.now row x 5) }
+    ensures sub { (x : ℕ) → x < 256 → ranked_pixel_at sub.new x ≡ nearest (ranked_pixel_at sub.old x) (sub_pixel p.now row x 5) }
+{
+    if are_objects_seen(p, row, slivers) {
+        lay_objects(p, row, slivers, work, main, sub);
+    }
 }

@@ -1,16 +1,19 @@
 //! A row from its layers.
 
-ghost use Rattle.std.specs.Prelude.{◌≡◌, ℕ, ◌+◌, ◌-◌, ◌*◌, ◌<◌, ◌≤◌, length, slice_index};
+ghost use Rattle.std.specs.Prelude.{◌≡◌, ℕ, ◌+◌, ◌-◌, ◌*◌, ◌<◌, ◌≤◌, IfSome, true, false, length, slice_index};
 ghost use Rattle.scanline_ops.specs.RankedPixels.{no_pixel};
 ghost use Rattle.tile_cache.specs.Bitplanes.{IsInStep};
 ghost use Rattle.ppu_objects.specs.Objects.{passes_range};
-ghost use Rattle.ppu_objects.specs.Slivers.{passes_time};
+ghost use Rattle.ppu_objects.specs.Slivers.{drawn_slivers, passes_time};
 ghost use Rattle.ppu_screens.specs.Screens.{ranked_pixel_at, backdrop};
 ghost use Rattle.ppu_line.specs.Line.{main_front, sub_front, pixel};
 
-use crate::layers::{add_background, add_objects};
+use crate::layers::{add_background, add_objects, are_objects_seen, is_seen};
+use arrayvec::ArrayVec;
+use ppu_objects::{Sliver, gather_row};
 use ppu_regs::{Over, Ppu, RankedRow};
-use ppu_screens::{finish, start};
+use ppu_screens::{backdrop_colour, finish, start};
+use scanline_ops::fill_dots;
 use tile_cache::TileCache;
 
 fn empty_row() -> RankedRow {
@@ -21,13 +24,19 @@ fn empty_row() -> RankedRow {
 }
 
 /// What stands in front on both screens.
-fn fronts(p: &Ppu, tiles: &TileCache, row: u16, main: &mut RankedRow, sub: &mut RankedRow) -> Over
+fn fronts(
+    p: &Ppu,
+    tiles: &TileCache,
+    row: u16,
+    slivers: &ArrayVec<Sliver, 34>,
+    main: &mut RankedRow,
+    sub: &mut RankedRow,
+)
     requires row { row < 239 }
     requires step { IsInStep tiles.now p.now.vram }
+    requires slivers { slivers.now.items ≡ drawn_slivers p.now row }
     ensures main { (x : ℕ) → x < 256 → ranked_pixel_at main.new x ≡ main_front p.now row x }
     ensures sub { (x : ℕ) → x < 256 → ranked_pixel_at sub.new x ≡ sub_front p.now row x }
-    ensures range { result.range ≡ passes_range p.now row }
-    ensures time { result.time ≡ passes_time p.now row }
 {
     let mut odd = empty_row();
     let mut even = empty_row();
@@ -36,7 +45,69 @@ fn fronts(p: &Ppu, tiles: &TileCache, row: u16, main: &mut RankedRow, sub: &mut 
     add_background(p, tiles, 2, row, &mut odd, &mut even, main, sub);
     add_background(p, tiles, 3, row, &mut odd, &mut even, main, sub);
     add_background(p, tiles, 4, row, &mut odd, &mut even, main, sub);
-    add_objects(p, row, &mut odd, main, sub)
+    add_objects(p, row, slivers, &mut odd, main, sub);
+}
+
+/// Writes a row from its layers.
+fn draw_layers(
+    p: &Ppu,
+    tiles: &TileCache,
+    row: u16,
+    slivers: &ArrayVec<Sliver, 34>,
+    out: &mut [u16],
+)
+    requires row { row < 239 }
+    requires room { length out.old ≡ 512 }
+    requires step { IsInStep tiles.now p.now.vram }
+    requires slivers { slivers.now.items ≡ drawn_slivers p.now row }
+    ensures { (e : ℕ) → e < 512 → slice_index out.new e ≡ pixel p.now row e }
+{
+    let mut main = empty_row();
+    let mut sub = empty_row();
+    fronts(p, tiles, row, slivers, &mut main, &mut sub);
+    finish(p, &main, &sub, out);
+}
+
+#[inline(always)]
+fn is_none(first: bool, second: bool, third: bool, fourth: bool, objects: bool) -> bool
+    ensures first { result ≡ true → first ≡ false }
+    ensures second { result ≡ true → second ≡ false }
+    ensures third { result ≡ true → third ≡ false }
+    ensures fourth { result ≡ true → fourth ≡ false }
+    ensures objects { result ≡ true → objects ≡ false }
+{
+    !first && !second && !third && !fourth && !objects
+}
+
+/// Whether no layer has anything on a row, by the registers and the slivers of the objects there.
+#[inline(always)]
+fn is_bare(p: &Ppu, row: u16, slivers: &ArrayVec<Sliver, 34>) -> bool
+    requires slivers { slivers.now.items ≡ drawn_slivers p.now row }
+    ensures main { (x : ℕ) → result ≡ true → main_front p.now row x ≡ backdrop p.now.registers }
+    ensures sub { (x : ℕ) → result ≡ true → sub_front p.now row x ≡ no_pixel }
+{
+    let first = is_seen(p, 1);
+    let second = is_seen(p, 2);
+    let third = is_seen(p, 3);
+    let fourth = is_seen(p, 4);
+    let objects = are_objects_seen(p, row, slivers);
+    is_none(first, second, third, fourth, objects)
+}
+
+/// The colour of all dots of a row, where it is easily seen that they are alike: in forced blank, and where there is nothing
+/// but the backdrop.
+#[tactic(auto, using(crate::proofs::Halves::blank))]
+fn one_colour(p: &Ppu, row: u16, slivers: &ArrayVec<Sliver, 34>) -> Option<u16>
+    requires slivers { slivers.now.items ≡ drawn_slivers p.now row }
+    ensures { IfSome result (λ c. (e : ℕ) → pixel p.now row e ≡ c) }
+{
+    if p.registers().display.blanked {
+        Some(0)
+    } else if is_bare(p, row, slivers) {
+        backdrop_colour(p)
+    } else {
+        None
+    }
 }
 
 /// Writes the 512 dots of the row `v - 1`, and answers which limits of the objects were passed. The tiles have to be
@@ -50,9 +121,11 @@ pub fn draw(p: &Ppu, tiles: &TileCache, v: u16, out: &mut [u16]) -> Over
     ensures range { result.range ≡ passes_range p.now (v - 1) }
     ensures time { result.time ≡ passes_time p.now (v - 1) }
 {
-    let mut main = empty_row();
-    let mut sub = empty_row();
-    let over = fronts(p, tiles, v - 1, &mut main, &mut sub);
-    finish(p, &main, &sub, out);
+    let mut slivers: ArrayVec<Sliver, 34> = ArrayVec::new();
+    let over = gather_row(p, v - 1, &mut slivers);
+    match one_colour(p, v - 1, &slivers) {
+        Some(colour) => fill_dots(colour, out),
+        None => draw_layers(p, tiles, v - 1, &slivers, out),
+    }
     over
 }

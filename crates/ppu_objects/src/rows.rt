@@ -27,7 +27,7 @@ fn clear(out: &mut RankedRow)
 
 /// Gathers the drawn slivers of a row in an empty list, and answers which limits were passed.
 #[tactic(auto, unfolding(crate::specs::Slivers::drawn_slivers, crate::specs::Slivers::passes_time))]
-fn gather_row(p: &Ppu, row: u16, slivers: &mut ArrayVec<Sliver, 34>) -> Over
+pub fn gather_row(p: &Ppu, row: u16, slivers: &mut ArrayVec<Sliver, 34>) -> Over
     requires row { row < 239 }
     requires empty { slivers.old.items ≡ [] }
     ensures slivers { slivers.new.items ≡ drawn_slivers p.now row }
@@ -114,9 +114,28 @@ fn paint_row(
     }
 }
 
+/// Writes the drawn slivers of a row as planes: `bases` are the rank bytes of the four priorities, and bit 3 is set
+/// where `named` and the palette may take part in arithmetic.
+#[tactic(auto, unfolding(crate::specs::Slivers::object_layer_dot))]
+pub fn paint_drawn(
+    p: &Ppu,
+    row: u16,
+    slivers: &ArrayVec<Sliver, 34>,
+    bases: &[u8; 4],
+    named: bool,
+    out: &mut RankedRow,
+)
+    requires row { row < 239 }
+    requires slivers { slivers.now.items ≡ drawn_slivers p.now row }
+    requires bases { (k : ℕ) → slice_index bases.now k ≤ 240 }
+    ensures ranks { (x : ℕ) → x < 256 → slice_index out.new.ranks x ≡ object_rank bases.now named (object_layer_dot p.now row x) }
+    ensures numbers { (x : ℕ) → x < 256 → slice_index out.new.numbers x ≡ (object_layer_dot p.now row x).number }
+{
+    paint_row(p, row, slivers.as_slice(), bases, named, out);
+}
+
 /// Writes the objects of a row as planes, and answers which limits were passed: `bases` are the rank bytes of the
 /// four priorities, and bit 3 is set where `named` and the palette may take part in arithmetic.
-#[tactic(auto, unfolding(crate::specs::Slivers::object_layer_dot))]
 pub fn obj_planes(p: &Ppu, row: u16, bases: &[u8; 4], named: bool, out: &mut RankedRow) -> Over
     requires row { row < 239 }
     requires bases { (k : ℕ) → slice_index bases.now k ≤ 240 }
@@ -127,7 +146,7 @@ pub fn obj_planes(p: &Ppu, row: u16, bases: &[u8; 4], named: bool, out: &mut Ran
 {
     let mut slivers: ArrayVec<Sliver, 34> = ArrayVec::new();
     let over = gather_row(p, row, &mut slivers);
-    paint_row(p, row, slivers.as_slice(), bases, named, out);
+    paint_drawn(p, row, &slivers, bases, named, out);
     over
 }
 

@@ -1,10 +1,16 @@
 -- Where nothing is mixed, and where the sub screen's colours don't count.
-use Rattle.std.proofs.Common.{◌≡◌, ℕ, zero, suc, ◌<◌, Bool, true, false, ◌&&◌, ◌||◌, List, slice_index, refl, inl, inr, subst, arith, if◌then◌else◌}
+use Rattle.std.proofs.Common.{◌≡◌, ℕ, zero, suc, ◌<◌, Bool, true, false, ◌&&◌, ◌||◌, List, slice_index, refl, inl, inr, ap, sym, subst, ◌∙◌, arith, if◌then◌else◌}
 use Rattle.std.proofs.lemmas.Bool.{cases_lt}
 use Rattle.ppu_regs.specs.declared.registers.ColourMath.{ColourMath}
 use Rattle.ppu_regs.specs.declared.registers.WindowPart.TheVariants.{Never}
 use Rattle.scanline_ops.specs.RankedPixels.{is_named, is_any_named}
 use Rattle.color_window.specs.Mixing.{holds_at, mixed, fixed_colour}
+use Rattle.color_window.specs.Windows.{is_inside}
+use Rattle.scanline_ops.specs.RankedPixels.{RankedPixel, no_pixel, is_found}
+use Rattle.scanline_ops.specs.Colours.{dimmed, pixel_colour}
+use Rattle.ppu_regs.specs.Picture.{Picture}
+use Rattle.ppu_screens.specs.Order.{layer_rank}
+use Rattle.ppu_screens.specs.Screens.{backdrop, has_direct, front_pixel_colour, main_colour, is_halved, even_dot, odd_dot}
 
 -- where none is named, each isn't
 left_false : (a b : Bool) → (a || b) ≡ false → a ≡ false
@@ -53,3 +59,43 @@ unfolding mixed
 mixed_apart m inside main named found one two alike = rw (picked_apart m.sub_screen found (fixed_colour m) one two alike) refl
 
 pub ruleset apart = mixed_apart
+
+-- the backdrop's colour is the first of CGRAM, direct colours or not
+unfound_colour : (cgram : List ℕ) (direct : Bool) (low high : ℕ) → pixel_colour cgram direct low high 0 0 ≡ slice_index cgram 0
+unfolding pixel_colour is_found
+unfound_colour cgram true low high = refl
+unfound_colour cgram false low high = refl
+
+unnamed_backdrop : (p : Picture) → p.registers.colour.backdrop ≡ false → backdrop p.registers ≡ no_pixel
+unfolding backdrop
+unnamed_backdrop p h = ap (λ (b : Bool). let i : RankedPixel = record { key = if b then 8 else 0; number = 0 } in i) h
+
+-- the main screen's colour where no layer stands, the backdrop isn't named for arithmetic, and main isn't black
+bare_main : (p : Picture) (x : ℕ) → p.registers.colour.black ≡ Never → main_colour p x no_pixel no_pixel ≡ slice_index p.cgram 0
+unfolding main_colour front_pixel_colour
+bare_main p x black =
+    sym (unmixed_is p.registers.colour (is_inside p.registers 6 x) _ false _ _ black refl)
+    ∙ unfound_colour p.cgram (has_direct p.registers) (layer_rank p.registers 1 0) (layer_rank p.registers 1 1)
+
+other_of : (b : Bool) (one two : ℕ) → b ≡ false → (if b then one else two) ≡ two
+other_of b one two h = ap (λ (t : Bool). if t then one else two) h
+
+pub bare_even : (p : Picture) (x : ℕ) → p.registers.display.blanked ≡ false → is_halved p.registers ≡ false →
+    p.registers.colour.backdrop ≡ false → p.registers.colour.black ≡ Never →
+    even_dot p x (backdrop p.registers) no_pixel ≡ dimmed p.registers.display.brightness (slice_index p.cgram 0)
+unfolding even_dot
+bare_even p x shown whole unnamed black =
+    ap (λ (i : RankedPixel). even_dot p x i no_pixel) (unnamed_backdrop p unnamed)
+    ∙ other_of p.registers.display.blanked 0 _ shown
+    ∙ ap (dimmed p.registers.display.brightness) (other_of (is_halved p.registers) _ _ whole ∙ bare_main p x black)
+
+pub bare_odd : (p : Picture) (x : ℕ) → p.registers.display.blanked ≡ false → p.registers.colour.backdrop ≡ false →
+    p.registers.colour.black ≡ Never →
+    odd_dot p x (backdrop p.registers) no_pixel ≡ dimmed p.registers.display.brightness (slice_index p.cgram 0)
+unfolding odd_dot
+bare_odd p x shown unnamed black =
+    ap (λ (i : RankedPixel). odd_dot p x i no_pixel) (unnamed_backdrop p unnamed)
+    ∙ other_of p.registers.display.blanked 0 _ shown
+    ∙ ap (dimmed p.registers.display.brightness) (bare_main p x black)
+
+pub ruleset bare = (bare_even, bare_odd)

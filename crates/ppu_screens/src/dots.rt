@@ -1,16 +1,18 @@
 //! From what stands in front on both screens to the 512 dots of a row.
 
-ghost use Rattle.std.specs.Prelude.{◌≡◌, ℕ, ◌+◌, ◌*◌, ◌<◌, true, false, length, slice_index};
+ghost use Rattle.std.specs.Prelude.{◌≡◌, ℕ, ◌+◌, ◌*◌, ◌<◌, true, false, IfSome, length, slice_index};
 ghost use Rattle.ppu_regs.specs.declared.registers.WindowPart.TheVariants.{Never};
-ghost use Rattle.scanline_ops.specs.RankedPixels.{is_named, is_found};
+ghost use Rattle.scanline_ops.specs.RankedPixels.{no_pixel, is_named, is_found};
 ghost use Rattle.scanline_ops.specs.Colours.{dimmed};
 ghost use Rattle.color_window.specs.Mixing.{fixed_colour};
-ghost use Rattle.ppu_screens.specs.Screens.{ranked_pixel_at, has_direct, front_pixel_colour, main_colour, sub_colour, is_halved, even_dot, odd_dot};
+ghost use Rattle.ppu_screens.specs.Screens.{ranked_pixel_at, has_direct, front_pixel_colour, main_colour, sub_colour, is_halved, backdrop, even_dot, odd_dot};
 
 use crate::order::rank;
 use color_window::{fixed, mix_row};
 use ppu_regs::{Ppu, RankedRow, Registers, WindowPart};
-use scanline_ops::{any_named, dim_row, is_found_key, look_up, write_dots, write_twice};
+use scanline_ops::{
+    any_named, dim_colour, dim_row, fill_dots, is_found_key, look_up, write_dots, write_twice,
+};
 
 #[inline(always)]
 #[tactic(auto, unfolding(crate::specs::Screens::has_direct))]
@@ -106,15 +108,6 @@ fn halved(r: &Registers) -> bool
     r.settings.half_dots || r.mode == 5 || r.mode == 6
 }
 
-fn clear(out: &mut [u16])
-    requires { length out.old ≡ 512 }
-    ensures { (e : ℕ) → e < 512 → slice_index out.new e ≡ 0 }
-{
-    for e in 0..512usize {
-        out[e] = 0;
-    }
-}
-
 /// The main screen's colours, where the even dots aren't the sub screen's.
 fn whole_colours(p: &Ppu, main: &RankedRow, sub: &RankedRow, out: &mut [u16; 256])
     ensures { (x : ℕ) → x < 256 → slice_index out.new x ≡ main_colour p.now x (ranked_pixel_at main.now x) (ranked_pixel_at sub.now x) }
@@ -172,6 +165,33 @@ fn finish_halved(p: &Ppu, main: &RankedRow, sub: &RankedRow, out: &mut [u16])
     write_dots(&even, &odd, out);
 }
 
+#[inline(always)]
+fn is_never(part: WindowPart) -> bool
+    ensures { result ≡ true → part ≡ Never }
+{
+    match part {
+        WindowPart::Never => true,
+        _ => false,
+    }
+}
+
+/// The colour of all dots of a row on which no layer stands. None where they may differ, or aren't the backdrop's: with
+/// half dots, where arithmetic takes the backdrop, and where the main screen may be black.
+#[tactic(auto, using(crate::proofs::Mixes::bare))]
+pub fn backdrop_colour(p: &Ppu) -> Option<u16>
+    requires shown { p.now.registers.display.blanked ≡ false }
+    ensures even { IfSome result (λ c. (x : ℕ) → even_dot p.now x (backdrop p.now.registers) no_pixel ≡ c) }
+    ensures odd { IfSome result (λ c. (x : ℕ) → odd_dot p.now x (backdrop p.now.registers) no_pixel ≡ c) }
+{
+    p.in_range();
+    let r = p.registers();
+    if !halved(r) && !r.colour.backdrop && is_never(r.colour.black) {
+        Some(dim_colour(r.display.brightness, p.cgram()[0]))
+    } else {
+        None
+    }
+}
+
 /// Writes the row's 512 dots from what stands in front on the main and on the sub screen: dots 2x and 2x + 1 are those
 /// of the pixel x.
 #[tactic(auto, unfolding(crate::specs::Screens::even_dot, crate::specs::Screens::odd_dot))]
@@ -182,7 +202,7 @@ pub fn finish(p: &Ppu, main: &RankedRow, sub: &RankedRow, out: &mut [u16])
 {
     let r = p.registers();
     if r.display.blanked {
-        clear(out);
+        fill_dots(0, out);
     } else if halved(r) {
         finish_halved(p, main, sub, out);
     } else {

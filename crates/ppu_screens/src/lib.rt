@@ -10,6 +10,6 @@ mod dots;
 mod fronts;
 mod order;
 
-pub use dots::finish;
+pub use dots::{backdrop_colour, finish};
 pub use fronts::{lay_layer, start};
 pub use order::{base, rank};

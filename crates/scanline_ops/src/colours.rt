@@ -113,9 +113,10 @@ pub fn look_up(
     }
 }
 
+/// A colour at a brightness of 0 to 15.
 #[inline(always)]
 #[tactic(auto, unfolding(crate::specs::Colours::dimmed))]
-fn dim(brightness: u8, colour: u16) -> u16
+pub fn dim_colour(brightness: u8, colour: u16) -> u16
     requires { brightness < 16 }
     ensures { result ≡ dimmed brightness colour }
 {
@@ -136,7 +137,7 @@ fn dim_each(brightness: u8, row: &mut [u16; 256])
     ensures { (x : ℕ) → x < 256 → slice_index row.new x ≡ dimmed brightness (slice_index row.old x) }
 {
     for x in 0..256usize {
-        row[x] = dim(brightness, row[x]);
+        row[x] = dim_colour(brightness, row[x]);
     }
 }
 
@@ -166,6 +167,16 @@ pub fn dim_row(brightness: u8, row: &mut [u16; 256])
         keep_each(row);
     } else {
         dim_each(brightness, row);
+    }
+}
+
+/// Writes one colour into all of a row's 512 dots.
+pub fn fill_dots(colour: u16, out: &mut [u16])
+    requires { length out.old ≡ 512 }
+    ensures { (e : ℕ) → e < 512 → slice_index out.new e ≡ colour }
+{
+    for e in 0..512usize {
+        out[e] = colour;
     }
 }
 
