@@ -31,6 +31,10 @@ mixed m inside main named found sub =
     let halves : Bool = m.halve && not black && (not m.sub_screen || found) in
     if named && not (holds_at m.none inside) then colour_with m.subtract halves base other else base
 
+-- whether a pixel takes part in arithmetic: 2131 names its front, and the colour window doesn't stop it there
+unfoldable pub is_mixed : ColourMath → Bool → Bool → Bool
+is_mixed m inside named = named && not (holds_at m.none inside)
+
 -- whether 2131 names what is in front: its layer and the dot itself, or the backdrop where nothing is
 abbrev pub is_front_named : Registers → Option (ℕ × Dot) → Bool
 is_front_named r None = r.colour.backdrop

@@ -1,9 +1,10 @@
 //! The main screen's colour: one pixel, and a row.
 
-ghost use Rattle.std.specs.Prelude.{◌≡◌, ℕ, ◌+◌, ◌*◌, ◌<◌, ◌==◌, Bool, true, false, not, slice_index, if◌then◌else◌};
+ghost use Rattle.std.specs.Prelude.{◌≡◌, ℕ, ◌+◌, ◌*◌, ◌/◌, ◌%◌, ◌<◌, ◌≤◌, ◌==◌, Bool, true, false, not, ◌&&◌, ◌||◌, slice_index, if◌then◌else◌};
+ghost use Rattle.ppu_regs.specs.declared.registers.WindowPart.TheVariants.{Never};
 ghost use Rattle.color_window.specs.Windows.{is_inside};
 ghost use Rattle.scanline_ops.specs.RankedPixels.{is_named, is_found};
-ghost use Rattle.color_window.specs.Mixing.{holds_at, fixed_colour, mixed, mixed_at, is_front_named, front_colour, dot_colour};
+ghost use Rattle.color_window.specs.Mixing.{holds_at, fixed_colour, mixed, is_mixed, mixed_at, is_front_named, front_colour, dot_colour};
 
 use crate::windows::{inside, mask_row};
 use ppu_regs::{ColourMath, Dot, Ppu, WindowPart};
@@ -352,4 +353,198 @@ pub fn mix_row(
     } else {
         mix_windowed(p, keys, main, sub_keys, sub);
     }
+}
+
+/// Whether a pixel with this key takes part in arithmetic: 1 or 0.
+#[inline(always)]
+#[tactic(auto, unfolding(crate::specs::Mixing::is_mixed, scanline_ops::specs::RankedPixels::is_named))]
+fn mark(m: &ColourMath, stopped_inside: bool, stopped_outside: bool, inside: bool, key: u8) -> u8
+    requires stopped_inside { stopped_inside ≡ holds_at m.now.none true }
+    requires stopped_outside { stopped_outside ≡ holds_at m.now.none false }
+    ensures { result ≡ (if is_mixed m.now inside (is_named key) then 1 else 0) }
+{
+    let stopped = either(inside, stopped_inside, stopped_outside);
+    (key / 8 % 2 == 1 && !stopped) as u8
+}
+
+/// Marks the pixels that take part in arithmetic by the row of the colour window, 1 for such a pixel and else 0, and
+/// answers whether there are any.
+#[inline(always)]
+fn mark_each(m: &ColourMath, inside: &[u8; 256], keys: &[u8; 256], marks: &mut [u8; 256]) -> bool
+    ensures marks { (x : ℕ) → x < 256 → slice_index marks.new x ≡
+        (if is_mixed m.now (not (slice_index inside.now x == 0)) (is_named (slice_index keys.now x)) then 1 else 0) }
+    ensures any { (x : ℕ) → x < 256 → result ≡ false → slice_index marks.new x ≡ 0 }
+{
+    let stopped_inside = holds_where(m.none, true);
+    let stopped_outside = holds_where(m.none, false);
+    let mut most = 0u8;
+    for x in 0..256usize {
+        let mark = mark(m, stopped_inside, stopped_outside, inside[x] != 0, keys[x]);
+        marks[x] = mark;
+        most = mark.max(most);
+    }
+    most != 0
+}
+
+/// Marks the pixels of a row whose colours take part in arithmetic, 1 for such a pixel and else 0, and answers whether
+/// there are any: `keys` are the main screen's.
+#[tactic(auto, using(crate::proofs::Cases::masks))]
+pub fn mark_mixed(p: &Ppu, keys: &[u8; 256], marks: &mut [u8; 256]) -> bool
+    ensures marks { (x : ℕ) → x < 256 → slice_index marks.new x ≡
+        (if is_mixed p.now.registers.colour (is_inside p.now.registers 6 x) (is_named (slice_index keys.now x)) then 1 else 0) }
+    ensures any { (x : ℕ) → x < 256 → result ≡ false → slice_index marks.new x ≡ 0 }
+{
+    let mut inside = [0u8; 256];
+    mask_row(p, 6, &mut inside);
+    mark_each(&p.registers().colour, &inside, keys, marks)
+}
+
+#[inline(always)]
+fn operand_at(by_sub: bool, found: bool, sub: u16, fixed: u16) -> u16
+    ensures { result ≡ (if by_sub && found then sub else fixed) }
+{
+    pick(by_sub && found, sub, fixed)
+}
+
+#[inline(always)]
+fn halves_at(halves: bool, by_sub: bool, found: bool) -> bool
+    ensures { result ≡ (halves && (not by_sub || found)) }
+{
+    halves && (!by_sub || found)
+}
+
+#[inline(always)]
+fn pick_marked(marked: u8, taken: u16, other: u16) -> u16
+    ensures { result ≡ (if not (marked == 0) then taken else other) }
+{
+    pick(marked != 0, taken, other)
+}
+
+/// One pixel of the main screen, where that is black nowhere, by a mark of `mark_mixed`.
+#[inline(always)]
+#[tactic(auto, using(crate::proofs::Cases::marked))]
+fn mixed_where(m: &ColourMath, mixer: &Mixer, marked: u8, main: u16, found: bool, sub: u16) -> u16
+    requires black { m.now.black ≡ Never }
+    requires by_sub { mixer.now.by_sub ≡ m.now.sub_screen }
+    requires subtracts { mixer.now.subtracts ≡ m.now.subtract }
+    requires halves { mixer.now.halves ≡ m.now.halve }
+    requires fixed { mixer.now.fixed ≡ fixed_colour m.now }
+    ensures { (inside named : Bool) → marked ≡ (if is_mixed m.now inside named then 1 else 0) →
+        result ≡ mixed m.now inside main named found sub }
+{
+    let operand = operand_at(mixer.by_sub, found, sub, mixer.fixed);
+    let halves = halves_at(mixer.halves, mixer.by_sub, found);
+    let joined = join_colours(mixer.subtracts, halves, main, operand);
+    pick_marked(marked, joined, main)
+}
+
+/// Mixes the marked pixels of a row by a mixer made of these registers, where the main screen is black nowhere.
+#[inline(always)]
+fn mix_marked_each(
+    m: &ColourMath,
+    mixer: Mixer,
+    marks: &[u8; 256],
+    main: &mut [u16; 256],
+    sub_keys: &[u8; 256],
+    sub: &[u16; 256],
+)
+    requires black { m.now.black ≡ Never }
+    requires by_sub { mixer.by_sub ≡ m.now.sub_screen }
+    requires subtracts { mixer.subtracts ≡ m.now.subtract }
+    requires halves { mixer.halves ≡ m.now.halve }
+    requires fixed { mixer.fixed ≡ fixed_colour m.now }
+    ensures { (x : ℕ) → x < 256 → (inside named : Bool) →
+        slice_index marks.now x ≡ (if is_mixed m.now inside named then 1 else 0) →
+        slice_index main.new x ≡ mixed m.now inside (slice_index main.old x) named (is_found (slice_index sub_keys.now x)) (slice_index sub.now x) }
+{
+    for x in 0..256usize {
+        main[x] = mixed_where(
+            m,
+            &mixer,
+            marks[x],
+            main[x],
+            is_found_key(sub_keys[x]),
+            sub[x],
+        );
+    }
+}
+
+/// The same, written out by what is done, so that each loop does one thing.
+#[inline(always)]
+fn mix_marked_kinds(
+    m: &ColourMath,
+    mixer: Mixer,
+    marks: &[u8; 256],
+    main: &mut [u16; 256],
+    sub_keys: &[u8; 256],
+    sub: &[u16; 256],
+)
+    requires black { m.now.black ≡ Never }
+    requires by_sub { mixer.by_sub ≡ m.now.sub_screen }
+    requires subtracts { mixer.subtracts ≡ m.now.subtract }
+    requires halves { mixer.halves ≡ m.now.halve }
+    requires fixed { mixer.fixed ≡ fixed_colour m.now }
+    ensures { (x : ℕ) → x < 256 → (inside named : Bool) →
+        slice_index marks.now x ≡ (if is_mixed m.now inside named then 1 else 0) →
+        slice_index main.new x ≡ mixed m.now inside (slice_index main.old x) named (is_found (slice_index sub_keys.now x)) (slice_index sub.now x) }
+{
+    match (mixer.subtracts, mixer.halves) {
+        (false, false) => {
+            let mixer = Mixer {
+                subtracts: false,
+                halves: false,
+                ..mixer
+            };
+            mix_marked_each(m, mixer, marks, main, sub_keys, sub)
+        }
+        (false, true) => {
+            let mixer = Mixer {
+                subtracts: false,
+                halves: true,
+                ..mixer
+            };
+            mix_marked_each(m, mixer, marks, main, sub_keys, sub)
+        }
+        (true, false) => {
+            let mixer = Mixer {
+                subtracts: true,
+                halves: false,
+                ..mixer
+            };
+            mix_marked_each(m, mixer, marks, main, sub_keys, sub)
+        }
+        (true, true) => {
+            let mixer = Mixer {
+                subtracts: true,
+                halves: true,
+                ..mixer
+            };
+            mix_marked_each(m, mixer, marks, main, sub_keys, sub)
+        }
+    }
+}
+
+/// Mixes the pixels of a row that `mark_mixed` has marked, where the main screen is black nowhere: `main` are the main
+/// screen's colours, `sub_keys` and `sub` the sub screen's keys and colours.
+pub fn mix_marked(
+    p: &Ppu,
+    marks: &[u8; 256],
+    main: &mut [u16; 256],
+    sub_keys: &[u8; 256],
+    sub: &[u16; 256],
+)
+    requires black { p.now.registers.colour.black ≡ Never }
+    ensures { (x : ℕ) → x < 256 → (named : Bool) →
+        slice_index marks.now x ≡ (if is_mixed p.now.registers.colour (is_inside p.now.registers 6 x) named then 1 else 0) →
+        slice_index main.new x ≡ mixed p.now.registers.colour (is_inside p.now.registers 6 x) (slice_index main.old x)
+        named (is_found (slice_index sub_keys.now x)) (slice_index sub.now x) }
+{
+    mix_marked_kinds(
+        &p.registers().colour,
+        mixer_of(p),
+        marks,
+        main,
+        sub_keys,
+        sub,
+    );
 }

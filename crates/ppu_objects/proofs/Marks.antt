@@ -1,5 +1,5 @@
 -- Objects that are too far by their Y don't stand on the row.
-use Rattle.std.proofs.Common.{◌≡◌, ℕ, zero, suc, ◌+◌, ◌*◌, ◌%◌, ◌<◌, ◌≤◌, ◌&&◌, Bool, true, false, nat_lt, List, slice_index, length, if◌then◌else◌, inl, inr, refl, sym, ap, subst, ◌∙◌, arith}
+use Rattle.std.proofs.Common.{◌≡◌, ℕ, zero, suc, ◌+◌, ◌*◌, ◌%◌, ◌<◌, ◌≤◌, ◌&&◌, Bool, true, false, nat_lt, List, [], slice_index, length, if◌then◌else◌, inl, inr, refl, sym, ap, subst, ◌∙◌, arith}
 use Rattle.std.proofs.lemmas.Bool.{cases_lt}
 use Rattle.std.proofs.lemmas.List.{get_or_past}
 use Rattle.ppu_regs.specs.Picture.{Picture}
@@ -105,3 +105,16 @@ skip_eight p near row tall first k most is small marks none =
     ∙ skip_one p row tall (k + 1) (k + 2) most (mark 1 (omega arith)) (omega arith)
     ∙ skip_one p row tall (k + 0) (k + 1) most (mark 0 (omega arith)) (omega arith)
     ∙ ap (on_row p row) start
+
+-- where no object has a mark, none stands on the row
+pub none_on_row :
+    (p : Picture) (near : List ℕ) (row tall first k : ℕ) → ((large : Bool) → height_of p.registers.object_tiles.size large ≤ tall) →
+    first ≡ first_object p → first + k ≤ 256 →
+    ((n : ℕ) → n < 256 → slice_index near n ≡ near_mark tall row (slice_index p.oam (4 * (n % 128) + 1))) →
+    ((n : ℕ) → n < 256 → slice_index near n ≡ 0) → on_row p row k ≡ []
+unfolding on_row
+none_on_row p near row tall first zero most is small marks none = refl
+none_on_row p near row tall first (suc k) most is small marks none =
+    let within : first + k < 256 = omega (arith, small) in
+    skip_one p row tall k (suc k) most (sym (mark_in_turn p near row tall first k is within marks) ∙ none (first + k) within) (omega arith)
+    ∙ none_on_row p near row tall first k most is (omega (arith, small)) marks none

@@ -306,8 +306,47 @@ fn note_group(
     more
 }
 
+/// Whether any object may stand on the row.
+fn is_any_near(near: &[u8; 256]) -> bool
+    ensures { (n : ℕ) → n < 256 → result ≡ false → slice_index near.now n ≡ 0 }
+{
+    let mut most = 0u8;
+    for n in 0..256usize {
+        most = near[n].max(most);
+    }
+    most != 0
+}
+
+/// Looks at all objects in turn, those eight at once of which none may stand on the row.
+fn note_near(
+    p: &Ppu,
+    row: u16,
+    tall: u8,
+    first: u8,
+    near: &[u8; 256],
+    list: &mut ArrayVec<Object, 32>,
+) -> bool
+    requires row { row < 239 }
+    requires tall { (large : Bool) → height_of p.now.registers.object_tiles.size large ≤ tall }
+    requires first { first ≡ first_object p.now }
+    requires small { first < 128 }
+    requires near { (n : ℕ) → n < 256 → slice_index near.now n ≡ near_mark tall row (slice_index p.now.oam (4 * (n % 128) + 1)) }
+    requires marks { (n : ℕ) → slice_index near.now n ≤ 1 }
+    requires empty { list.old.items ≡ [] }
+    ensures objects { list.new.items ≡ take 32 (on_row p.now row 128) }
+    ensures range { result ≡ nat_lt 32 (length (on_row p.now row 128)) }
+{
+    let mut more = false;
+    for g in 0..16usize {
+        if is_any(near, first as usize + 8 * g) {
+            more = note_group(p, row, tall, first, g, near, list, more);
+        }
+    }
+    more
+}
+
 /// Gathers the first 32 objects on a row, in turn, in an empty list; answers whether there are more. Objects are looked
-/// at by their Y first, eight at a time.
+/// at by their Y first, all at once and then eight at a time.
 #[tactic(auto, unfolding(crate::specs::Objects::drawn_objects, crate::specs::Objects::passes_range))]
 pub fn gather(p: &Ppu, row: u16, list: &mut ArrayVec<Object, 32>) -> bool
     requires row { row < 239 }
@@ -319,11 +358,9 @@ pub fn gather(p: &Ppu, row: u16, list: &mut ArrayVec<Object, 32>) -> bool
     let first = first(p);
     let mut near = [0u8; 256];
     look(p.oam(), tall, row as u8, &mut near);
-    let mut more = false;
-    for g in 0..16usize {
-        if is_any(&near, first as usize + 8 * g) {
-            more = note_group(p, row, tall, first, g, &near, list, more);
-        }
+    if is_any_near(&near) {
+        note_near(p, row, tall, first, &near, list)
+    } else {
+        false
     }
-    more
 }

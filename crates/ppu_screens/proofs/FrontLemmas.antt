@@ -1,5 +1,5 @@
 -- Ranked pixels behind masks, and ranked pixels of two planes.
-use Rattle.std.proofs.Common.{◌≡◌, ℕ, Bool, true, false, nat_lt, refl, ap, ◌∙◌, arith}
+use Rattle.std.proofs.Common.{◌≡◌, ℕ, ◌/◌, Bool, true, false, not, ◌&&◌, nat_lt, refl, ap, ◌∙◌, arith, if◌then◌else◌}
 use Rattle.scanline_ops.specs.RankedPixels.{RankedPixel, nearest, seen, seen_key, is_nearer, chosen}
 use Rattle.color_window.specs.Windows.{mask_of}
 use Rattle.ppu_screens.specs.Screens.{standing}
@@ -51,3 +51,20 @@ unfolding nearest standing is_nearer chosen
 nearest_unseen masked inside front ranked_pixel = rw not_below_zero refl
 
 pub ruleset unseen = nearest_unseen
+
+-- a layer that has nothing at a pixel leaves what stands in front
+either_zero : (b : Bool) (n : ℕ) → n ≡ 0 → (if b then n else 0) ≡ 0
+either_zero true n h = h
+either_zero false n h = refl
+
+nearest_keyless : (front ranked_pixel : RankedPixel) → ranked_pixel.key ≡ 0 → nearest front ranked_pixel ≡ front
+unfolding nearest is_nearer chosen
+nearest_keyless front ranked_pixel h = rw h (rw (not_below_zero (front.key / 16)) refl)
+
+pub nearest_empty : (masked inside : Bool) (front ranked_pixel : RankedPixel) → ranked_pixel.key ≡ 0 →
+    nearest front (standing true masked inside ranked_pixel) ≡ front
+unfolding standing
+nearest_empty masked inside front ranked_pixel h =
+    nearest_keyless front _ (either_zero (true && not (masked && inside)) ranked_pixel.key h)
+
+pub ruleset empty = nearest_empty

@@ -3,14 +3,32 @@ use Rattle.std.proofs.Common.{◌≡◌, ℕ, zero, suc, ◌<◌, Bool, true, fa
 use Rattle.std.proofs.lemmas.Bool.{cases_lt}
 use Rattle.ppu_regs.specs.declared.registers.ColourMath.{ColourMath}
 use Rattle.ppu_regs.specs.declared.registers.WindowPart.TheVariants.{Never}
-use Rattle.scanline_ops.specs.RankedPixels.{is_named, is_any_named}
-use Rattle.color_window.specs.Mixing.{holds_at, mixed, fixed_colour}
+use Rattle.color_window.specs.Mixing.{holds_at, mixed, is_mixed, fixed_colour}
 use Rattle.color_window.specs.Windows.{is_inside}
-use Rattle.scanline_ops.specs.RankedPixels.{RankedPixel, no_pixel, is_found}
+use Rattle.scanline_ops.specs.RankedPixels.{RankedPixel, no_pixel, is_named, is_any_named, is_found}
 use Rattle.scanline_ops.specs.Colours.{dimmed, pixel_colour}
 use Rattle.ppu_regs.specs.Picture.{Picture}
 use Rattle.ppu_screens.specs.Order.{layer_rank}
 use Rattle.ppu_screens.specs.Screens.{backdrop, has_direct, front_pixel_colour, main_colour, is_halved, even_dot, odd_dot}
+
+-- where main isn't black and no arithmetic is done, the colour is the one in front
+unmarked : (b : Bool) → (let n : ℕ = if b then 1 else 0 in n) ≡ 0 → b ≡ false
+unmarked true h = absurd (omega (arith, h))
+unmarked false h = refl
+
+plain_is :
+    (m : ColourMath) (inside : Bool) (main : ℕ) (named found : Bool) (sub : ℕ) → m.black ≡ Never → is_mixed m inside named ≡ false →
+    main ≡ mixed m inside main named found sub
+unfolding mixed is_mixed holds_at
+plain_is m inside main named found sub black none = rw (black, none) refl
+
+pub unmixed_is :
+    (m : ColourMath) (inside : Bool) (main : ℕ) (named found : Bool) (sub marked : ℕ) → m.black ≡ Never →
+    marked ≡ (if is_mixed m inside named then 1 else 0) → marked ≡ 0 → main ≡ mixed m inside main named found sub
+unmixed_is m inside main named found sub marked black is none =
+    plain_is m inside main named found sub black (unmarked (is_mixed m inside named) (sym is ∙ none))
+
+pub ruleset unmixed = unmixed_is
 
 -- where none is named, each isn't
 left_false : (a b : Bool) → (a || b) ≡ false → a ≡ false
@@ -35,14 +53,18 @@ none_named keys (suc n) x h none = elim (cases_lt x n) [
 
 pub ruleset named = none_named
 
--- where main isn't black and no arithmetic is named, the colour is the one in front
-pub unmixed_is :
+-- where main isn't black and arithmetic isn't named, the colour is the one in front
+unnamed_is : (m : ColourMath) (inside : Bool) → is_mixed m inside false ≡ false
+unfolding is_mixed
+unnamed_is m inside = refl
+
+pub unnamed_stays :
     (m : ColourMath) (inside : Bool) (main : ℕ) (named found : Bool) (sub : ℕ) → m.black ≡ Never → named ≡ false →
     main ≡ mixed m inside main named found sub
-unfolding mixed holds_at
-unmixed_is m inside main named found sub black none = rw (black, none) refl
+unnamed_stays m inside main named found sub black none =
+    plain_is m inside main named found sub black (ap (is_mixed m inside) none ∙ unnamed_is m inside)
 
-pub ruleset unmixed = unmixed_is
+pub ruleset unnamed = unnamed_stays
 
 -- where the sub screen isn't asked for, its colour doesn't count
 picked_apart :
@@ -74,7 +96,7 @@ unnamed_backdrop p h = ap (λ (b : Bool). let i : RankedPixel = record { key = i
 bare_main : (p : Picture) (x : ℕ) → p.registers.colour.black ≡ Never → main_colour p x no_pixel no_pixel ≡ slice_index p.cgram 0
 unfolding main_colour front_pixel_colour
 bare_main p x black =
-    sym (unmixed_is p.registers.colour (is_inside p.registers 6 x) _ false _ _ black refl)
+    sym (plain_is p.registers.colour (is_inside p.registers 6 x) _ false _ _ black (unnamed_is p.registers.colour (is_inside p.registers 6 x)))
     ∙ unfound_colour p.cgram (has_direct p.registers) (layer_rank p.registers 1 0) (layer_rank p.registers 1 1)
 
 other_of : (b : Bool) (one two : ℕ) → b ≡ false → (if b then one else two) ≡ two

@@ -1,14 +1,15 @@
 //! From what stands in front on both screens to the 512 dots of a row.
 
-ghost use Rattle.std.specs.Prelude.{◌≡◌, ℕ, ◌+◌, ◌*◌, ◌<◌, true, false, IfSome, length, slice_index};
+ghost use Rattle.std.specs.Prelude.{◌≡◌, ℕ, ◌+◌, ◌*◌, ◌<◌, true, false, IfSome, length, slice_index, if◌then◌else◌};
 ghost use Rattle.ppu_regs.specs.declared.registers.WindowPart.TheVariants.{Never};
 ghost use Rattle.scanline_ops.specs.RankedPixels.{no_pixel, is_named, is_found};
 ghost use Rattle.scanline_ops.specs.Colours.{dimmed};
-ghost use Rattle.color_window.specs.Mixing.{fixed_colour};
+ghost use Rattle.color_window.specs.Windows.{is_inside};
+ghost use Rattle.color_window.specs.Mixing.{fixed_colour, is_mixed};
 ghost use Rattle.ppu_screens.specs.Screens.{ranked_pixel_at, has_direct, front_pixel_colour, main_colour, sub_colour, is_halved, backdrop, even_dot, odd_dot};
 
 use crate::order::rank;
-use color_window::{fixed, mix_row};
+use color_window::{fixed, mark_mixed, mix_marked, mix_row};
 use ppu_regs::{Ppu, RankedRow, Registers, WindowPart};
 use scanline_ops::{
     any_named, dim_colour, dim_row, fill_dots, is_found_key, look_up, write_dots, write_twice,
@@ -39,44 +40,110 @@ fn front_colours(p: &Ppu, front: &RankedRow, out: &mut [u16; 256])
     );
 }
 
-/// Whether the main screen's colours may differ from those in front: main may be black, or arithmetic is named for a
-/// ranked pixel of the row.
+/// The colours in front on the sub screen, if they are asked for.
 #[inline(always)]
-#[tactic(auto, using(crate::proofs::Mixes::named))]
-fn mixes(p: &Ppu, main: &RankedRow) -> bool
-    ensures black { result ≡ false → p.now.registers.colour.black ≡ Never }
-    ensures names { (x : ℕ) → x < 256 → result ≡ false → is_named (slice_index main.now.ranks x) ≡ false }
+fn asked_colours(p: &Ppu, sub: &RankedRow, out: &mut [u16; 256])
+    ensures { p.now.registers.colour.sub_screen ≡ true → (x : ℕ) → x < 256 → slice_index out.new x ≡ front_pixel_colour p.now (ranked_pixel_at sub.now x) }
 {
-    match p.registers().colour.black {
-        WindowPart::Never => any_named(&main.ranks),
-        _ => true,
+    if p.registers().colour.sub_screen {
+        front_colours(p, sub, out);
     }
 }
 
-/// The main screen's colours before brightness. The sub screen's count only where they are asked for.
+#[inline(always)]
+fn is_never(part: WindowPart) -> bool
+    ensures { result ≡ true → part ≡ Never }
+{
+    match part {
+        WindowPart::Never => true,
+        _ => false,
+    }
+}
+
+/// The main screen's colours before brightness, wherever it is black or mixed. The sub screen's count only where they are asked
+/// for.
 #[tactic(auto, unfolding(crate::specs::Screens::main_colour), using(crate::proofs::Mixes::apart))]
-fn mixed_colours(
+fn mixed_colours(p: &Ppu, main: &RankedRow, sub: &RankedRow, out: &mut [u16; 256])
+    ensures { (x : ℕ) → x < 256 → slice_index out.new x ≡ main_colour p.now x (ranked_pixel_at main.now x) (ranked_pixel_at sub.now x) }
+{
+    let mut subs = [0u16; 256];
+    asked_colours(p, sub, &mut subs);
+    front_colours(p, main, out);
+    mix_row(p, &main.ranks, out, &sub.ranks, &subs);
+}
+
+/// The same where it is black nowhere, and arithmetic is done at the marked pixels alone.
+#[tactic(auto, unfolding(crate::specs::Screens::main_colour), using(crate::proofs::Mixes::apart))]
+fn marked_colours(
     p: &Ppu,
     main: &RankedRow,
     sub: &RankedRow,
-    subs: &[u16; 256],
+    marks: &[u8; 256],
     out: &mut [u16; 256],
 )
-    requires subs { p.now.registers.colour.sub_screen ≡ true → (x : ℕ) → x < 256 → slice_index subs.now x ≡ front_pixel_colour p.now (ranked_pixel_at sub.now x) }
+    requires black { p.now.registers.colour.black ≡ Never }
+    requires marks { (x : ℕ) → x < 256 → slice_index marks.now x ≡
+        (if is_mixed p.now.registers.colour (is_inside p.now.registers 6 x) (is_named (slice_index main.now.ranks x)) then 1 else 0) }
+    ensures { (x : ℕ) → x < 256 → slice_index out.new x ≡ main_colour p.now x (ranked_pixel_at main.now x) (ranked_pixel_at sub.now x) }
+{
+    let mut subs = [0u16; 256];
+    asked_colours(p, sub, &mut subs);
+    front_colours(p, main, out);
+    mix_marked(p, marks, out, &sub.ranks, &subs);
+}
+
+/// The same where no pixel is marked.
+#[tactic(auto, unfolding(crate::specs::Screens::main_colour), using(crate::proofs::Mixes::unmixed))]
+fn unmixed_colours(
+    p: &Ppu,
+    main: &RankedRow,
+    sub: &RankedRow,
+    marks: &[u8; 256],
+    out: &mut [u16; 256],
+)
+    requires black { p.now.registers.colour.black ≡ Never }
+    requires marks { (x : ℕ) → x < 256 → slice_index marks.now x ≡
+        (if is_mixed p.now.registers.colour (is_inside p.now.registers 6 x) (is_named (slice_index main.now.ranks x)) then 1 else 0) }
+    requires none { (x : ℕ) → x < 256 → slice_index marks.now x ≡ 0 }
     ensures { (x : ℕ) → x < 256 → slice_index out.new x ≡ main_colour p.now x (ranked_pixel_at main.now x) (ranked_pixel_at sub.now x) }
 {
     front_colours(p, main, out);
-    mix_row(p, &main.ranks, out, &sub.ranks, subs);
 }
 
-/// The same where nothing is mixed.
-#[tactic(auto, unfolding(crate::specs::Screens::main_colour), using(crate::proofs::Mixes::unmixed))]
-fn unmixed_colours(p: &Ppu, main: &RankedRow, sub: &RankedRow, out: &mut [u16; 256])
+/// The same where arithmetic is named nowhere.
+#[tactic(auto, unfolding(crate::specs::Screens::main_colour), using(crate::proofs::Mixes::unnamed))]
+fn unnamed_colours(p: &Ppu, main: &RankedRow, sub: &RankedRow, out: &mut [u16; 256])
     requires black { p.now.registers.colour.black ≡ Never }
     requires names { (x : ℕ) → x < 256 → is_named (slice_index main.now.ranks x) ≡ false }
     ensures { (x : ℕ) → x < 256 → slice_index out.new x ≡ main_colour p.now x (ranked_pixel_at main.now x) (ranked_pixel_at sub.now x) }
 {
     front_colours(p, main, out);
+}
+
+/// The same where arithmetic is stopped nowhere, so that it is done wherever it is named.
+#[tactic(auto, using(crate::proofs::Mixes::named))]
+fn named_colours(p: &Ppu, main: &RankedRow, sub: &RankedRow, out: &mut [u16; 256])
+    requires black { p.now.registers.colour.black ≡ Never }
+    ensures { (x : ℕ) → x < 256 → slice_index out.new x ≡ main_colour p.now x (ranked_pixel_at main.now x) (ranked_pixel_at sub.now x) }
+{
+    if any_named(&main.ranks) {
+        mixed_colours(p, main, sub, out);
+    } else {
+        unnamed_colours(p, main, sub, out);
+    }
+}
+
+/// The same where the colour window says where it is done.
+fn windowed_colours(p: &Ppu, main: &RankedRow, sub: &RankedRow, out: &mut [u16; 256])
+    requires black { p.now.registers.colour.black ≡ Never }
+    ensures { (x : ℕ) → x < 256 → slice_index out.new x ≡ main_colour p.now x (ranked_pixel_at main.now x) (ranked_pixel_at sub.now x) }
+{
+    let mut marks = [0u8; 256];
+    if mark_mixed(p, &main.ranks, &mut marks) {
+        marked_colours(p, main, sub, &marks, out);
+    } else {
+        unmixed_colours(p, main, sub, &marks, out);
+    }
 }
 
 #[inline(always)]
@@ -108,18 +175,17 @@ fn halved(r: &Registers) -> bool
     r.settings.half_dots || r.mode == 5 || r.mode == 6
 }
 
-/// The main screen's colours, where the even dots aren't the sub screen's.
-fn whole_colours(p: &Ppu, main: &RankedRow, sub: &RankedRow, out: &mut [u16; 256])
+/// The main screen's colours before brightness.
+fn main_colours(p: &Ppu, main: &RankedRow, sub: &RankedRow, out: &mut [u16; 256])
     ensures { (x : ℕ) → x < 256 → slice_index out.new x ≡ main_colour p.now x (ranked_pixel_at main.now x) (ranked_pixel_at sub.now x) }
 {
-    if mixes(p, main) {
-        let mut subs = [0u16; 256];
-        if p.registers().colour.sub_screen {
-            front_colours(p, sub, &mut subs);
-        }
-        mixed_colours(p, main, sub, &subs, out);
+    let colour = &p.registers().colour;
+    if !is_never(colour.black) {
+        mixed_colours(p, main, sub, out);
+    } else if is_never(colour.none) {
+        named_colours(p, main, sub, out);
     } else {
-        unmixed_colours(p, main, sub, out);
+        windowed_colours(p, main, sub, out);
     }
 }
 
@@ -134,7 +200,7 @@ fn finish_whole(p: &Ppu, main: &RankedRow, sub: &RankedRow, out: &mut [u16])
 {
     p.in_range();
     let mut row = [0u16; 256];
-    whole_colours(p, main, sub, &mut row);
+    main_colours(p, main, sub, &mut row);
     dim_row(p.registers().display.brightness, &mut row);
     write_twice(&row, out);
 }
@@ -150,29 +216,15 @@ fn finish_halved(p: &Ppu, main: &RankedRow, sub: &RankedRow, out: &mut [u16])
 {
     p.in_range();
     let brightness = p.registers().display.brightness;
+    let mut odd = [0u16; 256];
+    main_colours(p, main, sub, &mut odd);
+    dim_row(brightness, &mut odd);
     let mut subs = [0u16; 256];
     front_colours(p, sub, &mut subs);
-    let mut odd = [0u16; 256];
-    if mixes(p, main) {
-        mixed_colours(p, main, sub, &subs, &mut odd);
-    } else {
-        unmixed_colours(p, main, sub, &mut odd);
-    }
-    dim_row(brightness, &mut odd);
     let mut even = [0u16; 256];
     sub_colours(p, sub, &subs, &mut even);
     dim_row(brightness, &mut even);
     write_dots(&even, &odd, out);
-}
-
-#[inline(always)]
-fn is_never(part: WindowPart) -> bool
-    ensures { result ≡ true → part ≡ Never }
-{
-    match part {
-        WindowPart::Never => true,
-        _ => false,
-    }
 }
 
 /// The colour of all dots of a row on which no layer stands. None where they may differ, or aren't the backdrop's: with

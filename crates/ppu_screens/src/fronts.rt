@@ -62,6 +62,31 @@ fn lay_open(p: &Ppu, layer: u8, row: &RankedRow, front: &mut RankedRow)
     );
 }
 
+/// Whether a layer has anything on a row, by its keys.
+fn is_any_there(keys: &[u8; 256]) -> bool
+    ensures { (x : ℕ) → x < 256 → result ≡ false → slice_index keys.now x ≡ 0 }
+{
+    let mut most = 0u8;
+    for x in 0..256usize {
+        most = keys[x].max(most);
+    }
+    most != 0
+}
+
+/// Lays a layer that is on, if it has anything on the row, over a screen.
+#[inline(always)]
+#[tactic(auto, using(crate::proofs::FrontLemmas::empty))]
+fn lay_there(p: &Ppu, layer: u8, masked: bool, row: &RankedRow, front: &mut RankedRow)
+    requires first { 1 ≤ layer }
+    requires last { layer ≤ 5 }
+    ensures { (x : ℕ) → x < 256 → ranked_pixel_at front.new x ≡
+        nearest (ranked_pixel_at front.old x) (standing true masked (is_inside p.now.registers layer x) (ranked_pixel_at row.now x)) }
+{
+    if is_any_there(&row.ranks) {
+        lay_seen(p, layer, masked, row, front);
+    }
+}
+
 /// Lays a layer that is on over a screen.
 #[inline(always)]
 fn lay_seen(p: &Ppu, layer: u8, masked: bool, row: &RankedRow, front: &mut RankedRow)
@@ -86,7 +111,7 @@ fn lay_on(p: &Ppu, layer: u8, on: bool, masked: bool, row: &RankedRow, front: &m
         nearest (ranked_pixel_at front.old x) (standing on masked (is_inside p.now.registers layer x) (ranked_pixel_at row.now x)) }
 {
     if on {
-        lay_seen(p, layer, masked, row, front);
+        lay_there(p, layer, masked, row, front);
     }
 }
 

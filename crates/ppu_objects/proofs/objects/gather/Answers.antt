@@ -1,46 +1,39 @@
--- Eight more objects are looked at, or none of them may stand on the row.
-use Rattle.std.proofs.Common.{◌≡◌, ℕ, ◌+◌, ◌*◌, ◌%◌, ◌<◌, ◌≤◌, Bool, List, slice_index, take, length, nat_lt, refl, ap, sym, subst, ◌∙◌, arith}
+-- Marks are made of the objects' Y; without one no object stands on the row.
+use Rattle.std.proofs.Common.{◌≡◌, ℕ, ◌+◌, ◌*◌, ◌%◌, ◌<◌, ◌≤◌, Bool, List, [], slice_index, take, length, nat_lt, ap, sym, subst, ◌∙◌, arith}
 use Rattle.ppu_regs.specs.declared.registers.Registers.{Registers}
-use Rattle.ppu_objects.specs.declared.objects.Object.{Object}
+use Rattle.ppu_regs.specs.Picture.{Picture}
 use Rattle.ppu_objects.specs.Near.{near_mark}
-use Rattle.ppu_objects.specs.Objects.{on_row, height_of}
-use Rattle.ppu_objects.proofs.Marks.{marks_small, skip_eight}
-use Rattle.ppu_objects.proofs.objects.gather.Goals.{then-is_any, else-is_any}
+use Rattle.ppu_objects.specs.declared.objects.Object.{Object}
+use Rattle.ppu_objects.specs.Objects.{on_row, height_of, first_object, drawn_objects, passes_range}
+use Rattle.ppu_objects.proofs.Marks.{marks_small, none_on_row}
 use Rattle.ppu_objects.proofs.objects.gather.Goals as goal
 
-pub loop-g-init : goal.loop-g-init
-unfolding on_row
-loop-g-init c = record { items = c.requires.empty; more = refl }
+-- without a mark no object stands on the row
+none_of :
+    (p : Picture) (r : Registers) (near oam : List ℕ) (row tall first : ℕ) → r ≡ p.registers → oam ≡ p.oam →
+    ((large : Bool) → height_of r.object_tiles.size large ≤ tall) → first ≡ first_object p → first < 128 →
+    ((n : ℕ) → n < 256 → slice_index near n ≡ near_mark tall row (slice_index oam (4 * (n % 128) + 1))) →
+    ((n : ℕ) → n < 256 → slice_index near n ≡ 0) → on_row p row 128 ≡ []
+none_of p r near oam row tall first registers bytes most is small marks none =
+    none_on_row p near row tall first 128
+    (λ large. subst (λ (s : Registers). height_of s.object_tiles.size large ≤ tall) registers (most large)) is (omega (arith, small))
+    (λ n h. marks n h ∙ ap (λ xs. near_mark tall row (slice_index xs (4 * (n % 128) + 1))) bytes) none
 
-pub is_any-requires-clause-small : goal.is_any-requires-clause-small
-is_any-requires-clause-small c =
+pub note_near-requires-clause-marks : goal.note_near-requires-clause-marks
+note_near-requires-clause-marks c =
     marks_small c.look.new.near c.oam.result.now c.tallest-tall.result c.args.row c.look.array_long c.look.ensures
 
-pub loop-g-preserved : goal.loop-g-preserved
-loop-g-preserved c =
-    let g : ℕ = c.loop-g.g in
-    let next : 8 * g + 8 ≡ 8 * (g + 1) = omega arith in
-    let marks : (n : ℕ) → n < 256 → slice_index c.look.new.near n ≡
-    near_mark c.tallest-tall.result c.args.row (slice_index c.args.p.now.oam (4 * (n % 128) + 1)) =
-    λ n h. c.look.ensures n h ∙ ap (λ xs. near_mark c.tallest-tall.result c.args.row (slice_index xs (4 * (n % 128) + 1))) c.oam.ensures
-    in
-    let tall : (large : Bool) → height_of c.args.p.now.registers.object_tiles.size large ≤ c.tallest-tall.result =
-    λ large. subst (λ (r : Registers). height_of r.object_tiles.size large ≤ c.tallest-tall.result) c.registers.ensures (c.tallest-tall.ensures large)
-    in
-    elim c.if-is_any.branch [
-      | then-is_any w ↦ record {
-        items = ap (λ l. l.items) w.list-is ∙ w.note_group-more.ensures.items ∙ ap (λ n. take 32 (on_row c.args.p.now c.args.row n)) next;
-        more = w.more-is ∙ w.note_group-more.ensures.more ∙ ap (λ n. nat_lt 32 (length (on_row c.args.p.now c.args.row n))) next;
-      }
-      | else-is_any w ↦ (
-          let same : on_row c.args.p.now c.args.row (8 * g) ≡ on_row c.args.p.now c.args.row (8 * (g + 1)) =
-          sym (skip_eight c.args.p.now c.look.new.near c.args.row c.tallest-tall.result c.first-first.result (8 * g) tall
-          c.first-first.ensures.value (let f = c.first-first.ensures.small in omega (arith, f)) marks (λ j h. c.is_any.ensures j h w.if-is_any.false))
-          ∙ ap (on_row c.args.p.now c.args.row) next
-          in
-          record {
-            items = ap (λ l. l.items) w.list-is ∙ c.loop-g.invariant.items ∙ ap (take 32) same;
-            more = w.more-is ∙ c.loop-g.invariant.more ∙ ap (λ (l : List Object). nat_lt 32 (length l)) same;
-          }
-          )
-    ]
+pub returns-else-is_any_near-clause-objects : goal.returns-else-is_any_near-clause-objects
+unfolding drawn_objects
+returns-else-is_any_near-clause-objects c =
+    c.requires.empty
+    ∙ sym (ap (take 32) (none_of c.args.p.now _ c.look.new.near c.oam.result.now c.args.row c.tallest-tall.result c.first-first.result
+    c.registers.ensures c.oam.ensures c.tallest-tall.ensures c.first-first.ensures.value c.first-first.ensures.small c.look.ensures
+    (λ n h. c.is_any_near.ensures n h c.if-is_any_near.false)))
+
+pub returns-else-is_any_near-clause-range : goal.returns-else-is_any_near-clause-range
+unfolding passes_range
+returns-else-is_any_near-clause-range c =
+    sym (ap (λ (l : List Object). nat_lt 32 (length l)) (none_of c.args.p.now _ c.look.new.near c.oam.result.now c.args.row
+    c.tallest-tall.result c.first-first.result c.registers.ensures c.oam.ensures c.tallest-tall.ensures c.first-first.ensures.value
+    c.first-first.ensures.small c.look.ensures (λ n h. c.is_any_near.ensures n h c.if-is_any_near.false)))
