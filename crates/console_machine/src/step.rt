@@ -10,7 +10,6 @@ ghost use Rattle.console_steps.specs.AtOnce.{IsMovedAtOnce};
 ghost use Rattle.console_steps.specs.Stands.{IsAt};
 ghost use Rattle.cart_map.specs.Clocks.{clocks_of};
 ghost use Rattle.console_machine.specs.Dues.{due_from};
-ghost use Rattle.console_machine.proofs.AtOnce.{IsStepMade};
 
 use cart_map::clocks;
 use circular_buffer::HeapCircularBuffer;
@@ -149,7 +148,10 @@ fn is_held(bus: &Bus) -> bool
 /// and nothing else happens in its clocks, and answers how many these are. Otherwise nothing has changed.
 #[inline(always)]
 pub(crate) fn try_other(cpu: &mut Cpu, bus: &mut Bus) -> Option<u8>
-    ensures made { IfSome result (λ clocks. (w : ConsoleState) → IsAt cpu.old bus.old w → IsStepMade cpu.new bus.new w (due_of w) clocks) }
+    ensures quiet { IfSome result (λ clocks. (w : ConsoleState) → IsAt cpu.old bus.old w → act_of w.rest (due_of w) ≡ Quiet) }
+    ensures at { IfSome result (λ clocks. (w : ConsoleState) → IsAt cpu.old bus.old w → IsAt cpu.new bus.new (console_after w (due_of w) 0)) }
+    ensures none { IfSome result (λ clocks. (w : ConsoleState) → IsAt cpu.old bus.old w → bytes_after w (due_of w) 0 ≡ []) }
+    ensures clocks { IfSome result (λ clocks. (w : ConsoleState) → IsAt cpu.old bus.old w → clocks ≡ due_clocks (due_of w) w.rest.io.fast) }
     ensures least { IfSome result (λ clocks. 6 ≤ clocks) }
     ensures few { IfSome result (λ clocks. clocks ≤ 40) }
     ensures bus_stays { result ≡ None → bus.new ≡ bus.old }
