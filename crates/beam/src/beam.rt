@@ -33,7 +33,7 @@ impl Model for Beam {
 
     ghost view = { λ b. record { region = b.region; v = b.v; h = b.place - b.left; blank = b.blank; timer = b.timer } };
 
-    ghost invariant = { λ b. (b.v < lines_of b.region) × (0 < b.left) × (b.left ≤ b.place) × (b.place ≤ 1364) × (b.place ≡ next_place b.timer b.v (b.place - b.left)) };
+    ghost invariant = { λ b. (b.v < lines_of b.region) × (0 < b.left) × (b.left ≤ b.place) × (b.place ≤ 1364) × (b.place ≡ next_place b.timer b.blank b.v (b.place - b.left)) };
 }
 
 impl Beam {
@@ -46,7 +46,7 @@ impl Beam {
             h: 511,
             v: 511,
         };
-        let place = next_place(timer, 0, 0);
+        let place = next_place(timer, false, 0, 0);
         Beam {
             region,
             v: 0,
@@ -84,7 +84,7 @@ impl Beam {
         ensures { self.new ≡ record self.old { timer = timer } }
     {
         let h = self.place - self.left;
-        let place = next_place(timer, self.v, h);
+        let place = next_place(timer, self.blank, self.v, h);
         self.place = place;
         self.left = place - h;
         self.timer = timer;
@@ -118,8 +118,9 @@ impl Beam {
     {
         let (v, h) = place_of(self.region, self.v, self.place);
         let happens = happens(self.timer, overscan, self.blank, v, h);
-        let place = next_place(self.timer, v, h);
-        self.blank = blank_after(self.blank, happens, v, h);
+        let blank = blank_after(self.blank, happens, v, h);
+        let place = next_place(self.timer, blank, v, h);
+        self.blank = blank;
         self.v = v;
         self.place = place;
         self.left = place - h;
@@ -185,22 +186,22 @@ fn happens(timer: IrqTime, overscan: bool, blank: bool, v: u16, h: u16) -> Happe
     }
 }
 
-/// The next line clock after this one at which the table has a row.
+/// The next line clock after this one at which the table has a row on line v.
 #[tactic(auto, unfolding(crate::specs::Places::table_place))]
 #[inline(always)]
-fn table_place(h: u16) -> u16
+fn table_place(blank: bool, v: u16, h: u16) -> u16
     requires { h < 1364 }
-    ensures place { result ≡ table_place h }
+    ensures place { result ≡ table_place blank v h }
     ensures later { h < result }
     ensures within { result ≤ 1364 }
 {
-    if h < 24 {
+    if h < 24 && v == 0 {
         24
     } else if h < 536 {
         536
-    } else if h < 1096 {
+    } else if h < 1096 && 1 <= v && v <= 239 {
         1096
-    } else if h < 1104 {
+    } else if h < 1104 && !blank {
         1104
     } else {
         LINE
@@ -223,13 +224,13 @@ fn timer_place(timer: IrqTime, v: u16) -> u16
 
 /// The next line clock after this one at which anything may happen.
 #[tactic(auto, unfolding(crate::specs::Places::next_place))]
-fn next_place(timer: IrqTime, v: u16, h: u16) -> u16
+fn next_place(timer: IrqTime, blank: bool, v: u16, h: u16) -> u16
     requires { h < 1364 }
-    ensures place { result ≡ next_place timer v h }
+    ensures place { result ≡ next_place timer blank v h }
     ensures later { h < result }
     ensures within { result ≤ 1364 }
 {
-    let table = table_place(h);
+    let table = table_place(blank, v, h);
     let fires = timer_place(timer, v);
     if h < fires && fires < table {
         fires

@@ -1,15 +1,16 @@
 -- A step that is an access made at once, told of a console state.
-use Rattle.std.proofs.Common.{◌≡◌, ℕ, ◌≤◌, false, None, [], refl, sym, ap, subst, ◌∙◌}
+use Rattle.std.proofs.Common.{◌≡◌, ℕ, ◌≤◌, false, Some, None, [], refl, sym, ap, subst, ◌∙◌}
 use Rattle.snes_defs.specs.declared.ports.Act.TheVariants.{Quiet}
 use Rattle.cpu_tables.specs.declared.access.Access.{Access}
 use Rattle.cpu65816.specs.declared.processor.Cpu.{Cpu}
 use Rattle.cpu65816.specs.Instruction.{CpuState, next_of}
 use Rattle.cpu65816.specs.Stands.{Stands, access_of}
+use Rattle.dma_hdma.specs.declared.moves.Move.{Move}
 use Rattle.dma_hdma.specs.Channels.{due_of as transfer_of}
 use Rattle.console_bus.specs.BusState.{BusState}
-use Rattle.console_steps.specs.ConsoleState.{ConsoleState, Due, Accesses, act_of, due_of, due_clocks, after_access, effect, console_after, bytes_after, after_clocks, bytes_in}
+use Rattle.console_steps.specs.ConsoleState.{ConsoleState, Due, Moves_byte, Accesses, act_of, due_of, due_clocks, after_access, after_move, effect, console_after, bytes_after, after_clocks, bytes_in}
 use Rattle.console_steps.specs.Stands.{IsAt}
-use Rattle.console_steps.specs.AtOnce.{IsMadeAtOnce}
+use Rattle.console_steps.specs.AtOnce.{IsMadeAtOnce, IsMovedAtOnce}
 use Rattle.console_steps.proofs.PassSteps.{went_on}
 use Rattle.console_machine.specs.SideLaws.{due_step}
 
@@ -60,3 +61,28 @@ pub few_made : (cpu cpu' : Cpu) (bus bus' : BusState) (clocks : ℕ) → IsMadeA
 few_made cpu cpu' bus bus' clocks m =
     let P : ℕ → Type 0 = λ n. n ≤ 40 in
     subst P (sym m.lasts) (due_step (Accesses (access_of cpu)) bus.io.fast).most
+
+-- ---- a step that is a byte of a transfer moved at once
+
+due_move : (cpu : Cpu) (bus : BusState) (w : ConsoleState) (m : Move) → IsAt cpu bus w → bus.reset ≡ false → bus.refresh ≡ false → transfer_of bus.channels ≡ Some m
+    → due_of w ≡ Moves_byte m
+due_move cpu bus w m at reset refresh transfer =
+    let a : w.rest.reset ≡ false = ap (λ r. r.reset) (sym at.rest) ∙ reset in
+    let b : w.rest.refresh ≡ false = ap (λ r. r.refresh) (sym at.rest) ∙ refresh in
+    let d : transfer_of w.rest.channels ≡ Some m = ap (λ r. transfer_of r.channels) (sym at.rest) ∙ transfer in
+    rw (a, b, d) refl
+
+moved : (cpu cpu' : Cpu) (bus' : BusState) (w : ConsoleState) (m : Move) → Stands cpu w.processor → IsMovedAtOnce cpu cpu' w.rest bus' m
+    → IsStepMade cpu' bus' w (Moves_byte m) 8
+moved cpu cpu' bus' w m s made =
+    let there : IsAt cpu' (after_move w.rest m 0) (effect w (Moves_byte m) 0) = record { processor = made.processor w.processor s; rest = refl } in
+    let on = went_on cpu' (after_move w.rest m 0) bus' (effect w (Moves_byte m) 0) 8 there made.nothing made.rest in
+    record { quiet = made.quiet; at = on.0; none = on.1; lasts = refl }
+
+pub is_moved : (cpu cpu' : Cpu) (bus bus' : BusState) (w : ConsoleState) (m : Move) (clocks : ℕ) → IsAt cpu bus w → IsMovedAtOnce cpu cpu' bus bus' m → clocks ≡ 8
+    → bus.reset ≡ false → bus.refresh ≡ false → transfer_of bus.channels ≡ Some m → IsStepMade cpu' bus' w (due_of w) clocks
+is_moved cpu cpu' bus bus' w m clocks at made lasts reset refresh transfer =
+    let P : BusState → Type 0 = λ r. IsMovedAtOnce cpu cpu' r bus' m in
+    let Q : Due → Type 0 = λ d. IsStepMade cpu' bus' w d 8 in
+    let R : ℕ → Type 0 = λ n. IsStepMade cpu' bus' w (due_of w) n in
+    subst R (sym lasts) (subst Q (sym (due_move cpu bus w m at reset refresh transfer)) (moved cpu cpu' bus' w m at.processor (subst P at.rest made)))

@@ -1,12 +1,14 @@
-ghost use Rattle.std.specs.Prelude.{◌≡◌, ◌<◌};
+ghost use Rattle.std.specs.Prelude.{◌≡◌, ◌<◌, ◌^◌};
 ghost use Rattle.side_law.specs.Moves.{IsAtPorts};
 ghost use Rattle.cpu65816.specs.Instruction.{CpuState};
 ghost use Rattle.cpu65816.specs.Stands.{Stands};
+ghost use Rattle.console_bus.specs.Places.{place_at};
 ghost use Rattle.console_steps.specs.ConsoleState.{act_of, move_act, read_at, write_at};
 ghost use Rattle.console_machine.specs.Dues.{due_from};
 
 use cart_map::Place;
 use console_bus::Bus;
+use console_steps::place_of;
 use cpu_tables::Access;
 use cpu65816::Cpu;
 use dma_hdma::Move;
@@ -75,6 +77,32 @@ fn transfer_act(bus: &Bus, due: Move) -> Act
     }
 }
 
+/// What a read of an address does at the ports: nothing, where its page is memory.
+#[inline(always)]
+fn read_act_at(bus: &Bus, addr: u32) -> Act
+    requires { addr < 2 ^ 24 }
+    ensures value { result ≡ read_at (place_at bus.now.board addr) }
+    ensures at_ports { IsAtPorts result }
+{
+    match bus.memory_at(addr) {
+        Some(_access) => Act::Quiet,
+        None => read_act(place_of(bus, addr)),
+    }
+}
+
+/// What a write of an address does at the ports.
+#[inline(always)]
+fn write_act_at(bus: &Bus, addr: u32, v: u8) -> Act
+    requires { addr < 2 ^ 24 }
+    ensures value { result ≡ write_at (place_at bus.now.board addr) v }
+    ensures at_ports { IsAtPorts result }
+{
+    match bus.memory_at(addr) {
+        Some(_access) => Act::Quiet,
+        None => write_act(place_of(bus, addr), v),
+    }
+}
+
 /// What the step that is due does at the ports.
 #[inline(always)]
 pub(crate) fn due_act(cpu: &Cpu, bus: &Bus) -> Act
@@ -91,9 +119,9 @@ pub(crate) fn due_act(cpu: &Cpu, bus: &Bus) -> Act
         return transfer_act(bus, due);
     }
     match cpu.next() {
-        Access::Fetch(addr) => read_act(bus.place(addr)),
-        Access::Read(addr) => read_act(bus.place(addr)),
-        Access::Write(addr, v) => write_act(bus.place(addr), v),
+        Access::Fetch(addr) => read_act_at(bus, addr),
+        Access::Read(addr) => read_act_at(bus, addr),
+        Access::Write(addr, v) => write_act_at(bus, addr, v),
         Access::Inner => Act::Quiet,
     }
 }

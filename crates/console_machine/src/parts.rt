@@ -11,7 +11,7 @@ ghost use Rattle.console_machine.specs.Side.{IsSome, StandsAt};
 use crate::acts::due_act;
 use crate::many_steps::make_plain_steps;
 use crate::patience::Patience;
-use crate::step::{make_step, try_make};
+use crate::step::{make_step, try_make, try_other};
 use circular_buffer::HeapCircularBuffer;
 use clock_ratio::{CONSOLE_RATE, PAL_CONSOLE_RATE};
 use console_bus::Bus;
@@ -133,6 +133,29 @@ impl Parts {
         }
     }
 
+    /// The same of a step that is a byte of a transfer or an access of a register of the B bus.
+    #[inline(always)]
+    fn try_other_step(&mut self) -> bool
+        requires early { self.old.stamp ≤ 2 ^ 62 }
+        ensures quiet { IsTrue result → (w : ConsoleState) → StandsAt (value_of self.old) w → act_of w.rest (due_of w) ≡ Quiet }
+        ensures next { IsTrue result → (w : ConsoleState) → StandsAt (value_of self.old) w → StandsAt (value_of self.new) (console_after w (due_of w) 0) }
+        ensures none { IsTrue result → (w : ConsoleState) → StandsAt (value_of self.old) w → bytes_after w (due_of w) 0 ≡ [] }
+        ensures keeps { IsSome (value_of self.old) → IsSome (value_of self.new) }
+        ensures rises { IsTrue result → self.old.stamp + least_of self.old.region ≤ self.new.stamp }
+        ensures rises_at_most { IsTrue result → self.new.stamp ≤ self.old.stamp + most_of self.old.region }
+        ensures region { self.new.region ≡ self.old.region }
+        ensures waiting { self.new.waiting ≡ self.old.waiting }
+        ensures stays { result ≡ false → value_of self.new ≡ value_of self.old }
+    {
+        match try_other(&mut self.cpu, &mut self.bus) {
+            Some(clocks) => {
+                self.stamp += stamps(self.region, clocks);
+                true
+            }
+            None => false,
+        }
+    }
+
     /// Makes the steps, each begun before a stamp, that are seen at once to be quiet and to emit nothing, one by one.
     #[inline(never)]
     fn creep(&mut self, before: u64)
@@ -183,6 +206,41 @@ impl Parts {
         self.rush(before);
     }
 
+    /// The same where no transfer, refresh or reset is due, and else none.
+    #[inline(always)]
+    fn hurry_on(&mut self, before: u64)
+        requires early { before ≤ 2 ^ 62 }
+        ensures gone { (w : ConsoleState) → StandsAt (value_of self.old) w → IsSilent console_moves before (StandsAt (value_of self.new)) self.old.waiting.items w self.new.waiting.items }
+        ensures keeps { IsSome (value_of self.old) → IsSome (value_of self.new) }
+        ensures forward { self.old.stamp ≤ self.new.stamp }
+        ensures region { self.new.region ≡ self.old.region }
+        ensures waiting { self.new.waiting ≡ self.old.waiting }
+    {
+        if self.bus.is_busy() {
+            return;
+        }
+        self.hurry(before);
+    }
+
+    /// The same with bytes of transfers and accesses of the registers of the B bus between them.
+    #[inline(always)]
+    fn hasten(&mut self, before: u64)
+        requires early { before ≤ 2 ^ 62 }
+        ensures gone { (w : ConsoleState) → StandsAt (value_of self.old) w → IsSilent console_moves before (StandsAt (value_of self.new)) self.old.waiting.items w self.new.waiting.items }
+        ensures keeps { IsSome (value_of self.old) → IsSome (value_of self.new) }
+        ensures forward { self.old.stamp ≤ self.new.stamp }
+        ensures region { self.new.region ≡ self.old.region }
+        ensures waiting { self.new.waiting ≡ self.old.waiting }
+    {
+        self.hurry_on(before);
+        'others: while self.stamp < before {
+            if !self.try_other_step() {
+                return;
+            }
+            self.hurry_on(before);
+        }
+    }
+
     /// Makes quiet steps, each begun before a stamp, up to the first that emits bytes, and answers where it stands
     /// then.
     #[inline(never)]
@@ -201,7 +259,7 @@ impl Parts {
         ensures few { length self.new.waiting.items ≤ length self.old.waiting.items + 1024 }
     {
         let waited = self.waiting.len();
-        self.hurry(before);
+        self.hasten(before);
         let mut at = self.stamp;
         let mut act = self.act();
         'steps: while at < before {
@@ -213,7 +271,7 @@ impl Parts {
                 act = self.act();
                 return Pause { at, act };
             }
-            self.hurry(before);
+            self.hasten(before);
             at = self.stamp;
             act = self.act();
         }

@@ -1,10 +1,12 @@
-ghost use Rattle.std.specs.Prelude.{◌≡◌, ◌+◌, ◌<◌, ◌≤◌, ◌++◌, ℕ, Option, Some, None, [], IfSome, IsTrue, length};
+ghost use Rattle.std.specs.Prelude.{◌≡◌, ◌+◌, ◌<◌, ◌≤◌, ◌++◌, ℕ, Option, Some, None, [], false, IfSome, IsTrue, length};
 ghost use Rattle.snes_defs.specs.declared.ports.Act.TheVariants.{Quiet};
 ghost use Rattle.cpu_modes.specs.Plan.{gets_byte, is_write, is_inner};
 ghost use Rattle.cpu_tables.specs.declared.access.Access.{Access};
 ghost use Rattle.cpu65816.specs.Instruction.{CpuState, next_of};
 ghost use Rattle.cpu65816.specs.Stands.{Stands, access_of};
 ghost use Rattle.console_steps.specs.ConsoleState.{ConsoleState, Accesses, access_clocks, act_of, due_of, due_clocks, rest_after, processor_after, with_interrupt_levels, console_after, bytes_after};
+ghost use Rattle.dma_hdma.specs.Channels.{due_of as transfer_of};
+ghost use Rattle.console_steps.specs.AtOnce.{IsMovedAtOnce};
 ghost use Rattle.console_steps.specs.Stands.{IsAt};
 ghost use Rattle.cart_map.specs.Clocks.{clocks_of};
 ghost use Rattle.console_machine.specs.Dues.{due_from};
@@ -14,10 +16,11 @@ use circular_buffer::HeapCircularBuffer;
 use console_bus::Bus;
 use console_steps::{
     give_interrupt_levels, make_inner, make_move, make_read, make_reset, make_write, pass,
-    try_access,
+    try_access, try_move, try_register,
 };
 use cpu_tables::Access;
 use cpu65816::Cpu;
+use dma_hdma::Move;
 
 /// Master clocks of a refresh of work RAM.
 const REFRESH_CLOCKS: u8 = 40;
@@ -115,6 +118,52 @@ pub(crate) fn try_make(cpu: &mut Cpu, bus: &mut Bus) -> Option<u8>
         return None;
     }
     try_access(cpu, bus)
+}
+
+/// Moves the byte of a transfer that is due where it touches no port and nothing else happens in its clocks.
+#[inline(always)]
+fn try_haul(cpu: &mut Cpu, bus: &mut Bus, due: Move) -> Option<u8>
+    requires { transfer_of bus.old.channels ≡ Some due }
+    ensures made { IfSome result (λ clocks. (clocks ≡ 8) × IsMovedAtOnce cpu.old cpu.new bus.old bus.new due) }
+    ensures bus_stays { result ≡ None → bus.new ≡ bus.old }
+    ensures cpu_stays { result ≡ None → cpu.new ≡ cpu.old }
+{
+    if try_move(cpu, bus, due) {
+        Some(MOVE_CLOCKS)
+    } else {
+        None
+    }
+}
+
+/// Whether a reset or a refresh is due.
+#[inline(always)]
+fn is_held(bus: &Bus) -> bool
+    ensures reset { result ≡ false → bus.now.reset ≡ false }
+    ensures refresh { result ≡ false → bus.now.refresh ≡ false }
+{
+    bus.resets() || bus.refreshes()
+}
+
+/// Makes the step that is due where it is a byte of a transfer or an access of a register of the B bus, touches no port,
+/// and nothing else happens in its clocks, and answers how many these are. Otherwise nothing has changed.
+#[inline(always)]
+pub(crate) fn try_other(cpu: &mut Cpu, bus: &mut Bus) -> Option<u8>
+    ensures quiet { IfSome result (λ clocks. (w : ConsoleState) → IsAt cpu.old bus.old w → act_of w.rest (due_of w) ≡ Quiet) }
+    ensures at { IfSome result (λ clocks. (w : ConsoleState) → IsAt cpu.old bus.old w → IsAt cpu.new bus.new (console_after w (due_of w) 0)) }
+    ensures none { IfSome result (λ clocks. (w : ConsoleState) → IsAt cpu.old bus.old w → bytes_after w (due_of w) 0 ≡ []) }
+    ensures clocks { IfSome result (λ clocks. (w : ConsoleState) → IsAt cpu.old bus.old w → clocks ≡ due_clocks (due_of w) w.rest.io.fast) }
+    ensures least { IfSome result (λ clocks. 6 ≤ clocks) }
+    ensures few { IfSome result (λ clocks. clocks ≤ 40) }
+    ensures bus_stays { result ≡ None → bus.new ≡ bus.old }
+    ensures cpu_stays { result ≡ None → cpu.new ≡ cpu.old }
+{
+    if is_held(bus) {
+        return None;
+    }
+    match bus.transfer() {
+        Some(due) => try_haul(cpu, bus, due),
+        None => try_register(cpu, bus),
+    }
 }
 
 /// Makes the step that is due, and answers how many master clocks it lasts. `got` is the incoming byte of the

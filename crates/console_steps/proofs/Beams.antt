@@ -7,7 +7,7 @@ use Rattle.console_bus.specs.BusState.{BusState}
 use Rattle.console_bus.specs.Happenings.{happened, frame_begun, blank_begun, row_drawn, row_bytes, is_shown}
 use Rattle.console_steps.proofs.RowBytes.{length-list_of}
 
-if_beam : (b : Bool) (x y : BusState) (beam : BeamValue) → x.beam ≡ beam → y.beam ≡ beam → (if b then x else y).beam ≡ beam
+pub if_beam : (b : Bool) (x y : BusState) (beam : BeamValue) → x.beam ≡ beam → y.beam ≡ beam → (if b then x else y).beam ≡ beam
 if_beam true x y beam h k = h
 if_beam false x y beam h k = k
 

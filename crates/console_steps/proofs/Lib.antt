@@ -5,3 +5,6 @@ pub mod EventLists
 pub mod Clocks
 pub mod PassSteps
 pub mod Wires
+pub mod BusRegisters
+pub mod Moves
+pub mod RegisterSteps

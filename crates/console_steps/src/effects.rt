@@ -4,10 +4,11 @@ ghost use Rattle.cpu65816.specs.Instruction.{CpuState, at_reset, moved_on};
 ghost use Rattle.cpu65816.specs.Stands.{Stands, access_of};
 ghost use Rattle.dma_hdma.specs.Channels.{due_of as transfer_of};
 ghost use Rattle.dma_hdma.specs.declared.moves.Move.{Move};
-ghost use Rattle.console_bus.specs.Places.{place_at, place_byte};
+ghost use Rattle.console_bus.specs.Places.{place_at, place_byte, taken_from};
 ghost use Rattle.console_bus.specs.Happenings.{was_reset};
 ghost use Rattle.console_steps.specs.ConsoleState.{with_interrupt_levels, after_move, after_read, after_write};
 
+use crate::registers::place_of;
 use console_bus::Bus;
 use cpu65816::Cpu;
 use dma_hdma::Move;
@@ -27,7 +28,12 @@ fn take_byte(bus: &mut Bus, addr: u32, got: u8) -> u8
     ensures byte { result ≡ place_byte bus.old (place_at bus.old.board addr) got }
     ensures rest { bus.new ≡ after_read bus.old (place_at bus.old.board addr) result }
 {
-    let place = bus.place(addr);
+    if let Some(access) = bus.memory_at(addr % 0x100_0000) {
+        let byte = bus.load(access.at);
+        bus.put(byte);
+        return byte;
+    }
+    let place = place_of(bus, addr);
     let byte = bus.read(place, got);
     bus.put(byte);
     byte
@@ -38,7 +44,7 @@ fn take_byte(bus: &mut Bus, addr: u32, got: u8) -> u8
 fn put_byte(bus: &mut Bus, addr: u32, v: u8)
     ensures { bus.new ≡ after_write bus.old (place_at bus.old.board addr) v }
 {
-    let place = bus.place(addr);
+    let place = place_of(bus, addr);
     bus.write(place, v);
     bus.put(v);
 }
@@ -77,12 +83,23 @@ pub fn make_inner(cpu: &mut Cpu, bus: &Bus)
     give_interrupt_levels(cpu, bus);
 }
 
+/// The byte that a transfer takes from the A side, looked up by its page where that is memory.
+#[inline(always)]
+fn taken(bus: &Bus, addr: u32) -> u8
+    ensures { result ≡ taken_from bus.now addr }
+{
+    match bus.memory_at(addr % 0x100_0000) {
+        Some(access) => bus.load(access.at),
+        None => bus.take(addr),
+    }
+}
+
 /// A byte of a transfer goes from the A side to a register of the B bus.
 fn move_to_b(bus: &mut Bus, from: u32, port: u8)
     requires { IsSome (transfer_of bus.old.channels) }
     ensures { (got : ℕ) → bus.new ≡ after_move bus.old (Move.ToB from port) got }
 {
-    let byte = bus.take(from);
+    let byte = taken(bus, from);
     bus.put(byte);
     bus.write_register(port, byte);
     bus.transferred(byte);
@@ -104,7 +121,7 @@ fn move_load(bus: &mut Bus, from: u32)
     requires { IsSome (transfer_of bus.old.channels) }
     ensures { (got : ℕ) → bus.new ≡ after_move bus.old (Move.Load from) got }
 {
-    let byte = bus.take(from);
+    let byte = taken(bus, from);
     bus.put(byte);
     bus.transferred(byte);
 }

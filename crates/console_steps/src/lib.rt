@@ -11,13 +11,17 @@ mod at_once;
 mod drawing;
 mod effects;
 mod happening;
+mod other_steps;
 mod passing;
 mod plain;
+mod registers;
 mod rows;
 
 pub use at_once::try_access;
 pub use effects::{
     give_interrupt_levels, make_inner, make_move, make_read, make_reset, make_write,
 };
+pub use other_steps::{try_move, try_register};
 pub use passing::pass;
 pub use plain::{is_calm, is_wired, try_look, try_plain};
+pub use registers::place_of;

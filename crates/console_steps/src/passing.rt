@@ -15,6 +15,7 @@ use console_bus::Bus;
 use cpu65816::Cpu;
 
 /// An event that comes or not, but for a row that is drawn.
+#[inline(always)]
 fn pass_event(cpu: &mut Cpu, bus: &mut Bus, comes: bool, event: Event)
     requires { event ≢ events.Draw }
     ensures at { (w : ConsoleState) → IsAt cpu.old bus.old w → IsAt cpu.new bus.new (after_events w (one_if comes event)) }
@@ -27,6 +28,7 @@ fn pass_event(cpu: &mut Cpu, bus: &mut Bus, comes: bool, event: Event)
 }
 
 /// A row that is drawn or not.
+#[inline(always)]
 fn pass_row(cpu: &mut Cpu, bus: &mut Bus, waiting: &mut HeapCircularBuffer<u8>, comes: bool)
     requires first { IsTrue comes → 1 ≤ bus.old.beam.v }
     requires last { IsTrue comes → bus.old.beam.v ≤ 239 }
@@ -80,8 +82,9 @@ fn pass_place(cpu: &mut Cpu, bus: &mut Bus, waiting: &mut HeapCircularBuffer<u8>
     pass_last(cpu, bus, happens);
 }
 
-/// Lets so many clocks pass, with the events of the beam that they bring and the rows that these emit.
-pub fn pass(cpu: &mut Cpu, bus: &mut Bus, waiting: &mut HeapCircularBuffer<u8>, clocks: u16)
+/// Lets so many clocks pass, place by place.
+#[inline(never)]
+fn pass_places(cpu: &mut Cpu, bus: &mut Bus, waiting: &mut HeapCircularBuffer<u8>, clocks: u16)
     requires step { clocks ≤ 40 }
     requires room { length waiting.old.items + room_for bus.old.beam.h clocks ≤ waiting.old.capacity }
     ensures at { (w : ConsoleState) → IsAt cpu.old bus.old w → IsAt cpu.new bus.new (after_clocks w clocks) }
@@ -97,5 +100,23 @@ pub fn pass(cpu: &mut Cpu, bus: &mut Bus, waiting: &mut HeapCircularBuffer<u8>, 
     }
     let happens = bus.reach();
     pass_place(cpu, bus, waiting, happens);
-    pass(cpu, bus, waiting, clocks - left);
+    pass_places(cpu, bus, waiting, clocks - left);
+}
+
+/// Lets so many clocks pass, with the events of the beam that they bring and the rows that these emit.
+#[inline(always)]
+pub fn pass(cpu: &mut Cpu, bus: &mut Bus, waiting: &mut HeapCircularBuffer<u8>, clocks: u16)
+    requires step { clocks ≤ 40 }
+    requires room { length waiting.old.items + room_for bus.old.beam.h clocks ≤ waiting.old.capacity }
+    ensures at { (w : ConsoleState) → IsAt cpu.old bus.old w → IsAt cpu.new bus.new (after_clocks w clocks) }
+    ensures bytes { (w : ConsoleState) → IsAt cpu.old bus.old w → waiting.new.items ≡ waiting.old.items ++ bytes_in w clocks }
+    ensures size { length waiting.new.items ≤ length waiting.old.items + room_for bus.old.beam.h clocks }
+    ensures capacity { waiting.new.capacity ≡ waiting.old.capacity }
+    ensures region { bus.new.beam.region ≡ bus.old.beam.region }
+{
+    if clocks < bus.clocks_left() {
+        bus.go_on(clocks);
+        return;
+    }
+    pass_places(cpu, bus, waiting, clocks);
 }

@@ -17,14 +17,14 @@ seen c = record {
 fewer : (c : goal.After-self-1) → c.args.clocks < c.self.inside.left
 fewer c =
     let r = rw (← c.self.view_is) at c.requires in
-    let p : c.self.inside.place ≡ next_place c.self.inside.timer c.self.inside.v (c.self.inside.place - c.self.inside.left) = c.self.invariant.4 in
+    let p : c.self.inside.place ≡ next_place c.self.inside.timer c.self.inside.blank c.self.inside.v (c.self.inside.place - c.self.inside.left) = c.self.invariant.4 in
     omega arith
 
 -- where the clocks lead
 there : (c : goal.After-self-1) →
     (c.self.inside.place - (c.self.inside.left - c.args.clocks) ≡ (seen c).h + c.args.clocks)
-    × ((seen c).h + c.args.clocks < next_place (seen c).timer (seen c).v (seen c).h)
-    × (c.self.inside.place ≡ next_place (seen c).timer (seen c).v ((seen c).h + c.args.clocks))
+    × ((seen c).h + c.args.clocks < next_place (seen c).timer (seen c).blank (seen c).v (seen c).h)
+    × (c.self.inside.place ≡ next_place (seen c).timer (seen c).blank (seen c).v ((seen c).h + c.args.clocks))
 there c = nearer (seen c) c.self.inside.place c.self.inside.left c.args.clocks refl c.self.invariant.2 (fewer c) c.self.invariant.4
 
 pub invariant_of-self : goal.invariant_of-self
@@ -32,7 +32,7 @@ invariant_of-self c =
     let f = fewer c in
     let t = there c in
     let i = c.self.invariant in
-    (i.0, omega arith, omega arith, i.3, t.2 ∙ ap (λ x. next_place c.self.inside.timer c.self.inside.v x) (sym t.0))
+    (i.0, omega arith, omega arith, i.3, t.2 ∙ ap (λ x. next_place c.self.inside.timer c.self.inside.blank c.self.inside.v x) (sym t.0))
 
 pub returns-clause-moved : goal.returns-clause-moved
 returns-clause-moved c = λ overscan.

@@ -31,7 +31,7 @@ at_last c =
     let same : further (seen c) (c.self.inside.left - 1) ≡ last c = ap (λ x. record (seen c) { h = x }) (omega arith) in
     (r.0 ∙ ap (λ x. beam_next c.args.overscan x) same, r.1 ∙ ap (λ x. events_of (happens_next c.args.overscan x)) same)
 
-left_is : (c : goal.After-self-4-1) → next_place (seen c).timer (seen c).v (seen c).h - (seen c).h ≡ c.self.inside.left
+left_is : (c : goal.After-self-4-1) → next_place (seen c).timer (seen c).blank (seen c).v (seen c).h - (seen c).h ≡ c.self.inside.left
 left_is c =
     let i = c.self.invariant in
     let i2 = i.2 in
@@ -47,12 +47,12 @@ answered c = rw (← c.place_of-v.ensures.line, ← c.place_of-v.ensures.clock) 
 abbrev placed : goal.After-self-4-1 → (v h : ℕ) (blank : Bool) → BeamValue
 placed c v h blank = record { region = c.self.inside.region; v = v; h = h; blank = blank; timer = c.self.inside.timer }
 
-moved_to : (c : goal.After-self-4-1) → placed c c.place_of-v.result.0 c.place_of-v.result.1 c.blank_after-self-inside.result ≡ beam_next c.args.overscan (last c)
+moved_to : (c : goal.After-self-4-1) → placed c c.place_of-v.result.0 c.place_of-v.result.1 c.blank_after-blank.result ≡ beam_next c.args.overscan (last c)
 unfolding beam_next
 moved_to c =
     let a = answered c in
-    let e : c.blank_after-self-inside.result ≡ blank_after c.self.inside.blank (happens_next c.args.overscan (last c)) c.place_of-v.result.0 c.place_of-v.result.1 =
-    c.blank_after-self-inside.ensures ∙ ap (λ x. blank_after c.self.inside.blank x c.place_of-v.result.0 c.place_of-v.result.1) a in
+    let e : c.blank_after-blank.result ≡ blank_after c.self.inside.blank (happens_next c.args.overscan (last c)) c.place_of-v.result.0 c.place_of-v.result.1 =
+    c.blank_after-blank.ensures ∙ ap (λ x. blank_after c.self.inside.blank x c.place_of-v.result.0 c.place_of-v.result.1) a in
     rw (e, c.place_of-v.ensures.line, c.place_of-v.ensures.clock)
 
 pub returns-clause-moved : goal.returns-clause-moved

@@ -23,9 +23,9 @@ steps-preserved c = record {
       (subst (λ n. StandsAt (value_of c.step.new.self) (console_after was.to (due_of was.to) n)) none (c.step.ensures.next was.to was.now_stands))
       (c.step.ensures.emits was.to was.now_stands ∙ ap (λ n. c.steps.self.waiting.items ++ bytes_after was.to (due_of was.to) n) none)
       (omega (arith, c.if-len-waited.false, c.len.ensures.len, c.len-waited.ensures.len, waits)) in
-      silent_joined console_moves c.args.before (StandsAt (value_of c.step.new.self)) (StandsAt (value_of c.hurry-in-steps.new.self))
-      c.args.self.now.waiting.items c.step.new.self.waiting.items c.hurry-in-steps.new.self.waiting.items w made (c.hurry-in-steps.ensures.gone made.to made.now_stands);
-  keeps = λ some. c.hurry-in-steps.ensures.keeps (∥∥₁_map (c.steps.invariant.keeps some) (λ p. (_, c.step.ensures.next p.0 p.1)));
+      silent_joined console_moves c.args.before (StandsAt (value_of c.step.new.self)) (StandsAt (value_of c.hasten-in-steps.new.self))
+      c.args.self.now.waiting.items c.step.new.self.waiting.items c.hasten-in-steps.new.self.waiting.items w made (c.hasten-in-steps.ensures.gone made.to made.now_stands);
+  keeps = λ some. c.hasten-in-steps.ensures.keeps (∥∥₁_map (c.steps.invariant.keeps some) (λ p. (_, c.step.ensures.next p.0 p.1)));
   at_ports = search rules;
   act = search rules;
   at = search rules;

@@ -6,7 +6,7 @@ use Rattle.console_steps.specs.Stands.{IsAt}
 use Rattle.console_steps.proofs.Clocks.{arrived, arrival}
 use Rattle.console_steps.proofs.PassSteps.{overscan, went_on, arrives, happens_there, passes_place, drawn, room_after, room_of_row}
 use Rattle.beam.specs.declared.events.Event.{Event}
-use Rattle.console_steps.proofs.passing.+pass.Goals as goal
+use Rattle.console_steps.proofs.passing.+pass_places.Goals as goal
 
 pub returns-then-clocks-left-clause-at : goal.returns-then-clocks-left-clause-at
 returns-then-clocks-left-clause-at t c = λ w at.
@@ -36,8 +36,8 @@ pass_place-requires-clause-room t c = λ d.
     c.reach-happens.ensures.last c.reach-happens.ensures.moved (omega arith) (omega arith) c.requires.step (omega arith) c.reach-happens.ensures.clock in
     room_of_row c.reach-happens.result.draw (length c.args.waiting.now.items) _ (room_for c.args.bus.now.beam.h c.args.clocks) c.args.waiting.now.capacity room c.requires.room d
 
-pub pass-requires : goal.pass-requires
-pass-requires t c =
+pub pass_places-requires : goal.pass_places-requires
+pass_places-requires t c =
     let e = c.clocks_left-left.ensures.clocks in
     let some = c.clocks_left-left.ensures.some in
     let line = c.clocks_left-left.ensures.on_line in
@@ -64,7 +64,7 @@ returns-clause-at t c = λ w at.
     let P : List Event → Type 0 = λ es. IsAt c.pass_place.new.cpu c.pass_place.new.bus (after_events (arrived w left) es) in
     let after = subst P events (c.pass_place.ensures.at (arrived w left) there) in
     let parts = passes_place c.args.bus.now w left c.args.clocks at.rest (omega arith) (omega arith) c.reach-happens.ensures.none_before in
-    let end = rw e at (c.pass.ensures.at next after) in
+    let end = rw e at (c.pass_places.ensures.at next after) in
     rw parts.0 end
 
 pub returns-clause-bytes : goal.returns-clause-bytes
@@ -81,7 +81,7 @@ returns-clause-bytes t c = λ w at.
     let after = subst P events (c.pass_place.ensures.at (arrived w left) there) in
     let emitted = subst Q events (c.pass_place.ensures.bytes (arrived w left) there) in
     let parts = passes_place c.args.bus.now w left c.args.clocks at.rest (omega arith) (omega arith) c.reach-happens.ensures.none_before in
-    let rest = rw e at (c.pass.ensures.bytes next after) in
+    let rest = rw e at (c.pass_places.ensures.bytes next after) in
     let old = c.args.waiting.now.items in
     let more = bytes_in next (c.args.clocks - left) in
     rest ∙ ap (λ x. x ++ more) emitted ∙ append_assoc old (bytes_of_events (arrived w left) (arrival w left)) more ∙ ap (λ x. old ++ x) (sym parts.1)
@@ -96,5 +96,5 @@ returns-clause-size t c =
     let room = room_after c.args.bus.now c.reach-happens.new.self c.reach-happens.result left c.args.clocks
     c.reach-happens.ensures.last c.reach-happens.ensures.moved (omega arith) (omega arith) c.requires.step (omega arith) c.reach-happens.ensures.clock in
     let size = c.pass_place.ensures.size in
-    let rest = rw (c.pass_place.ensures.beam, e) at c.pass.ensures.size in
+    let rest = rw (c.pass_place.ensures.beam, e) at c.pass_places.ensures.size in
     omega arith

@@ -1,0 +1,197 @@
+// Steps that are no access of the memory, with their clocks, where they touch no port and nothing else happens in these:
+// a byte of a transfer, and an access of a register of the B bus.
+ghost use Rattle.std.specs.Prelude.{◌≡◌, ◌<◌, [], false, None, Some, IsTrue, IfSome};
+ghost use Rattle.snes_defs.specs.declared.ports.Act.TheVariants.{Quiet};
+ghost use Rattle.cpu_tables.specs.declared.access.Access.TheVariants.{Read, Write};
+ghost use Rattle.cpu_modes.specs.Plan.{gets_byte, is_write};
+ghost use Rattle.cpu65816.specs.Instruction.{CpuState, moved_on};
+ghost use Rattle.cpu65816.specs.Stands.{Stands, access_of};
+ghost use Rattle.beam.specs.Places.{clocks_left};
+ghost use Rattle.dma_hdma.specs.Channels.{due_of as transfer_of};
+ghost use Rattle.console_bus.specs.BusState.{BusState};
+ghost use Rattle.console_bus.specs.Places.{is_port, register_byte, register_read, register_written, on_bus};
+ghost use Rattle.console_steps.specs.ConsoleState.{move_act, after_move, with_interrupt_levels};
+ghost use Rattle.console_steps.specs.AtOnce.{gone_on, passed_in, IsMadeAtOnce, IsMovedAtOnce};
+
+use crate::effects::{give_interrupt_levels, make_move};
+use crate::registers::bus_register;
+use console_bus::Bus;
+use cpu_tables::Access;
+use cpu65816::Cpu;
+use dma_hdma::Move;
+
+/// Master clocks of a byte that a transfer moves.
+const MOVE_CLOCKS: u16 = 8;
+
+/// Master clocks of an access of the B bus.
+const REGISTER_CLOCKS: u8 = 6;
+
+/// Whether a register of the B bus is a port to the sound side.
+#[inline(always)]
+fn is_port(register: u8) -> bool
+    ensures { result ≡ is_port register }
+{
+    0x40 <= register && register < 0x80
+}
+
+/// Whether a byte of a transfer goes to a port or comes from one.
+#[inline(always)]
+fn is_at_port(due: Move) -> bool
+    ensures { result ≡ false → (r : BusState) → move_act r due ≡ Quiet }
+{
+    match due {
+        Move::ToB { port, .. } => is_port(port),
+        Move::ToA { port, .. } => is_port(port),
+        Move::Load { .. } => false,
+    }
+}
+
+/// The byte of a transfer that is due is moved.
+#[inline(always)]
+fn move_byte(bus: &mut Bus, due: Move)
+    requires { transfer_of bus.old.channels ≡ Some due }
+    ensures after { bus.new ≡ after_move bus.old due 0 }
+    ensures beam { bus.new.beam ≡ bus.old.beam }
+{
+    make_move(bus, due, 0);
+}
+
+/// It is moved, and the beam goes on.
+#[inline(always)]
+fn haul(cpu: &mut Cpu, bus: &mut Bus, due: Move)
+    requires due { transfer_of bus.old.channels ≡ Some due }
+    requires few { 8 < clocks_left bus.old.beam }
+    ensures rest { bus.new ≡ gone_on (after_move bus.old due 0) 8 }
+    ensures nothing { passed_in (after_move bus.old due 0) 8 ≡ [] }
+    ensures processor { (s : CpuState) → Stands cpu.old s → Stands cpu.new (with_interrupt_levels s (after_move bus.old due 0)) }
+{
+    move_byte(bus, due);
+    give_interrupt_levels(cpu, bus);
+    bus.go_on(MOVE_CLOCKS);
+}
+
+/// Moves the byte of a transfer that is due, and lets its clocks pass, where it touches no port and nothing else happens
+/// in these, and answers whether it did. Otherwise nothing has changed.
+#[inline(always)]
+pub fn try_move(cpu: &mut Cpu, bus: &mut Bus, due: Move) -> bool
+    requires { transfer_of bus.old.channels ≡ Some due }
+    ensures made { IsTrue result → IsMovedAtOnce cpu.old cpu.new bus.old bus.new due }
+    ensures bus_stays { result ≡ false → bus.new ≡ bus.old }
+    ensures cpu_stays { result ≡ false → cpu.new ≡ cpu.old }
+{
+    if bus.clocks_left() <= MOVE_CLOCKS {
+        return false;
+    }
+    if is_at_port(due) {
+        return false;
+    }
+    haul(cpu, bus, due);
+    true
+}
+
+/// A register of the B bus that is no port is read, and the byte goes over the data bus.
+#[inline(always)]
+fn load_register(bus: &mut Bus, register: u8) -> u8
+    ensures byte { result ≡ register_byte bus.old register 0 }
+    ensures after { bus.new ≡ on_bus (register_read bus.old register) (register_byte bus.old register 0) }
+    ensures beam { bus.new.beam ≡ bus.old.beam }
+{
+    let byte = bus.read_register(register, 0);
+    bus.put(byte);
+    byte
+}
+
+/// A register of the B bus is written, and the byte goes over the data bus.
+#[inline(always)]
+fn store_register(bus: &mut Bus, register: u8, v: u8)
+    ensures after { bus.new ≡ on_bus (register_written bus.old register v) v }
+    ensures beam { bus.new.beam ≡ bus.old.beam }
+{
+    bus.write_register(register, v);
+    bus.put(v);
+}
+
+/// The processor takes the byte of a register of the B bus, and the beam goes on.
+#[inline(always)]
+fn take_register(cpu: &mut Cpu, bus: &mut Bus, register: u8)
+    requires gets { IsTrue (gets_byte (access_of cpu.old)) }
+    requires few { 6 < clocks_left bus.old.beam }
+    ensures rest { bus.new ≡ gone_on (on_bus (register_read bus.old register) (register_byte bus.old register 0)) 6 }
+    ensures nothing { passed_in (on_bus (register_read bus.old register) (register_byte bus.old register 0)) 6 ≡ [] }
+    ensures processor { (s : CpuState) → Stands cpu.old s
+        → Stands cpu.new (with_interrupt_levels (moved_on s (register_byte bus.old register 0)) (on_bus (register_read bus.old register) (register_byte bus.old register 0))) }
+{
+    let byte = load_register(bus, register);
+    cpu.took(byte);
+    give_interrupt_levels(cpu, bus);
+    bus.go_on(REGISTER_CLOCKS as u16);
+}
+
+/// The processor has written a register of the B bus, and the beam goes on.
+#[inline(always)]
+fn give_register(cpu: &mut Cpu, bus: &mut Bus, register: u8, v: u8)
+    requires writes { IsTrue (is_write (access_of cpu.old)) }
+    requires few { 6 < clocks_left bus.old.beam }
+    ensures rest { bus.new ≡ gone_on (on_bus (register_written bus.old register v) v) 6 }
+    ensures nothing { passed_in (on_bus (register_written bus.old register v) v) 6 ≡ [] }
+    ensures processor { (s : CpuState) → Stands cpu.old s
+        → Stands cpu.new (with_interrupt_levels (moved_on s 0) (on_bus (register_written bus.old register v) v)) }
+{
+    store_register(bus, register, v);
+    cpu.wrote();
+    give_interrupt_levels(cpu, bus);
+    bus.go_on(REGISTER_CLOCKS as u16);
+}
+
+/// The processor reads a register of the B bus that is no port.
+#[inline(always)]
+fn read_register(cpu: &mut Cpu, bus: &mut Bus, addr: u32) -> Option<u8>
+    requires gets { IsTrue (gets_byte (access_of cpu.old)) }
+    requires few { 6 < clocks_left bus.old.beam }
+    ensures made { IfSome result (λ clocks. IsMadeAtOnce cpu.old cpu.new bus.old bus.new (Read addr) clocks) }
+    ensures bus_stays { result ≡ None → bus.new ≡ bus.old }
+    ensures cpu_stays { result ≡ None → cpu.new ≡ cpu.old }
+{
+    let register = bus_register(addr)?;
+    if is_port(register) {
+        return None;
+    }
+    take_register(cpu, bus, register);
+    Some(REGISTER_CLOCKS)
+}
+
+/// The processor writes a register of the B bus that is no port.
+#[inline(always)]
+fn write_register(cpu: &mut Cpu, bus: &mut Bus, addr: u32, v: u8) -> Option<u8>
+    requires writes { IsTrue (is_write (access_of cpu.old)) }
+    requires few { 6 < clocks_left bus.old.beam }
+    ensures made { IfSome result (λ clocks. IsMadeAtOnce cpu.old cpu.new bus.old bus.new (Write addr v) clocks) }
+    ensures bus_stays { result ≡ None → bus.new ≡ bus.old }
+    ensures cpu_stays { result ≡ None → cpu.new ≡ cpu.old }
+{
+    let register = bus_register(addr)?;
+    if is_port(register) {
+        return None;
+    }
+    give_register(cpu, bus, register, v);
+    Some(REGISTER_CLOCKS)
+}
+
+/// Makes the processor's next access, and lets its clocks pass, where it is one of a register of the B bus that is no
+/// port and nothing else happens in these clocks, and answers how many these are. Otherwise nothing has changed.
+#[inline(always)]
+pub fn try_register(cpu: &mut Cpu, bus: &mut Bus) -> Option<u8>
+    ensures made { IfSome result (λ clocks. IsMadeAtOnce cpu.old cpu.new bus.old bus.new (access_of cpu.old) clocks) }
+    ensures bus_stays { result ≡ None → bus.new ≡ bus.old }
+    ensures cpu_stays { result ≡ None → cpu.new ≡ cpu.old }
+{
+    if bus.clocks_left() <= REGISTER_CLOCKS as u16 {
+        return None;
+    }
+    match cpu.next() {
+        Access::Fetch(_) => None,
+        Access::Read(addr) => read_register(cpu, bus, addr),
+        Access::Write(addr, v) => write_register(cpu, bus, addr, v),
+        Access::Inner => None,
+    }
+}
