@@ -4,4 +4,4 @@ pub mod Moves
 pub mod Ticks
 pub mod FromParts
 pub mod BootOver
-pub mod Halts
+pub mod Runs

@@ -28,10 +28,10 @@ processor_taken m got =
     by_test (is_reset_due m.clock) (λ e. rw e refl) (λ e. rw e (ap (moved_on m.processor) (given_taken m.hardware (next_of m.processor) got)))
 
 -- the state of a value, by the processor that it stands for
-abbrev state_with : SpcState → HardwareState → Clock → SoundState
+abbrev pub state_with : SpcState → HardwareState → Clock → SoundState
 state_with s b k = record { processor = s; hardware = b; clock = k }
 
-same_state : (x : AudioValue) (m : SoundState) → StandsAt x m → state_with m.processor x.hardware x.clock ≡ m
+pub same_state : (x : AudioValue) (m : SoundState) → StandsAt x m → state_with m.processor x.hardware x.clock ≡ m
 same_state x m h =
     ap (λ (b : HardwareState). state_with m.processor b x.clock) h.hardware ∙ ap (λ (k : Clock). state_with m.processor m.hardware k) h.clock
 

@@ -7,4 +7,4 @@ pub mod Parts
 pub mod SoundLaws
 pub mod FromParts
 pub mod Kept
-pub mod Rests
+pub mod Runs

@@ -1,8 +1,9 @@
-ghost use Rattle.std.specs.Prelude.{◌≡◌, ◌≤◌, ◌/◌, ◌%◌, ◌^◌};
+ghost use Rattle.std.specs.Prelude.{◌≡◌, ◌<◌, ◌≤◌, ◌+◌, ◌*◌, ◌/◌, ◌%◌, ◌^◌, IsTrue};
 ghost use Rattle.snes_defs.specs.declared.ports.Side.TheVariants.{Sound};
 ghost use Rattle.snes_defs.specs.Script.{is_reset};
 ghost use Rattle.clock_ratio.specs.Stamp.{frame_of, rate_of};
 ghost use Rattle.audio_side.specs.Clock.{gone_on, is_reset_due, stamp_now};
+ghost use Rattle.audio_side.specs.Runs.{AreFree, IsFarFromReset, beat_of, later};
 
 use clock_ratio::{FRAME_STAMPS, PAL_FRAME_STAMPS, PAL_SOUND_RATE, SOUND_RATE};
 use snes_defs::Region;
@@ -137,5 +138,71 @@ impl CycleClock {
     {
         self.cycle += 1;
         self.stamp += self.rate;
+    }
+
+    /// The stamps of a frame.
+    #[inline(always)]
+    fn frame_stamps(&self) -> u64
+        ensures { result ≡ frame_of self.now.region }
+    {
+        match self.region {
+            Region::Ntsc => FRAME_STAMPS,
+            Region::Pal => PAL_FRAME_STAMPS,
+        }
+    }
+
+    /// Whether it is seen at once that none of the next 32 cycles is a reset: there are none, or the frame has begun
+    /// and lasts for longer.
+    #[inline(always)]
+    fn is_far_from_reset(&self) -> bool
+        ensures { IsTrue result → IsFarFromReset self.now }
+    {
+        if self.resets.is_empty() {
+            return true;
+        }
+        let passed = self.passed();
+        if passed < self.rate() {
+            return false;
+        }
+        passed + 32 * self.rate() <= self.frame_stamps()
+    }
+
+    /// How many cycles come before the next one at whose end something may come: timer 2, where it is on (`fast`), comes
+    /// each 16 cycles, and the others and a sample only at the ends of 32.
+    #[inline(always)]
+    fn cycles_to_end(&self, fast: bool) -> u8
+        ensures { result + self.now.cycle % beat_of fast + 1 ≡ beat_of fast }
+    {
+        if fast {
+            15 - (self.cycle % 16) as u8
+        } else {
+            31 - (self.cycle % 32) as u8
+        }
+    }
+
+    /// How many cycles, each begun before a stamp, are seen at once to be no resets and to have nothing come at their
+    /// ends.
+    #[inline(always)]
+    pub fn free_cycles(&self, before: u64, fast: bool) -> u8
+        ensures free { AreFree fast before result self.now }
+        ensures early { 0 < result → stamp_now self.now + rate_of self.now.region Sound * result ≤ before }
+    {
+        if !self.is_far_from_reset() {
+            return 0;
+        }
+        if before.saturating_sub(self.stamp()) < 32 * self.rate() {
+            return 0;
+        }
+        self.cycles_to_end(fast)
+    }
+
+    /// So many cycles have ended.
+    #[inline(always)]
+    pub fn go_on_by(&mut self, cycles: u8)
+        requires { stamp_now self.old + rate_of self.old.region Sound * cycles ≤ 2 ^ 62 }
+        ensures { self.new ≡ later cycles self.old }
+    {
+        self.cycle += cycles as u64;
+        self.stamp += self.rate * cycles as u64;
     }
 }

@@ -252,6 +252,14 @@ impl Hardware {
         self.boot[62] as u16 + 256 * self.boot[63] as u16
     }
 
+    /// Whether timer 2 is on, which ticks eight times as often as the others.
+    #[inline(always)]
+    pub fn has_fast_timer(&self) -> bool
+        ensures { result ≡ self.now.timer2.on }
+    {
+        self.timer2.on
+    }
+
     /// The timers tick, at the end of every 16th cycle.
     #[tactic(auto, unfolding(crate::specs::Effect::timed))]
     #[inline(always)]

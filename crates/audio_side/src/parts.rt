@@ -3,14 +3,13 @@ ghost use Rattle.snes_defs.specs.declared.ports.Act.TheVariants.{Quiet};
 ghost use Rattle.side_law.specs.Moves.{IsAtPorts, taken};
 ghost use Rattle.side_law.specs.Quiet.{HasGoneQuietly};
 ghost use Rattle.audio_side.specs.Clock.{gone_on, stamp_now};
-ghost use Rattle.audio_side.specs.Rests.{HasRested};
 ghost use Rattle.side_law.proofs.QuietRuns.{IsSilent};
 ghost use Rattle.audio_side.specs.Effect.{emitted};
 ghost use Rattle.audio_side.specs.Sound.{IsRunning, SoundState, StandsAt, hardware_before_end, sound_act, sound_moves, sound_next};
 
 use crate::clock::CycleClock;
 use crate::hardware::Hardware;
-use crate::step::{begin, finish, next_act, try_access};
+use crate::step::{begin, finish, make_accesses, next_act, try_access};
 use circular_buffer::HeapCircularBuffer;
 use side_law::Pause;
 use snes_defs::Act;
@@ -26,22 +25,14 @@ pub struct Parts {
     pub waiting: HeapCircularBuffer<u8>,
 }
 
-/// The clock goes on by cycles in which nothing but the processor acts, each begun before a stamp.
-#[inline(never)]
-fn rest(clock: &mut CycleClock, before: u64)
-    requires early { before ≤ 2 ^ 62 }
-    ensures rests { HasRested before clock.old clock.new }
-    ensures forward { stamp_now clock.old ≤ stamp_now clock.new }
-    ensures region { clock.new.region ≡ clock.old.region }
-{
-    'cycles: while clock.stamp() < before {
-        if clock.is_due() {
-            return;
-        }
-        if (clock.number() + 1) % 16 == 0 {
-            return;
-        }
-        clock.go_on();
+/// Whether a step is quiet.
+#[inline(always)]
+fn is_quiet(act: Act) -> bool {
+    match act {
+        Act::Quiet => true,
+        Act::Read(_) => false,
+        Act::Write(_, _) => false,
+        Act::Clear(_) => false,
     }
 }
 
@@ -106,10 +97,10 @@ impl Parts {
         true
     }
 
-    /// Where the processor has halted, makes the cycles, each begun before a stamp, up to the next at whose end the
-    /// timers come.
+    /// Makes accesses of the memory and internal cycles, each begun before a stamp, at most up to the next cycle at whose
+    /// end something may come, and answers whether it came to an access of a register before.
     #[inline(always)]
-    fn rest_halted(&mut self, before: u64)
+    fn rush(&mut self, before: u64) -> bool
         requires early { before ≤ 2 ^ 62 }
         ensures gone { (m : SoundState) → StandsAt (value_of self.old) m → IsSilent sound_moves before (StandsAt (value_of self.new)) self.old.waiting.items m self.new.waiting.items }
         ensures forward { stamp_now self.old.clock ≤ stamp_now self.new.clock }
@@ -117,10 +108,14 @@ impl Parts {
         ensures waiting { self.new.waiting ≡ self.old.waiting }
         ensures runs { IsRunning self.old.spc → IsRunning self.new.spc }
     {
-        if !self.spc.is_halted() {
-            return;
+        let fast = self.hardware.has_fast_timer();
+        let free = self.clock.free_cycles(before, fast);
+        if free == 0 {
+            return false;
         }
-        rest(&mut self.clock, before);
+        let made = make_accesses(&mut self.spc, &mut self.hardware, free);
+        self.clock.go_on_by(made);
+        made < free
     }
 
     /// Makes quiet steps, each begun before a stamp, up to the first that emits bytes, and answers where it stands
@@ -141,9 +136,16 @@ impl Parts {
         ensures runs { IsRunning self.old.spc → IsRunning self.new.spc }
     {
         let waited = self.waiting.len();
-        self.rest_halted(before);
+        let mut stopped = self.rush(before);
         let mut at = self.clock.stamp();
         'steps: while at < before {
+            if stopped {
+                // Where the register is a port, no step is tried in vain.
+                let act = self.act();
+                if !is_quiet(act) {
+                    return Pause { at, act };
+                }
+            }
             if !self.try_step() {
                 let act = self.act();
                 return Pause { at, act };
@@ -152,7 +154,7 @@ impl Parts {
                 let act = self.act();
                 return Pause { at, act };
             }
-            self.rest_halted(before);
+            stopped = self.rush(before);
             at = self.clock.stamp();
         }
         let act = self.act();

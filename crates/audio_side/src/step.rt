@@ -6,6 +6,7 @@ ghost use Rattle.spc_modes.specs.Plan.{gets_byte};
 ghost use Rattle.spc700.specs.Stands.{Stands, access_of};
 ghost use Rattle.audio_side.specs.HardwareState.{vector};
 ghost use Rattle.audio_side.specs.Effect.{act_of, act_of_load, after_load, loaded, act_of_store, effect, emitted, given, passed, reset_hardware, stored};
+ghost use Rattle.audio_side.specs.Runs.{HasRun};
 ghost use Rattle.audio_side.specs.Sound.{IsRunning, SoundState, hardware_before_end, processor_after, sound_act};
 
 use crate::clock::CycleClock;
@@ -203,6 +204,61 @@ pub fn try_access(spc: &mut Spc, hardware: &mut Hardware) -> bool
             true
         }
     }
+}
+
+/// The processor's next access is made where it is an internal cycle or at none of the registers F0 to FF, and whether
+/// it was is answered. Otherwise nothing has changed.
+#[tactic(auto, unfolding(crate::specs::Effect::act_of_load, crate::specs::Effect::after_load, crate::specs::Effect::act_of_store, crate::specs::Effect::stored))]
+#[inline(always)]
+pub fn try_plain(spc: &mut Spc, hardware: &mut Hardware) -> bool
+    ensures quiet { IsTrue result → (s : SpcState) → Stands spc.old s → act_of (next_of s) ≡ Quiet }
+    ensures processor { IsTrue result → (s : SpcState) → Stands spc.old s → Stands spc.new (moved_on s (given hardware.old (next_of s) 0)) }
+    ensures hardware { IsTrue result → (s : SpcState) → Stands spc.old s → hardware.new ≡ effect hardware.old (next_of s) }
+    ensures timer { hardware.new.timer2 ≡ hardware.old.timer2 }
+    ensures spc_stays { result ≡ false → spc.new ≡ spc.old }
+    ensures hardware_stays { result ≡ false → hardware.new ≡ hardware.old }
+{
+    match spc.next() {
+        SpcAccess::Fetch(at) | SpcAccess::Read(at) => {
+            if is_register(at) {
+                return false;
+            }
+            let byte = hardware.load_memory(at);
+            spc.took(byte);
+            true
+        }
+        SpcAccess::Write(at, byte) => {
+            if is_register(at) {
+                return false;
+            }
+            hardware.store_memory(at, byte);
+            spc.wrote();
+            true
+        }
+        SpcAccess::Inner => {
+            spc.idle();
+            true
+        }
+    }
+}
+
+/// Makes the processor's accesses one after another, at most so many, as long as they are internal cycles or at none of
+/// the registers F0 to FF, and answers how many it made.
+#[inline(never)]
+pub fn make_accesses(spc: &mut Spc, hardware: &mut Hardware, most: u8) -> u8
+    ensures run { (s : SpcState) → Stands spc.old s → HasRun spc.new hardware.new s hardware.old result }
+    ensures few { result ≤ most }
+    ensures runs { IsRunning spc.old → IsRunning spc.new }
+{
+    if spc.is_halted() {
+        return most;
+    }
+    'accesses: for made in 0..most {
+        if !try_plain(spc, hardware) {
+            return made;
+        }
+    }
+    most
 }
 
 /// A processor at the vector `pc`.

@@ -1,4 +1,4 @@
-ghost use Rattle.std.specs.Prelude.{◌≡◌, ◌<◌};
+ghost use Rattle.std.specs.Prelude.{◌≡◌, ◌≢◌, ◌<◌, ◌%◌};
 ghost use Rattle.sdsp_voice.specs.Envelope.{
   after_attack,
   after_decay,
@@ -14,10 +14,68 @@ ghost use Rattle.sdsp_voice.specs.Envelope.{
 use crate::setting::Setting;
 use crate::voice::{Phase, Voice};
 
-/// Whether a rate has an event at sample `s`.
-#[tactic(auto, unfolding(crate::specs::Envelope::is_due))]
-#[inline]
+/// Whether a rate has an event at sample `s`. Three samples of four are told at once: of the slow rates, up to 23,
+/// each period is a multiple of 4.
+#[inline(always)]
 pub fn due(rate: u8, s: u64) -> bool
+    requires { rate < 32 }
+    ensures { result ≡ is_due rate s }
+{
+    if s % 4 == 0 {
+        due_by_period(rate, s)
+    } else {
+        due_between(rate, s)
+    }
+}
+
+/// The same where 4 doesn't divide the sample's number.
+#[tactic(auto, unfolding(crate::specs::Envelope::is_due))]
+#[inline(always)]
+fn due_between(rate: u8, s: u64) -> bool
+    requires rate { rate < 32 }
+    requires between { s % 4 ≢ 0 }
+    ensures { result ≡ is_due rate s }
+{
+    match rate {
+        0 => false,
+        1 => false,
+        2 => false,
+        3 => false,
+        4 => false,
+        5 => false,
+        6 => false,
+        7 => false,
+        8 => false,
+        9 => false,
+        10 => false,
+        11 => false,
+        12 => false,
+        13 => false,
+        14 => false,
+        15 => false,
+        16 => false,
+        17 => false,
+        18 => false,
+        19 => false,
+        20 => false,
+        21 => false,
+        22 => false,
+        23 => false,
+        24 => s % 10 == 0,
+        25 => false,
+        26 => s % 6 == 0,
+        27 => s % 5 == 0,
+        28 => false,
+        29 => s % 3 == 0,
+        30 => s % 2 == 0,
+        _ => true,
+    }
+}
+
+/// The same by the rate's period.
+#[tactic(auto, unfolding(crate::specs::Envelope::is_due))]
+#[inline(never)]
+fn due_by_period(rate: u8, s: u64) -> bool
     requires { rate < 32 }
     ensures { result ≡ is_due rate s }
 {

@@ -2,11 +2,13 @@
 //!
 //! The arguments are what to run and how often, as many such pairs as are wanted: `play` makes samples with eight voices and echo on,
 //! `rest` with none as after power on, `quiet` with eight voices that were released and still have a
-//! pitch, and `cycles` steps of the whole sound machine over a loop that reads a timer and writes a
-//! port. What it prints is a sum over what came out, so that two builds can be compared. In the stored run that sum
+//! pitch, `cycles` steps of the whole sound machine over a loop that reads a timer and writes a
+//! port, and `work` over one that touches the memory alone, both as a run makes them, by `Machine::quiet`. What it
+//! prints is a sum over what came out, so that two builds can be compared. In the stored run that sum
 //! is 0 at rest, and 1 of 160 cycles: the loop takes 25, begins at cycle 10, and reads the counter in its third
 //! cycle, so its sixth round, from cycle 135 on, is the first behind the tick of cycle 127 and writes a 1; the five
-//! before it write 0, and the seventh comes too late.
+//! before it write 0, and the seventh comes too late. Of `work` it is the byte that each round of 49 cycles counts up in
+//! its tenth: 4 after 160.
 #![tactic(auto)]
 
 ghost use Rattle.std.specs.Prelude.{◌≡◌, length};
@@ -116,21 +118,31 @@ fn samples(ram: &mut [u8], scene: Scene, count: u64) -> u64 {
 }
 
 /// MOV FA,#01; MOV F1,#81; loop: MOV A,FD; MOV F4,A; INC 10; MOV A,F4; ADC A,10; MOV 12,A; BRA loop.
-const LOOP: [u8; 20] = [
+const TALK: [u8; 24] = [
     0x8F, 0x01, 0xFA, 0x8F, 0x81, 0xF1, 0xE4, 0xFD, 0xC4, 0xF4, 0xAB, 0x10, 0xE4, 0xF4, 0x84, 0x10,
-    0xC4, 0x12, 0x2F, 0xF2,
+    0xC4, 0x12, 0x2F, 0xF2, 0x00, 0x00, 0x00, 0x00,
 ];
+
+/// loop: MOV A,#12; MOV 10,A; INC 11; ADC A,11; MOV !0200+X,A; INC X; MOV A,20+X; CLRC; ADC A,!0200+X; CALL !FFD7;
+/// BRA loop; at FFD7: RET.
+const WORK: [u8; 24] = [
+    0xE8, 0x12, 0xC4, 0x10, 0xAB, 0x11, 0x84, 0x11, 0xD5, 0x00, 0x02, 0x3D, 0xF4, 0x20, 0x60, 0x95,
+    0x00, 0x02, 0x3F, 0xD7, 0xFF, 0x2F, 0xE9, 0x6F,
+];
+
+/// Where `WORK` counts its rounds.
+const ROUNDS: u16 = 0x11;
 
 /// An interpolation table of zeros.
 fn empty_table() -> Table {
     Table::of([0; 512])
 }
 
-/// A job with that loop as boot ROM.
-fn job(alloc: Global) -> io::Result<Job> {
+/// A job with a program as boot ROM.
+fn job(alloc: Global, program: [u8; 24]) -> io::Result<Job> {
     let mut boot = [0u8; 64];
-    for (i, byte) in LOOP.iter().enumerate() {
-        boot[i] = *byte;
+    for i in 0..24 {
+        boot[i] = program[i];
     }
     boot[62] = 0xC0;
     boot[63] = 0xFF;
@@ -148,24 +160,26 @@ fn job(alloc: Global) -> io::Result<Job> {
     })
 }
 
-/// So many cycles.
-fn cycles(alloc: Global, job: &Job, count: u64) -> u64 {
-    let Ok(mut side) = AudioSide::new(alloc, job) else {
-        return 0;
-    };
+/// The stamps of a cycle.
+const RATE: u64 = 118_125;
+
+/// So many cycles, at most 2^40, and the sum of the bytes that they write to the ports.
+fn cycles(side: &mut AudioSide, count: u64) -> u64 {
+    let end = count.min(1 << 40) * RATE;
     let mut bytes = [0u8; 4096];
     let mut sum = 0u64;
     for _ in 0..count {
         if !side.ready() {
             let _count = side.drain(&mut bytes);
         }
-        if !side.ready() || side.stamp() > 1 << 62 {
+        if !side.ready() {
             return sum;
         }
-        if side.try_step() {
-            continue;
+        let pause = side.quiet(end);
+        if side.stamp() >= end {
+            return sum;
         }
-        let got = match side.act() {
+        let got = match pause.act {
             Act::Read(port) => port,
             Act::Write(_, byte) => {
                 sum = sum.wrapping_mul(31).wrapping_add(byte as u64);
@@ -191,8 +205,17 @@ const MOST_RUNS: u32 = 100;
 fn measured(alloc: Global, what: &str, count: u64) -> io::Result<Option<u64>> {
     let scene = match what {
         "cycles" => {
-            let job = job(alloc)?;
-            return Ok(Some(cycles(alloc, &job, count)));
+            let Ok(mut side) = AudioSide::new(alloc, &job(alloc, TALK)?) else {
+                return Ok(None);
+            };
+            return Ok(Some(cycles(&mut side, count)));
+        }
+        "work" => {
+            let Ok(mut side) = AudioSide::new(alloc, &job(alloc, WORK)?) else {
+                return Ok(None);
+            };
+            let _written = cycles(&mut side, count);
+            return Ok(Some(side.byte_at(ROUNDS, 0) as u64));
         }
         "play" => Scene::Play,
         "quiet" => Scene::Quiet,

@@ -5,12 +5,12 @@ use Rattle.side_law.proofs.QuietRuns.{gone_silently, goes_on_silently}
 use Rattle.audio_side.specs.Parts.{value_of}
 use Rattle.audio_side.specs.Sound.{AudioValue, StandsAt, sound_moves}
 use Rattle.audio_side.specs.SoundLaws.{stamp_stands}
-use Rattle.audio_side.proofs.Halts.{silent_joined}
+use Rattle.audio_side.proofs.Runs.{silent_joined}
 use Rattle.audio_side.proofs.parts.Parts.quiet.Goals as goal
 
 pub steps-init : goal.steps-init
 steps-init c = record {
-  gone = λ m h. c.rest_halted.ensures.gone m h;
+  gone = λ m h. c.rush-stopped.ensures.gone m h;
   at = search rules;
   forward = grind (arith, common_steps);
   region = search rules;
@@ -31,8 +31,8 @@ steps-preserved c = record {
       (omega (arith, stamp_stands (value_of c.steps.self) was.to was.now_stands, c.steps.invariant.at, c.steps-test.true))
       (did.next refl was.to was.now_stands) (did.emits refl was.to was.now_stands)
       (omega (arith, c.if-len-waited.false, c.len.ensures.len, c.len-waited.ensures.len, waits)) in
-      silent_joined sound_moves c.args.before (StandsAt (value_of c.try_step.new.self)) (StandsAt (value_of c.rest_halted-in-steps.new.self))
-      c.args.self.now.waiting.items c.try_step.new.self.waiting.items c.rest_halted-in-steps.new.self.waiting.items m made (c.rest_halted-in-steps.ensures.gone made.to made.now_stands);
+      silent_joined sound_moves c.args.before (StandsAt (value_of c.try_step.new.self)) (StandsAt (value_of c.rush-stopped-in-steps.new.self))
+      c.args.self.now.waiting.items c.try_step.new.self.waiting.items c.rush-stopped-in-steps.new.self.waiting.items m made (c.rush-stopped-in-steps.ensures.gone made.to made.now_stands);
   at = c.stamp-at-in-steps.ensures;
   forward = grind (arith, common_steps);
   region = search rules;

@@ -1,0 +1,197 @@
+-- Runs of plain accesses: none, one more, those of a halted processor; free cycles; and that a run in free cycles is made of
+-- silent steps of the sound side.
+use Rattle.std.proofs.Common.{◌≡◌, ◌≢◌, ◌∙◌, ◌<◌, ◌≤◌, ◌%◌, ◌+◌, ◌*◌, ◌&&◌, ◌==◌, ℕ, Bool, zero, suc, true, false, List, [], ◌++◌, refl, sym, ap, subst, arith, add-zero, nat_lt, not-suc-le-zero, rules}
+use Rattle.std.proofs.lemmas.Bool.{ne_eqb}
+use Rattle.snes_defs.specs.Script.{is_reset}
+use Rattle.snes_defs.specs.declared.region.Region.{Region}
+use Rattle.snes_defs.specs.declared.region.Region.TheVariants.{Ntsc, Pal}
+use Rattle.snes_defs.specs.declared.ports.Side.TheVariants.{Sound}
+use Rattle.snes_defs.specs.declared.ports.Act.TheVariants.{Quiet}
+use Rattle.clock_ratio.specs.Stamp.{frame_of, rate_of}
+use Rattle.side_law.specs.Moves.{Moves}
+use Rattle.side_law.specs.Quiet.{SilentSteps}
+use Rattle.side_law.proofs.QuietRuns.{IsSilent, none_made, goes_on_silently, silent_then}
+use Rattle.spc_tables.specs.declared.access.SpcAccess.{SpcAccess}
+use Rattle.spc_tables.specs.declared.access.SpcAccess.TheVariants as Access
+use Rattle.spc_modes.specs.Plan.{first_access}
+use Rattle.spc700.specs.Instruction.{SpcState, moved_on, next_of}
+use Rattle.spc700.specs.Stands.{Stands, access_of}
+use Rattle.spc700.specs.declared.processor.Spc.{Spc}
+use Rattle.audio_side.specs.HardwareState.{HardwareState}
+use Rattle.audio_side.specs.declared.timer.Timer.{Timer}
+use Rattle.audio_side.specs.Clock.{Clock, gone_on, is_reset_due, stamp_now}
+use Rattle.audio_side.specs.Effect.{act_of, effect, emitted, given, passed}
+use Rattle.audio_side.specs.Runs.{later, beat_of, IsFree, AreFree, IsFarFromReset, PlainAccesses, HasRun}
+use Rattle.audio_side.specs.Sound.{AudioValue, SoundState, StandsAt, hardware_before_end, sound_act, sound_moves, sound_next}
+use Rattle.audio_side.specs.SoundLaws.{by_test}
+use Rattle.audio_side.proofs.Moves.{not_reset_processor, not_reset_hardware, same_state, state_with}
+use Rattle.audio_side.proofs.Ticks.{passes_nothing, rests_nothing}
+
+-- ---- runs
+
+-- one access more
+plain_more : (n : ℕ) (s : SpcState) (b : HardwareState) (to : SpcState) (b' : HardwareState) → PlainAccesses n s b to b' → act_of (next_of to) ≡ Quiet
+    → (effect b' (next_of to)).timer2 ≡ b'.timer2 → PlainAccesses (suc n) s b (moved_on to (given b' (next_of to) 0)) (effect b' (next_of to))
+plain_more zero s b to b' (same, is) quiet timer =
+    let P : SpcState → Type 0 = λ x. PlainAccesses 1 x b (moved_on to (given b' (next_of to) 0)) (effect b' (next_of to)) in
+    let Q : HardwareState → Type 0 = λ x. PlainAccesses 1 to x (moved_on to (given b' (next_of to) 0)) (effect b' (next_of to)) in
+    subst P (sym same) (subst Q (sym is) (quiet, timer, (refl, refl)))
+plain_more (suc n) s b to b' (first, still, rest) quiet timer =
+    (first, still, plain_more n (moved_on s (given b (next_of s) 0)) (effect b (next_of s)) to b' rest quiet timer)
+
+pub no_run : (spc : Spc) (b : HardwareState) (s : SpcState) → Stands spc s → HasRun spc b s b 0
+no_run spc b s stands = record { to = s; run = (refl, refl); stands = stands }
+
+-- a run and one access more
+pub run_on : (old new : Spc) (mid end : HardwareState) (s : SpcState) (b : HardwareState) (n k : ℕ) → (h : HasRun old mid s b n)
+    → act_of (next_of h.to) ≡ Quiet → end.timer2 ≡ mid.timer2 → Stands new (moved_on h.to (given mid (next_of h.to) 0)) → end ≡ effect mid (next_of h.to)
+    → k ≡ suc n → HasRun new end s b k
+run_on old new mid end s b n k h quiet timer stands is sum =
+    let still : (effect mid (next_of h.to)).timer2 ≡ mid.timer2 = ap (λ (x : HardwareState). x.timer2) (sym is) ∙ timer in
+    let P : HardwareState → Type 0 = λ x. HasRun new x s b k in
+    let Q : ℕ → Type 0 = λ x. HasRun new (effect mid (next_of h.to)) s b x in
+    subst P (sym is) (subst Q (sym sum) (record {
+      to = moved_on h.to (given mid (next_of h.to) 0);
+      run = plain_more n s b h.to mid h.run quiet still;
+      stands = stands;
+    }))
+
+-- a processor that has halted makes as many as are wanted
+pub halted_run : (n : ℕ) (spc : Spc) (b : HardwareState) (s : SpcState) → access_of spc ≡ Access.Inner
+    → ((t : SpcState) (byte : ℕ) → Stands spc t → Stands spc (moved_on t byte)) → Stands spc s → HasRun spc b s b n
+halted_run zero spc b s inner stays stands = no_run spc b s stands
+halted_run (suc n) spc b s inner stays stands =
+    let is : next_of s ≡ Access.Inner = sym (ap first_access stands.left) ∙ inner in
+    let rest = halted_run n spc b (moved_on s 0) inner stays (stays s 0 stands) in
+    let P : SpcAccess → Type 0 = λ a. (act_of a ≡ Quiet) × ((effect b a).timer2 ≡ b.timer2) × PlainAccesses n (moved_on s (given b a 0)) (effect b a) rest.to b in
+    record { to = rest.to; run = subst P (sym is) (refl, refl, rest.run); stands = rest.stands }
+
+-- ---- free cycles
+
+pub never_reset : (c : Clock) → c.resets ≡ [] → is_reset_due c ≡ false
+never_reset c none = rw none (by_test (nat_lt (stamp_now c % frame_of c.region) (rate_of c.region Sound)) (λ e. rw e refl) (λ e. rw e refl))
+
+amid : (r : Region) (n k : ℕ) → rate_of r Sound ≤ (rate_of r Sound * n) % frame_of r → (rate_of r Sound * n) % frame_of r + 32 * rate_of r Sound ≤ frame_of r
+    → k < 32 → nat_lt ((rate_of r Sound * (n + k)) % frame_of r) (rate_of r Sound) ≡ false
+amid Ntsc n k begun left few = grind arith
+amid Pal n k begun left few = grind arith
+
+-- where a frame has begun and lasts for 32 cycles more, none of them is a reset
+pub no_reset_amid : (c : Clock) → rate_of c.region Sound ≤ stamp_now c % frame_of c.region → stamp_now c % frame_of c.region + 32 * rate_of c.region Sound ≤ frame_of c.region
+    → IsFarFromReset c
+no_reset_amid c begun left k few = rw (amid c.region c.cycle k begun left few) refl
+
+early_in : (r : Region) (n k before : ℕ) → rate_of r Sound * n + 32 * rate_of r Sound ≤ before → k < 32 → rate_of r Sound * (n + k) < before
+early_in Ntsc n k before room few = omega (arith, room, few)
+early_in Pal n k before room few = omega (arith, room, few)
+
+no_end_in : (fast : Bool) (n k m : ℕ) → m + n % beat_of fast + 1 ≡ beat_of fast → k < m → (n + k + 1) % beat_of fast ≢ 0
+no_end_in true n k m sum few = λ e. omega (arith, sum, few, e)
+no_end_in false n k m sum few = λ e. omega (arith, sum, few, e)
+
+few_in : (fast : Bool) (n m : ℕ) → m + n % beat_of fast + 1 ≡ beat_of fast → m < 32
+few_in true n m sum = omega (arith, sum)
+few_in false n m sum = omega (arith, sum)
+
+-- the cycles up to the next end at which something may come are free, where they are far from a reset and begin before the stamp
+pub are_free : (fast : Bool) (before m : ℕ) (c : Clock) → IsFarFromReset c → stamp_now c + 32 * rate_of c.region Sound ≤ before
+    → m + c.cycle % beat_of fast + 1 ≡ beat_of fast → AreFree fast before m c
+are_free fast before m c far room sum k few =
+    let less = few_in fast c.cycle m sum in
+    record {
+      no_reset = far k (omega (arith, less, few));
+      no_end = no_end_in fast c.cycle k m sum few;
+      early = early_in c.region c.cycle k before room (omega (arith, less, few));
+    }
+
+pub none_free : (fast : Bool) (before : ℕ) (c : Clock) → AreFree fast before 0 c
+none_free fast before c k few = absurd (omega (arith, few))
+
+-- ---- steps of the sound side
+
+-- nothing comes at the end of a cycle whose number is none of those at which something may
+ends_nothing : (fast : Bool) (n : ℕ) (b : HardwareState) → b.timer2.on ≡ fast → (n + 1) % beat_of fast ≢ 0 → passed n b ≡ b
+ends_nothing true n b is none = passes_nothing n b none
+ends_nothing false n b is none = rests_nothing n b is none
+
+emits_none : (fast : Bool) (n : ℕ) (b : HardwareState) → (n + 1) % beat_of fast ≢ 0 → emitted n b ≡ []
+unfolding emitted
+emits_none true n b none =
+    let sample : (n % 32 == 31) ≡ false = ne_eqb (n % 32) 31 (λ e. none (omega (arith, e))) in
+    rw sample refl
+emits_none false n b none =
+    let sample : (n % 32 == 31) ≡ false = ne_eqb (n % 32) 31 (λ e. none (omega (arith, e))) in
+    rw sample refl
+
+-- a quiet access in a free cycle is a step of the sound side
+free_step : (fast : Bool) (before : ℕ) (s : SpcState) (b : HardwareState) (k : Clock) → (effect b (next_of s)).timer2.on ≡ fast → IsFree fast before k
+    → sound_next (state_with s b k) 0 ≡ state_with (moved_on s (given b (next_of s) 0)) (effect b (next_of s)) (gone_on k)
+free_step fast before s b k on free =
+    let made : hardware_before_end (state_with s b k) ≡ effect b (next_of s) = not_reset_hardware s b k free.no_reset in
+    ap (λ (p : SpcState). state_with p (passed k.cycle (hardware_before_end (state_with s b k))) (gone_on k)) (not_reset_processor s b k 0 free.no_reset)
+    ∙ ap (λ (x : HardwareState). state_with (moved_on s (given b (next_of s) 0)) x (gone_on k))
+    (ap (passed k.cycle) made ∙ ends_nothing fast k.cycle (effect b (next_of s)) on free.no_end)
+
+free_act : (fast : Bool) (before : ℕ) (s : SpcState) (b : HardwareState) (k : Clock) → act_of (next_of s) ≡ Quiet → IsFree fast before k
+    → sound_act (state_with s b k) ≡ Quiet
+unfolding sound_act
+free_act fast before s b k quiet free = rw free.no_reset quiet
+
+later_none : (c : Clock) → later 0 c ≡ c
+later_none c = ap (λ (n : ℕ). record c { cycle = n }) (add-zero c.cycle)
+
+later_more : (n : ℕ) (c : Clock) → later n (gone_on c) ≡ later (suc n) c
+later_more n c = ap (λ (k : ℕ). record c { cycle = k }) (omega arith)
+
+-- a run in free cycles is made of silent steps
+silent_run : (fast : Bool) (before n : ℕ) (s : SpcState) (b : HardwareState) (k : Clock) (to : SpcState) (b' : HardwareState) → b.timer2.on ≡ fast
+    → PlainAccesses n s b to b' → AreFree fast before n k → SilentSteps sound_moves before n (state_with s b k) (state_with to b' (later n k))
+silent_run fast before zero s b k to b' on (same, is) free =
+    ap (λ (p : SpcState). state_with p b k) same ∙ ap (λ (x : HardwareState). state_with to x k) is ∙ ap (λ (c : Clock). state_with to b' c) (sym (later_none k))
+silent_run fast before (suc n) s b k to b' on (quiet, still, rest) free =
+    let F : Clock → Type 0 = λ c. IsFree fast before c in
+    let here : IsFree fast before k = subst F (later_none k) (free 0 (omega arith)) in
+    let s' = moved_on s (given b (next_of s) 0) in
+    let b'' = effect b (next_of s) in
+    let on' : b''.timer2.on ≡ fast = ap (λ (t : Timer). t.on) still ∙ on in
+    let P : SoundState → Type 0 = λ m. SilentSteps sound_moves before n m (state_with to b' (later (suc n) k)) in
+    let Q : Clock → Type 0 = λ c. SilentSteps sound_moves before n (state_with s' b'' (gone_on k)) (state_with to b' c) in
+    let after = silent_run fast before n s' b'' (gone_on k) to b' on' rest (λ j less. subst F (sym (later_more j k)) (free (suc j) (omega (arith, less)))) in
+    (
+      free_act fast before s b k quiet here,
+      here.early,
+      emits_none fast k.cycle (hardware_before_end (state_with s b k)) here.no_end,
+      subst P (sym (free_step fast before s b k on' here)) (subst Q (later_more n k) after),
+    )
+
+-- so a run in free cycles goes silently
+pub run_is_silent : (before n : ℕ) (old : AudioValue) (spc : Spc) (b : HardwareState) (m : SoundState) → StandsAt old m
+    → HasRun spc b m.processor old.hardware n → AreFree old.hardware.timer2.on before n old.clock
+    → (new : AudioValue) → new.processor ≡ spc → new.hardware ≡ b → new.clock ≡ later n old.clock → (waited : List ℕ) → IsSilent sound_moves before (StandsAt new) waited m waited
+run_is_silent before n old spc b m h run free new is_spc is_hardware is_clock waited =
+    let R : SoundState → Type 0 = λ from. SilentSteps sound_moves before n from (state_with run.to b (later n old.clock)) in
+    let S : Spc → Type 0 = λ p. Stands p run.to in
+    record {
+      steps = n;
+      to = state_with run.to b (later n old.clock);
+      now_stands = record { processor = subst S (sym is_spc) run.stands; hardware = is_hardware; clock = is_clock };
+      silent = subst R (same_state old m h) (silent_run old.hardware.timer2.on before n m.processor old.hardware old.clock run.to b refl run.run free);
+      waits_is = refl;
+    }
+
+-- silent steps after silent steps
+pub silent_joined : {State : Type 0} (moves : Moves State) (before : ℕ) (stood stands : State → Type 0) (waited mid waits : List ℕ) (from : State)
+    → (h : IsSilent moves before stood waited from mid) → IsSilent moves before stands mid h.to waits
+    → IsSilent moves before stands waited from waits
+silent_joined moves before stood stands waited mid waits from h then =
+    let all = silent_then moves before h.steps then.steps from h.to then.to h.silent then.silent in
+    record { steps = all.0; to = then.to; now_stands = then.now_stands; silent = all.1; waits_is = h.waits_is ∙ then.waits_is }
+
+-- ---- stamps
+
+later_in : (r : Region) (n k : ℕ) → rate_of r Sound * n ≤ rate_of r Sound * (n + k)
+later_in Ntsc n k = omega arith
+later_in Pal n k = omega arith
+
+pub goes_forward : (c : Clock) (n : ℕ) → stamp_now c ≤ stamp_now (later n c)
+goes_forward c n = later_in c.region c.cycle n
