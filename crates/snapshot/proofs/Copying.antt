@@ -73,8 +73,8 @@ module _ (job : Job) (n : ℕ) (p q : List Span) (a b : Run) (va aa vb ab : List
   room_b = let own_b = done_own job n q b vb ab y in ap (λ r. r.script.room) rest_b ∙ ap (λ s. s.room) own_b.own.script_is
 
   -- the copy stands where the first run does
-  copied_stands : IsDone job n p (copy_of a n) va aa
-  copied_stands =
+  copied_stands : (stepped : ℕ) → IsDone job n p (copy_of a n stepped) va aa
+  copied_stands stepped =
       let own_a = done_own job n p a va aa x in
       record {
         at = x.at;
@@ -97,8 +97,8 @@ module _ (job : Job) (n : ℕ) (p q : List Span) (a b : Run) (va aa vb ab : List
         room = x.room;
       }
 
-  pub copied_done : (c : Run) → c ≡ copy_of a b.serial.console.rest.script.room → HoldsPath job n p c
-  copied_done c is = subst (λ r. HoldsPath job n p r) (sym (is ∙ ap (copy_of a) room_b)) (va, aa, copied_stands)
+  pub copied_done : (c : Run) (stepped : ℕ) → c ≡ copy_of a b.serial.console.rest.script.room stepped → HoldsPath job n p c
+  copied_done c stepped is = subst (λ r. HoldsPath job n p r) (sym (is ∙ ap (λ m. copy_of a m stepped) room_b)) (va, aa, copied_stands stepped)
 
 -- the slots after a keep
 pub slot_kept : (job : Job) (n : ℕ) (paths : Paths) (slots : List Run) (slot : ℕ) (new : Run) → slot < length slots
@@ -122,7 +122,7 @@ slot_kept job n paths slots slot new within held now k other lt = ⊎_elim same 
         (subst (λ b. HoldsPath job n (if b then paths.path else paths.held k) (slice_index_or slots k other)) (sym off) (held k other (omega (arith, lt, e))))
 
 pub kept_rested : (job : Job) (n : ℕ) (paths : Paths) (r after : Rewind) (slot : ℕ) (old new : Run) → slot < length r.slots.items → old ≡ slice_index_or r.slots.items slot old
-    → new ≡ copy_of r.run old.serial.console.rest.script.room → after.run ≡ r.run → after.slots.items ≡ slice_set r.slots.items slot new
+    → new ≡ copy_of r.run old.serial.console.rest.script.room old.stepped → after.run ≡ r.run → after.slots.items ≡ slice_set r.slots.items slot new
     → IsRested job n paths r → IsRested job n (kept paths slot) after
 kept_rested job n paths r after slot old new within is copied same set h =
     let (video, audio, done) = h.now in
@@ -130,17 +130,17 @@ kept_rested job n paths r after slot old new within is copied same set h =
     record {
       now = subst (HoldsPath job n paths.path) (sym same) h.now;
       slots = subst (λ v. (k : ℕ) (other : Run) → k < length v → HoldsPath job n ((kept paths slot).held k) (slice_index_or v k other)) (sym set)
-          (slot_kept job n paths r.slots.items slot new within h.slots (copied_done job n paths.path (paths.held slot) r.run old video audio old_video old_audio done old_done new copied));
+          (slot_kept job n paths r.slots.items slot new within h.slots (copied_done job n paths.path (paths.held slot) r.run old video audio old_video old_audio done old_done new old.stepped copied));
     }
 
 pub back_rested : (job : Job) (n : ℕ) (paths : Paths) (r after : Rewind) (slot : ℕ) (held new : Run) → slot < length r.slots.items → held ≡ slice_index_or r.slots.items slot held
-    → new ≡ copy_of held r.run.serial.console.rest.script.room → after.run ≡ new → after.slots.items ≡ r.slots.items
+    → new ≡ copy_of held r.run.serial.console.rest.script.room r.run.stepped → after.run ≡ new → after.slots.items ≡ r.slots.items
     → IsRested job n paths r → IsRested job n (back paths slot) after
 back_rested job n paths r after slot held new within is copied now same h =
     let (video, audio, done) = h.now in
     let (held_video, held_audio, held_done) = subst (HoldsPath job n (paths.held slot)) (sym is) (h.slots slot held within) in
     record {
-      now = subst (HoldsPath job n (paths.held slot)) (sym now) (copied_done job n (paths.held slot) paths.path held r.run held_video held_audio video audio held_done done new copied);
+      now = subst (HoldsPath job n (paths.held slot)) (sym now) (copied_done job n (paths.held slot) paths.path held r.run held_video held_audio video audio held_done done new r.run.stepped copied);
       slots = subst (λ v. (k : ℕ) (other : Run) → k < length v → HoldsPath job n (paths.held k) (slice_index_or v k other)) (sym same) h.slots;
     }
 

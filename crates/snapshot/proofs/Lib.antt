@@ -10,4 +10,5 @@ pub mod Going
 pub mod Starting
 pub mod Drives
 pub mod Over
+pub mod Stepping
 pub mod Steps

@@ -47,9 +47,9 @@ pub record CanCopy (from into : Run) : Type 0 where
   pub no_sound_resets : from.serial.sound.clock.resets ≡ []
   pub none_there_either : into.serial.sound.clock.resets ≡ []
 
--- a copy, which keeps its room for spans
-abbrev pub copy_of : Run → ℕ → Run
-copy_of r n = record {
+-- a copy, which keeps its room for spans and its count of steps
+abbrev pub copy_of : Run → ℕ → ℕ → Run
+copy_of r n stepped = record {
   serial = record {
     console = value_with_room r.serial.console n;
     sound = r.serial.sound;
@@ -57,6 +57,7 @@ copy_of r n = record {
     to_console = r.serial.to_console;
   };
   end = r.end;
+  stepped = stepped;
 }
 
 -- the serial machine that a rewinder is, and whether both of its sides have come to the end of the path

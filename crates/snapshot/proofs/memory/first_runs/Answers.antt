@@ -14,5 +14,5 @@ runs-preserved c =
     record {
       count = ap length c.in-Ok.ensures.items ∙ omega arith;
       starts = subst (λ v. (k : ℕ) (other : Run) → k < length v → HoldsPath job n [] (slice_index_or v k other)) (sym c.in-Ok.ensures.items)
-          (one_more job n [] c.runs.runs.items run c.runs.invariant.starts ([], [], c.in_ok-run.ensures));
+          (one_more job n [] c.runs.runs.items run c.runs.invariant.starts ([], [], c.in_ok-run.ensures.done));
     }
