@@ -1,26 +1,20 @@
 -- Machines of a path that are copied into those of another path of the same job.
-use Rattle.std.proofs.Common.{◌≡◌, ℕ, ◌+◌, ◌*◌, ◌<◌, ◌≤◌, ◌==◌, Bool, true, false, List, drop, length, slice_set, slice_index_or, refl, ap, sym, ◌∙◌, subst, ⊎_elim, arith, if◌then◌else◌, length-set}
+use Rattle.std.proofs.Common.{◌≡◌, ℕ, ◌+◌, ◌<◌, ◌≤◌, ◌==◌, true, false, List, drop, length, slice_set, slice_index_or, ap, sym, ◌∙◌, subst, ⊎_elim, arith, if◌then◌else◌, length-set}
 use Rattle.std.proofs.lemmas.List.{get_or-set_same, get_or-set_other}
 use Rattle.std.proofs.lemmas.Bool.{cases_eq}
 use Rattle.std.proofs.lemmas.Bool.Decides.{nat_tests}
 use Rattle.snes_defs.specs.declared.cart.Job.{Job}
 use Rattle.snes_defs.specs.declared.script.Span.{Span}
-use Rattle.snes_defs.specs.Script.{frames_of}
-use Rattle.side_law.specs.Serial.{SerialState}
-use Rattle.console_bus.specs.Playing.{with_room}
 use Rattle.console_bus.specs.BusState.{BusState, board_of}
-use Rattle.console_steps.specs.ConsoleState.{ConsoleState}
-use Rattle.console_machine.specs.Side.{ConsoleValue, StandsAt}
-use Rattle.console_machine.specs.Playing.{rest_with_room, value_with_room}
+use Rattle.console_machine.specs.Playing.{rest_with_room}
 use Rattle.audio_side.specs.HardwareState.{table_of}
-use Rattle.audio_side.specs.Sound.{SoundState}
 use Rattle.snapshot.specs.declared.run.Run.{Run}
 use Rattle.plan_drive.specs.Paths.{Paths, path_script, kept, back}
 use Rattle.snapshot.specs.Path.{start_of, end_of_path}
 use Rattle.snapshot.specs.declared.rewind.Rewind.{Rewind}
 use Rattle.snapshot.specs.Positions.{IsDone, IsRested, CanCopy, HoldsPath, copy_of}
 use Rattle.snapshot.proofs.Effects.{rom_of}
-use Rattle.snapshot.proofs.Runs.{IsOf, own_at, starts_own, turns_keep}
+use Rattle.snapshot.proofs.Runs.{own_at, starts_own, turns_keep}
 
 pub done_own : (job : Job) (n : ℕ) (path : List Span) (r : Run) (video audio : List ℕ) (d : IsDone job n path r video audio) → own_at job n path d.at
 done_own job n path r video audio d =

@@ -1,18 +1,17 @@
 -- A path that goes on by a span, and steps on the way.
-use Rattle.std.proofs.Common.{◌≡◌, ℕ, ◌+◌, ◌*◌, ◌<◌, ◌≤◌, Bool, true, false, List, [], ◌∷◌, ◌++◌, length, length-append, refl, ap, sym, ◌∙◌, subst, append_assoc, ⊎_elim, arith}
+use Rattle.std.proofs.Common.{◌≡◌, ℕ, ◌+◌, ◌*◌, ◌<◌, ◌≤◌, List, [], ◌∷◌, ◌++◌, length, length-append, refl, ap, sym, ◌∙◌, subst, append_assoc, ⊎_elim, arith}
 use Rattle.std.proofs.lemmas.Bool.{cases_lt}
 use Rattle.std.proofs.lemmas.List.{append-nil}
 use Rattle.snes_defs.specs.declared.cart.Job.{Job}
 use Rattle.snes_defs.specs.declared.script.Span.{Span}
-use Rattle.snes_defs.specs.Script.{Script, frames_of}
+use Rattle.snes_defs.specs.Script.{frames_of}
 use Rattle.side_law.specs.Moves.{Moves}
-use Rattle.side_law.specs.Serial.{SerialState, got_of, is_console_first, console_step, sound_step, turn, console_emits, sound_emits}
+use Rattle.side_law.specs.Serial.{SerialState, got_of, console_step, sound_step, turn, console_emits, sound_emits}
 use Rattle.side_law.specs.SerialRun.{IsPast, IsUnderway}
 use Rattle.side_law.proofs.SerialKeeps.{TurnOf, by_console, by_sound, turn_of, turn_console, turn_sound}
 use Rattle.side_law.proofs.SerialRuns.{run_is_over}
-use Rattle.serial_console.specs.declared.serial.Serial.{Serial}
 use Rattle.serial_console.specs.Serial.{IsAt}
-use Rattle.serial_console.specs.Lead.{IsLead, IsLed}
+use Rattle.serial_console.specs.Lead.{IsLead}
 use Rattle.serial_console.proofs.Lead.{lead_console_turn, lead_sound_turn, console_gives, sound_gives}
 use Rattle.console_steps.specs.ConsoleState.{ConsoleState, console_moves}
 use Rattle.console_machine.specs.Side.{ConsoleValue}
@@ -22,9 +21,9 @@ use Rattle.audio_side.specs.Sound.{AudioValue, SoundState, sound_moves}
 use Rattle.audio_side.specs.Sound as sound_side
 use Rattle.snapshot.specs.declared.run.Run.{Run}
 use Rattle.snapshot.specs.declared.rewind.Rewind.{Rewind}
-use Rattle.plan_drive.specs.Paths.{Paths, gone, path_script}
+use Rattle.plan_drive.specs.Paths.{Paths, gone}
 use Rattle.snapshot.specs.Path.{start_of, end_of_path}
-use Rattle.snapshot.specs.Positions.{IsDone, IsRested, IsGoing}
+use Rattle.snapshot.specs.Positions.{IsRested, IsGoing}
 use Rattle.snapshot.proofs.Runs.{goes_on, frames_more}
 use Rattle.snapshot.proofs.Copying.{done_script}
 

@@ -5,11 +5,9 @@ use Rattle.snes_defs.specs.declared.cart.Job.{Job}
 use Rattle.snes_defs.specs.declared.ports.Side.{Side}
 use Rattle.snes_defs.specs.declared.ports.Side.TheVariants.{Console, Sound}
 use Rattle.snes_defs.specs.declared.script.Span.{Span}
-use Rattle.side_law.specs.Serial.{SerialState, serial_of}
 use Rattle.side_law.specs.SerialRun.{IsPast}
 use Rattle.side_law.proofs.SerialRuns.{run_is_over}
 use Rattle.serial_console.specs.Lead.{IsLead, IsLed}
-use Rattle.serial_console.specs.declared.serial.Serial.{Serial}
 use Rattle.console_steps.specs.ConsoleState.{ConsoleState, console_moves}
 use Rattle.console_machine.specs.Side.{ConsoleValue}
 use Rattle.console_machine.specs.Side as console_side
@@ -22,7 +20,7 @@ use Rattle.snapshot.specs.declared.run.Run.{Run}
 use Rattle.snapshot.specs.declared.rewind.Rewind.{Rewind}
 use Rattle.plan_drive.specs.Paths.{Paths}
 use Rattle.snapshot.specs.Path.{start_of, end_of_path}
-use Rattle.snapshot.specs.Positions.{IsDone, IsRested, IsGoing, IsBeyond}
+use Rattle.snapshot.specs.Positions.{IsRested, IsGoing, IsBeyond}
 use Rattle.snes_defs.specs.declared.region.Region.TheVariants.{Ntsc}
 use Rattle.side_law.specs.SerialRun.{IsOutput}
 use Rattle.side_law.proofs.SerialRuns.{run_ends}

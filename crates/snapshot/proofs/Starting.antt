@@ -1,10 +1,10 @@
 -- The machines of a job at its start are those of the empty path.
-use Rattle.std.proofs.Common.{◌≡◌, ℕ, ◌+◌, ◌≤◌, List, [], ◌∷◌, length, max, refl, ap, sym, ◌∙◌, subst, arith}
+use Rattle.std.proofs.Common.{◌≡◌, ℕ, ◌+◌, List, [], ◌∷◌, length, max, refl, ap, ◌∙◌, subst, arith}
 use Rattle.snes_defs.specs.declared.cart.Job.{Job}
 use Rattle.snes_defs.specs.declared.region.Region.{Region}
 use Rattle.snes_defs.specs.declared.region.Region.TheVariants.{Ntsc}
 use Rattle.snes_defs.specs.Script.{Script}
-use Rattle.side_law.specs.Serial.{SerialState, serial_of}
+use Rattle.side_law.specs.Serial.{serial_of}
 use Rattle.side_law.proofs.SerialRuns.{run_begins}
 use Rattle.serial_console.specs.declared.serial.Serial.{Serial}
 use Rattle.serial_console.specs.Serial.{IsAt}

@@ -15,11 +15,11 @@ use Rattle.audio_side.specs.Sound.{SoundState, sound_moves}
 use Rattle.audio_side.specs.Sound as sound_side
 use Rattle.audio_side.specs.SoundLaws.{stamp_stands as sound_stamp}
 use Rattle.input_files.specs.declared.plan.PlanStep.{PlanStep}
-use Rattle.input_files.specs.declared.plan.PlanStep.TheVariants.{Go, Keep, Back}
+use Rattle.input_files.specs.declared.plan.PlanStep.TheVariants.{Go}
 use Rattle.plan_drive.specs.Paths.{Paths, no_paths, after_step}
 use Rattle.snapshot.specs.declared.run.Run.{Run}
 use Rattle.snapshot.specs.declared.rewind.Rewind.{Rewind}
-use Rattle.snapshot.specs.Path.{start_of, end_of_path}
+use Rattle.snapshot.specs.Path.{end_of_path}
 use Rattle.snapshot.specs.Positions.{IsDone, HoldsPath, StandsIn}
 use Rattle.snapshot.specs.Stepped.{counted, rise_of, stepped_of, SlotsWait, StepsNone, StepsOn, StepsByGoes, EndsAt, GoLasts, GoesLast}
 

@@ -5,7 +5,6 @@ use Rattle.snes_defs.specs.declared.script.Span.{Span}
 use Rattle.snes_defs.specs.Script.{frames_of}
 use Rattle.side_law.specs.Serial.{SerialState}
 use Rattle.side_law.specs.SerialRun.{IsPast, IsUnderway}
-use Rattle.serial_console.specs.declared.serial.Serial.{Serial}
 use Rattle.snes_defs.specs.declared.ports.Side.{Side}
 use Rattle.audio_side.specs.Clock.{stamp_now}
 use Rattle.serial_console.specs.Serial.{IsAt, earlier_side}

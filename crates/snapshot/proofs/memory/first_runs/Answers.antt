@@ -1,4 +1,4 @@
-use Rattle.std.proofs.Common.{◌+◌, ◌∷◌, [], ℕ, length, length-append, max, slice_index_or, ◌<◌, ap, subst, sym, ◌∙◌, arith}
+use Rattle.std.proofs.Common.{◌∷◌, [], ℕ, length, length-append, max, slice_index_or, ◌<◌, ap, subst, sym, ◌∙◌, arith}
 use Rattle.snapshot.specs.declared.run.Run.{Run}
 use Rattle.snapshot.specs.Positions.{HoldsPath}
 use Rattle.snapshot.proofs.Slots.{one_more}

@@ -1,7 +1,4 @@
-use Rattle.std.proofs.Common.{◌≡◌, ℕ, ◌+◌, List, [], ◌∷◌, drop, length, drop_of_length-le, sym, subst, ◌∙◌, rules, arith}
-use Rattle.snes_defs.specs.declared.cart.Job.{Job}
-use Rattle.snes_defs.specs.declared.ports.Side.{Side}
-use Rattle.input_files.specs.declared.plan.PlanStep.{PlanStep}
+use Rattle.std.proofs.Common.{◌+◌, drop, drop_of_length-le, sym, subst, ◌∙◌, rules, arith}
 use Rattle.input_files.specs.declared.plan.PlanStep.TheVariants.{Go, Keep, Back}
 use Rattle.input_files.specs.Plan.{NamesBelow}
 use Rattle.plan_drive.specs.Paths.{no_paths, after_step}

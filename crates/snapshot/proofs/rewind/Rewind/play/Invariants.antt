@@ -1,4 +1,4 @@
-use Rattle.std.proofs.Common.{◌≡◌, ℕ, length, drop}
+use Rattle.std.proofs.Common.{ℕ, drop}
 use Rattle.snes_defs.specs.declared.cart.Job.{Job}
 use Rattle.input_files.specs.Plan.{NamesBelow}
 use Rattle.plan_drive.specs.Paths.{no_paths}

@@ -1,4 +1,4 @@
-use Rattle.std.proofs.Common.{◌≡◌, Bool, true, false, ◌∙◌, sym}
+use Rattle.std.proofs.Common.{◌≡◌, Bool, true, false}
 use Rattle.snapshot.proofs.Going.{turned}
 use Rattle.snapshot.proofs.rewind.Rewind.turn.Goals as goal
 
