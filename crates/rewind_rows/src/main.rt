@@ -1,20 +1,18 @@
-//! Counts the steps of a rewinder's goes.
+//! Counts how far a rewinder steps its machines.
 //!
-//! It plays a plan over a cartridge that passes bytes between both sides all the time, once step by step and once whole,
-//! and prints what the counts tell: that the steps are those of the frames of the goes, and not those of a path before
-//! them again. The clauses of the rewinder say so; here the counts of a run are looked at.
+//! It plays plans over a cartridge that passes bytes between both sides all the time, and prints through how many frames
+//! the machines were stepped: those of the goes alone, and not those of a path before them again. The clauses of the
+//! rewinder say so (`steps` of `Rewind::play`); here the count of a run is looked at.
 #![tactic(auto)]
 
 ghost use Rattle.std.specs.Prelude.{◌≡◌, []};
 ghost use Rattle.snes_defs.specs.declared.region.Region.TheVariants.{Ntsc};
 ghost use Rattle.plan_drive.specs.Paths.{path_script};
 
-mod counts;
 mod jobs;
 mod nowhere;
 
 use clock_ratio::FRAME_STAMPS;
-use counts::count_goes;
 use input_files::{Plan, read_plan};
 use jobs::talking_job;
 use nowhere::Nowhere;
@@ -24,30 +22,14 @@ use std::alloc::Global;
 use std::io;
 
 /// Three frames, and then one frame three times: twice with the same pads, and once with others in between.
-const PLAN: &[u8] =
+const TRIES: &[u8] =
     b"go 3 0500 0000\nkeep 0\ngo 1 0300 0000\nback 0\ngo 1 0000 0000\nback 0\ngo 1 0300 0000\n";
 
-/// The counts of a plan.
-struct Counts {
-    /// How many steps each go made, as the calls of a turn count them.
-    goes: Vec<u64>,
-    /// By how many stamps the machines were stepped in it.
-    by_turns: u64,
-    /// And as many where the plan was played whole.
-    whole: u64,
-}
+/// As many frames without a return.
+const STRAIGHT: &[u8] = b"go 6 0500 0000\n";
 
-/// Follows a plan from the start of a job, step by step.
-fn follow_job(alloc: Global, job: &Job, plan: &Plan) -> Result<Option<(Vec<u64>, u64)>, NoMemory>
-    requires script { job.now.script ≡ path_script 0 [] }
-    requires region { job.now.region ≡ Ntsc }
-{
-    let mut rewind = Rewind::new(alloc, job, plan)?;
-    let Some(goes) = count_goes(alloc, &mut rewind, plan) else {
-        return Ok(None);
-    };
-    Ok(Some((goes, rewind.stepped())))
-}
+/// Four frames, and returns to their end.
+const RETURNS: &[u8] = b"go 4 0500 0000\nkeep 0\nback 0\nback 0\nkeep 1\nback 1\nback 0\n";
 
 /// Plays a plan from the start of a job, and answers by how many stamps the machines were stepped.
 fn play_job(alloc: Global, job: &Job, plan: &Plan) -> Result<Option<u64>, NoMemory>
@@ -62,56 +44,29 @@ fn play_job(alloc: Global, job: &Job, plan: &Plan) -> Result<Option<u64>, NoMemo
     }
 }
 
-/// The counts of the plan.
-fn count_plan(alloc: Global) -> Option<Counts> {
+/// Through how many frames a plan steps both sides, to the nearest.
+fn count_frames(alloc: Global, plan: &[u8]) -> Option<u64> {
     let job = talking_job(alloc)?;
-    let plan = read_plan(alloc, PLAN).ok()?;
-    let (goes, by_turns) = follow_job(alloc, &job, &plan).ok()??;
-    let whole = play_job(alloc, &job, &plan).ok()??;
-    Some(Counts {
-        goes,
-        by_turns,
-        whole,
-    })
+    let plan = read_plan(alloc, plan).ok()?;
+    let stamps = play_job(alloc, &job, &plan).ok()??;
+    Some(stamps.saturating_add(FRAME_STAMPS) / (2 * FRAME_STAMPS))
 }
 
-/// How many frames of both sides so many stamps are, to the nearest.
-fn frames_of(stamps: u64) -> u64 {
-    stamps.saturating_add(FRAME_STAMPS) / (2 * FRAME_STAMPS)
-}
-
-/// Prints what the counts tell.
-fn tell<R: Print>(rt: &R, counts: &Counts) -> io::Result<()> {
-    let [first, then, other, again] = *counts.goes.as_slice() else {
-        return println!(rt; "no four goes");
-    };
-    println!(rt;
-        "three frames make a hundred thousand steps and more: {}",
-        first > 100_000
-    )?;
-    println!(rt;
-        "the next frame makes less than half as many: {}",
-        then < first / 2
-    )?;
-    println!(rt; "so does the one behind a return: {}", other < first / 2)?;
-    println!(rt;
-        "with the same pads it makes just as many: {}",
-        again == then
-    )?;
-    println!(rt;
-        "stepped through, as the machines count: {} frames",
-        frames_of(counts.by_turns)
-    )?;
-    println!(rt;
-        "and by a plan that is played whole: {} frames",
-        frames_of(counts.whole)
-    )?;
-    println!(rt; "to the same stamp: {}", counts.by_turns == counts.whole)
+/// Prints a plan's count.
+fn tell<R: Print>(rt: &R, name: &str, frames: Option<u64>) -> io::Result<()> {
+    match frames {
+        Some(frames) => println!(rt; "{name}: {frames} frames"),
+        None => println!(rt; "{name}: no memory, or no end"),
+    }
 }
 
 fn main(rt: HostRuntime) -> io::Result<()> {
-    match count_plan(rt.alloc()) {
-        Some(counts) => tell(&rt, &counts),
-        None => println!(rt; "no memory, or no end"),
-    }
+    let alloc = rt.alloc();
+    tell(
+        &rt,
+        "3 frames, and 3 times 1 behind them",
+        count_frames(alloc, TRIES),
+    )?;
+    tell(&rt, "6 frames on", count_frames(alloc, STRAIGHT))?;
+    tell(&rt, "4 frames, and 4 returns", count_frames(alloc, RETURNS))
 }
