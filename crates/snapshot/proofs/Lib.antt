@@ -11,4 +11,5 @@ pub mod Starting
 pub mod Drives
 pub mod Over
 pub mod Stepping
+pub mod Rooms
 pub mod Steps

@@ -259,7 +259,7 @@ starts_own job n path = record {
   no_resets = no_reset_frames 36001;
 }
 
-words_twice : (io : IoRegisters) (a b c d : ℕ) → with_words (framed io a b) c d ≡ framed io c d
+pub words_twice : (io : IoRegisters) (a b c d : ℕ) → with_words (framed io a b) c d ≡ framed io c d
 unfolding framed
 words_twice io a b c d = refl
 
