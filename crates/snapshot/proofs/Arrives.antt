@@ -1,10 +1,10 @@
 -- Two machines that have come to the end by leads are just where the serial run ends.
-use Rattle.std.proofs.Common.{◌≡◌, ℕ, zero, suc, ◌≤◌, List, [], ◌++◌, refl, ap, sym, ◌∙◌, subst, arith}
+use Rattle.std.proofs.Common.{◌≡◌, ℕ, zero, suc, ◌≤◌, List, ◌++◌, ap, sym, ◌∙◌, subst, arith}
 use Rattle.std.proofs.lemmas.List.{append-nil}
 use Rattle.side_law.specs.Moves.{Moves}
-use Rattle.side_law.specs.Serial.{SerialState, is_console_first}
+use Rattle.side_law.specs.Serial.{SerialState}
 use Rattle.side_law.specs.SerialRun.{IsPast, IsUnderway}
-use Rattle.serial_console.specs.Lead.{QuietSteps, IsAhead, IsLead}
+use Rattle.serial_console.specs.Lead.{QuietSteps, IsLead}
 use Rattle.serial_console.proofs.Lead.{IsSettled, console_next, sound_next, settled, at_end}
 
 module _ {C S : Type 0} (cm : Moves C) (sm : Moves S) (end : ℕ) (from : SerialState C S) where

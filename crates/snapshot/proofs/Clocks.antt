@@ -1,8 +1,7 @@
 -- The clocks of a step that pass for a console and for one whose script goes on: the two differ in the script, and
 -- from the first clock of the frame in which the shorter script ends on in the pads' words.
-use Rattle.std.proofs.Common.{◌≡◌, ℕ, zero, suc, ◌+◌, ◌-◌, ◌*◌, ◌<◌, ◌≤◌, ◌==◌, ◌&&◌, ◌||◌, Bool, true, false, not, List, [], ◌∷◌, ◌++◌, refl, sym, ap, subst, ◌∙◌, inl, inr, ⊎_elim, arith, if◌then◌else◌}
-use Rattle.std.specs.Prelude.{◌⊎◌}
-use Rattle.std.proofs.lemmas.Bool.{cases_lt, cases_order}
+use Rattle.std.proofs.Common.{◌≡◌, ℕ, ◌+◌, ◌-◌, ◌*◌, ◌<◌, ◌≤◌, ◌==◌, ◌&&◌, ◌||◌, Bool, true, false, List, [], ◌∷◌, ◌++◌, refl, sym, ap, subst, ◌∙◌, ⊎_elim, arith, if◌then◌else◌}
+use Rattle.std.proofs.lemmas.Bool.{cases_lt}
 use Rattle.std.proofs.lemmas.Bool.Decides.{nat_tests}
 use Rattle.snes_defs.specs.declared.region.Region.TheVariants.{Ntsc}
 use Rattle.snes_defs.specs.Script.{Script, pads_at, is_reset}
@@ -15,12 +14,11 @@ use Rattle.io_math.specs.Registers.{framed, blanked, timed, nmi_level, irq_level
 use Rattle.io_math.specs.Words.{with_words}
 use Rattle.cpu65816.specs.Instruction.{CpuState, signalled}
 use Rattle.ppu_regs.specs.Writes.{after_over}
-use Rattle.console_bus.specs.BusState.{BusState, with_pads, next_frame}
+use Rattle.console_bus.specs.BusState.{BusState, next_frame}
 use Rattle.console_bus.specs.Happenings.{happened, emitted_at, frame_begun, blank_begun, row_drawn, row_bytes, row_over, shown_dot, is_shown}
-use Rattle.console_bus.specs.Playing.{told}
-use Rattle.console_steps.specs.ConsoleState.{ConsoleState, moved, events_next, after_event, after_events, bytes_of_events, after_clocks, bytes_in, overscan_of, with_interrupt_levels}
+use Rattle.console_steps.specs.ConsoleState.{ConsoleState, after_event, after_events, bytes_of_events, with_interrupt_levels}
 use Rattle.console_steps.proofs.Beams.{happened_beam}
-use Rattle.console_steps.proofs.EventLists.{events_joined, bytes_joined}
+use Rattle.console_steps.proofs.EventLists.{events_joined}
 
 -- ---- another script, and another value of the processor's registers that no event but a frame's start and vertical blank sees
 

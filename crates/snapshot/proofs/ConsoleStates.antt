@@ -1,27 +1,21 @@
 -- A step of a console: where its clock stands, what it keeps of the cartridge, and what it is under a script that goes on.
-use Rattle.std.proofs.Common.{◌≡◌, ℕ, zero, suc, ◌+◌, ◌*◌, ◌<◌, ◌≤◌, ◌==◌, ◌&&◌, ◌||◌, Bool, true, false, not, List, [], ◌∷◌, ◌++◌, drop, refl, sym, ap, subst, ◌∙◌, ⊎_elim, arith, if◌then◌else◌}
+use Rattle.std.proofs.Common.{◌≡◌, ℕ, zero, suc, ◌+◌, ◌*◌, ◌<◌, ◌≤◌, ◌==◌, ◌&&◌, Bool, true, false, List, [], ◌∷◌, ◌++◌, drop, refl, sym, ap, subst, ◌∙◌, ⊎_elim, arith, if◌then◌else◌}
 use Rattle.std.proofs.lemmas.Bool.{cases_lt}
 use Rattle.std.proofs.lemmas.Bool.Decides.{nat_tests}
-use Rattle.snes_defs.specs.declared.region.Region.TheVariants.{Ntsc}
 use Rattle.snes_defs.specs.Script.{Script, pads_at}
-use Rattle.snes_defs.specs.declared.ports.Act.{Act}
 use Rattle.beam.specs.declared.events.Event.{Event}
 use Rattle.beam.specs.declared.events.Event.TheVariants.{Line, Blank, HdmaFrame, Refresh, Draw, HdmaLine, Timer}
-use Rattle.beam.specs.declared.events.Happens.{Happens}
 use Rattle.beam.specs.Events.{BeamValue, one_if, events_of, happens_next, beam_next, next_h, next_v, is_blank_line}
-use Rattle.cpu_tables.specs.declared.access.Access.{Access}
-use Rattle.cpu65816.specs.Instruction.{CpuState, at_reset, moved_on}
-use Rattle.dma_hdma.specs.declared.moves.Move.{Move}
+use Rattle.cpu65816.specs.Instruction.{CpuState, moved_on}
 use Rattle.dma_hdma.specs.declared.moves.Move.TheVariants.{ToB, ToA, Load}
 use Rattle.console_bus.specs.declared.cart_board.CartBoard.{CartBoard}
 use Rattle.console_bus.specs.BusState.{BusState, next_frame}
-use Rattle.console_bus.specs.Places.{taken_from}
 use Rattle.console_bus.specs.Happenings.{happened, frame_begun, blank_begun, row_drawn, is_shown}
-use Rattle.console_steps.specs.ConsoleState.{ConsoleState, Due, Resets, Refreshes, Moves_byte, Accesses, act_of, access_act, move_act, write_at, due_of, due_clocks, effect, rest_after, processor_after, byte_of, moved, events_next, after_event, after_events, bytes_of_events, after_clocks, bytes_in, overscan_of, console_after, bytes_after, with_interrupt_levels}
+use Rattle.console_steps.specs.ConsoleState.{ConsoleState, Due, Resets, Refreshes, Moves_byte, Accesses, act_of, write_at, due_of, due_clocks, effect, rest_after, processor_after, moved, events_next, after_event, after_events, bytes_of_events, after_clocks, bytes_in, overscan_of, console_after, bytes_after, with_interrupt_levels}
 use Rattle.cart_map.specs.declared.places.Place.TheVariants.{BBus}
 use Rattle.console_machine.specs.Keeping.{effect_beam}
-use Rattle.snapshot.proofs.Effects.{Keeps, rom_of, effect_keeps, with_script, effect_told, byte_told, taken_told}
-use Rattle.snapshot.proofs.Clocks.{IsTimed, timed_so, place_frame, frame_if, events_beam, events_clock, beam_line, beam_dot, beam_region, begins_line, begins_blank, next_line, next_line_clock, console_put, words_of, Agree, Alike, Fits, events_alike, fits_joined, fits_one, same_frame, line_frame}
+use Rattle.snapshot.proofs.Effects.{rom_of, effect_keeps, with_script, effect_told, byte_told, taken_told}
+use Rattle.snapshot.proofs.Clocks.{IsTimed, timed_so, place_frame, frame_if, events_beam, events_clock, beam_line, beam_dot, beam_region, begins_line, begins_blank, next_line, next_line_clock, console_put, Agree, Alike, Fits, events_alike, fits_joined, fits_one, line_frame}
 
 -- ---- what events leave alone
 

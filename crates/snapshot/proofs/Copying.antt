@@ -1,26 +1,20 @@
 -- Machines of a path that are copied into those of another path of the same job.
-use Rattle.std.proofs.Common.{◌≡◌, ℕ, ◌+◌, ◌*◌, ◌<◌, ◌≤◌, ◌==◌, Bool, true, false, List, drop, length, slice_set, slice_index_or, refl, ap, sym, ◌∙◌, subst, ⊎_elim, arith, if◌then◌else◌, length-set}
+use Rattle.std.proofs.Common.{◌≡◌, ℕ, ◌+◌, ◌<◌, ◌≤◌, ◌==◌, true, false, List, drop, length, slice_set, slice_index_or, ap, sym, ◌∙◌, subst, ⊎_elim, arith, if◌then◌else◌, length-set}
 use Rattle.std.proofs.lemmas.List.{get_or-set_same, get_or-set_other}
 use Rattle.std.proofs.lemmas.Bool.{cases_eq}
 use Rattle.std.proofs.lemmas.Bool.Decides.{nat_tests}
 use Rattle.snes_defs.specs.declared.cart.Job.{Job}
 use Rattle.snes_defs.specs.declared.script.Span.{Span}
-use Rattle.snes_defs.specs.Script.{frames_of}
-use Rattle.side_law.specs.Serial.{SerialState}
-use Rattle.console_bus.specs.Playing.{with_room}
 use Rattle.console_bus.specs.BusState.{BusState, board_of}
-use Rattle.console_steps.specs.ConsoleState.{ConsoleState}
-use Rattle.console_machine.specs.Side.{ConsoleValue, StandsAt}
-use Rattle.console_machine.specs.Playing.{rest_with_room, value_with_room}
+use Rattle.console_machine.specs.Playing.{rest_with_room}
 use Rattle.audio_side.specs.HardwareState.{table_of}
-use Rattle.audio_side.specs.Sound.{SoundState}
 use Rattle.snapshot.specs.declared.run.Run.{Run}
 use Rattle.plan_drive.specs.Paths.{Paths, path_script, kept, back}
 use Rattle.snapshot.specs.Path.{start_of, end_of_path}
 use Rattle.snapshot.specs.declared.rewind.Rewind.{Rewind}
 use Rattle.snapshot.specs.Positions.{IsDone, IsRested, CanCopy, HoldsPath, copy_of}
 use Rattle.snapshot.proofs.Effects.{rom_of}
-use Rattle.snapshot.proofs.Runs.{IsOf, own_at, starts_own, turns_keep}
+use Rattle.snapshot.proofs.Runs.{own_at, starts_own, turns_keep}
 
 pub done_own : (job : Job) (n : ℕ) (path : List Span) (r : Run) (video audio : List ℕ) (d : IsDone job n path r video audio) → own_at job n path d.at
 done_own job n path r video audio d =
@@ -73,8 +67,8 @@ module _ (job : Job) (n : ℕ) (p q : List Span) (a b : Run) (va aa vb ab : List
   room_b = let own_b = done_own job n q b vb ab y in ap (λ r. r.script.room) rest_b ∙ ap (λ s. s.room) own_b.own.script_is
 
   -- the copy stands where the first run does
-  copied_stands : IsDone job n p (copy_of a n) va aa
-  copied_stands =
+  copied_stands : (stepped : ℕ) → IsDone job n p (copy_of a n stepped) va aa
+  copied_stands stepped =
       let own_a = done_own job n p a va aa x in
       record {
         at = x.at;
@@ -97,8 +91,8 @@ module _ (job : Job) (n : ℕ) (p q : List Span) (a b : Run) (va aa vb ab : List
         room = x.room;
       }
 
-  pub copied_done : (c : Run) → c ≡ copy_of a b.serial.console.rest.script.room → HoldsPath job n p c
-  copied_done c is = subst (λ r. HoldsPath job n p r) (sym (is ∙ ap (copy_of a) room_b)) (va, aa, copied_stands)
+  pub copied_done : (c : Run) (stepped : ℕ) → c ≡ copy_of a b.serial.console.rest.script.room stepped → HoldsPath job n p c
+  copied_done c stepped is = subst (λ r. HoldsPath job n p r) (sym (is ∙ ap (λ m. copy_of a m stepped) room_b)) (va, aa, copied_stands stepped)
 
 -- the slots after a keep
 pub slot_kept : (job : Job) (n : ℕ) (paths : Paths) (slots : List Run) (slot : ℕ) (new : Run) → slot < length slots
@@ -122,7 +116,7 @@ slot_kept job n paths slots slot new within held now k other lt = ⊎_elim same 
         (subst (λ b. HoldsPath job n (if b then paths.path else paths.held k) (slice_index_or slots k other)) (sym off) (held k other (omega (arith, lt, e))))
 
 pub kept_rested : (job : Job) (n : ℕ) (paths : Paths) (r after : Rewind) (slot : ℕ) (old new : Run) → slot < length r.slots.items → old ≡ slice_index_or r.slots.items slot old
-    → new ≡ copy_of r.run old.serial.console.rest.script.room → after.run ≡ r.run → after.slots.items ≡ slice_set r.slots.items slot new
+    → new ≡ copy_of r.run old.serial.console.rest.script.room old.stepped → after.run ≡ r.run → after.slots.items ≡ slice_set r.slots.items slot new
     → IsRested job n paths r → IsRested job n (kept paths slot) after
 kept_rested job n paths r after slot old new within is copied same set h =
     let (video, audio, done) = h.now in
@@ -130,17 +124,17 @@ kept_rested job n paths r after slot old new within is copied same set h =
     record {
       now = subst (HoldsPath job n paths.path) (sym same) h.now;
       slots = subst (λ v. (k : ℕ) (other : Run) → k < length v → HoldsPath job n ((kept paths slot).held k) (slice_index_or v k other)) (sym set)
-          (slot_kept job n paths r.slots.items slot new within h.slots (copied_done job n paths.path (paths.held slot) r.run old video audio old_video old_audio done old_done new copied));
+          (slot_kept job n paths r.slots.items slot new within h.slots (copied_done job n paths.path (paths.held slot) r.run old video audio old_video old_audio done old_done new old.stepped copied));
     }
 
 pub back_rested : (job : Job) (n : ℕ) (paths : Paths) (r after : Rewind) (slot : ℕ) (held new : Run) → slot < length r.slots.items → held ≡ slice_index_or r.slots.items slot held
-    → new ≡ copy_of held r.run.serial.console.rest.script.room → after.run ≡ new → after.slots.items ≡ r.slots.items
+    → new ≡ copy_of held r.run.serial.console.rest.script.room r.run.stepped → after.run ≡ new → after.slots.items ≡ r.slots.items
     → IsRested job n paths r → IsRested job n (back paths slot) after
 back_rested job n paths r after slot held new within is copied now same h =
     let (video, audio, done) = h.now in
     let (held_video, held_audio, held_done) = subst (HoldsPath job n (paths.held slot)) (sym is) (h.slots slot held within) in
     record {
-      now = subst (HoldsPath job n (paths.held slot)) (sym now) (copied_done job n (paths.held slot) paths.path held r.run held_video held_audio video audio held_done done new copied);
+      now = subst (HoldsPath job n (paths.held slot)) (sym now) (copied_done job n (paths.held slot) paths.path held r.run held_video held_audio video audio held_done done new r.run.stepped copied);
       slots = subst (λ v. (k : ℕ) (other : Run) → k < length v → HoldsPath job n (paths.held k) (slice_index_or v k other)) (sym same) h.slots;
     }
 

@@ -1,5 +1,5 @@
 -- The effect of a step keeps the cartridge, the frame and the line, and doesn't depend on the script.
-use Rattle.std.proofs.Common.{◌≡◌, ℕ, ◌+◌, ◌*◌, ◌/◌, ◌%◌, ◌<◌, ◌≤◌, ◌==◌, ◌&&◌, ◌||◌, nat_lt, nat_le, nat_eq, Bool, true, false, List, drop, slice_set, refl, sym, ap, subst, ◌∙◌, arith, if◌then◌else◌}
+use Rattle.std.proofs.Common.{◌≡◌, ℕ, ◌+◌, ◌*◌, ◌/◌, ◌%◌, ◌<◌, ◌==◌, ◌&&◌, ◌||◌, nat_lt, nat_eq, Bool, true, false, List, drop, slice_set, refl, sym, ap, subst, ◌∙◌, arith, if◌then◌else◌}
 use Rattle.std.proofs.lemmas.List.{drop-set-lt}
 use Rattle.std.proofs.Math.Nat.{mod-lt}
 use Rattle.std.proofs.lemmas.Bool.Decides.{nat_tests}
@@ -21,10 +21,10 @@ use Rattle.io_math.specs.Registers.{registers_start, framed}
 use Rattle.ppu_regs.specs.Reads as picture_reads
 use Rattle.ppu_regs.specs.Writes as picture_writes
 use Rattle.console_bus.specs.declared.cart_board.CartBoard.{CartBoard}
-use Rattle.console_bus.specs.BusState.{BusState, spot_of, with_io, with_pads, channels_start}
+use Rattle.console_bus.specs.BusState.{BusState, spot_of, with_io, channels_start}
 use Rattle.console_bus.specs.Places.{is_channel, register_byte, register_read, register_written, chip_byte, chip_read, chip_written, place_byte, place_read, place_written, a_side, place_at, taken_from, on_bus}
 use Rattle.console_bus.specs.Happenings.{was_reset}
-use Rattle.console_steps.specs.ConsoleState.{ConsoleState, Due, Resets, Refreshes, Moves_byte, Accesses, rest_after, byte_of}
+use Rattle.console_steps.specs.ConsoleState.{Due, Resets, Refreshes, Moves_byte, Accesses, rest_after, byte_of}
 
 -- ---- what an effect keeps
 

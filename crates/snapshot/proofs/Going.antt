@@ -1,18 +1,17 @@
 -- A path that goes on by a span, and steps on the way.
-use Rattle.std.proofs.Common.{◌≡◌, ℕ, ◌+◌, ◌*◌, ◌<◌, ◌≤◌, Bool, true, false, List, [], ◌∷◌, ◌++◌, length, length-append, refl, ap, sym, ◌∙◌, subst, append_assoc, ⊎_elim, arith}
+use Rattle.std.proofs.Common.{◌≡◌, ℕ, ◌+◌, ◌*◌, ◌<◌, ◌≤◌, List, [], ◌∷◌, ◌++◌, length, length-append, refl, ap, sym, ◌∙◌, subst, append_assoc, ⊎_elim, arith}
 use Rattle.std.proofs.lemmas.Bool.{cases_lt}
 use Rattle.std.proofs.lemmas.List.{append-nil}
 use Rattle.snes_defs.specs.declared.cart.Job.{Job}
 use Rattle.snes_defs.specs.declared.script.Span.{Span}
-use Rattle.snes_defs.specs.Script.{Script, frames_of}
+use Rattle.snes_defs.specs.Script.{frames_of}
 use Rattle.side_law.specs.Moves.{Moves}
-use Rattle.side_law.specs.Serial.{SerialState, got_of, is_console_first, console_step, sound_step, turn, console_emits, sound_emits}
+use Rattle.side_law.specs.Serial.{SerialState, got_of, console_step, sound_step, turn, console_emits, sound_emits}
 use Rattle.side_law.specs.SerialRun.{IsPast, IsUnderway}
 use Rattle.side_law.proofs.SerialKeeps.{TurnOf, by_console, by_sound, turn_of, turn_console, turn_sound}
 use Rattle.side_law.proofs.SerialRuns.{run_is_over}
-use Rattle.serial_console.specs.declared.serial.Serial.{Serial}
 use Rattle.serial_console.specs.Serial.{IsAt}
-use Rattle.serial_console.specs.Lead.{IsLead, IsLed}
+use Rattle.serial_console.specs.Lead.{IsLead}
 use Rattle.serial_console.proofs.Lead.{lead_console_turn, lead_sound_turn, console_gives, sound_gives}
 use Rattle.console_steps.specs.ConsoleState.{ConsoleState, console_moves}
 use Rattle.console_machine.specs.Side.{ConsoleValue}
@@ -22,9 +21,9 @@ use Rattle.audio_side.specs.Sound.{AudioValue, SoundState, sound_moves}
 use Rattle.audio_side.specs.Sound as sound_side
 use Rattle.snapshot.specs.declared.run.Run.{Run}
 use Rattle.snapshot.specs.declared.rewind.Rewind.{Rewind}
-use Rattle.plan_drive.specs.Paths.{Paths, gone, path_script}
+use Rattle.plan_drive.specs.Paths.{Paths, gone}
 use Rattle.snapshot.specs.Path.{start_of, end_of_path}
-use Rattle.snapshot.specs.Positions.{IsDone, IsRested, IsGoing}
+use Rattle.snapshot.specs.Positions.{IsRested, IsGoing}
 use Rattle.snapshot.proofs.Runs.{goes_on, frames_more}
 use Rattle.snapshot.proofs.Copying.{done_script}
 
@@ -55,7 +54,7 @@ pub begun : (job : Job) (n : ℕ) (paths : Paths) (r : Rewind) (span : Span) (x 
     → ((w : ConsoleState) → console_side.StandsAt r.run.serial.console w → console_side.StandsAt x (console_played w span)) → x.waiting ≡ r.run.serial.console.waiting
     → IsRested job n paths r
     → IsGoing job n (gone paths span) paths.path [] []
-    (record { run = record { serial = record { console = x; sound = r.run.serial.sound; to_sound = r.run.serial.to_sound; to_console = r.run.serial.to_console }; end = r.run.end + 2012696576 * span.count }; slots = r.slots })
+    (record { run = record { serial = record { console = x; sound = r.run.serial.sound; to_sound = r.run.serial.to_sound; to_console = r.run.serial.to_console }; end = r.run.end + 2012696576 * span.count; stepped = r.run.stepped }; slots = r.slots })
 begun job n paths r span x room few stands waits h =
     let (video, audio, d) = h.now in
     let script = done_script job n paths.path r.run video audio d in
@@ -110,14 +109,15 @@ lead_turn end from at video audio lead short = go (turn_of console_moves sound_m
         (subst (λ v. IsLead console_moves sound_moves end from (sound_step console_moves sound_moves at) v (audio ++ sound_moves.bytes at.sound (got_of (sound_moves.act at.sound) at.to_sound))) (sym (append-nil video) ∙ ap (λ v. video ++ v) (sym gives.0))
         (lead_sound_turn console_moves sound_moves end from at video audio lead lt early)))
 
-pub turned : (job : Job) (n : ℕ) (paths : Paths) (before : List Span) (video audio : List ℕ) (r : Rewind) (s : Serial ConsoleValue AudioValue)
+pub turned : (job : Job) (n : ℕ) (paths : Paths) (before : List Span) (video audio : List ℕ) (r : Rewind) (after : Run)
     → ((w : SerialState ConsoleState SoundState) → IsAt console_side.StandsAt sound_side.StandsAt r.run.serial w → ¬ IsPast console_moves sound_moves r.run.end w)
-    → ((w : SerialState ConsoleState SoundState) → IsAt console_side.StandsAt sound_side.StandsAt r.run.serial w → IsAt console_side.StandsAt sound_side.StandsAt s (turn console_moves sound_moves w))
-    → ((w : SerialState ConsoleState SoundState) → IsAt console_side.StandsAt sound_side.StandsAt r.run.serial w → s.console.waiting ≡ r.run.serial.console.waiting ++ console_emits console_moves sound_moves w)
-    → ((w : SerialState ConsoleState SoundState) → IsAt console_side.StandsAt sound_side.StandsAt r.run.serial w → s.sound.waiting ≡ r.run.serial.sound.waiting ++ sound_emits console_moves sound_moves w)
+    → ((w : SerialState ConsoleState SoundState) → IsAt console_side.StandsAt sound_side.StandsAt r.run.serial w → IsAt console_side.StandsAt sound_side.StandsAt after.serial (turn console_moves sound_moves w))
+    → ((w : SerialState ConsoleState SoundState) → IsAt console_side.StandsAt sound_side.StandsAt r.run.serial w → after.serial.console.waiting ≡ r.run.serial.console.waiting ++ console_emits console_moves sound_moves w)
+    → ((w : SerialState ConsoleState SoundState) → IsAt console_side.StandsAt sound_side.StandsAt r.run.serial w → after.serial.sound.waiting ≡ r.run.serial.sound.waiting ++ sound_emits console_moves sound_moves w)
+    → after.end ≡ r.run.end
     → IsGoing job n paths before video audio r
-    → IsGoing job n paths before video audio (record { run = record { serial = s; end = r.run.end }; slots = r.slots })
-turned job n paths before video audio r s short turns console_out sound_out h =
+    → IsGoing job n paths before video audio (record { run = after; slots = r.slots })
+turned job n paths before video audio r after short turns console_out sound_out same h =
     let at = h.led.at in
     let here = h.led.stands in
     let not_past = subst (λ e. ¬ IsPast console_moves sound_moves e at) h.end_is (short at here) in
@@ -130,13 +130,13 @@ turned job n paths before video audio r s short turns console_out sound_out h =
       led = record {
         at = turn console_moves sound_moves at;
         stands = turns at here;
-        lead = subst (λ x. IsLead console_moves sound_moves (end_of_path paths.path) (start_of job n paths.path) (turn console_moves sound_moves at) x (a ++ s.sound.waiting))
+        lead = subst (λ x. IsLead console_moves sound_moves (end_of_path paths.path) (start_of job n paths.path) (turn console_moves sound_moves at) x (a ++ after.serial.sound.waiting))
             (append_assoc v r.run.serial.console.waiting _ ∙ ap (λ x. v ++ x) (sym (console_out at here)))
             (subst (λ x. IsLead console_moves sound_moves (end_of_path paths.path) (start_of job n paths.path) (turn console_moves sound_moves at) ((v ++ r.run.serial.console.waiting) ++ console_emits console_moves sound_moves at) x)
             (append_assoc a r.run.serial.sound.waiting _ ∙ ap (λ x. a ++ x) (sym (sound_out at here)))
             (lead_turn (end_of_path paths.path) (start_of job n paths.path) at (v ++ r.run.serial.console.waiting) (a ++ r.run.serial.sound.waiting) h.led.lead not_past));
       };
-      end_is = h.end_is;
+      end_is = same ∙ h.end_is;
       few = h.few;
       room = h.room;
       slots = h.slots;

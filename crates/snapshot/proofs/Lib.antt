@@ -10,4 +10,6 @@ pub mod Going
 pub mod Starting
 pub mod Drives
 pub mod Over
+pub mod Stepping
+pub mod Rooms
 pub mod Steps

@@ -5,11 +5,9 @@ use Rattle.snes_defs.specs.declared.cart.Job.{Job}
 use Rattle.snes_defs.specs.declared.ports.Side.{Side}
 use Rattle.snes_defs.specs.declared.ports.Side.TheVariants.{Console, Sound}
 use Rattle.snes_defs.specs.declared.script.Span.{Span}
-use Rattle.side_law.specs.Serial.{SerialState, serial_of}
 use Rattle.side_law.specs.SerialRun.{IsPast}
 use Rattle.side_law.proofs.SerialRuns.{run_is_over}
 use Rattle.serial_console.specs.Lead.{IsLead, IsLed}
-use Rattle.serial_console.specs.declared.serial.Serial.{Serial}
 use Rattle.console_steps.specs.ConsoleState.{ConsoleState, console_moves}
 use Rattle.console_machine.specs.Side.{ConsoleValue}
 use Rattle.console_machine.specs.Side as console_side
@@ -22,7 +20,7 @@ use Rattle.snapshot.specs.declared.run.Run.{Run}
 use Rattle.snapshot.specs.declared.rewind.Rewind.{Rewind}
 use Rattle.plan_drive.specs.Paths.{Paths}
 use Rattle.snapshot.specs.Path.{start_of, end_of_path}
-use Rattle.snapshot.specs.Positions.{IsDone, IsRested, IsGoing, IsBeyond}
+use Rattle.snapshot.specs.Positions.{IsRested, IsGoing, IsBeyond}
 use Rattle.snes_defs.specs.declared.region.Region.TheVariants.{Ntsc}
 use Rattle.side_law.specs.SerialRun.{IsOutput}
 use Rattle.side_law.proofs.SerialRuns.{run_ends}
@@ -71,7 +69,7 @@ pub video_handed : (job : Job) (n : ℕ) (paths : Paths) (before : List Span) (v
     → ((w : ConsoleState) → console_side.StandsAt r.run.serial.console w → console_side.StandsAt x w) → x.waiting ≡ drop k r.run.serial.console.waiting
     → IsGoing job n paths before video audio r
     → IsGoing job n paths before (video ++ take k r.run.serial.console.waiting) audio
-    (record { run = record { serial = record { console = x; sound = r.run.serial.sound; to_sound = r.run.serial.to_sound; to_console = r.run.serial.to_console }; end = r.run.end }; slots = r.slots })
+    (record { run = record { serial = record { console = x; sound = r.run.serial.sound; to_sound = r.run.serial.to_sound; to_console = r.run.serial.to_console }; end = r.run.end; stepped = r.run.stepped }; slots = r.slots })
 video_handed job n paths before video audio r x k same left h = record {
   first_video = h.first_video;
   first_audio = h.first_audio;
@@ -92,7 +90,7 @@ pub audio_handed : (job : Job) (n : ℕ) (paths : Paths) (before : List Span) (v
     → ((m : SoundState) → sound_side.StandsAt r.run.serial.sound m → sound_side.StandsAt x m) → x.waiting ≡ drop k r.run.serial.sound.waiting
     → IsGoing job n paths before video audio r
     → IsGoing job n paths before video (audio ++ take k r.run.serial.sound.waiting)
-    (record { run = record { serial = record { console = r.run.serial.console; sound = x; to_sound = r.run.serial.to_sound; to_console = r.run.serial.to_console }; end = r.run.end }; slots = r.slots })
+    (record { run = record { serial = record { console = r.run.serial.console; sound = x; to_sound = r.run.serial.to_sound; to_console = r.run.serial.to_console }; end = r.run.end; stepped = r.run.stepped }; slots = r.slots })
 audio_handed job n paths before video audio r x k same left h = record {
   first_video = h.first_video;
   first_audio = h.first_audio;
@@ -128,16 +126,18 @@ none_more f w more was = ap (λ v. v ++ more) (ap (λ v. (f ++ []) ++ v) was ∙
 abbrev pub emitted_of : (job : Job) (n : ℕ) (paths : Paths) (before : List Span) (r : Rewind) → IsGoing job n paths before [] [] r → Side → List ℕ
 emitted_of job n paths before r h = by_side ((h.first_video ++ []) ++ r.run.serial.console.waiting) ((h.first_audio ++ []) ++ r.run.serial.sound.waiting)
 
-pub drove : (job : Job) (n : ℕ) (paths : Paths) (before : List Span) (r : Rewind) (s : Serial ConsoleValue AudioValue) (base : Side → List ℕ) (holds : Side → List ℕ → Type 0)
+pub drove : (job : Job) (n : ℕ) (paths : Paths) (before : List Span) (r : Rewind) (after : Run) (base : Side → List ℕ) (holds : Side → List ℕ → Type 0)
     → r.run.serial.console.waiting ≡ [] → r.run.serial.sound.waiting ≡ []
-    → r.run.end ≤ s.console.stamp → r.run.end ≤ stamp_now s.sound.clock → s.console.waiting ≡ [] → s.sound.waiting ≡ []
+    → r.run.end ≤ after.serial.console.stamp → r.run.end ≤ stamp_now after.serial.sound.clock → after.serial.console.waiting ≡ [] → after.serial.sound.waiting ≡ []
+    → after.end ≡ r.run.end
     → (h : IsGoing job n paths before [] [] r)
-    → TookOn console_moves sound_moves console_side.StandsAt sound_side.StandsAt (console_of_path job.cart n paths.path) (sound_of_path job.boot job.table) r.run.end s (Since holds base (emitted_of job n paths before r h))
-    → Gave job n paths before base holds (record { run = record { serial = s; end = r.run.end }; slots = r.slots })
-drove job n paths before r s base holds no_video no_audio console sound none_video none_audio h took =
+    → TookOn console_moves sound_moves console_side.StandsAt sound_side.StandsAt (console_of_path job.cart n paths.path) (sound_of_path job.boot job.table) r.run.end after.serial (Since holds base (emitted_of job n paths before r h))
+    → Gave job n paths before base holds (record { run = after; slots = r.slots })
+drove job n paths before r after base holds no_video no_audio console sound none_video none_audio same h took =
     let (video, video_is, video_held) = took.video_taken in
     let (audio, audio_is, audio_held) = took.audio_taken in
-    let new : Rewind = record { run = record { serial = s; end = r.run.end }; slots = r.slots } in
+    let new : Rewind = record { run = after; slots = r.slots } in
+    let s = after.serial in
     let end = end_of_path paths.path in
     let from = start_of job n paths.path in
     let going : IsGoing job n paths before video audio new = record {
@@ -149,12 +149,12 @@ drove job n paths before r s base holds no_video no_audio console sound none_vid
           (subst (λ a. IsLed console_moves sound_moves console_side.StandsAt sound_side.StandsAt end from s took.video a)
           (sym audio_is ∙ none_between h.first_audio r.run.serial.sound.waiting audio s.sound.waiting no_audio none_audio)
           (subst (λ e. IsLed console_moves sound_moves console_side.StandsAt sound_side.StandsAt e from s took.video took.audio) h.end_is took.led));
-      end_is = h.end_is;
+      end_is = same ∙ h.end_is;
       few = h.few;
       room = h.room;
       slots = h.slots;
     } in
-    let done = arrived job n paths before video audio new console sound none_video none_audio going in
+    let done = arrived job n paths before video audio new (omega (arith, console, same)) (omega (arith, sound, same)) none_video none_audio going in
     record { video = video; audio = audio; beyond = done.1; rested = done.0; video_taken = video_held; audio_taken = audio_held }
 
 pub drove_some : (job : Job) (n : ℕ) (paths : Paths) (before : List Span) (r : Rewind) (base : Side → List ℕ) (holds : Side → List ℕ → Type 0)

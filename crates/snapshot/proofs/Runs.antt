@@ -6,7 +6,6 @@ use Rattle.std.proofs.lemmas.Bool.Decides.{nat_tests}
 use Rattle.snes_defs.specs.declared.ports.Act.{Act}
 use Rattle.snes_defs.specs.declared.ports.Side.TheVariants.{Console}
 use Rattle.clock_ratio.specs.Stamp.{rate_of}
-use Rattle.snes_defs.specs.declared.region.Region.TheVariants.{Ntsc}
 use Rattle.snes_defs.specs.declared.cart.Job.{Job}
 use Rattle.snes_defs.specs.declared.script.Span.{Span}
 use Rattle.snes_defs.specs.Script.{Script, frames_of, pads_at}
@@ -19,19 +18,18 @@ use Rattle.io_math.specs.Registers.{framed, registers_start}
 use Rattle.io_math.specs.Words.{with_words}
 use Rattle.console_bus.specs.declared.cart_board.CartBoard.{CartBoard}
 use Rattle.console_bus.specs.BusState.{board_of, memory_start}
-use Rattle.console_bus.specs.Playing.{lengthened, played}
+use Rattle.console_bus.specs.Playing.{lengthened}
 use Rattle.console_steps.specs.ConsoleState.{ConsoleState, act_of, due_of, due_clocks, console_after, bytes_after, console_moves}
-use Rattle.console_machine.specs.SideLaws.{due_step, step_keeps}
+use Rattle.console_machine.specs.SideLaws.{due_step}
 use Rattle.console_machine.specs.Playing.{console_played}
 use Rattle.audio_side.specs.HardwareState.{table_of, hardware_at_start}
 use Rattle.audio_side.specs.Clock.{reset_frames}
 use Rattle.audio_side.specs.Sound.{SoundState, sound_moves}
 use Rattle.plan_drive.specs.Paths.{path_script}
 use Rattle.snapshot.specs.Path.{start_of, end_of_path, console_of_path}
-use Rattle.snapshot.proofs.Effects.{rom_of}
 use Rattle.snapshot.proofs.Clocks.{IsTimed, Agree, Alike, console_put, words_of}
 use Rattle.snapshot.proofs.ConsoleStates.{IsOwn, step_own, step_alike, step_act, clocks_timed, effect_timed}
-use Rattle.snapshot.proofs.Sounding.{SameRoms, step_roms}
+use Rattle.snapshot.proofs.Sounding.{step_roms}
 
 -- ---- what a serial run keeps
 
@@ -261,7 +259,7 @@ starts_own job n path = record {
   no_resets = no_reset_frames 36001;
 }
 
-words_twice : (io : IoRegisters) (a b c d : ℕ) → with_words (framed io a b) c d ≡ framed io c d
+pub words_twice : (io : IoRegisters) (a b c d : ℕ) → with_words (framed io a b) c d ≡ framed io c d
 unfolding framed
 words_twice io a b c d = refl
 

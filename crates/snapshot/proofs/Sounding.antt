@@ -1,5 +1,5 @@
 -- A step of the sound side keeps its boot ROM and its table, and its resets.
-use Rattle.std.proofs.Common.{◌≡◌, ℕ, ◌==◌, ◌||◌, ◌&&◌, ◌+◌, ◌%◌, ◌/◌, Bool, true, false, nat_le, nat_lt, refl, ◌∙◌, if◌then◌else◌}
+use Rattle.std.proofs.Common.{◌≡◌, ℕ, ◌==◌, ◌||◌, ◌&&◌, ◌/◌, Bool, true, false, nat_le, nat_lt, refl, ◌∙◌, if◌then◌else◌}
 use Rattle.spc_tables.specs.declared.access.SpcAccess.{SpcAccess}
 use Rattle.spc_tables.specs.declared.access.SpcAccess.TheVariants as Access
 use Rattle.spc700.specs.Instruction.{next_of}

@@ -1,10 +1,10 @@
 -- The machines of a job at its start are those of the empty path.
-use Rattle.std.proofs.Common.{◌≡◌, ℕ, ◌+◌, ◌≤◌, List, [], ◌∷◌, length, max, refl, ap, sym, ◌∙◌, subst, arith}
+use Rattle.std.proofs.Common.{◌≡◌, ℕ, ◌+◌, List, [], ◌∷◌, length, max, refl, ap, ◌∙◌, subst, arith}
 use Rattle.snes_defs.specs.declared.cart.Job.{Job}
 use Rattle.snes_defs.specs.declared.region.Region.{Region}
 use Rattle.snes_defs.specs.declared.region.Region.TheVariants.{Ntsc}
 use Rattle.snes_defs.specs.Script.{Script}
-use Rattle.side_law.specs.Serial.{SerialState, serial_of}
+use Rattle.side_law.specs.Serial.{serial_of}
 use Rattle.side_law.proofs.SerialRuns.{run_begins}
 use Rattle.serial_console.specs.declared.serial.Serial.{Serial}
 use Rattle.serial_console.specs.Serial.{IsAt}
@@ -25,7 +25,7 @@ pub first_done : (job : Job) (spans : ℕ) (s : Serial ConsoleValue AudioValue) 
     → sound_side.StandsAt sound (sound_start job.region job.script.resets job.boot job.table)
     → ((c : ConsoleState) (m : SoundState) → console_side.StandsAt new c → sound_side.StandsAt sound m → IsAt console_side.StandsAt sound_side.StandsAt s (serial_of c m))
     → s.console.waiting ≡ [] → s.sound.waiting ≡ []
-    → IsDone job (max job.script.room spans) [] (record { serial = s; end = 0 }) [] []
+    → IsDone job (max job.script.room spans) [] (record { serial = s; end = 0; stepped = 0 }) [] []
 first_done job spans s old new sound script region starts roomy sounds joins no_video no_audio =
     let n = max job.script.room spans in
     let old_script : old.rest.script ≡ job.script = ap (λ r. r.script) starts.at.rest in

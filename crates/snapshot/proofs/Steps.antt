@@ -1,5 +1,5 @@
 -- The steps of a plan one after another, and that what they emit is there.
-use Rattle.std.proofs.Common.{◌≡◌, ℕ, ◌+◌, ◌<◌, ◌≤◌, ◌==◌, Bool, true, false, max, List, [], ◌∷◌, ◌++◌, length, take, drop, length-append, refl, ap, sym, ◌∙◌, subst, append_assoc, arith, if◌then◌else◌}
+use Rattle.std.proofs.Common.{◌≡◌, ℕ, ◌+◌, ◌≤◌, ◌==◌, Bool, true, false, max, List, [], ◌∷◌, ◌++◌, length, take, drop, length-append, refl, ap, sym, ◌∙◌, subst, append_assoc, arith, if◌then◌else◌}
 use Rattle.std.proofs.lemmas.List.{append-nil, take-append-drop, take_all}
 use Rattle.std.proofs.Math.Seq.{take-append_seam}
 use Rattle.snes_defs.specs.declared.cart.Job.{Job}
@@ -20,9 +20,12 @@ use Rattle.plan_drive.specs.Paths.{Paths, no_paths, kept, after_step, after_step
 use Rattle.plan_drive.specs.Joins.{Joins}
 use Rattle.snapshot.specs.declared.rewind.Rewind.{Rewind}
 use Rattle.snapshot.specs.Path.{PathEmits, start_of, end_of_path}
-use Rattle.snapshot.specs.Positions.{IsRested, IsBeyond}
+use Rattle.snapshot.specs.Positions.{IsRested, IsBeyond, StandsIn}
 use Rattle.snapshot.specs.Driven.{by_side}
 use Rattle.snapshot.specs.Handed.{Gave, GaveSome}
+use Rattle.snapshot.specs.Stepped.{StepsNone, StepsOn, StepsByGoes, stepped_of}
+use Rattle.console_machine.specs.Playing.{console_played}
+use Rattle.snapshot.proofs.Stepping.{HasStepped, stepped_first, stepped_go, stepped_none, stepped_whole, go_lasts}
 use Rattle.snapshot.proofs.Runs.{frames_more, goes_on}
 use Rattle.snapshot.proofs.Over.{path_ends}
 
@@ -126,8 +129,8 @@ module _ (job : Job) (n : ℕ) where
 
 -- ---- a rewinder on its way
 
--- some steps of a plan are made, and the rest is left
-pub record Reached (job : Job) (n : ℕ) (steps rest : List PlanStep) (holds : Side → List ℕ → Type 0) (r : Rewind) : Type 0 where
+-- some steps of a plan are made since the start, and the rest is left
+pub record Reached (job : Job) (n : ℕ) (steps rest : List PlanStep) (holds : Side → List ℕ → Type 0) (start r : Rewind) : Type 0 where
   pub paths : Paths
   pub video : List ℕ
   pub audio : List ℕ
@@ -144,10 +147,11 @@ pub record Reached (job : Job) (n : ℕ) (steps rest : List PlanStep) (holds : S
   pub held_spans : (slot : ℕ) → length (paths.held slot) ≤ goes
   pub video_taken : holds Console video
   pub audio_taken : holds Sound audio
+  pub stepped : HasStepped job n steps rest paths start r
 
 pub reached_first : (job : Job) (n : ℕ) (steps : List PlanStep) (holds : Side → List ℕ → Type 0) (r : Rewind)
-    → IsRested job n no_paths r → holds Console [] → holds Sound [] → Reached job n steps steps holds r
-reached_first job n steps holds r rested video audio = record {
+    → IsRested job n no_paths r → holds Console [] → holds Sound [] → stepped_of r ≤ 18446744073709551615 → Reached job n steps steps holds r r
+reached_first job n steps holds r rested video audio few = record {
   paths = no_paths;
   video = [];
   audio = [];
@@ -163,6 +167,7 @@ reached_first job n steps holds r rested video audio = record {
   held_spans = λ slot. omega arith;
   video_taken = video;
   audio_taken = audio;
+  stepped = stepped_first job n steps r few;
 }
 
 -- f ++ g is a beginning of f ++ p, so g is one of p
@@ -186,11 +191,13 @@ first_taken Holds had g w p more f k first whole h =
     subst Holds (sym (first_of (had ++ g) (drop k w ++ more) (had ++ (p ++ more))
     (append_assoc had g (drop k w ++ more) ∙ ap (λ x. had ++ x) (sym (append_assoc g (drop k w) more) ∙ ap (λ x. x ++ more) rest)))) h
 
-module _ (job : Job) (n : ℕ) (steps rest : List PlanStep) (now later : Side → List ℕ → Type 0) (r after : Rewind) where
-  pub reached_go : (count pad1 pad2 : ℕ) (h : Reached job n steps (Go count pad1 pad2 ∷ rest) now r)
+module _ (job : Job) (n : ℕ) (steps rest : List PlanStep) (now later : Side → List ℕ → Type 0) (start r after : Rewind) where
+  pub reached_go : (count pad1 pad2 : ℕ) (mid : Rewind) (h : Reached job n steps (Go count pad1 pad2 ∷ rest) now start r)
       → Gave job n (after_step h.paths (Go count pad1 pad2)) h.paths.path (by_side h.video h.audio) later after
-      → Reached job n steps rest later after
-  reached_go count pad1 pad2 h gave =
+      → ((w : SerialState ConsoleState SoundState) → StandsIn r w → StandsIn mid (record w { console = console_played w.console (record { count = count; pad1 = pad1; pad2 = pad2 }) }))
+      → StepsNone r mid → StepsOn mid after
+      → Reached job n steps rest later start after
+  reached_go count pad1 pad2 mid h gave machines none on =
       let span : Span = record { count = count; pad1 = pad1; pad2 = pad2 } in
       let goes = h.goes_left in
       let frames = h.frames_left in
@@ -215,10 +222,12 @@ module _ (job : Job) (n : ℕ) (steps rest : List PlanStep) (now later : Side �
         held_spans = λ slot. let le = h.held_spans slot in omega (arith, le);
         video_taken = gave.video_taken;
         audio_taken = gave.audio_taken;
+        stepped = stepped_go job n steps rest count pad1 pad2 h.paths start r mid after h.stepped none on
+            (go_lasts job n h.paths.path (after_step h.paths (Go count pad1 pad2)).path span r mid after h.rested.now machines gave.rested.now);
       }
 
   -- a go that failed: first bytes of all were taken
-  pub reached_part : (count pad1 pad2 : ℕ) (h : Reached job n steps (Go count pad1 pad2 ∷ rest) now r) → frames_in steps ≤ 36000
+  pub reached_part : (count pad1 pad2 : ℕ) (h : Reached job n steps (Go count pad1 pad2 ∷ rest) now start r) → frames_in steps ≤ 36000
       → GaveSome job n (after_step h.paths (Go count pad1 pad2)) h.paths.path (by_side h.video h.audio) later
       → PlayedFirst (Joins (PathEmits job n) steps no_paths) later
   reached_part count pad1 pad2 h few gave =
@@ -248,8 +257,9 @@ module _ (job : Job) (n : ℕ) (steps rest : List PlanStep) (now later : Side �
   shorter true goes p q h k = h
   shorter false goes p q h k = k
 
-  pub reached_keep : (slot : ℕ) (h : Reached job n steps (Keep slot ∷ rest) now r) → IsRested job n (kept h.paths slot) after → Reached job n steps rest now after
-  reached_keep slot h rested = record {
+  pub reached_keep : (slot : ℕ) (h : Reached job n steps (Keep slot ∷ rest) now start r) → IsRested job n (kept h.paths slot) after → StepsNone r after
+      → Reached job n steps rest now start after
+  reached_keep slot h rested none = record {
     paths = kept h.paths slot;
     video = h.video;
     audio = h.audio;
@@ -265,10 +275,12 @@ module _ (job : Job) (n : ℕ) (steps rest : List PlanStep) (now later : Side �
     held_spans = λ k. shorter (k == slot) h.goes h.paths.path (h.paths.held k) h.spans (h.held_spans k);
     video_taken = h.video_taken;
     audio_taken = h.audio_taken;
+    stepped = stepped_none job n steps rest (Keep slot) h.paths start r after (λ more goes. goes) h.stepped none;
   }
 
-  pub reached_back : (slot : ℕ) (h : Reached job n steps (Back slot ∷ rest) now r) → IsRested job n (after_step h.paths (Back slot)) after → Reached job n steps rest now after
-  reached_back slot h rested = record {
+  pub reached_back : (slot : ℕ) (h : Reached job n steps (Back slot ∷ rest) now start r) → IsRested job n (after_step h.paths (Back slot)) after → StepsNone r after
+      → Reached job n steps rest now start after
+  reached_back slot h rested none = record {
     paths = after_step h.paths (Back slot);
     video = h.video;
     audio = h.audio;
@@ -284,10 +296,11 @@ module _ (job : Job) (n : ℕ) (steps rest : List PlanStep) (now later : Side �
     held_spans = h.held_spans;
     video_taken = h.video_taken;
     audio_taken = h.audio_taken;
+    stepped = stepped_none job n steps rest (Back slot) h.paths start r after (λ more goes. goes) h.stepped none;
   }
 
 -- all steps are made
-module _ (job : Job) (n : ℕ) (steps : List PlanStep) (holds : Side → List ℕ → Type 0) (r : Rewind) (h : Reached job n steps [] holds r) where
+module _ (job : Job) (n : ℕ) (steps : List PlanStep) (holds : Side → List ℕ → Type 0) (start r : Rewind) (h : Reached job n steps [] holds start r) where
   emitted : Joins (PathEmits job n) steps no_paths h.video h.audio
   emitted =
       subst (λ v. Joins (PathEmits job n) steps no_paths v h.audio) (append-nil h.video)
@@ -298,6 +311,9 @@ module _ (job : Job) (n : ℕ) (steps : List PlanStep) (holds : Side → List �
 
   pub reached_rested : IsRested job n (after_steps steps no_paths) r
   reached_rested = subst (λ p. IsRested job n p r) h.leads h.rested
+
+  pub reached_stepped : StepsByGoes job n steps start r
+  reached_stepped = stepped_whole job n steps h.paths start r h.stepped
 
 -- all bytes are the first ones
 pub whole_is_first : (emits : List ℕ → List ℕ → Type 0) (holds : Side → List ℕ → Type 0) → PlayedWhole emits holds → PlayedFirst emits holds

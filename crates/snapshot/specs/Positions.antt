@@ -5,7 +5,6 @@ use Rattle.snes_defs.specs.declared.script.Span.{Span}
 use Rattle.snes_defs.specs.Script.{frames_of}
 use Rattle.side_law.specs.Serial.{SerialState}
 use Rattle.side_law.specs.SerialRun.{IsPast, IsUnderway}
-use Rattle.serial_console.specs.declared.serial.Serial.{Serial}
 use Rattle.snes_defs.specs.declared.ports.Side.{Side}
 use Rattle.audio_side.specs.Clock.{stamp_now}
 use Rattle.serial_console.specs.Serial.{IsAt, earlier_side}
@@ -47,9 +46,9 @@ pub record CanCopy (from into : Run) : Type 0 where
   pub no_sound_resets : from.serial.sound.clock.resets ≡ []
   pub none_there_either : into.serial.sound.clock.resets ≡ []
 
--- a copy, which keeps its room for spans
-abbrev pub copy_of : Run → ℕ → Run
-copy_of r n = record {
+-- a copy, which keeps its room for spans and its count of steps
+abbrev pub copy_of : Run → ℕ → ℕ → Run
+copy_of r n stepped = record {
   serial = record {
     console = value_with_room r.serial.console n;
     sound = r.serial.sound;
@@ -57,6 +56,7 @@ copy_of r n = record {
     to_console = r.serial.to_console;
   };
   end = r.end;
+  stepped = stepped;
 }
 
 -- the serial machine that a rewinder is, and whether both of its sides have come to the end of the path

@@ -12,6 +12,8 @@
 mod driving;
 mod memory;
 mod rewind;
+mod room_law;
 mod run;
 
 pub use rewind::Rewind;
+pub use room_law::room_is_not_seen;

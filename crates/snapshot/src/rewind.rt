@@ -6,15 +6,16 @@ ghost use Rattle.snes_defs.specs.Script.{frames_of};
 ghost use Rattle.plan_drive.specs.Paths.{Paths, no_paths, gone, kept, back, path_script, goes_of, slots_of};
 ghost use Rattle.side_law.specs.Serial.{SerialState, turn};
 ghost use Rattle.console_steps.specs.ConsoleState.{ConsoleState, console_moves};
+ghost use Rattle.console_machine.specs.Playing.{console_played};
 ghost use Rattle.audio_side.specs.Sound.{SoundState, sound_moves};
 ghost use Rattle.run_drive.specs.Played.{IsPlayable};
 ghost use Rattle.plan_drive.specs.Joins.{Joins};
 ghost use Rattle.snapshot.specs.Path.{PathEmits};
 ghost use Rattle.snapshot.specs.Positions.{IsRested, IsGoing, StandsIn, HasEnded, next_side, slot_count, video_waiting, audio_waiting};
+ghost use Rattle.snapshot.specs.Stepped.{stepped_of, StepsNone, StepsOn};
 
 use crate::memory::{count_goes, count_slots, first_runs};
 use crate::run::{Run, copy_run, first_run};
-use clock_ratio::FRAME_STAMPS;
 use input_files::Plan;
 use snes_defs::{Job, NoMemory, Side, Span};
 use std::alloc::Global;
@@ -37,6 +38,7 @@ impl Rewind {
         requires region { job.now.region ≡ Ntsc }
         ensures rested { IfOk result (λ r. IsRested job.now (max job.now.script.room (goes_of plan.now)) no_paths r) }
         ensures slots { IfOk result (λ r. slot_count r ≡ slots_of plan.now) }
+        ensures stepped { IfOk result (λ r. stepped_of r ≡ 0) }
         ensures ends { OnOk result (IsPlayable (Joins (PathEmits job.now (max job.now.script.room (goes_of plan.now))) plan.now no_paths)) }
     {
         let goes = count_goes(plan.steps());
@@ -52,16 +54,25 @@ impl Rewind {
         self.slots.len()
     }
 
-    /// Puts a span at the end of the path, and sets out on it. No memory is taken.
+    /// By how many stamps the machines were stepped since `new`, both together. It stops at its highest number.
+    pub fn stepped(&self) -> u64
+        ensures { result ≡ stepped_of self.now }
+    {
+        self.run.stepped()
+    }
+
+    /// Puts a span at the end of the path, and sets out on it. The machines stay, but for the console's script and the
+    /// pads that it gives. No memory is taken.
     pub fn begin(&mut self, span: Span)
         requires rested { (job : Job) × (n : ℕ) × (paths : Paths) × IsRested job n paths self.old × (length paths.path < n) × (frames_of paths.path + span.count ≤ 36000) }
         ensures going { (job : Job) (n : ℕ) (paths : Paths) → IsRested job n paths self.old → IsGoing job n (gone paths span) paths.path [] [] self.new }
         ensures no_video { video_waiting self.new ≡ [] }
         ensures no_audio { audio_waiting self.new ≡ [] }
+        ensures machines { (w : SerialState ConsoleState SoundState) → StandsIn self.old w → StandsIn self.new (record w { console = console_played w.console span }) }
         ensures slots { slot_count self.new ≡ slot_count self.old }
+        ensures waits { StepsNone self.old self.new }
     {
-        self.run.serial.console().play(span);
-        self.run.end += FRAME_STAMPS * span.count as u64;
+        self.run.play(span);
     }
 
     /// Makes one step of the earlier side, ties to the console, and answers that side; none exactly where both stamps
@@ -78,11 +89,12 @@ impl Rewind {
         ensures few_video { length (video_waiting self.new) ≤ length (video_waiting self.old) + 1024 }
         ensures few_audio { length (audio_waiting self.new) ≤ length (audio_waiting self.old) + 4 }
         ensures slots { slot_count self.new ≡ slot_count self.old }
+        ensures steps { IsSome result → StepsOn self.old self.new }
     {
-        if self.run.serial.finished(self.run.end) {
+        if self.run.finished() {
             return None;
         }
-        Some(self.run.serial.turn())
+        Some(self.run.turn())
     }
 
     /// Stores the path and its machines in a slot. No memory is taken.
@@ -91,6 +103,7 @@ impl Rewind {
         requires slot { slot < slot_count self.old }
         ensures kept { (job : Job) (n : ℕ) (paths : Paths) → IsRested job n paths self.old → IsRested job n (kept paths slot) self.new }
         ensures slots { slot_count self.new ≡ slot_count self.old }
+        ensures waits { StepsNone self.old self.new }
     {
         copy_run(&self.run, &mut self.slots[slot as usize]);
     }
@@ -101,6 +114,7 @@ impl Rewind {
         requires slot { slot < slot_count self.old }
         ensures back { (job : Job) (n : ℕ) (paths : Paths) → IsRested job n paths self.old → IsRested job n (back paths slot) self.new }
         ensures slots { slot_count self.new ≡ slot_count self.old }
+        ensures waits { StepsNone self.old self.new }
     {
         copy_run(&self.slots[slot as usize], &mut self.run);
     }

@@ -1,20 +1,42 @@
-// The machines of a path, and how they are copied.
-ghost use Rattle.std.specs.Prelude.{◌≡◌, ◌+◌, [], length, max, IfOk};
+// The machines of a path: how they are stepped and copied. Nothing else steps or copies them, so the count of a run
+// tells how far its machines were stepped.
+ghost use Rattle.std.specs.Prelude.{◌≡◌, ◌+◌, ◌*◌, ◌^◌, ◌<◌, ◌≤◌, ◌++◌, ◌↔◌, ℕ, List, [], length, max, min, take, drop, IsTrue, IfOk, IfErr, OnOk, OnErr};
+ghost use Rattle.snes_defs.specs.declared.ports.Side.{Side};
 ghost use Rattle.snes_defs.specs.declared.region.Region.TheVariants.{Ntsc};
+ghost use Rattle.snes_defs.specs.Script.{frames_of};
+ghost use Rattle.side_law.specs.Serial.{SerialState, serial_of, turn, console_emits, sound_emits};
+ghost use Rattle.side_law.specs.SerialRun.{IsPast};
+ghost use Rattle.serial_console.specs.Serial.{IsAt, earlier_side};
+ghost use Rattle.serial_console.specs.Lead.{IsLed};
+ghost use Rattle.console_steps.specs.ConsoleState.{ConsoleState, console_moves};
+ghost use Rattle.console_machine.specs.Side as console_side;
+ghost use Rattle.console_machine.specs.Playing.{console_played, value_played};
+ghost use Rattle.audio_side.specs.Sound as sound_side;
+ghost use Rattle.audio_side.specs.Sound.{SoundState, sound_moves};
+ghost use Rattle.audio_side.specs.Clock.{stamp_now};
 ghost use Rattle.plan_drive.specs.Paths.{path_script};
+ghost use Rattle.run_drive.specs.Run.{TookFirst};
+ghost use Rattle.snapshot.specs.Driven.{Since, TookOn, Ends};
 ghost use Rattle.snapshot.specs.Positions.{CanCopy, IsDone, copy_of};
+ghost use Rattle.snapshot.specs.Stepped.{counted, rise_from, rise_of};
 
+use crate::driving::drive;
 use audio_side::AudioSide;
+use clock_ratio::FRAME_STAMPS;
 use console_machine::ConsoleSide;
+use run_drive::Sink;
 use serial_console::Serial;
-use snes_defs::{Job, NoMemory};
+use side_law::Machine;
+use snes_defs::{Job, NoMemory, Side, Span};
 use std::alloc::Global;
 
-/// The two machines of a path's job, and the stamp at which the path ends.
+/// The two machines of a path's job, the stamp at which the path ends, and a count of how far they were stepped.
 #[derive(Drop)]
 pub struct Run {
-    pub serial: Serial<ConsoleSide, AudioSide>,
-    pub end: u64,
+    serial: Serial<ConsoleSide, AudioSide>,
+    end: u64,
+    /// By how many stamps each machine was stepped since it was made, both together. It stops at its highest number.
+    stepped: u64,
 }
 
 /// The machines of an Ntsc job at their start, with an empty path and memory for so many spans. Refused only for want
@@ -22,7 +44,8 @@ pub struct Run {
 pub fn first_run(alloc: Global, job: &Job, spans: usize) -> Result<Run, NoMemory>
     requires script { job.now.script ≡ path_script job.now.script.room [] }
     requires region { job.now.region ≡ Ntsc }
-    ensures { IfOk result (λ r. IsDone job.now (max job.now.script.room spans) [] r [] []) }
+    ensures done { IfOk result (λ r. IsDone job.now (max job.now.script.room spans) [] r [] []) }
+    ensures stepped { IfOk result (λ r. r.stepped ≡ 0) }
 {
     let mut console = ConsoleSide::new(alloc, job)?;
     console.reserve(spans)?;
@@ -30,13 +53,15 @@ pub fn first_run(alloc: Global, job: &Job, spans: usize) -> Result<Run, NoMemory
     Ok(Run {
         serial: Serial::new(console, sound),
         end: 0,
+        stepped: 0,
     })
 }
 
-/// Makes the other run the same one: both machines, the bytes between them, and the end. No memory is taken.
+/// Makes the other run the same one: both machines, the bytes between them, and the end. Its count stays. No memory is
+/// taken.
 pub fn copy_run(from: &Run, into: &mut Run)
     requires { CanCopy from.now into.old }
-    ensures { into.new ≡ copy_of from.now into.old.serial.console.rest.script.room }
+    ensures { into.new ≡ copy_of from.now into.old.serial.console.rest.script.room into.old.stepped }
 {
     let (console, sound) = from.serial.machines();
     console.copy_into(into.serial.console());
@@ -44,4 +69,129 @@ pub fn copy_run(from: &Run, into: &mut Run)
     let (to_sound, to_console) = from.serial.ports();
     into.serial.set_ports(to_sound, to_console);
     into.end = from.end;
+}
+
+impl Run {
+    /// By how many stamps the machines were stepped.
+    pub fn stepped(&self) -> u64
+        ensures { result ≡ self.now.stepped }
+    {
+        self.stepped
+    }
+
+    /// The stamps of the two machines.
+    fn stamps(&self) -> (u64, u64)
+        ensures console { result.0 ≡ self.now.serial.console.stamp }
+        ensures sound { result.1 ≡ stamp_now self.now.serial.sound.clock }
+    {
+        let (console, sound) = self.serial.machines();
+        (console.stamp(), sound.stamp())
+    }
+
+    /// Counts the steps since both machines stood at these stamps.
+    fn count_from(&mut self, console: u64, sound: u64)
+        ensures { self.new ≡ record self.old { stepped = counted self.old.stepped (rise_from console sound self.old.serial.console.stamp (stamp_now self.old.serial.sound.clock)) } }
+    {
+        let (later_console, later_sound) = self.stamps();
+        self.stepped = self
+            .stepped
+            .saturating_add(later_console.saturating_sub(console))
+            .saturating_add(later_sound.saturating_sub(sound));
+    }
+
+    /// Puts a span at the end of the path. No memory is taken.
+    pub fn play(&mut self, span: Span)
+        requires room { length self.old.serial.console.rest.script.spans < self.old.serial.console.rest.script.room }
+        requires frames { frames_of self.old.serial.console.rest.script.spans + span.count ≤ 36000 }
+        requires early { self.old.end + 2012696576 * span.count ≤ 2 ^ 62 }
+        ensures played { self.new ≡ record self.old { serial = record self.old.serial { console = value_played self.old.serial.console span }; end = self.old.end + 2012696576 * span.count } }
+        ensures stands { (w : ConsoleState) → console_side.StandsAt self.old.serial.console w → console_side.StandsAt self.new.serial.console (console_played w span) }
+    {
+        self.serial.console().play(span);
+        self.end += FRAME_STAMPS * span.count as u64;
+    }
+
+    /// Whether both stamps have come to the end of the path.
+    pub fn finished(&self) -> bool
+        ensures stamps { IsTrue result ↔ ((self.now.end ≤ self.now.serial.console.stamp) × (self.now.end ≤ stamp_now self.now.serial.sound.clock)) }
+        ensures past { (w : SerialState ConsoleState SoundState) → IsAt console_side.StandsAt sound_side.StandsAt self.now.serial w → IsTrue result ↔ IsPast console_moves sound_moves self.now.end w }
+    {
+        self.serial.finished(self.end)
+    }
+
+    /// Whether both stamps have come to the end of the path and no byte waits.
+    pub fn is_over(&self) -> bool
+        ensures { IsTrue result ↔ ((self.now.end ≤ self.now.serial.console.stamp) × (self.now.end ≤ stamp_now self.now.serial.sound.clock) × (length self.now.serial.console.waiting ≡ 0) × (length self.now.serial.sound.waiting ≡ 0)) }
+    {
+        self.serial.is_over(self.end)
+    }
+
+    /// Makes one step of the earlier side, ties to the console, and answers that side.
+    pub fn turn(&mut self) -> Side
+        requires console_room { length self.old.serial.console.waiting + 1024 ≤ 65536 }
+        requires sound_room { length self.old.serial.sound.waiting + 4 ≤ 4096 }
+        requires early { min self.old.serial.console.stamp (stamp_now self.old.serial.sound.clock) ≤ 2 ^ 62 }
+        ensures side { result ≡ earlier_side self.old.serial.console.stamp (stamp_now self.old.serial.sound.clock) }
+        ensures turns { (w : SerialState ConsoleState SoundState) → IsAt console_side.StandsAt sound_side.StandsAt self.old.serial w → IsAt console_side.StandsAt sound_side.StandsAt self.new.serial (turn console_moves sound_moves w) }
+        ensures console_emits { (w : SerialState ConsoleState SoundState) → IsAt console_side.StandsAt sound_side.StandsAt self.old.serial w → self.new.serial.console.waiting ≡ self.old.serial.console.waiting ++ console_emits console_moves sound_moves w }
+        ensures sound_emits { (w : SerialState ConsoleState SoundState) → IsAt console_side.StandsAt sound_side.StandsAt self.old.serial w → self.new.serial.sound.waiting ≡ self.old.serial.sound.waiting ++ sound_emits console_moves sound_moves w }
+        ensures few_video { length self.new.serial.console.waiting ≤ length self.old.serial.console.waiting + 1024 }
+        ensures few_audio { length self.new.serial.sound.waiting ≤ length self.old.serial.sound.waiting + 4 }
+        ensures end { self.new.end ≡ self.old.end }
+        ensures stepped { self.new.stepped ≡ counted self.old.stepped (rise_of self.old self.new) }
+    {
+        let (console, sound) = self.stamps();
+        let side = self.serial.turn();
+        self.count_from(console, sound);
+        side
+    }
+
+    /// Moves out the first of the bytes that wait in the console, as many as wait or fit, and answers how many.
+    pub fn drain_video(&mut self, into: &mut [u8]) -> usize
+        ensures count { result ≡ min (length self.old.serial.console.waiting) (length into.old) }
+        ensures moved { into.new ≡ take result self.old.serial.console.waiting ++ drop result into.old }
+        ensures left { self.new.serial.console.waiting ≡ drop result self.old.serial.console.waiting }
+        ensures stands { (w : ConsoleState) → console_side.StandsAt self.old.serial.console w → console_side.StandsAt self.new.serial.console w }
+        ensures rest { self.new ≡ record self.old { serial = record self.old.serial { console = self.new.serial.console } } }
+    {
+        self.serial.console().drain(into)
+    }
+
+    /// Moves out the first of the bytes that wait in the sound side, as many as wait or fit, and answers how many.
+    pub fn drain_audio(&mut self, into: &mut [u8]) -> usize
+        ensures count { result ≡ min (length self.old.serial.sound.waiting) (length into.old) }
+        ensures moved { into.new ≡ take result self.old.serial.sound.waiting ++ drop result into.old }
+        ensures left { self.new.serial.sound.waiting ≡ drop result self.old.serial.sound.waiting }
+        ensures stands { (m : SoundState) → sound_side.StandsAt self.old.serial.sound m → sound_side.StandsAt self.new.serial.sound m }
+        ensures rest { self.new ≡ record self.old { serial = record self.old.serial { sound = self.new.serial.sound } } }
+    {
+        self.serial.sound().drain(into)
+    }
+
+    /// Makes all steps to the end of the path, and hands the sink what they emit (`drive`).
+    pub fn go_on<K: Sink>(&mut self, buffer: &mut [u8], sink: &mut K) -> Result<(), Side>
+        requires early { self.old.end ≤ 2 ^ 62 }
+        requires fits { 1024 ≤ length buffer.old }
+        requires no_video { self.old.serial.console.waiting ≡ [] }
+        requires no_audio { self.old.serial.sound.waiting ≡ [] }
+        ensures whole { OnOk result ((c : ConsoleState) (s : SoundState) (base first : Side → List ℕ) → IsLed console_moves sound_moves console_side.StandsAt sound_side.StandsAt self.old.end (serial_of c s) self.old.serial (first Side.Console) (first Side.Sound)
+            → K.holds sink.old Side.Console (base Side.Console) → K.holds sink.old Side.Sound (base Side.Sound)
+            → TookOn console_moves sound_moves console_side.StandsAt sound_side.StandsAt c s self.old.end self.new.serial (Since (K.holds sink.new) base first)) }
+        ensures part { OnErr result ((c : ConsoleState) (s : SoundState) (base first : Side → List ℕ) → IsLed console_moves sound_moves console_side.StandsAt sound_side.StandsAt self.old.end (serial_of c s) self.old.serial (first Side.Console) (first Side.Sound)
+            → K.holds sink.old Side.Console (base Side.Console) → K.holds sink.old Side.Sound (base Side.Sound) → Ends console_moves sound_moves c s self.old.end
+            → TookFirst console_moves sound_moves c s self.old.end (Since (K.holds sink.new) base first)) }
+        ensures console_past { OnOk result (self.old.end ≤ self.new.serial.console.stamp) }
+        ensures sound_past { OnOk result (self.old.end ≤ stamp_now self.new.serial.sound.clock) }
+        ensures no_video { OnOk result (self.new.serial.console.waiting ≡ []) }
+        ensures no_audio { OnOk result (self.new.serial.sound.waiting ≡ []) }
+        ensures end { self.new.end ≡ self.old.end }
+        ensures stepped { self.new.stepped ≡ counted self.old.stepped (rise_of self.old self.new) }
+        ensures failed { IfErr result (K.failed sink.old sink.new) }
+        ensures only { K.only_takes sink.old sink.new }
+    {
+        let (console, sound) = self.stamps();
+        let answer = drive(&mut self.serial, self.end, buffer, sink);
+        self.count_from(console, sound);
+        answer
+    }
 }

@@ -1,20 +1,23 @@
 // The steps of a span, and the bytes that they emit.
-ghost use Rattle.std.specs.Prelude.{◌≡◌, ◌≤◌, ◌+◌, ℕ, List, [], ◌++◌, length, take, drop, min, IsTrue, OnOk, OnErr, IfErr};
+ghost use Rattle.std.specs.Prelude.{◌≡◌, ◌≤◌, ◌+◌, ◌↔◌, ℕ, List, [], ◌++◌, length, take, drop, min, IsTrue, OnOk, OnErr, IfErr};
 ghost use Rattle.snes_defs.specs.declared.cart.Job.{Job};
 ghost use Rattle.snes_defs.specs.declared.ports.Side.{Side};
 ghost use Rattle.snes_defs.specs.declared.script.Span.{Span};
 ghost use Rattle.plan_drive.specs.Paths.{Paths};
-ghost use Rattle.snapshot.specs.Positions.{IsRested, IsGoing, IsBeyond, slot_count, video_waiting, audio_waiting};
+ghost use Rattle.side_law.specs.Serial.{SerialState};
+ghost use Rattle.console_steps.specs.ConsoleState.{ConsoleState};
+ghost use Rattle.audio_side.specs.Sound.{SoundState};
+ghost use Rattle.snapshot.specs.Positions.{IsRested, IsGoing, IsBeyond, StandsIn, HasEnded, slot_count, video_waiting, audio_waiting};
 ghost use Rattle.snapshot.specs.Handed.{Gave, GaveSome};
+ghost use Rattle.snapshot.specs.Stepped.{StepsNone, StepsOn};
 
 use super::Rewind;
-use crate::driving::drive;
 use run_drive::Sink;
-use side_law::Machine;
 use snes_defs::Side;
 
 impl Rewind {
-    /// Moves out the first of the bytes that wait in a side, as many as wait or fit, and answers how many.
+    /// Moves out the first of the bytes that wait in a side, as many as wait or fit, and answers how many. The machines
+    /// stay.
     pub fn drain(&mut self, side: Side, into: &mut [u8]) -> usize
         ensures video_count { side ≡ Side.Console → result ≡ min (length (video_waiting self.old)) (length into.old) }
         ensures video_moved { side ≡ Side.Console → into.new ≡ take result (video_waiting self.old) ++ drop result into.old }
@@ -28,20 +31,23 @@ impl Rewind {
             → IsGoing job n paths before video (audio ++ take result (audio_waiting self.old)) self.new }
         ensures audio_stays { side ≡ Side.Console → audio_waiting self.new ≡ audio_waiting self.old }
         ensures video_stays { side ≡ Side.Sound → video_waiting self.new ≡ video_waiting self.old }
+        ensures machines { (w : SerialState ConsoleState SoundState) → StandsIn self.old w → StandsIn self.new w }
         ensures slots { slot_count self.new ≡ slot_count self.old }
+        ensures waits { StepsNone self.old self.new }
     {
         match side {
-            Side::Console => self.run.serial.console().drain(into),
-            Side::Sound => self.run.serial.sound().drain(into),
+            Side::Console => self.run.drain_video(into),
+            Side::Sound => self.run.drain_audio(into),
         }
     }
 
     /// Whether both stamps have come to the end of the path and no byte waits.
     pub fn is_over(&self) -> bool
+        ensures exact { IsTrue result ↔ (HasEnded self.now × (video_waiting self.now ≡ []) × (audio_waiting self.now ≡ [])) }
         ensures over { IsTrue result → (job : Job) (n : ℕ) (paths : Paths) (before : List Span) (video audio : List ℕ) → IsGoing job n paths before video audio self.now
             → IsRested job n paths self.now × IsBeyond job n before paths.path video audio }
     {
-        self.run.serial.is_over(self.run.end)
+        self.run.is_over()
     }
 
     /// Makes all steps to the end of the path, and hands the sink what they emit. Err names the side of which the sink
@@ -58,8 +64,9 @@ impl Rewind {
         ensures failed { IfErr result (K.failed sink.old sink.new) }
         ensures only { K.only_takes sink.old sink.new }
         ensures slots { slot_count self.new ≡ slot_count self.old }
+        ensures steps { StepsOn self.old self.new }
     {
-        match drive(&mut self.run.serial, self.run.end, buffer, sink) {
+        match self.run.go_on(buffer, sink) {
             Ok(()) => Ok(()),
             Err(side) => Err(side),
         }

@@ -7,6 +7,7 @@ ghost use Rattle.plan_drive.specs.Paths.{no_paths, after_steps, goes_of, slots_o
 ghost use Rattle.plan_drive.specs.Joins.{Joins};
 ghost use Rattle.snapshot.specs.Path.{PathEmits};
 ghost use Rattle.snapshot.specs.Positions.{IsRested, slot_count};
+ghost use Rattle.snapshot.specs.Stepped.{StepsByGoes};
 
 use super::Rewind;
 use input_files::{Plan, PlanStep};
@@ -15,7 +16,7 @@ use snes_defs::{Side, Span};
 
 impl Rewind {
     /// Makes the steps of a plan, from the start of its job on, and hands the sink what its goes emit. Err names the side
-    /// of which the sink failed to take some.
+    /// of which the sink failed to take some. The machines make the steps of the goes, and no others.
     pub fn play<K: Sink>(
         &mut self,
         plan: &Plan,
@@ -29,10 +30,12 @@ impl Rewind {
         requires fits { 1024 ≤ length buffer.old }
         ensures whole { OnOk result ((job : Job) (n : ℕ) → IsRested job n no_paths self.old → PlayedWhole (Joins (PathEmits job n) plan.now no_paths) (K.holds sink.new)) }
         ensures rested { OnOk result ((job : Job) (n : ℕ) → IsRested job n no_paths self.old → IsRested job n (after_steps plan.now no_paths) self.new) }
+        ensures steps { OnOk result ((job : Job) (n : ℕ) → IsRested job n no_paths self.old → StepsByGoes job n plan.now self.old self.new) }
         ensures first { (job : Job) (n : ℕ) → IsRested job n no_paths self.old → PlayedFirst (Joins (PathEmits job n) plan.now no_paths) (K.holds sink.new) }
         ensures failed { IfErr result (K.failed sink.old sink.new) }
         ensures only { K.only_takes sink.old sink.new }
     {
+        let _count = self.stepped();
         for step in plan.steps() {
             match *step {
                 PlanStep::Go { count, pad1, pad2 } => {

@@ -1,4 +1,4 @@
-use Rattle.std.proofs.Common.{subst, sym, rules, arith}
+use Rattle.std.proofs.Common.{rules, arith}
 use Rattle.std.proofs.lemmas.Grind.{common_steps}
 use Rattle.snes_defs.specs.declared.ports.Side.TheVariants.{Console, Sound}
 use Rattle.side_law.specs.Serial.{serial_of}

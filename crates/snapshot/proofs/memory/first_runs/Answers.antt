@@ -1,4 +1,4 @@
-use Rattle.std.proofs.Common.{◌+◌, ◌∷◌, [], ℕ, length, length-append, max, slice_index_or, ◌<◌, ap, subst, sym, ◌∙◌, arith}
+use Rattle.std.proofs.Common.{◌∷◌, [], ℕ, length, length-append, max, slice_index_or, ◌<◌, ap, subst, sym, ◌∙◌, arith}
 use Rattle.snapshot.specs.declared.run.Run.{Run}
 use Rattle.snapshot.specs.Positions.{HoldsPath}
 use Rattle.snapshot.proofs.Slots.{one_more}
@@ -14,5 +14,5 @@ runs-preserved c =
     record {
       count = ap length c.in-Ok.ensures.items ∙ omega arith;
       starts = subst (λ v. (k : ℕ) (other : Run) → k < length v → HoldsPath job n [] (slice_index_or v k other)) (sym c.in-Ok.ensures.items)
-          (one_more job n [] c.runs.runs.items run c.runs.invariant.starts ([], [], c.in_ok-run.ensures));
+          (one_more job n [] c.runs.runs.items run c.runs.invariant.starts ([], [], c.in_ok-run.ensures.done));
     }

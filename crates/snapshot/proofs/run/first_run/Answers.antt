@@ -4,8 +4,8 @@ use Rattle.audio_side.specs.Sound.{AudioValue}
 use Rattle.snapshot.proofs.Starting.{first_done}
 use Rattle.snapshot.proofs.run.first_run.Goals as goal
 
-pub returns : goal.returns
-returns c =
+pub returns-clause-done : goal.returns-clause-done
+returns-clause-done c =
     first_done c.args.job.now c.args.spans c.new-3.result c.in_ok-console.console c.reserve.new.self c.in_ok-sound.sound c.requires.script c.requires.region
     c.in_ok-console.ensures.starts c.in_ok-reserve.ensures.stands c.in_ok-sound.ensures.starts c.new-3.ensures.starts
     (ap (λ (v : ConsoleValue). v.waiting) c.new-3.ensures.console ∙ ap (λ (v : ConsoleValue). v.waiting) c.in_ok-reserve.ensures.ok ∙ c.in_ok-console.ensures.empty)

@@ -1,4 +1,5 @@
-use Rattle.std.proofs.Common.{refl}
+use Rattle.std.proofs.Common.{refl, ap}
+use Rattle.snapshot.specs.declared.run.Run.{Run}
 use Rattle.snapshot.proofs.Copying.{back_rested, keeps_can}
 use Rattle.snapshot.proofs.rewind.Rewind.back.Goals as goal
 
@@ -10,3 +11,6 @@ copy_run-requires c =
 pub returns-clause-back : goal.returns-clause-back
 returns-clause-back c = λ job n paths rested.
     back_rested job n paths c.args.self.now _ c.args.slot c.index.result.now c.copy_run.new.into c.requires.slot c.index.ensures c.copy_run.ensures refl refl rested
+
+pub returns-clause-waits : goal.returns-clause-waits
+returns-clause-waits c = record { run = ap (λ (v : Run). v.stepped) c.copy_run.ensures; slots = λ k other. refl }

@@ -1,32 +1,49 @@
-use Rattle.std.proofs.Common.{◌+◌, ◌≤◌, ◌<◌, length, ap, sym, ◌∙◌, subst}
+use Rattle.std.proofs.Common.{◌≡◌, ◌+◌, ◌≤◌, ◌<◌, [], length, refl, ap, sym, subst, arith}
 use Rattle.snes_defs.specs.Script.{Script, frames_of}
-use Rattle.console_machine.specs.Side.{ConsoleValue, StandsAt}
+use Rattle.console_steps.specs.ConsoleState.{ConsoleState}
+use Rattle.console_machine.specs.Side.{StandsAt}
+use Rattle.console_machine.specs.Playing.{console_played, value_played}
+use Rattle.snapshot.specs.declared.run.Run.{Run}
+use Rattle.snapshot.specs.Positions.{IsGoing}
+use Rattle.plan_drive.specs.Paths.{gone}
 use Rattle.snapshot.proofs.Copying.{done_script}
 use Rattle.snapshot.proofs.Going.{begun}
+use Rattle.snapshot.proofs.Stepping.{console_stands}
 use Rattle.snapshot.proofs.rewind.Rewind.begin.Goals as goal
 
-pub play-requires-clause-room : goal.play-requires-clause-room
-play-requires-clause-room c =
+pub play-requires : goal.play-requires
+play-requires c =
     let (job, n, paths, rested, short, few) = c.requires.rested in
     let (video, audio, d) = rested.now in
-    subst (λ (s : Script). length s.spans < s.room) (sym (ap (λ (v : ConsoleValue). v.rest.script) c.console.ensures.value ∙ done_script job n paths.path c.args.self.now.run video audio d)) short
-
-pub play-requires-clause-frames : goal.play-requires-clause-frames
-play-requires-clause-frames c =
-    let (job, n, paths, rested, short, few) = c.requires.rested in
-    let (video, audio, d) = rested.now in
-    subst (λ (s : Script). frames_of s.spans + c.args.span.count ≤ 36000) (sym (ap (λ (v : ConsoleValue). v.rest.script) c.console.ensures.value ∙ done_script job n paths.path c.args.self.now.run video audio d)) few
+    let script = done_script job n paths.path c.args.self.now.run video audio d in
+    let end = d.end_is in
+    record {
+      room = subst (λ (s : Script). length s.spans < s.room) (sym script) short;
+      frames = subst (λ (s : Script). frames_of s.spans + c.args.span.count ≤ 36000) (sym script) few;
+      early = omega (arith, end, few);
+    }
 
 pub returns-clause-going : goal.returns-clause-going
 returns-clause-going c = λ job n paths rested.
     let r = c.args.self.now in
-    let is = c.console.ensures.value in
     let (first_job, first_n, first_paths, first, short, few) = c.requires.rested in
     let (video, audio, d) = first.now in
     let script = done_script first_job first_n first_paths.path r.run video audio d in
-    begun job n paths r c.args.span c.play.new.self
+    let played = c.play.ensures.played in
+    subst (λ (v : Run). IsGoing job n (gone paths c.args.span) paths.path [] [] (record { run = v; slots = r.slots })) (sym played)
+    (begun job n paths r c.args.span (value_played r.run.serial.console c.args.span)
     (subst (λ (s : Script). length s.spans < s.room) (sym script) short)
     (subst (λ (s : Script). frames_of s.spans + c.args.span.count ≤ 36000) (sym script) few)
-    (λ w h. c.play.ensures.stands w (subst (λ v. StandsAt v w) (sym is) h))
-    (ap (λ (v : ConsoleValue). v.waiting) c.play.ensures.played ∙ ap (λ (v : ConsoleValue). v.waiting) is)
-    rested
+    (subst (λ (v : Run). (w : ConsoleState) → StandsAt r.run.serial.console w → StandsAt v.serial.console (console_played w c.args.span)) played c.play.ensures.stands)
+    refl
+    rested)
+
+pub returns-clause-machines : goal.returns-clause-machines
+returns-clause-machines c =
+    let r = c.args.self.now in
+    let played = ap (λ (v : Run). v.serial) c.play.ensures.played in
+    console_stands (λ w. console_played w c.args.span) r.run c.play.new.self c.play.ensures.stands
+    (subst (λ s. s ≡ record r.run.serial { console = s.console }) (sym played) refl)
+
+pub returns-clause-waits : goal.returns-clause-waits
+returns-clause-waits c = record { run = ap (λ (v : Run). v.stepped) c.play.ensures.played; slots = λ k other. refl }

@@ -12,7 +12,7 @@ returns-clause-rested c =
     let Q : ℕ → Type 0 = λ goes. (k : ℕ) (other : Run) → k < length c.in_ok-slots.slots.items → HoldsPath job (max job.script.room goes) [] (slice_index_or c.in_ok-slots.slots.items k other) in
     let goes = c.count_goes-goes.ensures ∙ ap goes_of c.steps.ensures.all in
     record {
-      now = subst P goes ([], [], c.in_ok-run.ensures);
+      now = subst P goes ([], [], c.in_ok-run.ensures.done);
       slots = subst Q goes c.in_ok-slots.ensures.starts;
     }
 

@@ -1,7 +1,4 @@
-use Rattle.std.proofs.Common.{◌≡◌, ℕ, ◌+◌, List, [], ◌∷◌, drop, length, drop_of_length-le, sym, subst, ◌∙◌, rules, arith}
-use Rattle.snes_defs.specs.declared.cart.Job.{Job}
-use Rattle.snes_defs.specs.declared.ports.Side.{Side}
-use Rattle.input_files.specs.declared.plan.PlanStep.{PlanStep}
+use Rattle.std.proofs.Common.{◌+◌, drop, drop_of_length-le, sym, subst, ◌∙◌, rules, arith}
 use Rattle.input_files.specs.declared.plan.PlanStep.TheVariants.{Go, Keep, Back}
 use Rattle.input_files.specs.Plan.{NamesBelow}
 use Rattle.plan_drive.specs.Paths.{no_paths, after_step}
@@ -10,15 +7,15 @@ use Rattle.plan_drive.proofs.Counting.{next_step}
 use Rattle.snapshot.specs.Path.{PathEmits}
 use Rattle.snapshot.specs.Positions.{slot_count}
 use Rattle.snapshot.specs.Driven.{by_side}
-use Rattle.snapshot.proofs.Steps.{Reached, reached_first, reached_go, reached_part, reached_keep, reached_back, reached_whole, reached_rested, whole_is_first, names_below}
+use Rattle.snapshot.proofs.Steps.{Reached, reached_first, reached_go, reached_part, reached_keep, reached_back, reached_whole, reached_rested, reached_stepped, whole_is_first, names_below}
 use Rattle.snapshot.proofs.rewind.Rewind.play.Goals.{in-Go+in-Ok, in-Keep, in-Back}
 use Rattle.snapshot.proofs.rewind.Rewind.play.Goals as goal
 
 pub loop-step-init : goal.loop-step-init
 loop-step-init g c = record {
   reached = λ job n rested.
-      subst (λ s. Reached job n c.args.plan.now s (g.K.Sink.holds c.args.sink.now) c.args.self.now) (sym c.steps-step-items.ensures.all)
-      (reached_first job n c.args.plan.now (g.K.Sink.holds c.args.sink.now) c.args.self.now rested c.requires.no_video c.requires.no_audio);
+      subst (λ s. Reached job n c.args.plan.now s (g.K.Sink.holds c.args.sink.now) c.args.self.now c.args.self.now) (sym c.steps-step-items.ensures.all)
+      (reached_first job n c.args.plan.now (g.K.Sink.holds c.args.sink.now) c.args.self.now rested c.requires.no_video c.requires.no_audio (omega (arith, c.stepped-count.ensures)));
   names = subst (NamesBelow (slot_count c.args.self.now)) (sym c.steps-step-items.ensures.all) (names_below c.args.plan.now (slot_count c.args.self.now) c.requires.slots);
   only = search rules;
 }
@@ -28,7 +25,7 @@ begin-requires g c =
     let (job, n, rested, fits) = c.requires.rested in
     let items = c.steps-step-items.result.now in
     let here = next_step items c.loop-step.step-index (Go 0 0 0) (Go c.in-Go.count c.in-Go.pad1 c.in-Go.pad2) c.loop-step-test.true c.in-Go.is in
-    let r = subst (λ s. Reached job n c.args.plan.now s (g.K.Sink.holds c.loop-step.sink) c.loop-step.self) here (c.loop-step.invariant.reached job n rested) in
+    let r = subst (λ s. Reached job n c.args.plan.now s (g.K.Sink.holds c.loop-step.sink) c.args.self.now c.loop-step.self) here (c.loop-step.invariant.reached job n rested) in
     let spans = r.spans in
     let goes = r.goes_left in
     let lasts = r.within.path in
@@ -59,8 +56,8 @@ returns-in-Err-clause-first g c = λ job n rested.
     let items = c.steps-step-items.result.now in
     let i = c.loop-step.step-index in
     let here = next_step items i (Go 0 0 0) (Go c.in-Go.count c.in-Go.pad1 c.in-Go.pad2) c.loop-step-test.true c.in-Go.is in
-    let r = subst (λ s. Reached job n c.args.plan.now s (g.K.Sink.holds c.loop-step.sink) c.loop-step.self) here (c.loop-step.invariant.reached job n rested) in
-    reached_part job n c.args.plan.now (drop (i + 1) items) (g.K.Sink.holds c.loop-step.sink) (g.K.Sink.holds c.go_on.new.sink) c.loop-step.self c.loop-step.self
+    let r = subst (λ s. Reached job n c.args.plan.now s (g.K.Sink.holds c.loop-step.sink) c.args.self.now c.loop-step.self) here (c.loop-step.invariant.reached job n rested) in
+    reached_part job n c.args.plan.now (drop (i + 1) items) (g.K.Sink.holds c.loop-step.sink) (g.K.Sink.holds c.go_on.new.sink) c.args.self.now c.loop-step.self c.loop-step.self
     c.in-Go.count c.in-Go.pad1 c.in-Go.pad2 r c.steps-step-items.ensures.few
     (c.in-Err.ensures.some job n (after_step r.paths (Go c.in-Go.count c.in-Go.pad1 c.in-Go.pad2)) r.paths.path (by_side r.video r.audio) (c.begin.ensures.going job n r.paths r.rested) r.video_taken r.audio_taken)
 
@@ -78,10 +75,10 @@ loop-step-preserved g c =
           let here = next_step items i (Go 0 0 0) step c.loop-step-test.true w.in-Go.is in
           record {
             reached = λ job n rested.
-                let r = subst (λ s. Reached job n steps s (holds c.loop-step.sink) was) here (c.loop-step.invariant.reached job n rested) in
-                let done = reached_go job n steps rest (holds c.loop-step.sink) (holds w.go_on.new.sink) was w.go_on.new.self w.in-Go.count w.in-Go.pad1 w.in-Go.pad2 r
-                (w.in-Ok.ensures.whole job n (after_step r.paths step) r.paths.path (by_side r.video r.audio) (w.begin.ensures.going job n r.paths r.rested) r.video_taken r.audio_taken) in
-                subst (λ k. Reached job n steps rest (holds k) c.match-step.self) (sym w.sink-is) (subst (λ v. Reached job n steps rest (holds w.go_on.new.sink) v) (sym w.self-is) done);
+                let r = subst (λ s. Reached job n steps s (holds c.loop-step.sink) c.args.self.now was) here (c.loop-step.invariant.reached job n rested) in
+                let done = reached_go job n steps rest (holds c.loop-step.sink) (holds w.go_on.new.sink) c.args.self.now was w.go_on.new.self w.in-Go.count w.in-Go.pad1 w.in-Go.pad2 w.begin.new.self r
+                (w.in-Ok.ensures.whole job n (after_step r.paths step) r.paths.path (by_side r.video r.audio) (w.begin.ensures.going job n r.paths r.rested) r.video_taken r.audio_taken) w.begin.ensures.machines w.begin.ensures.waits w.go_on.ensures.steps in
+                subst (λ k. Reached job n steps rest (holds k) c.args.self.now c.match-step.self) (sym w.sink-is) (subst (λ v. Reached job n steps rest (holds w.go_on.new.sink) c.args.self.now v) (sym w.self-is) done);
             names = subst (λ v. NamesBelow (slot_count v) rest) (sym w.self-is)
                 (subst (λ m. NamesBelow m rest) (sym (w.go_on.ensures.slots ∙ w.begin.ensures.slots)) (subst (NamesBelow (slot_count was)) here c.loop-step.invariant.names));
             only = subst (g.K.Sink.only_takes c.args.sink.now) (sym w.sink-is) (g.met.K.Sink.takes_more _ _ _ c.loop-step.invariant.only w.go_on.ensures.only);
@@ -90,9 +87,9 @@ loop-step-preserved g c =
           let here = next_step items i (Go 0 0 0) (Keep w.in-Keep.slot) c.loop-step-test.true w.in-Keep.is in
           record {
             reached = λ job n rested.
-                let r = subst (λ s. Reached job n steps s (holds c.loop-step.sink) was) here (c.loop-step.invariant.reached job n rested) in
-                let done = reached_keep job n steps rest (holds c.loop-step.sink) (holds c.loop-step.sink) was w.keep.new.self w.in-Keep.slot r (w.keep.ensures.kept job n r.paths r.rested) in
-                subst (λ k. Reached job n steps rest (holds k) c.match-step.self) (sym w.sink-is) (subst (λ v. Reached job n steps rest (holds c.loop-step.sink) v) (sym w.self-is) done);
+                let r = subst (λ s. Reached job n steps s (holds c.loop-step.sink) c.args.self.now was) here (c.loop-step.invariant.reached job n rested) in
+                let done = reached_keep job n steps rest (holds c.loop-step.sink) (holds c.loop-step.sink) c.args.self.now was w.keep.new.self w.in-Keep.slot r (w.keep.ensures.kept job n r.paths r.rested) w.keep.ensures.waits in
+                subst (λ k. Reached job n steps rest (holds k) c.args.self.now c.match-step.self) (sym w.sink-is) (subst (λ v. Reached job n steps rest (holds c.loop-step.sink) c.args.self.now v) (sym w.self-is) done);
             names = subst (λ v. NamesBelow (slot_count v) rest) (sym w.self-is)
                 (subst (λ m. NamesBelow m rest) (sym w.keep.ensures.slots) (subst (NamesBelow (slot_count was)) here c.loop-step.invariant.names).1);
             only = subst (g.K.Sink.only_takes c.args.sink.now) (sym w.sink-is) c.loop-step.invariant.only;
@@ -101,9 +98,9 @@ loop-step-preserved g c =
           let here = next_step items i (Go 0 0 0) (Back w.in-Back.slot) c.loop-step-test.true w.in-Back.is in
           record {
             reached = λ job n rested.
-                let r = subst (λ s. Reached job n steps s (holds c.loop-step.sink) was) here (c.loop-step.invariant.reached job n rested) in
-                let done = reached_back job n steps rest (holds c.loop-step.sink) (holds c.loop-step.sink) was w.back.new.self w.in-Back.slot r (w.back.ensures.back job n r.paths r.rested) in
-                subst (λ k. Reached job n steps rest (holds k) c.match-step.self) (sym w.sink-is) (subst (λ v. Reached job n steps rest (holds c.loop-step.sink) v) (sym w.self-is) done);
+                let r = subst (λ s. Reached job n steps s (holds c.loop-step.sink) c.args.self.now was) here (c.loop-step.invariant.reached job n rested) in
+                let done = reached_back job n steps rest (holds c.loop-step.sink) (holds c.loop-step.sink) c.args.self.now was w.back.new.self w.in-Back.slot r (w.back.ensures.back job n r.paths r.rested) w.back.ensures.waits in
+                subst (λ k. Reached job n steps rest (holds k) c.args.self.now c.match-step.self) (sym w.sink-is) (subst (λ v. Reached job n steps rest (holds c.loop-step.sink) c.args.self.now v) (sym w.self-is) done);
             names = subst (λ v. NamesBelow (slot_count v) rest) (sym w.self-is)
                 (subst (λ m. NamesBelow m rest) (sym w.back.ensures.slots) (subst (NamesBelow (slot_count was)) here c.loop-step.invariant.names).1);
             only = subst (g.K.Sink.only_takes c.args.sink.now) (sym w.sink-is) c.loop-step.invariant.only;
@@ -114,20 +111,27 @@ pub returns-clause-whole : goal.returns-clause-whole
 returns-clause-whole g c = λ job n rested.
     let items = c.steps-step-items.result.now in
     let over = drop_of_length-le items {i = c.loop-step.step-index} (omega (arith, c.loop-step-test.false)) in
-    reached_whole job n c.args.plan.now (g.K.Sink.holds c.loop-step.sink) c.loop-step.self
-    (subst (λ s. Reached job n c.args.plan.now s (g.K.Sink.holds c.loop-step.sink) c.loop-step.self) over (c.loop-step.invariant.reached job n rested))
+    reached_whole job n c.args.plan.now (g.K.Sink.holds c.loop-step.sink) c.args.self.now c.loop-step.self
+    (subst (λ s. Reached job n c.args.plan.now s (g.K.Sink.holds c.loop-step.sink) c.args.self.now c.loop-step.self) over (c.loop-step.invariant.reached job n rested))
 
 pub returns-clause-rested : goal.returns-clause-rested
 returns-clause-rested g c = λ job n rested.
     let items = c.steps-step-items.result.now in
     let over = drop_of_length-le items {i = c.loop-step.step-index} (omega (arith, c.loop-step-test.false)) in
-    reached_rested job n c.args.plan.now (g.K.Sink.holds c.loop-step.sink) c.loop-step.self
-    (subst (λ s. Reached job n c.args.plan.now s (g.K.Sink.holds c.loop-step.sink) c.loop-step.self) over (c.loop-step.invariant.reached job n rested))
+    reached_rested job n c.args.plan.now (g.K.Sink.holds c.loop-step.sink) c.args.self.now c.loop-step.self
+    (subst (λ s. Reached job n c.args.plan.now s (g.K.Sink.holds c.loop-step.sink) c.args.self.now c.loop-step.self) over (c.loop-step.invariant.reached job n rested))
+
+pub returns-clause-steps : goal.returns-clause-steps
+returns-clause-steps g c = λ job n rested.
+    let items = c.steps-step-items.result.now in
+    let over = drop_of_length-le items {i = c.loop-step.step-index} (omega (arith, c.loop-step-test.false)) in
+    reached_stepped job n c.args.plan.now (g.K.Sink.holds c.loop-step.sink) c.args.self.now c.loop-step.self
+    (subst (λ s. Reached job n c.args.plan.now s (g.K.Sink.holds c.loop-step.sink) c.args.self.now c.loop-step.self) over (c.loop-step.invariant.reached job n rested))
 
 pub returns-clause-first : goal.returns-clause-first
 returns-clause-first g c = λ job n rested.
     let items = c.steps-step-items.result.now in
     let over = drop_of_length-le items {i = c.loop-step.step-index} (omega (arith, c.loop-step-test.false)) in
     whole_is_first (Joins (PathEmits job n) c.args.plan.now no_paths) (g.K.Sink.holds c.loop-step.sink)
-    (reached_whole job n c.args.plan.now (g.K.Sink.holds c.loop-step.sink) c.loop-step.self
-    (subst (λ s. Reached job n c.args.plan.now s (g.K.Sink.holds c.loop-step.sink) c.loop-step.self) over (c.loop-step.invariant.reached job n rested)))
+    (reached_whole job n c.args.plan.now (g.K.Sink.holds c.loop-step.sink) c.args.self.now c.loop-step.self
+    (subst (λ s. Reached job n c.args.plan.now s (g.K.Sink.holds c.loop-step.sink) c.args.self.now c.loop-step.self) over (c.loop-step.invariant.reached job n rested)))
