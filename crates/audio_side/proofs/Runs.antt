@@ -1,16 +1,11 @@
--- Runs of plain accesses: none, one more, those of a halted processor; free cycles; and that a run in free cycles is made of
--- silent steps of the sound side.
-use Rattle.std.proofs.Common.{◌≡◌, ◌≢◌, ◌∙◌, ◌<◌, ◌≤◌, ◌%◌, ◌+◌, ◌*◌, ◌&&◌, ◌==◌, ℕ, Bool, zero, suc, true, false, List, [], ◌++◌, refl, sym, ap, subst, arith, add-zero, nat_lt, not-suc-le-zero, rules}
+-- Runs of plain accesses: none, one more, those of a halted processor; and that a run in free cycles is made of silent
+-- steps of the sound side.
+use Rattle.std.proofs.Common.{◌≡◌, ◌≢◌, ◌∙◌, ◌%◌, ◌+◌, ◌==◌, ℕ, Bool, zero, suc, true, false, List, [], refl, sym, ap, subst, arith, add-zero}
 use Rattle.std.proofs.lemmas.Bool.{ne_eqb}
-use Rattle.snes_defs.specs.Script.{is_reset}
-use Rattle.snes_defs.specs.declared.region.Region.{Region}
-use Rattle.snes_defs.specs.declared.region.Region.TheVariants.{Ntsc, Pal}
-use Rattle.snes_defs.specs.declared.ports.Side.TheVariants.{Sound}
 use Rattle.snes_defs.specs.declared.ports.Act.TheVariants.{Quiet}
-use Rattle.clock_ratio.specs.Stamp.{frame_of, rate_of}
 use Rattle.side_law.specs.Moves.{Moves}
 use Rattle.side_law.specs.Quiet.{SilentSteps}
-use Rattle.side_law.proofs.QuietRuns.{IsSilent, none_made, goes_on_silently, silent_then}
+use Rattle.side_law.proofs.QuietRuns.{IsSilent, silent_then}
 use Rattle.spc_tables.specs.declared.access.SpcAccess.{SpcAccess}
 use Rattle.spc_tables.specs.declared.access.SpcAccess.TheVariants as Access
 use Rattle.spc_modes.specs.Plan.{first_access}
@@ -19,11 +14,10 @@ use Rattle.spc700.specs.Stands.{Stands, access_of}
 use Rattle.spc700.specs.declared.processor.Spc.{Spc}
 use Rattle.audio_side.specs.HardwareState.{HardwareState}
 use Rattle.audio_side.specs.declared.timer.Timer.{Timer}
-use Rattle.audio_side.specs.Clock.{Clock, gone_on, is_reset_due, stamp_now}
+use Rattle.audio_side.specs.Clock.{Clock, gone_on}
 use Rattle.audio_side.specs.Effect.{act_of, effect, emitted, given, passed}
-use Rattle.audio_side.specs.Runs.{later, beat_of, IsFree, AreFree, IsFarFromReset, PlainAccesses, HasRun}
+use Rattle.audio_side.specs.Runs.{later, beat_of, IsFree, AreFree, PlainAccesses, HasRun}
 use Rattle.audio_side.specs.Sound.{AudioValue, SoundState, StandsAt, hardware_before_end, sound_act, sound_moves, sound_next}
-use Rattle.audio_side.specs.SoundLaws.{by_test}
 use Rattle.audio_side.proofs.Moves.{not_reset_processor, not_reset_hardware, same_state, state_with}
 use Rattle.audio_side.proofs.Ticks.{passes_nothing, rests_nothing}
 
@@ -65,47 +59,6 @@ halted_run (suc n) spc b s inner stays stands =
     let rest = halted_run n spc b (moved_on s 0) inner stays (stays s 0 stands) in
     let P : SpcAccess → Type 0 = λ a. (act_of a ≡ Quiet) × ((effect b a).timer2 ≡ b.timer2) × PlainAccesses n (moved_on s (given b a 0)) (effect b a) rest.to b in
     record { to = rest.to; run = subst P (sym is) (refl, refl, rest.run); stands = rest.stands }
-
--- ---- free cycles
-
-pub never_reset : (c : Clock) → c.resets ≡ [] → is_reset_due c ≡ false
-never_reset c none = rw none (by_test (nat_lt (stamp_now c % frame_of c.region) (rate_of c.region Sound)) (λ e. rw e refl) (λ e. rw e refl))
-
-amid : (r : Region) (n k : ℕ) → rate_of r Sound ≤ (rate_of r Sound * n) % frame_of r → (rate_of r Sound * n) % frame_of r + 32 * rate_of r Sound ≤ frame_of r
-    → k < 32 → nat_lt ((rate_of r Sound * (n + k)) % frame_of r) (rate_of r Sound) ≡ false
-amid Ntsc n k begun left few = grind arith
-amid Pal n k begun left few = grind arith
-
--- where a frame has begun and lasts for 32 cycles more, none of them is a reset
-pub no_reset_amid : (c : Clock) → rate_of c.region Sound ≤ stamp_now c % frame_of c.region → stamp_now c % frame_of c.region + 32 * rate_of c.region Sound ≤ frame_of c.region
-    → IsFarFromReset c
-no_reset_amid c begun left k few = rw (amid c.region c.cycle k begun left few) refl
-
-early_in : (r : Region) (n k before : ℕ) → rate_of r Sound * n + 32 * rate_of r Sound ≤ before → k < 32 → rate_of r Sound * (n + k) < before
-early_in Ntsc n k before room few = omega (arith, room, few)
-early_in Pal n k before room few = omega (arith, room, few)
-
-no_end_in : (fast : Bool) (n k m : ℕ) → m + n % beat_of fast + 1 ≡ beat_of fast → k < m → (n + k + 1) % beat_of fast ≢ 0
-no_end_in true n k m sum few = λ e. omega (arith, sum, few, e)
-no_end_in false n k m sum few = λ e. omega (arith, sum, few, e)
-
-few_in : (fast : Bool) (n m : ℕ) → m + n % beat_of fast + 1 ≡ beat_of fast → m < 32
-few_in true n m sum = omega (arith, sum)
-few_in false n m sum = omega (arith, sum)
-
--- the cycles up to the next end at which something may come are free, where they are far from a reset and begin before the stamp
-pub are_free : (fast : Bool) (before m : ℕ) (c : Clock) → IsFarFromReset c → stamp_now c + 32 * rate_of c.region Sound ≤ before
-    → m + c.cycle % beat_of fast + 1 ≡ beat_of fast → AreFree fast before m c
-are_free fast before m c far room sum k few =
-    let less = few_in fast c.cycle m sum in
-    record {
-      no_reset = far k (omega (arith, less, few));
-      no_end = no_end_in fast c.cycle k m sum few;
-      early = early_in c.region c.cycle k before room (omega (arith, less, few));
-    }
-
-pub none_free : (fast : Bool) (before : ℕ) (c : Clock) → AreFree fast before 0 c
-none_free fast before c k few = absurd (omega (arith, few))
 
 -- ---- steps of the sound side
 
@@ -156,8 +109,7 @@ silent_run fast before (suc n) s b k to b' on (quiet, still, rest) free =
     let on' : b''.timer2.on ≡ fast = ap (λ (t : Timer). t.on) still ∙ on in
     let P : SoundState → Type 0 = λ m. SilentSteps sound_moves before n m (state_with to b' (later (suc n) k)) in
     let Q : Clock → Type 0 = λ c. SilentSteps sound_moves before n (state_with s' b'' (gone_on k)) (state_with to b' c) in
-    let after = silent_run fast before n s' b'' (gone_on k) to b' on' rest (λ j less. subst F (sym (later_more j k)) (free (suc j) (omega (arith, less)))) in
-    (
+    let after = silent_run fast before n s' b'' (gone_on k) to b' on' rest (λ j less. subst F (sym (later_more j k)) (free (suc j) (omega (arith, less)))) in (
       free_act fast before s b k quiet here,
       here.early,
       emits_none fast k.cycle (hardware_before_end (state_with s b k)) here.no_end,
@@ -186,12 +138,3 @@ pub silent_joined : {State : Type 0} (moves : Moves State) (before : ℕ) (stood
 silent_joined moves before stood stands waited mid waits from h then =
     let all = silent_then moves before h.steps then.steps from h.to then.to h.silent then.silent in
     record { steps = all.0; to = then.to; now_stands = then.now_stands; silent = all.1; waits_is = h.waits_is ∙ then.waits_is }
-
--- ---- stamps
-
-later_in : (r : Region) (n k : ℕ) → rate_of r Sound * n ≤ rate_of r Sound * (n + k)
-later_in Ntsc n k = omega arith
-later_in Pal n k = omega arith
-
-pub goes_forward : (c : Clock) (n : ℕ) → stamp_now c ≤ stamp_now (later n c)
-goes_forward c n = later_in c.region c.cycle n

@@ -41,7 +41,7 @@ abbrev pub PlainAccesses : ℕ → SpcState → HardwareState → SpcState → H
 PlainAccesses zero s b to b' = (s ≡ to) × (b ≡ b')
 PlainAccesses (suc n) s b to b' =
     (act_of (next_of s) ≡ Quiet) × ((effect b (next_of s)).timer2 ≡ b.timer2)
-      × PlainAccesses n (moved_on s (given b (next_of s) 0)) (effect b (next_of s)) to b'
+    × PlainAccesses n (moved_on s (given b (next_of s) 0)) (effect b (next_of s)) to b'
 
 -- such accesses lead to what the processor now stands for, and to the hardware as it now is
 pub record HasRun (spc : Spc) (b' : HardwareState) (s : SpcState) (b : HardwareState) (n : ℕ) : Type 0 where

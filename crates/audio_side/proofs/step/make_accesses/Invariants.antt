@@ -1,4 +1,3 @@
-use Rattle.std.proofs.Common.{◌≡◌}
 use Rattle.spc700.specs.Instruction.{SpcState}
 use Rattle.spc700.specs.Stands.{Stands}
 use Rattle.audio_side.specs.Runs.{HasRun}

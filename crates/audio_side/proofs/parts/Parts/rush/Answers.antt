@@ -1,4 +1,4 @@
-use Rattle.std.proofs.Common.{◌<◌, ◌≡◌, Bool, refl, subst, arith}
+use Rattle.std.proofs.Common.{Bool, refl, subst, arith}
 use Rattle.audio_side.specs.Parts.{value_of}
 use Rattle.audio_side.specs.Runs.{AreFree}
 use Rattle.audio_side.specs.Sound.{AudioValue}
