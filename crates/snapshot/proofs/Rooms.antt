@@ -1,18 +1,18 @@
 -- The run of a path, and that of the same path whose script has memory for another number of spans.
-use Rattle.std.proofs.Common.{◌≡◌, ℕ, ◌<◌, ◌≤◌, List, refl, ap, sym, ◌∙◌, arith}
+use Rattle.std.proofs.Common.{ℕ, ◌≤◌, List, refl, ap, sym, ◌∙◌, arith}
 use Rattle.snes_defs.specs.declared.cart.Cart.{Cart}
 use Rattle.snes_defs.specs.declared.cart.Job.{Job}
 use Rattle.snes_defs.specs.declared.script.Span.{Span}
 use Rattle.snes_defs.specs.Script.{frames_of, pads_at}
 use Rattle.side_law.specs.Serial.{SerialState}
-use Rattle.side_law.specs.SerialRun.{after_turns, IsPast}
+use Rattle.side_law.specs.SerialRun.{after_turns}
 use Rattle.io_math.specs.Registers.{framed, registers_start}
 use Rattle.console_bus.specs.BusState.{board_of}
 use Rattle.console_steps.specs.ConsoleState.{ConsoleState, console_moves}
 use Rattle.audio_side.specs.HardwareState.{table_of}
 use Rattle.audio_side.specs.Sound.{SoundState, sound_moves}
 use Rattle.plan_drive.specs.Paths.{path_script}
-use Rattle.snapshot.specs.Path.{PathEmits, start_of, end_of_path, console_of_path}
+use Rattle.snapshot.specs.Path.{PathEmits, start_of, console_of_path}
 use Rattle.snapshot.proofs.Clocks.{Agree, Alike}
 use Rattle.snapshot.proofs.Runs.{SameRun, same_runs, alike_stamp, starts_own, words_twice}
 

@@ -35,6 +35,7 @@ impl Rewind {
         ensures failed { IfErr result (K.failed sink.old sink.new) }
         ensures only { K.only_takes sink.old sink.new }
     {
+        // A count is below 2^64, which the clause `steps` rests on.
         let _count = self.stepped();
         for step in plan.steps() {
             match *step {
