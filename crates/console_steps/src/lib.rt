@@ -20,4 +20,4 @@ pub use effects::{
     give_interrupt_levels, make_inner, make_move, make_read, make_reset, make_write,
 };
 pub use passing::pass;
-pub use plain::{is_calm, is_wired, try_look, try_plain};
+pub use plain::{is_calm, is_wired, try_idle_at, try_look, try_plain, try_read_at, try_write_at};
