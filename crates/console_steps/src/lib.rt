@@ -11,6 +11,7 @@ mod at_once;
 mod drawing;
 mod effects;
 mod happening;
+mod known;
 mod passing;
 mod plain;
 mod rows;
@@ -19,5 +20,6 @@ pub use at_once::try_access;
 pub use effects::{
     give_interrupt_levels, make_inner, make_move, make_read, make_reset, make_write,
 };
+pub use known::{try_idle_at, try_read_at, try_write_at};
 pub use passing::pass;
-pub use plain::{is_calm, is_wired, try_idle_at, try_look, try_plain, try_read_at, try_write_at};
+pub use plain::{is_calm, is_wired, try_look, try_plain};

@@ -88,7 +88,7 @@ fn give_plainly(cpu: &mut Cpu, bus: &mut Bus, place: Place, at: usize, v: u8, cl
 
 /// The processor reads a byte of the memory.
 #[inline(always)]
-fn read_plainly(cpu: &mut Cpu, bus: &mut Bus, place: Place, addr: u32) -> Option<u8>
+pub(crate) fn read_plainly(cpu: &mut Cpu, bus: &mut Bus, place: Place, addr: u32) -> Option<u8>
     requires known { cpu.old.micro.place ≡ place }
     requires gets { IsTrue (gets_byte (access_of cpu.old)) }
     requires addr { addr < 2 ^ 24 }
@@ -110,7 +110,13 @@ fn read_plainly(cpu: &mut Cpu, bus: &mut Bus, place: Place, addr: u32) -> Option
 
 /// The processor writes a byte of the memory.
 #[inline(always)]
-fn write_plainly(cpu: &mut Cpu, bus: &mut Bus, place: Place, addr: u32, v: u8) -> Option<u8>
+pub(crate) fn write_plainly(
+    cpu: &mut Cpu,
+    bus: &mut Bus,
+    place: Place,
+    addr: u32,
+    v: u8,
+) -> Option<u8>
     requires known { cpu.old.micro.place ≡ place }
     requires writes { IsTrue (is_write (access_of cpu.old)) }
     requires addr { addr < 2 ^ 24 }
@@ -146,7 +152,7 @@ fn rest_plainly(cpu: &mut Cpu, bus: &mut Bus, place: Place)
 
 /// The processor makes an internal cycle.
 #[inline(always)]
-fn idle_plainly(cpu: &mut Cpu, bus: &mut Bus, place: Place) -> Option<u8>
+pub(crate) fn idle_plainly(cpu: &mut Cpu, bus: &mut Bus, place: Place) -> Option<u8>
     requires known { cpu.old.micro.place ≡ place }
     requires inner { IsTrue (is_inner (access_of cpu.old)) }
     ensures made { IsWired cpu.old bus.old → IfSome result (λ clocks. IsMadeAtOnce cpu.old cpu.new bus.old bus.new Inner clocks) }
@@ -199,63 +205,6 @@ pub fn try_look(cpu: &mut Cpu, bus: &mut Bus) -> Option<u8>
     match cpu.next() {
         Access::Fetch(addr) => read_plainly(cpu, bus, place, addr),
         Access::Read(addr) => read_plainly(cpu, bus, place, addr),
-        Access::Write(_, _) => None,
-        Access::Inner => idle_plainly(cpu, bus, place),
-    }
-}
-
-/// The same of a fetch or a read at a place that the caller knows, so that nothing of the other places is left in it.
-#[inline(always)]
-pub fn try_read_at(cpu: &mut Cpu, bus: &mut Bus, place: Place) -> Option<u8>
-    requires known { cpu.old.micro.place ≡ place }
-    ensures made { IsWired cpu.old bus.old → IfSome result (λ clocks. IsMadeAtOnce cpu.old cpu.new bus.old bus.new (access_of cpu.old) clocks) }
-    ensures within { IfSome result (λ clocks. clocks < clocks_left bus.old.beam) }
-    ensures left { IfSome result (λ clocks. clocks_left bus.new.beam ≡ clocks_left bus.old.beam - clocks) }
-    ensures calm { IsCalm bus.old → IsCalm bus.new }
-    ensures bus_stays { result ≡ None → bus.new ≡ bus.old }
-    ensures cpu_stays { result ≡ None → cpu.new ≡ cpu.old }
-{
-    match cpu.next() {
-        Access::Fetch(addr) => read_plainly(cpu, bus, place, addr),
-        Access::Read(addr) => read_plainly(cpu, bus, place, addr),
-        Access::Write(_, _) => None,
-        Access::Inner => None,
-    }
-}
-
-/// The same of a write at a place that the caller knows.
-#[inline(always)]
-pub fn try_write_at(cpu: &mut Cpu, bus: &mut Bus, place: Place) -> Option<u8>
-    requires known { cpu.old.micro.place ≡ place }
-    ensures made { IsWired cpu.old bus.old → IfSome result (λ clocks. IsMadeAtOnce cpu.old cpu.new bus.old bus.new (access_of cpu.old) clocks) }
-    ensures within { IfSome result (λ clocks. clocks < clocks_left bus.old.beam) }
-    ensures left { IfSome result (λ clocks. clocks_left bus.new.beam ≡ clocks_left bus.old.beam - clocks) }
-    ensures calm { IsCalm bus.old → IsCalm bus.new }
-    ensures bus_stays { result ≡ None → bus.new ≡ bus.old }
-    ensures cpu_stays { result ≡ None → cpu.new ≡ cpu.old }
-{
-    match cpu.next() {
-        Access::Fetch(_) => None,
-        Access::Read(_) => None,
-        Access::Write(addr, v) => write_plainly(cpu, bus, place, addr, v),
-        Access::Inner => None,
-    }
-}
-
-/// The same of an internal cycle at a place that the caller knows.
-#[inline(always)]
-pub fn try_idle_at(cpu: &mut Cpu, bus: &mut Bus, place: Place) -> Option<u8>
-    requires known { cpu.old.micro.place ≡ place }
-    ensures made { IsWired cpu.old bus.old → IfSome result (λ clocks. IsMadeAtOnce cpu.old cpu.new bus.old bus.new (access_of cpu.old) clocks) }
-    ensures within { IfSome result (λ clocks. clocks < clocks_left bus.old.beam) }
-    ensures left { IfSome result (λ clocks. clocks_left bus.new.beam ≡ clocks_left bus.old.beam - clocks) }
-    ensures calm { IsCalm bus.old → IsCalm bus.new }
-    ensures bus_stays { result ≡ None → bus.new ≡ bus.old }
-    ensures cpu_stays { result ≡ None → cpu.new ≡ cpu.old }
-{
-    match cpu.next() {
-        Access::Fetch(_) => None,
-        Access::Read(_) => None,
         Access::Write(_, _) => None,
         Access::Inner => idle_plainly(cpu, bus, place),
     }
