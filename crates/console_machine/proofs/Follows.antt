@@ -36,8 +36,9 @@ follows_one cpu cpu' bus bus' clocks made within left calm = record {
   come = λ w at line is_calm wired. (
       let sum : clocks_left bus.beam - clocks_left bus'.beam ≡ 0 + clocks = omega (arith, within, left) in
       let m = made wired in
+      let h = no_run cpu bus w at line in
       record {
-        run = run_on cpu cpu' bus bus' w 0 clocks _ (no_run cpu bus w at line) (is_step cpu cpu' bus bus' w clocks at m is_calm.reset is_calm.refresh is_calm.transfer) sum;
+        run = run_on cpu cpu' bus bus' w 0 clocks _ h (is_step cpu cpu' bus bus' h.to clocks h.at m is_calm.reset is_calm.refresh is_calm.transfer) sum;
         wired = wired_then cpu cpu' bus bus' (access_of cpu) clocks w.processor m at.processor;
       });
 }

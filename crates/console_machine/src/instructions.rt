@@ -11,7 +11,7 @@ use cpu_modes::{DirectKind, OperandKind, Place, Reach, ReturnKind};
 use cpu65816::Cpu;
 
 /// A fetch or a read at a place.
-#[tactic(auto, using(crate::proofs::Follows::follows_one, crate::proofs::Follows::follows_same))]
+#[tactic(auto, using(crate::proofs::Follows::follows_same))]
 #[inline(always)]
 fn read_at(cpu: &mut Cpu, bus: &mut Bus, place: Place) -> bool
     requires known { cpu.old.micro.place ≡ place }
@@ -24,7 +24,7 @@ fn read_at(cpu: &mut Cpu, bus: &mut Bus, place: Place) -> bool
 }
 
 /// A write at a place.
-#[tactic(auto, using(crate::proofs::Follows::follows_one, crate::proofs::Follows::follows_same))]
+#[tactic(auto, using(crate::proofs::Follows::follows_same))]
 #[inline(always)]
 fn write_at(cpu: &mut Cpu, bus: &mut Bus, place: Place) -> bool
     requires known { cpu.old.micro.place ≡ place }
@@ -37,7 +37,7 @@ fn write_at(cpu: &mut Cpu, bus: &mut Bus, place: Place) -> bool
 }
 
 /// An internal cycle at a place.
-#[tactic(auto, using(crate::proofs::Follows::follows_one, crate::proofs::Follows::follows_same))]
+#[tactic(auto, using(crate::proofs::Follows::follows_same))]
 #[inline(always)]
 fn idle_at(cpu: &mut Cpu, bus: &mut Bus, place: Place) -> bool
     requires known { cpu.old.micro.place ≡ place }
@@ -194,7 +194,6 @@ fn pull_high(cpu: &mut Cpu, bus: &mut Bus) -> bool
 }
 
 /// The two bytes of an operand.
-#[tactic(auto, using(crate::proofs::Follows::follows_then))]
 #[inline(always)]
 fn operand(cpu: &mut Cpu, bus: &mut Bus, kind: OperandKind) -> bool
     requires known { cpu.old.micro.place ≡ OperandLow kind }
@@ -207,7 +206,6 @@ fn operand(cpu: &mut Cpu, bus: &mut Bus, kind: OperandKind) -> bool
 }
 
 /// The two bytes of an address that an index is added to, and the cycle that this may take.
-#[tactic(auto, using(crate::proofs::Follows::follows_then))]
 #[inline(always)]
 fn indexed_operand(cpu: &mut Cpu, bus: &mut Bus, kind: OperandKind) -> bool
     requires known { cpu.old.micro.place ≡ OperandLow kind }
@@ -220,7 +218,6 @@ fn indexed_operand(cpu: &mut Cpu, bus: &mut Bus, kind: OperandKind) -> bool
 }
 
 /// The two bytes of a call's target, and the cycle before it pushes.
-#[tactic(auto, using(crate::proofs::Follows::follows_then))]
 #[inline(always)]
 fn call(cpu: &mut Cpu, bus: &mut Bus) -> bool
     requires known { cpu.old.micro.place ≡ OperandLow OperandKind.Call }
@@ -233,7 +230,6 @@ fn call(cpu: &mut Cpu, bus: &mut Bus) -> bool
 }
 
 /// An immediate operand of 16 bits.
-#[tactic(auto, using(crate::proofs::Follows::follows_then))]
 #[inline(always)]
 fn immediate(cpu: &mut Cpu, bus: &mut Bus) -> bool
     requires known { cpu.old.micro.place ≡ ImmediateLow }
@@ -246,7 +242,6 @@ fn immediate(cpu: &mut Cpu, bus: &mut Bus) -> bool
 }
 
 /// The two cycles of a pull.
-#[tactic(auto, using(crate::proofs::Follows::follows_then))]
 #[inline(always)]
 fn pull(cpu: &mut Cpu, bus: &mut Bus) -> bool
     requires known { cpu.old.micro.place ≡ PullFirstCycle }
@@ -259,7 +254,6 @@ fn pull(cpu: &mut Cpu, bus: &mut Bus) -> bool
 }
 
 /// The two cycles of a return.
-#[tactic(auto, using(crate::proofs::Follows::follows_then))]
 #[inline(always)]
 fn return_cycles(cpu: &mut Cpu, bus: &mut Bus) -> bool
     requires known { cpu.old.micro.place ≡ ReturnFirstCycle ReturnKind.Near }
@@ -272,7 +266,6 @@ fn return_cycles(cpu: &mut Cpu, bus: &mut Bus) -> bool
 }
 
 /// The address to return to.
-#[tactic(auto, using(crate::proofs::Follows::follows_then))]
 #[inline(always)]
 fn return_address(cpu: &mut Cpu, bus: &mut Bus) -> bool
     ensures { Follows cpu.old cpu.new bus.old bus.new }
@@ -284,9 +277,8 @@ fn return_address(cpu: &mut Cpu, bus: &mut Bus) -> bool
 }
 
 /// A return up to its last cycle.
-#[tactic(auto, using(crate::proofs::Follows::follows_then))]
 #[inline(always)]
-fn returns(cpu: &mut Cpu, bus: &mut Bus) -> bool
+fn return_pulls(cpu: &mut Cpu, bus: &mut Bus) -> bool
     requires known { cpu.old.micro.place ≡ ReturnFirstCycle ReturnKind.Near }
     ensures { Follows cpu.old cpu.new bus.old bus.new }
 {
@@ -297,7 +289,6 @@ fn returns(cpu: &mut Cpu, bus: &mut Bus) -> bool
 }
 
 /// Data of 16 bits is read.
-#[tactic(auto, using(crate::proofs::Follows::follows_then))]
 #[inline(always)]
 fn load(cpu: &mut Cpu, bus: &mut Bus, reach: Reach) -> bool
     requires known { cpu.old.micro.place ≡ LoadLow reach }
@@ -310,7 +301,6 @@ fn load(cpu: &mut Cpu, bus: &mut Bus, reach: Reach) -> bool
 }
 
 /// Data is written.
-#[tactic(auto, using(crate::proofs::Follows::follows_then))]
 #[inline(always)]
 fn store(cpu: &mut Cpu, bus: &mut Bus, reach: Reach) -> bool
     requires known { cpu.old.micro.place ≡ StoreLow reach }
@@ -323,7 +313,6 @@ fn store(cpu: &mut Cpu, bus: &mut Bus, reach: Reach) -> bool
 }
 
 /// A word is pushed.
-#[tactic(auto, using(crate::proofs::Follows::follows_then))]
 #[inline(always)]
 fn push_word(cpu: &mut Cpu, bus: &mut Bus) -> bool
     requires known { cpu.old.micro.place ≡ PushHigh }
@@ -336,7 +325,6 @@ fn push_word(cpu: &mut Cpu, bus: &mut Bus) -> bool
 }
 
 /// A word is pulled.
-#[tactic(auto, using(crate::proofs::Follows::follows_then))]
 #[inline(always)]
 fn pull_word(cpu: &mut Cpu, bus: &mut Bus) -> bool
     requires known { cpu.old.micro.place ≡ PullLow }
@@ -368,7 +356,7 @@ fn approach(cpu: &mut Cpu, bus: &mut Bus) -> bool
         Place::BranchOffset => read_at(cpu, bus, Place::BranchOffset),
         Place::PushCycle => idle_at(cpu, bus, Place::PushCycle),
         Place::PullFirstCycle => pull(cpu, bus),
-        Place::ReturnFirstCycle(ReturnKind::Near) => returns(cpu, bus),
+        Place::ReturnFirstCycle(ReturnKind::Near) => return_pulls(cpu, bus),
         _ => true,
     }
 }
@@ -376,7 +364,7 @@ fn approach(cpu: &mut Cpu, bus: &mut Bus) -> bool
 /// The data of the commonest modes, or a last cycle.
 #[tactic(auto, using(crate::proofs::Follows::follows_none))]
 #[inline(always)]
-fn data(cpu: &mut Cpu, bus: &mut Bus) -> bool
+fn data_accesses(cpu: &mut Cpu, bus: &mut Bus) -> bool
     ensures { Follows cpu.old cpu.new bus.old bus.new }
 {
     match cpu.place() {
@@ -393,7 +381,6 @@ fn data(cpu: &mut Cpu, bus: &mut Bus) -> bool
 }
 
 /// All that comes after an opcode, of the commonest modes.
-#[tactic(auto, using(crate::proofs::Follows::follows_then))]
 #[inline(always)]
 fn after_opcode(cpu: &mut Cpu, bus: &mut Bus) -> bool
     ensures { Follows cpu.old cpu.new bus.old bus.new }
@@ -401,11 +388,10 @@ fn after_opcode(cpu: &mut Cpu, bus: &mut Bus) -> bool
     if !approach(cpu, bus) {
         return false;
     }
-    data(cpu, bus)
+    data_accesses(cpu, bus)
 }
 
 /// An instruction from its opcode on, or as much of it as may be made.
-#[tactic(auto, using(crate::proofs::Follows::follows_then))]
 #[inline(always)]
 pub(crate) fn instruction(cpu: &mut Cpu, bus: &mut Bus) -> bool
     requires known { cpu.old.micro.place ≡ Ended }

@@ -33,7 +33,7 @@ const MOST_OF_ROUND: u16 = 32;
 const FEW_CLOCKS: u16 = 128;
 
 /// One access, wherever it stands in its instruction.
-#[tactic(auto, using(crate::proofs::Follows::follows_one, crate::proofs::Follows::follows_same))]
+#[tactic(auto, using(crate::proofs::Follows::follows_same))]
 #[inline(always)]
 fn make_one(cpu: &mut Cpu, bus: &mut Bus) -> bool
     ensures { Follows cpu.old cpu.new bus.old bus.new }

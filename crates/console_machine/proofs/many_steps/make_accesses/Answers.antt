@@ -29,4 +29,4 @@ returns-then-not-more-clause-run c = λ w at line.
 
 pub returns-clause-run : goal.returns-clause-run
 returns-clause-run c = λ w at line.
-    run_of c.args.cpu.now c.steps.cpu c.args.bus.now c.steps.bus w _ c.steps.invariant.follows (c.clocks_since.ensures ∙ ap (λ n. n - clocks_left c.steps.bus.beam) c.clocks_left-left.ensures.clocks) at line (c.if-not-is_calm.ensures refl) (c.if-not-is_wired.ensures refl)
+    run_of c.args.cpu.now c.steps.cpu c.args.bus.now c.steps.bus w _ c.steps.invariant.follows (c.clocks_since-2.ensures ∙ ap (λ n. n - clocks_left c.steps.bus.beam) c.clocks_left-left.ensures.clocks) at line (c.if-not-is_calm.ensures refl) (c.if-not-is_wired.ensures refl)
