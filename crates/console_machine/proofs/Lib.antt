@@ -5,3 +5,4 @@ pub mod Quiets
 pub mod Steps
 pub mod Runs
 pub mod Looks
+pub mod Follows

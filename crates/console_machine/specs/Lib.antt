@@ -7,3 +7,4 @@ pub mod AfterStep
 pub mod Taken
 pub mod Playing
 pub mod Runs
+pub mod Follows

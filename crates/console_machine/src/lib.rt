@@ -8,6 +8,7 @@
 #![tactic(auto)]
 
 mod acts;
+mod instructions;
 mod many_steps;
 mod parts;
 mod patience;

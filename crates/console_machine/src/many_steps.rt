@@ -9,12 +9,15 @@ ghost use Rattle.console_steps.specs.ConsoleState.{ConsoleState};
 ghost use Rattle.console_steps.specs.Stands.{IsAt};
 ghost use Rattle.console_steps.specs.AtOnce.{gone_on, passed_in, IsMadeAtOnce};
 ghost use Rattle.console_steps.specs.Plain.{IsWired, IsCalm, IsLook};
+ghost use Rattle.console_machine.specs.Follows.{Follows};
 ghost use Rattle.console_machine.specs.Runs.{HasRun, IsRounds};
 
+use crate::instructions::instruction;
 use crate::patience::Patience;
-use cart_map::Place;
+use cart_map::Place as BusPlace;
 use console_bus::Bus;
 use console_steps::{is_calm, is_wired, try_look, try_plain};
+use cpu_modes::Place;
 use cpu65816::Cpu;
 
 /// More accesses than a line has room for.
@@ -29,6 +32,38 @@ const MOST_OF_ROUND: u16 = 32;
 /// With fewer clocks to the next place than these no round is looked for.
 const FEW_CLOCKS: u16 = 128;
 
+/// One access, wherever it stands in its instruction.
+#[tactic(auto, using(crate::proofs::Follows::follows_same))]
+#[inline(always)]
+fn make_one(cpu: &mut Cpu, bus: &mut Bus) -> bool
+    ensures { Follows cpu.old cpu.new bus.old bus.new }
+{
+    match try_plain(cpu, bus) {
+        Some(_) => true,
+        None => false,
+    }
+}
+
+/// The accesses of an instruction that begins, else one access. Answers whether another may follow.
+#[inline(always)]
+fn make_some(cpu: &mut Cpu, bus: &mut Bus) -> bool
+    ensures { Follows cpu.old cpu.new bus.old bus.new }
+{
+    if let Place::Ended = cpu.place() {
+        return instruction(cpu, bus);
+    }
+    make_one(cpu, bus)
+}
+
+/// The clocks since so many were left.
+#[inline(always)]
+fn clocks_since(left: u16, bus: &Bus) -> u16
+    requires { clocks_left bus.now.beam ≤ left }
+    ensures { result ≡ left - clocks_left bus.now.beam }
+{
+    left - bus.clocks_left()
+}
+
 /// Makes the processor's accesses one after another, as long as they are of the memory or internal cycles and nothing
 /// else happens in their clocks, and answers how many clocks they last together.
 #[inline(never)]
@@ -42,15 +77,15 @@ fn make_accesses(cpu: &mut Cpu, bus: &mut Bus) -> u16
     if !is_wired(cpu, bus) {
         return 0;
     }
-    let _left = bus.clocks_left();
-    let mut gone: u16 = 0;
+    let left = bus.clocks_left();
+    let mut more = true;
     'steps: for _ in 0..MOST_ACCESSES {
-        match try_plain(cpu, bus) {
-            Some(clocks) => gone += clocks as u16,
-            None => return gone,
+        if !more {
+            return clocks_since(left, bus);
         }
+        more = make_some(cpu, bus);
     }
-    gone
+    clocks_since(left, bus)
 }
 
 /// One access that only looks.
@@ -98,7 +133,7 @@ fn last_byte(bus: &mut Bus) -> u8
     ensures last { result ≡ bus.old.last }
     ensures stays { bus.new ≡ bus.old }
 {
-    bus.read(Place::Open, 0)
+    bus.read(BusPlace::Open, 0)
 }
 
 /// Whether the processor does what another one does, and a byte is the last on the data bus.

@@ -11,6 +11,7 @@ mod at_once;
 mod drawing;
 mod effects;
 mod happening;
+mod known;
 mod other_steps;
 mod passing;
 mod plain;
@@ -21,6 +22,7 @@ pub use at_once::try_access;
 pub use effects::{
     give_interrupt_levels, make_inner, make_move, make_read, make_reset, make_write,
 };
+pub use known::{try_idle_at, try_read_at, try_write_at};
 pub use other_steps::{try_move, try_register};
 pub use passing::pass;
 pub use plain::{is_calm, is_wired, try_look, try_plain};

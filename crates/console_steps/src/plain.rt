@@ -13,6 +13,7 @@ ghost use Rattle.console_steps.specs.AtOnce.{IsMadeAtOnce};
 ghost use Rattle.console_steps.specs.Plain.{IsWired, IsCalm, IsLook};
 
 use console_bus::Bus;
+use cpu_modes::Place;
 use cpu_tables::Access;
 use cpu65816::Cpu;
 
@@ -36,7 +37,8 @@ pub fn is_calm(bus: &Bus) -> bool
 
 /// The processor takes a byte of the memory, and the beam goes on.
 #[inline(always)]
-fn take_plainly(cpu: &mut Cpu, bus: &mut Bus, at: usize, clocks: u8)
+fn take_plainly(cpu: &mut Cpu, bus: &mut Bus, place: Place, at: usize, clocks: u8)
+    requires known { cpu.old.micro.place ≡ place }
     requires gets { IsTrue (gets_byte (access_of cpu.old)) }
     requires at { at < 131072 + bus.old.board.ram + bus.old.board.rom }
     requires few { clocks < clocks_left bus.old.beam }
@@ -48,7 +50,7 @@ fn take_plainly(cpu: &mut Cpu, bus: &mut Bus, at: usize, clocks: u8)
     let byte = bus.load(at);
     bus.put(byte);
     bus.go_on(clocks as u16);
-    cpu.took(byte);
+    cpu.took_at(place, byte);
 }
 
 /// A byte of the memory is written, and goes over the data bus.
@@ -68,7 +70,8 @@ fn put_plainly(bus: &mut Bus, at: usize, v: u8)
 
 /// The processor has written a byte of the memory, and the beam goes on.
 #[inline(always)]
-fn give_plainly(cpu: &mut Cpu, bus: &mut Bus, at: usize, v: u8, clocks: u8)
+fn give_plainly(cpu: &mut Cpu, bus: &mut Bus, place: Place, at: usize, v: u8, clocks: u8)
+    requires known { cpu.old.micro.place ≡ place }
     requires writes { IsTrue (is_write (access_of cpu.old)) }
     requires at { at < 131072 + bus.old.board.ram + bus.old.board.rom }
     requires few { clocks < clocks_left bus.old.beam }
@@ -80,12 +83,13 @@ fn give_plainly(cpu: &mut Cpu, bus: &mut Bus, at: usize, v: u8, clocks: u8)
 {
     put_plainly(bus, at, v);
     bus.go_on(clocks as u16);
-    cpu.wrote();
+    cpu.wrote_at(place);
 }
 
 /// The processor reads a byte of the memory.
 #[inline(always)]
-fn read_plainly(cpu: &mut Cpu, bus: &mut Bus, addr: u32) -> Option<u8>
+pub(crate) fn read_plainly(cpu: &mut Cpu, bus: &mut Bus, place: Place, addr: u32) -> Option<u8>
+    requires known { cpu.old.micro.place ≡ place }
     requires gets { IsTrue (gets_byte (access_of cpu.old)) }
     requires addr { addr < 2 ^ 24 }
     ensures made { IsWired cpu.old bus.old → IfSome result (λ clocks. IsMadeAtOnce cpu.old cpu.new bus.old bus.new (Read addr) clocks) }
@@ -100,13 +104,20 @@ fn read_plainly(cpu: &mut Cpu, bus: &mut Bus, addr: u32) -> Option<u8>
     if access.clocks as u16 >= bus.clocks_left() {
         return None;
     }
-    take_plainly(cpu, bus, access.at, access.clocks);
+    take_plainly(cpu, bus, place, access.at, access.clocks);
     Some(access.clocks)
 }
 
 /// The processor writes a byte of the memory.
 #[inline(always)]
-fn write_plainly(cpu: &mut Cpu, bus: &mut Bus, addr: u32, v: u8) -> Option<u8>
+pub(crate) fn write_plainly(
+    cpu: &mut Cpu,
+    bus: &mut Bus,
+    place: Place,
+    addr: u32,
+    v: u8,
+) -> Option<u8>
+    requires known { cpu.old.micro.place ≡ place }
     requires writes { IsTrue (is_write (access_of cpu.old)) }
     requires addr { addr < 2 ^ 24 }
     ensures made { IsWired cpu.old bus.old → IfSome result (λ clocks. IsMadeAtOnce cpu.old cpu.new bus.old bus.new (Write addr v) clocks) }
@@ -120,13 +131,14 @@ fn write_plainly(cpu: &mut Cpu, bus: &mut Bus, addr: u32, v: u8) -> Option<u8>
     if access.clocks as u16 >= bus.clocks_left() {
         return None;
     }
-    give_plainly(cpu, bus, access.at, v, access.clocks);
+    give_plainly(cpu, bus, place, access.at, v, access.clocks);
     Some(access.clocks)
 }
 
 /// The processor makes an internal cycle, and the beam goes on.
 #[inline(always)]
-fn rest_plainly(cpu: &mut Cpu, bus: &mut Bus)
+fn rest_plainly(cpu: &mut Cpu, bus: &mut Bus, place: Place)
+    requires known { cpu.old.micro.place ≡ place }
     requires inner { IsTrue (is_inner (access_of cpu.old)) }
     requires few { 6 < clocks_left bus.old.beam }
     ensures rest { bus.new ≡ record bus.old { beam = beam_after bus.old.picture.registers.settings.overscan bus.old.beam 6 } }
@@ -135,12 +147,13 @@ fn rest_plainly(cpu: &mut Cpu, bus: &mut Bus)
     ensures processor { (s : CpuState) → Stands cpu.old s → Stands cpu.new (moved_on s 0) }
 {
     bus.go_on(6);
-    cpu.idle();
+    cpu.idle_at(place);
 }
 
 /// The processor makes an internal cycle.
 #[inline(always)]
-fn idle_plainly(cpu: &mut Cpu, bus: &mut Bus) -> Option<u8>
+pub(crate) fn idle_plainly(cpu: &mut Cpu, bus: &mut Bus, place: Place) -> Option<u8>
+    requires known { cpu.old.micro.place ≡ place }
     requires inner { IsTrue (is_inner (access_of cpu.old)) }
     ensures made { IsWired cpu.old bus.old → IfSome result (λ clocks. IsMadeAtOnce cpu.old cpu.new bus.old bus.new Inner clocks) }
     ensures within { IfSome result (λ clocks. clocks < clocks_left bus.old.beam) }
@@ -152,7 +165,7 @@ fn idle_plainly(cpu: &mut Cpu, bus: &mut Bus) -> Option<u8>
     if bus.clocks_left() <= 6 {
         return None;
     }
-    rest_plainly(cpu, bus);
+    rest_plainly(cpu, bus, place);
     Some(6)
 }
 
@@ -168,11 +181,12 @@ pub fn try_plain(cpu: &mut Cpu, bus: &mut Bus) -> Option<u8>
     ensures bus_stays { result ≡ None → bus.new ≡ bus.old }
     ensures cpu_stays { result ≡ None → cpu.new ≡ cpu.old }
 {
+    let place = cpu.place();
     match cpu.next() {
-        Access::Fetch(addr) => read_plainly(cpu, bus, addr),
-        Access::Read(addr) => read_plainly(cpu, bus, addr),
-        Access::Write(addr, v) => write_plainly(cpu, bus, addr, v),
-        Access::Inner => idle_plainly(cpu, bus),
+        Access::Fetch(addr) => read_plainly(cpu, bus, place, addr),
+        Access::Read(addr) => read_plainly(cpu, bus, place, addr),
+        Access::Write(addr, v) => write_plainly(cpu, bus, place, addr, v),
+        Access::Inner => idle_plainly(cpu, bus, place),
     }
 }
 
@@ -187,10 +201,11 @@ pub fn try_look(cpu: &mut Cpu, bus: &mut Bus) -> Option<u8>
     ensures bus_stays { result ≡ None → bus.new ≡ bus.old }
     ensures cpu_stays { result ≡ None → cpu.new ≡ cpu.old }
 {
+    let place = cpu.place();
     match cpu.next() {
-        Access::Fetch(addr) => read_plainly(cpu, bus, addr),
-        Access::Read(addr) => read_plainly(cpu, bus, addr),
+        Access::Fetch(addr) => read_plainly(cpu, bus, place, addr),
+        Access::Read(addr) => read_plainly(cpu, bus, place, addr),
         Access::Write(_, _) => None,
-        Access::Inner => idle_plainly(cpu, bus),
+        Access::Inner => idle_plainly(cpu, bus, place),
     }
 }

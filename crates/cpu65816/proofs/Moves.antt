@@ -136,6 +136,16 @@ pub Stands-after_cycle : (old mid new : Cpu) (s : CpuState) → TakesUp old mid 
 Stands-after_cycle old mid new s a left start kept nmi_level irq_level h =
     Stands-by_end old new s 0 h (left ∙ ap (λ p. after p 0) a.left) (start ∙ a.start) (kept ∙ a.kept) (nmi_level ∙ a.nmi_level) (irq_level ∙ a.irq_level)
 
+-- an instruction that goes on is in hand already
+pub goes_on-taken_up : (cpu : Cpu) → end_of cpu.kept cpu.irq_level (remaining cpu.micro) ≡ None → TakesUp cpu cpu
+goes_on-taken_up cpu e = record {
+  left = ap (λ f. ahead_by f cpu.kept cpu.irq_level (remaining cpu.micro)) (sym e);
+  start = ap (λ f. registers_by f cpu.micro.start) (sym e);
+  kept = ap (λ f. kept_by f cpu.kept cpu.irq_level) (sym e);
+  nmi_level = refl;
+  irq_level = refl;
+}
+
 -- THE NEXT ACCESS IS KEPT
 
 -- in the middle of an instruction the lines decide nothing

@@ -5,7 +5,7 @@ ghost use Rattle.cpu65816.specs.Instruction.{ahead};
 
 use crate::likeness::{leave_the_same, same_registers};
 use crate::settling::settle;
-use cpu_modes::Micro;
+use cpu_modes::{Micro, Place};
 use cpu_tables::{Access, Mode, Op, Regs, Row};
 
 /// A 65C816 between two accesses.
@@ -134,6 +134,25 @@ impl Cpu {
         settle(&mut self.micro, has_ended, self.kept, self.irq_level);
     }
 
+    /// The place of the next access in its instruction's order.
+    #[inline(always)]
+    pub fn place(&self) -> Place
+        ensures { result ≡ self.now.micro.place }
+    {
+        self.micro.place
+    }
+
+    /// The same as `took`, for a caller that knows the place.
+    #[inline(always)]
+    pub fn took_at(&mut self, place: Place, byte: u8)
+        requires known { self.old.micro.place ≡ place }
+        requires gets { IsTrue (gets_byte (access_of self.old)) }
+        ensures { (s : CpuState) → Stands self.old s → Stands self.new (moved_on s byte) }
+    {
+        let has_ended = self.micro.took_at(place, byte);
+        settle(&mut self.micro, has_ended, self.kept, self.irq_level);
+    }
+
     /// The next access, a write, was made.
     #[inline(always)]
     pub fn wrote(&mut self)
@@ -141,6 +160,17 @@ impl Cpu {
         ensures { (s : CpuState) → Stands self.old s → Stands self.new (moved_on s 0) }
     {
         let has_ended = self.micro.wrote();
+        settle(&mut self.micro, has_ended, self.kept, self.irq_level);
+    }
+
+    /// The same as `wrote`, for a caller that knows the place.
+    #[inline(always)]
+    pub fn wrote_at(&mut self, place: Place)
+        requires known { self.old.micro.place ≡ place }
+        requires writes { IsTrue (is_write (access_of self.old)) }
+        ensures { (s : CpuState) → Stands self.old s → Stands self.new (moved_on s 0) }
+    {
+        let has_ended = self.micro.wrote_at(place);
         settle(&mut self.micro, has_ended, self.kept, self.irq_level);
     }
 
@@ -152,6 +182,21 @@ impl Cpu {
     {
         self.take_up();
         let has_ended = self.micro.idle();
+        settle(&mut self.micro, has_ended, self.kept, self.irq_level);
+    }
+
+    /// The same as `idle`, for a caller that knows the place.
+    #[inline(always)]
+    pub fn idle_at(&mut self, place: Place)
+        requires known { self.old.micro.place ≡ place }
+        requires inner { IsTrue (is_inner (access_of self.old)) }
+        ensures { (s : CpuState) → Stands self.old s → Stands self.new (moved_on s 0) }
+    {
+        if self.micro.has_ended(self.is_awake()) {
+            self.idle();
+            return;
+        }
+        let has_ended = self.micro.idle_at(place);
         settle(&mut self.micro, has_ended, self.kept, self.irq_level);
     }
 

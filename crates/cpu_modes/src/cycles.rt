@@ -15,7 +15,20 @@ impl Micro {
         ensures keeps { Keeps result self.new }
         ensures start { self.new.start ≡ self.old.start }
     {
-        match self.place {
+        let place = self.place;
+        self.idle_at(place)
+    }
+
+    /// The same for a caller that knows the place, so that nothing of the other places is left in it.
+    #[inline(always)]
+    pub fn idle_at(&mut self, place: Place) -> bool
+        requires known { self.old.place ≡ place }
+        requires fits { IsTrue (is_inner (first_access (remaining self.old))) }
+        ensures left { remaining self.new ≡ after (remaining self.old) 0 }
+        ensures keeps { Keeps result self.new }
+        ensures start { self.new.start ≡ self.old.start }
+    {
+        match place {
             Place::LowCycle(kind) => {
                 self.pass_offset(kind, self.word);
                 false

@@ -27,8 +27,21 @@ impl Micro {
         ensures keeps { Keeps result self.new }
         ensures start { self.new.start ≡ unwrap_or (finished true (remaining self.old)) self.old.start }
     {
+        let place = self.place;
+        self.took_at(place, got)
+    }
+
+    /// The same for a caller that knows the place, so that nothing of the other places is left in it.
+    #[inline(always)]
+    pub fn took_at(&mut self, place: Place, got: u8) -> bool
+        requires known { self.old.place ≡ place }
+        requires fits { IsTrue (gets_byte (first_access (onward (remaining self.old)))) }
+        ensures left { remaining self.new ≡ after (onward (remaining self.old)) got }
+        ensures keeps { Keeps result self.new }
+        ensures start { self.new.start ≡ unwrap_or (finished true (remaining self.old)) self.old.start }
+    {
         let byte = got as u16;
-        match self.place {
+        match place {
             Place::Ended | Place::Waiting => {
                 self.start = self.here;
                 self.pass_fetch();

@@ -17,7 +17,20 @@ impl Micro {
         ensures keeps { Keeps result self.new }
         ensures start { self.new.start ≡ unwrap_or (finished true (remaining self.old)) self.old.start }
     {
-        match self.place {
+        let place = self.place;
+        self.wrote_at(place)
+    }
+
+    /// The same for a caller that knows the place, so that nothing of the other places is left in it.
+    #[inline(always)]
+    pub fn wrote_at(&mut self, place: Place) -> bool
+        requires known { self.old.place ≡ place }
+        requires fits { IsTrue (is_write (first_access (onward (remaining self.old)))) }
+        ensures left { remaining self.new ≡ after (onward (remaining self.old)) 0 }
+        ensures keeps { Keeps result self.new }
+        ensures start { self.new.start ≡ unwrap_or (finished true (remaining self.old)) self.old.start }
+    {
+        match place {
             Place::StoreLow(reach) => {
                 if self.traffic.wide {
                     self.base = second_address(reach, self.base);

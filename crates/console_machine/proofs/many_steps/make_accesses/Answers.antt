@@ -1,8 +1,8 @@
-use Rattle.std.proofs.Common.{refl, arith}
-use Rattle.cpu65816.specs.Stands.{access_of}
-use Rattle.console_steps.proofs.Wires.{wired_then}
-use Rattle.console_machine.proofs.AtOnce.{is_step}
-use Rattle.console_machine.proofs.Runs.{no_run, run_on}
+use Rattle.std.proofs.Common.{◌≡◌, ℕ, ◌-◌, refl, sym, ap, subst, ◌∙◌, arith}
+use Rattle.beam.specs.Places.{clocks_left}
+use Rattle.console_machine.specs.Runs.{HasRun}
+use Rattle.console_machine.proofs.Runs.{no_run}
+use Rattle.console_machine.proofs.Follows.{follows_none, follows_then, run_of}
 use Rattle.console_machine.proofs.many_steps.make_accesses.Goals as goal
 
 pub returns-then-not-is_calm-clause-run : goal.returns-then-not-is_calm-clause-run
@@ -13,30 +13,20 @@ returns-then-not-is_wired-clause-run c = λ w at line. no_run c.args.cpu.now c.a
 
 pub steps-init : goal.steps-init
 steps-init c = record {
-  sum = omega arith;
-  calm = c.if-not-is_calm.ensures refl;
-  run = λ w at line. no_run c.args.cpu.now c.args.bus.now w at line;
-  wired = λ w at line. c.if-not-is_wired.ensures refl;
+  fewer = omega arith;
+  follows = follows_none c.args.cpu.now c.args.bus.now;
 }
 
 pub steps-preserved : goal.steps-preserved
 steps-preserved c =
     let was = c.steps.invariant in
-    let step = c.in-Some.ensures in
-    record {
-      sum = omega (arith, was.sum, step.left, step.within);
-      calm = step.calm was.calm;
-      run = λ w at line. (
-          let h = was.run w at line in
-          run_on c.steps.cpu c.try_plain.new.cpu c.steps.bus c.try_plain.new.bus w c.steps.gone c.in-Some.clocks _ h
-          (is_step c.steps.cpu c.try_plain.new.cpu c.steps.bus c.try_plain.new.bus h.to c.in-Some.clocks h.at (step.made (was.wired w at line)) was.calm.reset was.calm.refresh was.calm.transfer) refl);
-      wired = λ w at line. (
-          let h = was.run w at line in
-          wired_then c.steps.cpu c.try_plain.new.cpu c.steps.bus c.try_plain.new.bus (access_of c.steps.cpu) c.in-Some.clocks h.to.processor (step.made (was.wired w at line)) h.at.processor);
-    }
+    let all = follows_then c.args.cpu.now c.steps.cpu c.make_some-more.new.cpu c.args.bus.now c.steps.bus c.make_some-more.new.bus was.follows c.make_some-more.ensures in
+    record { fewer = all.left; follows = all }
 
-pub returns-in-None-clause-run : goal.returns-in-None-clause-run
-returns-in-None-clause-run c = λ w at line. rw (c.in-None.ensures.cpu_stays refl, c.in-None.ensures.bus_stays refl) (c.steps.invariant.run w at line)
+pub returns-then-not-more-clause-run : goal.returns-then-not-more-clause-run
+returns-then-not-more-clause-run c = λ w at line.
+    run_of c.args.cpu.now c.steps.cpu c.args.bus.now c.steps.bus w _ c.steps.invariant.follows (c.clocks_since.ensures ∙ ap (λ n. n - clocks_left c.steps.bus.beam) c.clocks_left-left.ensures.clocks) at line (c.if-not-is_calm.ensures refl) (c.if-not-is_wired.ensures refl)
 
 pub returns-clause-run : goal.returns-clause-run
-returns-clause-run c = λ w at line. c.steps.invariant.run w at line
+returns-clause-run c = λ w at line.
+    run_of c.args.cpu.now c.steps.cpu c.args.bus.now c.steps.bus w _ c.steps.invariant.follows (c.clocks_since-2.ensures ∙ ap (λ n. n - clocks_left c.steps.bus.beam) c.clocks_left-left.ensures.clocks) at line (c.if-not-is_calm.ensures refl) (c.if-not-is_wired.ensures refl)

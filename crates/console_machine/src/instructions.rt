@@ -1,0 +1,404 @@
+// Accesses of an instruction one after another, where the one before says which comes next: its fetches, its data. Each
+// function makes as many as the memory and the clocks to the next place of the beam allow, and answers whether it
+// came to its end. Since the place in the instruction's order is known at each call, none is looked for again.
+ghost use Rattle.std.specs.Prelude.{◌≡◌};
+ghost use Rattle.cpu_modes.specs.declared.place.Place.TheVariants.{OperandLow, ImmediateLow, LoadLow, StoreLow, PushHigh, PullLow, PullFirstCycle, ReturnFirstCycle, ReturnLow, DirectOffset, Ended};
+ghost use Rattle.console_machine.specs.Follows.{Follows};
+
+use console_bus::Bus;
+use console_steps::{try_idle_at, try_read_at, try_write_at};
+use cpu_modes::{DirectKind, OperandKind, Place, Reach, ReturnKind};
+use cpu65816::Cpu;
+
+/// A fetch or a read at a place.
+#[tactic(auto, using(crate::proofs::Follows::follows_same))]
+#[inline(always)]
+fn read_at(cpu: &mut Cpu, bus: &mut Bus, place: Place) -> bool
+    requires known { cpu.old.micro.place ≡ place }
+    ensures { Follows cpu.old cpu.new bus.old bus.new }
+{
+    match try_read_at(cpu, bus, place) {
+        Some(_) => true,
+        None => false,
+    }
+}
+
+/// A write at a place.
+#[tactic(auto, using(crate::proofs::Follows::follows_same))]
+#[inline(always)]
+fn write_at(cpu: &mut Cpu, bus: &mut Bus, place: Place) -> bool
+    requires known { cpu.old.micro.place ≡ place }
+    ensures { Follows cpu.old cpu.new bus.old bus.new }
+{
+    match try_write_at(cpu, bus, place) {
+        Some(_) => true,
+        None => false,
+    }
+}
+
+/// An internal cycle at a place.
+#[tactic(auto, using(crate::proofs::Follows::follows_same))]
+#[inline(always)]
+fn idle_at(cpu: &mut Cpu, bus: &mut Bus, place: Place) -> bool
+    requires known { cpu.old.micro.place ≡ place }
+    ensures { Follows cpu.old cpu.new bus.old bus.new }
+{
+    match try_idle_at(cpu, bus, place) {
+        Some(_) => true,
+        None => false,
+    }
+}
+
+/// The high byte of an operand.
+#[tactic(auto, using(crate::proofs::Follows::follows_none))]
+#[inline(always)]
+fn operand_high(cpu: &mut Cpu, bus: &mut Bus) -> bool
+    ensures { Follows cpu.old cpu.new bus.old bus.new }
+{
+    if let Place::OperandHigh(kind) = cpu.place() {
+        return read_at(cpu, bus, Place::OperandHigh(kind));
+    }
+    false
+}
+
+/// The high byte of an immediate operand.
+#[tactic(auto, using(crate::proofs::Follows::follows_none))]
+#[inline(always)]
+fn immediate_high(cpu: &mut Cpu, bus: &mut Bus) -> bool
+    ensures { Follows cpu.old cpu.new bus.old bus.new }
+{
+    if let Place::ImmediateHigh = cpu.place() {
+        return read_at(cpu, bus, Place::ImmediateHigh);
+    }
+    false
+}
+
+/// The cycle before the data, where there is one.
+#[tactic(auto, using(crate::proofs::Follows::follows_none))]
+#[inline(always)]
+fn data_cycle(cpu: &mut Cpu, bus: &mut Bus) -> bool
+    ensures { Follows cpu.old cpu.new bus.old bus.new }
+{
+    if let Place::DataCycle(reach) = cpu.place() {
+        return idle_at(cpu, bus, Place::DataCycle(reach));
+    }
+    true
+}
+
+/// The cycle before a word is pushed.
+#[tactic(auto, using(crate::proofs::Follows::follows_none))]
+#[inline(always)]
+fn push_cycle(cpu: &mut Cpu, bus: &mut Bus) -> bool
+    ensures { Follows cpu.old cpu.new bus.old bus.new }
+{
+    if let Place::PushWordCycle = cpu.place() {
+        return idle_at(cpu, bus, Place::PushWordCycle);
+    }
+    false
+}
+
+/// The second cycle of a pull.
+#[tactic(auto, using(crate::proofs::Follows::follows_none))]
+#[inline(always)]
+fn pull_cycle(cpu: &mut Cpu, bus: &mut Bus) -> bool
+    ensures { Follows cpu.old cpu.new bus.old bus.new }
+{
+    if let Place::PullCycle = cpu.place() {
+        return idle_at(cpu, bus, Place::PullCycle);
+    }
+    false
+}
+
+/// The second cycle of a return.
+#[tactic(auto, using(crate::proofs::Follows::follows_none))]
+#[inline(always)]
+fn return_cycle(cpu: &mut Cpu, bus: &mut Bus) -> bool
+    ensures { Follows cpu.old cpu.new bus.old bus.new }
+{
+    if let Place::ReturnCycle(ReturnKind::Near) = cpu.place() {
+        return idle_at(cpu, bus, Place::ReturnCycle(ReturnKind::Near));
+    }
+    false
+}
+
+/// The low byte of the address to return to.
+#[tactic(auto, using(crate::proofs::Follows::follows_none))]
+#[inline(always)]
+fn return_low(cpu: &mut Cpu, bus: &mut Bus) -> bool
+    ensures { Follows cpu.old cpu.new bus.old bus.new }
+{
+    if let Place::ReturnLow(ReturnKind::Near) = cpu.place() {
+        return read_at(cpu, bus, Place::ReturnLow(ReturnKind::Near));
+    }
+    false
+}
+
+/// Its high byte.
+#[tactic(auto, using(crate::proofs::Follows::follows_none))]
+#[inline(always)]
+fn return_high(cpu: &mut Cpu, bus: &mut Bus) -> bool
+    ensures { Follows cpu.old cpu.new bus.old bus.new }
+{
+    if let Place::ReturnHigh(ReturnKind::Near) = cpu.place() {
+        return read_at(cpu, bus, Place::ReturnHigh(ReturnKind::Near));
+    }
+    false
+}
+
+/// The high byte of data that is read.
+#[tactic(auto, using(crate::proofs::Follows::follows_none))]
+#[inline(always)]
+fn load_high(cpu: &mut Cpu, bus: &mut Bus) -> bool
+    ensures { Follows cpu.old cpu.new bus.old bus.new }
+{
+    if let Place::LoadHigh = cpu.place() {
+        return read_at(cpu, bus, Place::LoadHigh);
+    }
+    false
+}
+
+/// The high byte of data that is written, where it has one.
+#[tactic(auto, using(crate::proofs::Follows::follows_none))]
+#[inline(always)]
+fn store_high(cpu: &mut Cpu, bus: &mut Bus) -> bool
+    ensures { Follows cpu.old cpu.new bus.old bus.new }
+{
+    if let Place::StoreHigh = cpu.place() {
+        return write_at(cpu, bus, Place::StoreHigh);
+    }
+    true
+}
+
+/// The low byte of a word that is pushed.
+#[tactic(auto, using(crate::proofs::Follows::follows_none))]
+#[inline(always)]
+fn push_low(cpu: &mut Cpu, bus: &mut Bus) -> bool
+    ensures { Follows cpu.old cpu.new bus.old bus.new }
+{
+    if let Place::PushLow = cpu.place() {
+        return write_at(cpu, bus, Place::PushLow);
+    }
+    false
+}
+
+/// The high byte of a word that is pulled.
+#[tactic(auto, using(crate::proofs::Follows::follows_none))]
+#[inline(always)]
+fn pull_high(cpu: &mut Cpu, bus: &mut Bus) -> bool
+    ensures { Follows cpu.old cpu.new bus.old bus.new }
+{
+    if let Place::PullHigh = cpu.place() {
+        return read_at(cpu, bus, Place::PullHigh);
+    }
+    false
+}
+
+/// The two bytes of an operand.
+#[inline(always)]
+fn operand(cpu: &mut Cpu, bus: &mut Bus, kind: OperandKind) -> bool
+    requires known { cpu.old.micro.place ≡ OperandLow kind }
+    ensures { Follows cpu.old cpu.new bus.old bus.new }
+{
+    if !read_at(cpu, bus, Place::OperandLow(kind)) {
+        return false;
+    }
+    operand_high(cpu, bus)
+}
+
+/// The two bytes of an address that an index is added to, and the cycle that this may take.
+#[inline(always)]
+fn indexed_operand(cpu: &mut Cpu, bus: &mut Bus, kind: OperandKind) -> bool
+    requires known { cpu.old.micro.place ≡ OperandLow kind }
+    ensures { Follows cpu.old cpu.new bus.old bus.new }
+{
+    if !operand(cpu, bus, kind) {
+        return false;
+    }
+    data_cycle(cpu, bus)
+}
+
+/// The two bytes of a call's target, and the cycle before it pushes.
+#[inline(always)]
+fn call(cpu: &mut Cpu, bus: &mut Bus) -> bool
+    requires known { cpu.old.micro.place ≡ OperandLow OperandKind.Call }
+    ensures { Follows cpu.old cpu.new bus.old bus.new }
+{
+    if !operand(cpu, bus, OperandKind::Call) {
+        return false;
+    }
+    push_cycle(cpu, bus)
+}
+
+/// An immediate operand of 16 bits.
+#[inline(always)]
+fn immediate(cpu: &mut Cpu, bus: &mut Bus) -> bool
+    requires known { cpu.old.micro.place ≡ ImmediateLow }
+    ensures { Follows cpu.old cpu.new bus.old bus.new }
+{
+    if !read_at(cpu, bus, Place::ImmediateLow) {
+        return false;
+    }
+    immediate_high(cpu, bus)
+}
+
+/// The two cycles of a pull.
+#[inline(always)]
+fn pull(cpu: &mut Cpu, bus: &mut Bus) -> bool
+    requires known { cpu.old.micro.place ≡ PullFirstCycle }
+    ensures { Follows cpu.old cpu.new bus.old bus.new }
+{
+    if !idle_at(cpu, bus, Place::PullFirstCycle) {
+        return false;
+    }
+    pull_cycle(cpu, bus)
+}
+
+/// The two cycles of a return.
+#[inline(always)]
+fn return_cycles(cpu: &mut Cpu, bus: &mut Bus) -> bool
+    requires known { cpu.old.micro.place ≡ ReturnFirstCycle ReturnKind.Near }
+    ensures { Follows cpu.old cpu.new bus.old bus.new }
+{
+    if !idle_at(cpu, bus, Place::ReturnFirstCycle(ReturnKind::Near)) {
+        return false;
+    }
+    return_cycle(cpu, bus)
+}
+
+/// The address to return to.
+#[inline(always)]
+fn return_address(cpu: &mut Cpu, bus: &mut Bus) -> bool
+    ensures { Follows cpu.old cpu.new bus.old bus.new }
+{
+    if !return_low(cpu, bus) {
+        return false;
+    }
+    return_high(cpu, bus)
+}
+
+/// A return up to its last cycle.
+#[inline(always)]
+fn return_pulls(cpu: &mut Cpu, bus: &mut Bus) -> bool
+    requires known { cpu.old.micro.place ≡ ReturnFirstCycle ReturnKind.Near }
+    ensures { Follows cpu.old cpu.new bus.old bus.new }
+{
+    if !return_cycles(cpu, bus) {
+        return false;
+    }
+    return_address(cpu, bus)
+}
+
+/// Data of 16 bits is read.
+#[inline(always)]
+fn load(cpu: &mut Cpu, bus: &mut Bus, reach: Reach) -> bool
+    requires known { cpu.old.micro.place ≡ LoadLow reach }
+    ensures { Follows cpu.old cpu.new bus.old bus.new }
+{
+    if !read_at(cpu, bus, Place::LoadLow(reach)) {
+        return false;
+    }
+    load_high(cpu, bus)
+}
+
+/// Data is written.
+#[inline(always)]
+fn store(cpu: &mut Cpu, bus: &mut Bus, reach: Reach) -> bool
+    requires known { cpu.old.micro.place ≡ StoreLow reach }
+    ensures { Follows cpu.old cpu.new bus.old bus.new }
+{
+    if !write_at(cpu, bus, Place::StoreLow(reach)) {
+        return false;
+    }
+    store_high(cpu, bus)
+}
+
+/// A word is pushed.
+#[inline(always)]
+fn push_word(cpu: &mut Cpu, bus: &mut Bus) -> bool
+    requires known { cpu.old.micro.place ≡ PushHigh }
+    ensures { Follows cpu.old cpu.new bus.old bus.new }
+{
+    if !write_at(cpu, bus, Place::PushHigh) {
+        return false;
+    }
+    push_low(cpu, bus)
+}
+
+/// A word is pulled.
+#[inline(always)]
+fn pull_word(cpu: &mut Cpu, bus: &mut Bus) -> bool
+    requires known { cpu.old.micro.place ≡ PullLow }
+    ensures { Follows cpu.old cpu.new bus.old bus.new }
+{
+    if !read_at(cpu, bus, Place::PullLow) {
+        return false;
+    }
+    pull_high(cpu, bus)
+}
+
+/// What comes between the opcode and the data of the commonest modes.
+#[tactic(auto, using(crate::proofs::Follows::follows_none))]
+#[inline(always)]
+fn approach(cpu: &mut Cpu, bus: &mut Bus) -> bool
+    ensures { Follows cpu.old cpu.new bus.old bus.new }
+{
+    match cpu.place() {
+        Place::OperandByte => read_at(cpu, bus, Place::OperandByte),
+        Place::ImmediateLow => immediate(cpu, bus),
+        Place::DirectOffset(DirectKind::Plain) => {
+            read_at(cpu, bus, Place::DirectOffset(DirectKind::Plain))
+        }
+        Place::OperandLow(OperandKind::Plain) => operand(cpu, bus, OperandKind::Plain),
+        Place::OperandLow(OperandKind::X) => indexed_operand(cpu, bus, OperandKind::X),
+        Place::OperandLow(OperandKind::Y) => indexed_operand(cpu, bus, OperandKind::Y),
+        Place::OperandLow(OperandKind::Jump) => operand(cpu, bus, OperandKind::Jump),
+        Place::OperandLow(OperandKind::Call) => call(cpu, bus),
+        Place::BranchOffset => read_at(cpu, bus, Place::BranchOffset),
+        Place::PushCycle => idle_at(cpu, bus, Place::PushCycle),
+        Place::PullFirstCycle => pull(cpu, bus),
+        Place::ReturnFirstCycle(ReturnKind::Near) => return_pulls(cpu, bus),
+        _ => true,
+    }
+}
+
+/// The data of the commonest modes, or a last cycle.
+#[tactic(auto, using(crate::proofs::Follows::follows_none))]
+#[inline(always)]
+fn data_accesses(cpu: &mut Cpu, bus: &mut Bus) -> bool
+    ensures { Follows cpu.old cpu.new bus.old bus.new }
+{
+    match cpu.place() {
+        Place::LoadByte => read_at(cpu, bus, Place::LoadByte),
+        Place::LoadLow(reach) => load(cpu, bus, reach),
+        Place::StoreLow(reach) => store(cpu, bus, reach),
+        Place::LastCycle => idle_at(cpu, bus, Place::LastCycle),
+        Place::PushHigh => push_word(cpu, bus),
+        Place::PushLow => write_at(cpu, bus, Place::PushLow),
+        Place::PullByte => read_at(cpu, bus, Place::PullByte),
+        Place::PullLow => pull_word(cpu, bus),
+        _ => true,
+    }
+}
+
+/// All that comes after an opcode, of the commonest modes.
+#[inline(always)]
+fn after_opcode(cpu: &mut Cpu, bus: &mut Bus) -> bool
+    ensures { Follows cpu.old cpu.new bus.old bus.new }
+{
+    if !approach(cpu, bus) {
+        return false;
+    }
+    data_accesses(cpu, bus)
+}
+
+/// An instruction from its opcode on, or as much of it as may be made.
+#[inline(always)]
+pub(crate) fn instruction(cpu: &mut Cpu, bus: &mut Bus) -> bool
+    requires known { cpu.old.micro.place ≡ Ended }
+    ensures { Follows cpu.old cpu.new bus.old bus.new }
+{
+    if !read_at(cpu, bus, Place::Ended) {
+        return false;
+    }
+    after_opcode(cpu, bus)
+}
