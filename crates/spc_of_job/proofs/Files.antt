@@ -44,8 +44,16 @@ unfolding regs_of
 regs_are text rest r size =
     let more = seven r ++ rest in
     let whole : r.pc % 256 + 256 * (r.pc / 256) ≡ r.pc = omega arith in
-    rw (byte text more 2 0x27 size refl, byte text more 3 0x28 size refl, byte text more 4 0x29 size refl, byte text more 6 0x2B size refl,
-        byte text more 0 0x25 size refl, byte text more 1 0x26 size refl, byte text more 5 0x2A size refl, whole) refl
+    rw (
+      byte text more 2 0x27 size refl,
+      byte text more 3 0x28 size refl,
+      byte text more 4 0x29 size refl,
+      byte text more 6 0x2B size refl,
+      byte text more 0 0x25 size refl,
+      byte text more 1 0x26 size refl,
+      byte text more 5 0x2A size refl,
+      whole,
+    ) refl
 
 module _ (text blank ram' shown none last : List ℕ) (r : SpcRegs) (size : length text ≡ 37) (begins : take 27 text ≡ codes "SNES-SPC700 Sound File Data")
     (blanks : length blank ≡ 212) (ram_size : length ram' ≡ 65536) (shown_size : length shown ≡ 128) (few : length none ≡ 64) (last_size : length last ≡ 64) where

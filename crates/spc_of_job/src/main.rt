@@ -15,11 +15,13 @@ mod job;
 mod run;
 mod taken;
 
+use anyhow::Result;
 use beside::{alike, listen, play};
 use file_shelf::{FileShelf, Out, Shelf};
 use job::job_of;
 use snes_defs::Table;
 use std::alloc::Global;
+use std::rt::Files;
 use std::{env, io};
 use taken::{Taken, take};
 
@@ -62,29 +64,16 @@ fn compare(
     }
 }
 
-/// The job of five words, and the file that is taken out of it.
-fn main(rt: HostRuntime) -> io::Result<()> {
-    let alloc = rt.alloc();
-    let mut args = env::args(&rt)?.skip(1);
-    let (Some(cart), Some(boot), Some(table), Some(script), Some(frames), Some(file)) = (
-        args.next(),
-        args.next(),
-        args.next(),
-        args.next(),
-        args.next(),
-        args.next(),
-    ) else {
-        return Ok(());
-    };
-    let words = [
-        cart.as_str(),
-        boot.as_str(),
-        table.as_str(),
-        script.as_str(),
-        frames.as_str(),
-    ];
-    let mut shelf = FileShelf::new(&rt);
-    let job = match job_of(alloc, &mut shelf, &words) {
+/// Takes a file out of the job of five words, and prints where.
+fn obey<R: Files + Print>(
+    rt: &R,
+    alloc: Global,
+    words: &[&str; 5],
+    file: &str,
+    samples: Option<u32>,
+) -> io::Result<()> {
+    let mut shelf = FileShelf::new(rt);
+    let job = match job_of(alloc, &mut shelf, words) {
         Ok(job) => job,
         Err(why) => return println!(rt; "{why}"),
     };
@@ -92,18 +81,44 @@ fn main(rt: HostRuntime) -> io::Result<()> {
         Ok(taken) => taken,
         Err(why) => return println!(rt; "{why}"),
     };
-    if let Err(why) = write(&mut shelf, file.as_str(), taken.file.as_slice()) {
-        return println!(rt; "{why}");
+    match write(&mut shelf, file, taken.file.as_slice()) {
+        Ok(()) => told(rt, taken.cycle)?,
+        Err(why) => return println!(rt; "{why}"),
     }
-    println!(rt;
-        "cycle {}, {} past one that 128 divides",
-        taken.cycle,
-        taken.cycle % 128
-    )?;
-    if let Some(samples) = args.next() {
-        let samples = samples.as_str().parse::<u32>().unwrap_or(0);
-        let samples = samples.min(MOST_SAMPLES);
-        compare(&rt, alloc, &mut taken, &job.table, samples)?;
+    match samples {
+        Some(samples) => compare(rt, alloc, &mut taken, &job.table, samples),
+        None => Ok(()),
     }
+}
+
+/// Prints the cycle at which a file was taken.
+fn told(rt: &impl Print, cycle: u64) -> io::Result<()> {
+    println!(rt; "cycle {cycle}, {} past one that 128 divides", cycle % 128)
+}
+
+/// How many pairs are compared, by a word.
+fn samples_of(word: Option<&String>) -> Option<u32> {
+    let Ok(samples) = word?.as_str().parse::<u32>() else {
+        return None;
+    };
+    Some(samples.min(MOST_SAMPLES))
+}
+
+fn main(rt: HostRuntime) -> Result<()> {
+    let alloc = rt.alloc();
+    let given: Vec<String> = env::args(&rt)?.collect(alloc)?;
+    let given = given.as_slice();
+    if given.len() < 7 {
+        return Ok(());
+    }
+    let words = [
+        given[1].as_str(),
+        given[2].as_str(),
+        given[3].as_str(),
+        given[4].as_str(),
+        given[5].as_str(),
+    ];
+    let samples = samples_of(given.get(7));
+    obey(&rt, alloc, &words, given[6].as_str(), samples)?;
     Ok(())
 }
