@@ -1,5 +1,6 @@
 // A sound file that is played beside the job that it was taken from.
 
+use crate::cause::Cause;
 use crate::taken::Taken;
 use audio_side::AudioSide;
 use clock_ratio::console_first;
@@ -25,23 +26,18 @@ pub struct Heard {
 }
 
 /// The first pairs of a sound file.
-pub fn play(
-    alloc: Global,
-    file: &[u8],
-    table: &Table,
-    samples: u32,
-) -> Result<SureShelf, &'static str> {
+pub fn play(alloc: Global, file: &[u8], table: &Table, samples: u32) -> Result<SureShelf, Cause> {
     let Ok(image) = read_spc(alloc, file) else {
-        return Err("the file is refused");
+        return Err(Cause::Ended);
     };
     let (Ok(mut player), Ok(mut shelf)) = (
         Player::new(alloc, &image, table),
         SureShelf::new(alloc, samples as usize * 4),
     ) else {
-        return Err("no memory");
+        return Err(Cause::NoMemory);
     };
     if shelf.create(Out::Sound, "sound").is_err() || player.play(samples, &mut shelf).is_err() {
-        return Err("cannot play");
+        return Err(Cause::Ended);
     }
     Ok(shelf)
 }
@@ -61,11 +57,11 @@ fn turn(
     serial: &mut Serial<ConsoleSide, AudioSide>,
     bytes: &mut [u8],
     heard: &mut Heard,
-) -> Result<(), &'static str> {
+) -> Result<(), Cause> {
     let _video = serial.console().drain(bytes);
     let (console, sound) = serial.machines();
     if !console.ready() || !sound.ready() || console.stamp() > LAST || sound.stamp() > LAST {
-        return Err("the job cannot go on");
+        return Err(Cause::Ended);
     }
     if console_first(console.stamp(), sound.stamp()) && writes(console) {
         heard.writes = heard.writes.saturating_add(1);
@@ -74,12 +70,12 @@ fn turn(
     let count = serial.sound().drain(bytes);
     match heard.pairs.extend_from_slice(&bytes[..count]) {
         Ok(()) => Ok(()),
-        Err(_) => Err("no memory"),
+        Err(_) => Err(Cause::NoMemory),
     }
 }
 
 /// So many pairs of the job from where it stands.
-pub fn listen(alloc: Global, taken: &mut Taken, samples: u32) -> Result<Heard, &'static str> {
+pub fn listen(alloc: Global, taken: &mut Taken, samples: u32) -> Result<Heard, Cause> {
     let mut heard = Heard {
         pairs: Vec::new(alloc),
         writes: 0,
@@ -90,7 +86,7 @@ pub fn listen(alloc: Global, taken: &mut Taken, samples: u32) -> Result<Heard, &
         }
         turn(&mut taken.serial, taken.bytes.as_mut_slice(), &mut heard)?;
     }
-    Err("no samples come")
+    Err(Cause::Ended)
 }
 
 /// How many pairs in front are alike.

@@ -1,6 +1,7 @@
 // The job of the files that are named.
 ghost use Rattle.std.specs.Prelude.{◌≤◌, IfOk};
 
+use crate::cause::Cause;
 use cart_map::accept;
 use file_shelf::{LoadEnd, Shelf};
 use input_files::{read_boot, read_script, read_table};
@@ -22,41 +23,37 @@ fn load<H: Shelf>(
     shelf: &mut H,
     name: &str,
     limit: usize,
-) -> Result<Vec<u8>, &'static str> {
+) -> Result<Vec<u8>, Cause> {
     let mut bytes = Vec::new(alloc);
     match shelf.load(name, limit, &mut bytes) {
         Ok(()) => Ok(bytes),
-        Err(LoadEnd::Failed) => Err("a file cannot be read"),
-        Err(LoadEnd::TooLong) => Err("a file is too long"),
-        Err(LoadEnd::NoMemory) => Err("no memory"),
+        Err(LoadEnd::Failed) => Err(Cause::Unreadable),
+        Err(LoadEnd::TooLong) => Err(Cause::TooLong),
+        Err(LoadEnd::NoMemory) => Err(Cause::NoMemory),
     }
 }
 
 /// The job of a cartridge, a boot ROM, a table and a script of these names, and of as many frames as the last word says.
-pub fn job_of<H: Shelf>(
-    alloc: Global,
-    shelf: &mut H,
-    words: &[&str; 5],
-) -> Result<Job, &'static str>
+pub fn job_of<H: Shelf>(alloc: Global, shelf: &mut H, words: &[&str; 5]) -> Result<Job, Cause>
     ensures { IfOk result (λ job. job.frames ≤ 36000) }
 {
     let Ok(cart) = accept(load(alloc, shelf, words[0], CART)?) else {
-        return Err("cart refused");
+        return Err(Cause::Cart);
     };
     let Some(boot) = read_boot(load(alloc, shelf, words[1], BOOT)?.as_slice()) else {
-        return Err("boot refused");
+        return Err(Cause::Boot);
     };
     let Ok(table) = read_table(load(alloc, shelf, words[2], TABLE)?.as_slice()) else {
-        return Err("table refused");
+        return Err(Cause::Table);
     };
     let Ok(script) = read_script(alloc, load(alloc, shelf, words[3], SCRIPT)?.as_slice()) else {
-        return Err("script refused");
+        return Err(Cause::Script);
     };
     let Ok(frames) = words[4].parse::<u32>() else {
-        return Err("no number of frames");
+        return Err(Cause::Frames);
     };
     if frames > MOST_FRAMES {
-        return Err("too many frames");
+        return Err(Cause::Frames);
     }
     let region = script.region();
     Ok(Job {

@@ -10,13 +10,14 @@
 #![tactic(auto)]
 
 mod beside;
+mod cause;
 mod file;
 mod job;
 mod run;
 mod taken;
 
-use anyhow::Result;
 use beside::{alike, listen, play};
+use cause::Cause;
 use file_shelf::{FileShelf, Out, Shelf};
 use job::job_of;
 use snes_defs::Table;
@@ -29,15 +30,15 @@ use taken::{Taken, take};
 const MOST_SAMPLES: u32 = 19_200_000;
 
 /// Writes a file.
-fn write<H: Shelf>(shelf: &mut H, name: &str, bytes: &[u8]) -> Result<(), &'static str> {
+fn write<H: Shelf>(shelf: &mut H, name: &str, bytes: &[u8]) -> Result<(), Cause> {
     if name.is_empty() || name.len() > 4096 {
-        return Err("no name of a file");
+        return Err(Cause::Unwritten);
     }
     if shelf.create(Out::Image, name).is_err()
         || shelf.put(Out::Image, bytes).is_err()
         || shelf.flush(Out::Image).is_err()
     {
-        return Err("cannot write");
+        return Err(Cause::Unwritten);
     }
     Ok(())
 }
@@ -52,7 +53,7 @@ fn compare(
 ) -> io::Result<()> {
     let shelf = match play(alloc, taken.file.as_slice(), table, samples) {
         Ok(shelf) => shelf,
-        Err(why) => return println!(rt; "{why}"),
+        Err(why) => return println!(rt; "{}", why.text()),
     };
     match listen(alloc, taken, samples) {
         Ok(job) => println!(rt;
@@ -60,7 +61,7 @@ fn compare(
             alike(job.pairs.as_slice(), shelf.written(Out::Sound)),
             job.writes
         ),
-        Err(why) => println!(rt; "{why}"),
+        Err(why) => println!(rt; "{}", why.text()),
     }
 }
 
@@ -75,15 +76,15 @@ fn obey<R: Files + Print>(
     let mut shelf = FileShelf::new(rt);
     let job = match job_of(alloc, &mut shelf, words) {
         Ok(job) => job,
-        Err(why) => return println!(rt; "{why}"),
+        Err(why) => return println!(rt; "{}", why.text()),
     };
     let mut taken = match take(alloc, &job) {
         Ok(taken) => taken,
-        Err(why) => return println!(rt; "{why}"),
+        Err(why) => return println!(rt; "{}", why.text()),
     };
     match write(&mut shelf, file, taken.file.as_slice()) {
         Ok(()) => told(rt, taken.cycle)?,
-        Err(why) => return println!(rt; "{why}"),
+        Err(why) => return println!(rt; "{}", why.text()),
     }
     match samples {
         Some(samples) => compare(rt, alloc, &mut taken, &job.table, samples),
@@ -104,7 +105,7 @@ fn samples_of(word: Option<&String>) -> Option<u32> {
     Some(samples.min(MOST_SAMPLES))
 }
 
-fn main(rt: HostRuntime) -> Result<()> {
+fn main(rt: HostRuntime) -> anyhow::Result<()> {
     let alloc = rt.alloc();
     let given: Vec<String> = env::args(&rt)?.collect(alloc)?;
     let given = given.as_slice();

@@ -74,7 +74,7 @@ pub fn go_to_end<C: Machine, S: Machine>(serial: &mut Serial<C, S>, end: u64, by
     ensures no_video { C.waiting (console_of serial.new) ≡ [] }
     ensures no_audio { S.waiting (sound_of serial.new) ≡ [] }
 {
-    while !serial.finished(end) {
+    'turns: while !serial.finished(end) {
         silent_turn(serial, bytes);
     }
 }

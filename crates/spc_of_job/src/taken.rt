@@ -5,6 +5,7 @@ ghost use Rattle.console_machine.specs.Side as console_side;
 ghost use Rattle.audio_side.specs.Sound as sound_side;
 ghost use Rattle.spc_of_job.specs.Taken.{IsTaken, start_of};
 
+use crate::cause::Cause;
 use crate::file::sound_file;
 use crate::run::{cycle_of, go_to_end, go_to_instruction};
 use audio_side::AudioSide;
@@ -29,31 +30,31 @@ pub struct Taken {
 }
 
 /// The two sides of a job before its first step.
-fn serial_of(alloc: Global, job: &Job) -> Result<Serial<ConsoleSide, AudioSide>, &'static str>
+fn serial_of(alloc: Global, job: &Job) -> Result<Serial<ConsoleSide, AudioSide>, Cause>
     ensures starts { IfOk result (λ s. IsAt console_side.StandsAt sound_side.StandsAt s (start_of job.now)) }
     ensures no_video { IfOk result (λ s. (console_of s).waiting ≡ []) }
     ensures no_audio { IfOk result (λ s. (sound_of s).waiting ≡ []) }
 {
     let (Ok(console), Ok(sound)) = (ConsoleSide::new(alloc, job), AudioSide::new(alloc, job)) else {
-        return Err("no memory");
+        return Err(Cause::NoMemory);
     };
     Ok(Serial::new(console, sound))
 }
 
 /// Runs a job to the end of its frames, and on to where a file can be taken: the next start of an instruction of the
 /// sound side at a cycle that 128 divides, or, where none comes within 100,000 cycles, the next one at all.
-pub fn take(alloc: Global, job: &Job) -> Result<Taken, &'static str>
+pub fn take(alloc: Global, job: &Job) -> Result<Taken, Cause>
     requires few { job.now.frames ≤ 36000 }
     ensures taken { IfOk result (λ t. IsTaken job.now t.file.items t.cycle) }
 {
     let mut serial = serial_of(alloc, job)?;
     let Ok(mut bytes) = vec![in alloc; 0u8; ROOM] else {
-        return Err("no memory");
+        return Err(Cause::NoMemory);
     };
     let end = end_stamp_in(job.region, job.frames);
     go_to_end(&mut serial, end, bytes.as_mut_slice());
     let Some(regs) = go_to_instruction(&mut serial, bytes.as_mut_slice()) else {
-        return Err("no instruction begins");
+        return Err(Cause::NoInstruction);
     };
     let (to_sound, _) = serial.ports();
     let (_, sound) = serial.machines();
@@ -65,6 +66,6 @@ pub fn take(alloc: Global, job: &Job) -> Result<Taken, &'static str>
             cycle,
             bytes,
         }),
-        Err(_) => Err("no memory"),
+        Err(_) => Err(Cause::NoMemory),
     }
 }
