@@ -114,3 +114,18 @@ file_holds text blank none last r b ports ram' shown size begins blanks few last
           image_is text blank ram' shown none last r size begins blanks ram_size shown_size few last_size
           ∙ ap (λ (x : List ℕ). record { regs = r; ram = x; dsp = shown }) ram_is ∙ ap (λ (x : List ℕ). record { regs = r; ram = kept_ram b ports; dsp = x }) shown_is;
     }
+
+-- so does what was appended part by part
+pub parts_hold : (f0 f1 f2 f3 f4 f5 f6 f7 text sev blank ram0 shown0 none last : List ℕ) (r : SpcRegs) (b : HardwareState) (ports ram' shown : List ℕ)
+    → f0 ≡ [] → f1 ≡ f0 ++ text → f2 ≡ f1 ++ sev → f3 ≡ f2 ++ blank → f4 ≡ f3 ++ ram0 → f5 ≡ f4 ++ shown0 → f6 ≡ f5 ++ none → f7 ≡ f6 ++ last
+    → sev ≡ seven r → ram0 ≡ ram' → shown0 ≡ shown → length text ≡ 37 → take 27 text ≡ codes "SNES-SPC700 Sound File Data" → length blank ≡ 212 → length none ≡ 64 → length last ≡ 64
+    → length ram' ≡ 65536 → ram' ≡ kept_ram b ports → shown ≡ shown_bytes b.voices → Holds f7 r b ports
+parts_hold f0 f1 f2 f3 f4 f5 f6 f7 text sev blank ram0 shown0 none last r b ports ram' shown s0 s1 s2 s3 s4 s5 s6 s7 sev_is ram0_is shown0_is size begins blanks few last_size ram_size ram_is shown_is =
+    let e1 : f1 ≡ text = s1 ∙ ap (λ (l : List ℕ). l ++ text) s0 in
+    let e2 : f2 ≡ text ++ seven r = s2 ∙ ap (λ (l : List ℕ). l ++ sev) e1 ∙ ap (λ (l : List ℕ). text ++ l) sev_is in
+    let e3 : f3 ≡ (text ++ seven r) ++ blank = s3 ∙ ap (λ (l : List ℕ). l ++ blank) e2 in
+    let e4 : f4 ≡ ((text ++ seven r) ++ blank) ++ ram' = s4 ∙ ap (λ (l : List ℕ). l ++ ram0) e3 ∙ ap (λ (l : List ℕ). ((text ++ seven r) ++ blank) ++ l) ram0_is in
+    let e5 : f5 ≡ (((text ++ seven r) ++ blank) ++ ram') ++ shown = s5 ∙ ap (λ (l : List ℕ). l ++ shown0) e4 ∙ ap (λ (l : List ℕ). (((text ++ seven r) ++ blank) ++ ram') ++ l) shown0_is in
+    let e6 : f6 ≡ ((((text ++ seven r) ++ blank) ++ ram') ++ shown) ++ none = s6 ∙ ap (λ (l : List ℕ). l ++ none) e5 in
+    let e7 : f7 ≡ (((((text ++ seven r) ++ blank) ++ ram') ++ shown) ++ none) ++ last = s7 ∙ ap (λ (l : List ℕ). l ++ last) e6 in
+    subst (λ (l : List ℕ). Holds l r b ports) (sym e7) (file_holds text blank none last r b ports ram' shown size begins blanks few last_size ram_size ram_is shown_is)

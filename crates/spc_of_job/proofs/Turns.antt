@@ -1,7 +1,9 @@
 -- Turns of a serial console one after another, up to its end and further on.
-use Rattle.std.proofs.Common.{◌≡◌, ℕ, zero, suc, ◌+◌, ◌<◌, ◌≤◌, List, ap, refl, sym, subst, ◌∙◌, ⊎_elim, arith}
+use Rattle.std.proofs.Common.{◌≡◌, ℕ, zero, suc, ◌+◌, ◌*◌, ◌^◌, ◌<◌, ◌≤◌, List, ap, refl, sym, subst, ◌∙◌, ⊎_elim, arith}
 use Rattle.std.proofs.lemmas.Bool.{cases_lt}
 use Rattle.snes_defs.specs.declared.cart.Job.{Job}
+use Rattle.snes_defs.specs.declared.region.Region.{Region}
+use Rattle.snes_defs.specs.declared.region.Region.TheVariants.{Ntsc, Pal}
 use Rattle.spc_tables.specs.declared.regs.SpcRegs.{SpcRegs}
 use Rattle.clock_ratio.specs.Stamp.{end_stamp_of}
 use Rattle.side_law.specs.Moves.{Moves}
@@ -100,3 +102,21 @@ taken_is job file regs ended now run went begins holds =
           (subst (Holds file regs now.sound.hardware) stands.to_sound holds);
       cycle_is = ap (λ k. k.cycle) (sym stands.sound.clock);
     }
+
+-- the same, by what each call says
+pub taken_by : (job : Job) (file : List ℕ) (regs : SpcRegs) (first ended now : Serial ConsoleValue AudioValue) (end : ℕ) (side : AudioValue) (ports : List ℕ) (cycle : ℕ)
+    → end ≡ end_stamp_of job.region job.frames → IsAt console_side.StandsAt sound_side.StandsAt first (start_of job)
+    → ((w : SerialState ConsoleState SoundState) → IsAt console_side.StandsAt sound_side.StandsAt first w → HasRun console_moves sound_moves console_side.StandsAt sound_side.StandsAt w ended end)
+    → ((w : SerialState ConsoleState SoundState) → IsAt console_side.StandsAt sound_side.StandsAt ended w → HasTurned console_moves sound_moves console_side.StandsAt sound_side.StandsAt w now)
+    → Stands now.sound.processor (between regs) → side ≡ now.sound → ports ≡ now.to_sound → cycle ≡ side.clock.cycle → Holds file regs side.hardware ports
+    → IsTaken job file cycle
+taken_by job file regs first ended now end side ports cycle end_is starts ran went begins side_is ports_are cycle_is holds =
+    let run = subst (HasRun console_moves sound_moves console_side.StandsAt sound_side.StandsAt (start_of job) ended) end_is (ran (start_of job) starts) in
+    let holds' = subst (λ (p : List ℕ). Holds file regs now.sound.hardware p) ports_are (subst (λ (v : AudioValue). Holds file regs v.hardware ports) side_is holds) in
+    let cycle' : cycle ≡ now.sound.clock.cycle = cycle_is ∙ ap (λ (v : AudioValue). v.clock.cycle) side_is in
+    subst (IsTaken job file) (sym cycle') (taken_is job file regs ended now run went begins holds')
+
+-- the longest job ends early enough
+pub end_is_early : (region : Region) (n : ℕ) → n ≤ 36000 → end_stamp_of region n ≤ 2 ^ 62
+end_is_early Ntsc n le = omega (arith, le)
+end_is_early Pal n le = omega (arith, le)
