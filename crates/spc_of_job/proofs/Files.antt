@@ -1,5 +1,5 @@
 -- The parts of a sound file, one behind the other, and what a player reads from them.
-use Rattle.std.proofs.Common.{◌≡◌, ℕ, ◌+◌, ◌*◌, ◌/◌, ◌%◌, ◌≤◌, zero, suc, List, [], ◌∷◌, ◌++◌, length, take, drop, codes, slice_index, Option, None, refl, ap, sym, subst, ◌∙◌, add-one, append_assoc, arith}
+use Rattle.std.proofs.Common.{◌≡◌, ℕ, ◌+◌, ◌*◌, ◌/◌, ◌%◌, zero, suc, List, [], ◌∷◌, ◌++◌, length, take, drop, codes, slice_index, None, refl, ap, sym, subst, ◌∙◌, add-one, append_assoc, arith}
 use Rattle.std.proofs.lemmas.List.{get_or-append-add, length-append, take-append-le}
 use Rattle.std.proofs.Math.Seq.{drop-append_seam, take-append_seam}
 use Rattle.spc_tables.specs.declared.regs.SpcRegs.{SpcRegs}
@@ -7,8 +7,7 @@ use Rattle.sdsp_voice.specs.Registers.{read}
 use Rattle.sdsp_voice.specs.declared.voices.Voices.{Voices}
 use Rattle.audio_side.specs.HardwareState.{HardwareState}
 use Rattle.audio_side.specs.Kept.{kept_ram}
-use Rattle.spc_player.specs.SoundFile.{Image, image_of, refusal_of, regs_of}
-use Rattle.spc_player_laws.specs.PlaysOn.{file_of}
+use Rattle.spc_player.specs.SoundFile.{image_of, refusal_of, regs_of}
 use Rattle.spc_of_job.specs.Holds.{Holds, shown_below, shown_bytes}
 
 -- what the registers show, one by one

@@ -1,5 +1,5 @@
 -- Turns of a serial console one after another, up to its end and further on.
-use Rattle.std.proofs.Common.{◌≡◌, ℕ, zero, suc, ◌+◌, ◌*◌, ◌^◌, ◌<◌, ◌≤◌, List, ap, refl, sym, subst, ◌∙◌, ⊎_elim, arith}
+use Rattle.std.proofs.Common.{◌≡◌, ℕ, zero, suc, ◌+◌, ◌^◌, ◌<◌, ◌≤◌, List, ap, sym, subst, ◌∙◌, ⊎_elim, arith}
 use Rattle.std.proofs.lemmas.Bool.{cases_lt}
 use Rattle.snes_defs.specs.declared.cart.Job.{Job}
 use Rattle.snes_defs.specs.declared.region.Region.{Region}
@@ -8,10 +8,10 @@ use Rattle.spc_tables.specs.declared.regs.SpcRegs.{SpcRegs}
 use Rattle.clock_ratio.specs.Stamp.{end_stamp_of}
 use Rattle.side_law.specs.Moves.{Moves}
 use Rattle.side_law.specs.Serial.{SerialState, turn}
-use Rattle.side_law.specs.SerialRun.{IsPast, RunsFor, after_turns}
+use Rattle.side_law.specs.SerialRun.{IsPast, after_turns}
 use Rattle.serial_console.specs.declared.serial.Serial.{Serial}
 use Rattle.serial_console.specs.Serial.{IsAt}
-use Rattle.spc700.specs.Instruction.{SpcState, between, left_of}
+use Rattle.spc700.specs.Instruction.{SpcState, between}
 use Rattle.spc700.specs.Stands.{Stands}
 use Rattle.spc700.specs.declared.processor.Spc.{Spc}
 use Rattle.console_steps.specs.ConsoleState.{ConsoleState, console_moves}

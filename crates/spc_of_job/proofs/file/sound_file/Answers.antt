@@ -1,4 +1,4 @@
-use Rattle.std.proofs.Common.{ℕ, ap, drop, length, refl, take, arith}
+use Rattle.std.proofs.Common.{ℕ, ap, length, refl, take, arith}
 use Rattle.std.proofs.lemmas.List.{length-drop}
 use Rattle.spc_of_job.proofs.Files.{parts_hold}
 use Rattle.spc_of_job.proofs.file.sound_file.Goals as goal
