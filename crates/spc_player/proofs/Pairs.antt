@@ -4,16 +4,11 @@ use Rattle.std.proofs.lemmas.List.{append-nil, length-append, take_all}
 use Rattle.run_drive.specs.Run.{Adds, AddsSome}
 use Rattle.run_drive.proofs.Running.{first_held}
 use Rattle.audio_side.specs.Sound.{AudioValue, SoundState, StandsAt}
-use Rattle.spc_player.specs.Play.{Playing, AreFirstPairs, after_steps, output, to_sample}
+use Rattle.spc_player.specs.Play.{Playing, AreFirstPairs, after_steps, output, steps_of, to_sample}
 use Rattle.spc_player.specs.Player.{PlayerValue, IsPlaying, TookPairs, TookSome}
 use Rattle.spc_player.proofs.Steps.{output_more, pair, steps_more}
 
--- how many steps so many samples take
-pub steps_of : Playing → ℕ → ℕ
-steps_of w zero = 0
-steps_of w (suc n) = to_sample (after_steps w (steps_of w n)) + steps_of w n
-
--- what they emit
+-- what the steps to so many samples emit
 abbrev pub pairs_of : Playing → ℕ → List ℕ
 pairs_of w n = output w (steps_of w n)
 

@@ -1,5 +1,5 @@
 -- A sound machine that plays by itself: its four incoming ports hold bytes, and nobody is at the other side of them.
-use Rattle.std.specs.Prelude.{◌≡◌, ℕ, zero, suc, ◌*◌, ◌-◌, ◌%◌, List, [], ◌∷◌, ◌++◌, length, slice_index}
+use Rattle.std.specs.Prelude.{◌≡◌, ℕ, zero, suc, ◌+◌, ◌*◌, ◌-◌, ◌%◌, List, [], ◌∷◌, ◌++◌, length, slice_index}
 use Rattle.side_law.specs.Serial.{got_of, incoming_after}
 use Rattle.audio_side.specs.FromParts.{sound_from}
 use Rattle.audio_side.specs.Sound.{SoundState, sound_moves}
@@ -41,6 +41,11 @@ pub record AreFirstPairs (w : Playing) (pairs : ℕ) (bytes : List ℕ) : Type 0
 -- how many steps the next sample takes: it comes with the last of each 32 cycles
 abbrev pub to_sample : Playing → ℕ
 to_sample w = 32 - w.sound.clock.cycle % 32
+
+-- and how many so many samples take
+unfoldable pub steps_of : Playing → ℕ → ℕ
+steps_of w zero = 0
+steps_of w (suc n) = to_sample (after_steps w (steps_of w n)) + steps_of w n
 
 -- THE START of a file by an interpolation table: the ports hold the bytes of RAM under F4 to F7
 abbrev pub play_start : Image → List ℕ → Playing

@@ -3,7 +3,7 @@ use Rattle.std.specs.Prelude.{◌≡◌, ℕ, List}
 use Rattle.run_drive.specs.Run.{Adds, AddsSome}
 use Rattle.audio_side.specs.Clock.{stamp_now}
 use Rattle.audio_side.specs.Sound.{AudioValue, StandsAt}
-use Rattle.spc_player.specs.Play.{Playing, AreFirstPairs}
+use Rattle.spc_player.specs.Play.{Playing, AreFirstPairs, after_steps, steps_of}
 
 pub record PlayerValue : Type 0 where
   pub side : AudioValue
@@ -13,6 +13,10 @@ pub record PlayerValue : Type 0 where
 pub record IsPlaying (p : PlayerValue) (w : Playing) : Type 0 where
   pub sound : StandsAt p.side w.sound
   pub ports : p.ports ≡ w.ports
+
+-- it stands so many samples further
+abbrev pub HasGoneOn : PlayerValue → Playing → ℕ → Type 0
+HasGoneOn p w samples = IsPlaying p (after_steps w (steps_of w samples))
 
 -- the stamp of its next step
 abbrev pub stamp_of : PlayerValue → ℕ

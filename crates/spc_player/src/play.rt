@@ -2,7 +2,7 @@
 ghost use Rattle.std.specs.Prelude.{◌≡◌, ◌≢◌, ◌^◌, ◌≤◌, ℕ, List, [], length, OnOk, OnErr};
 ghost use Rattle.snes_defs.specs.declared.ports.Side.{Side};
 ghost use Rattle.spc_player.specs.Play.{Playing};
-ghost use Rattle.spc_player.specs.Player.{IsPlaying, TookPairs, TookSome, stamp_of, waiting_of};
+ghost use Rattle.spc_player.specs.Player.{HasGoneOn, IsPlaying, TookPairs, TookSome, stamp_of, waiting_of};
 
 use crate::player::Player;
 use file_shelf::Failed;
@@ -14,13 +14,17 @@ use snes_defs::Side;
 const MANY: usize = 4000;
 
 impl Player {
-    /// Plays so many samples, and hands the sink exactly these pairs, as the sound side's bytes. Where
-    /// the sink fails to take some it has taken the first bytes of them.
+    /// Plays so many samples, and hands the sink exactly these pairs, as the sound side's bytes. It then stands behind
+    /// the last of them. Where the sink fails to take some it has taken the first bytes of them, and the player stands
+    /// behind as many samples as it had played by then. No byte waits in either case.
     pub fn play<K: Sink>(&mut self, samples: u32, sink: &mut K) -> Result<(), Failed>
         requires early { stamp_of self.old ≤ 2 ^ 60 }
         requires empty { waiting_of self.old ≡ [] }
         ensures whole { OnOk result ((w : Playing) → IsPlaying self.old w → TookPairs w samples (K.holds sink.old Side.Sound) (K.holds sink.new Side.Sound)) }
         ensures first { (w : Playing) → IsPlaying self.old w → TookSome w samples (K.holds sink.old Side.Sound) (K.holds sink.new Side.Sound) }
+        ensures stands { OnOk result ((w : Playing) → IsPlaying self.old w → HasGoneOn self.new w samples) }
+        ensures stops { OnErr result ((w : Playing) → IsPlaying self.old w → (played : ℕ) × (played ≤ samples) × HasGoneOn self.new w played) }
+        ensures none_left { waiting_of self.new ≡ [] }
         ensures other { (other : Side) (had : List ℕ) → other ≢ Side.Sound → K.holds sink.old other had → K.holds sink.new other had }
         ensures failed { OnErr result (K.failed sink.old sink.new Side.Sound) }
         ensures only { K.only_takes sink.old sink.new }
