@@ -1,5 +1,5 @@
 -- A register of the B bus that is no port, read or written at an address where it lies.
-use Rattle.std.proofs.Common.{◌≡◌, ℕ, false, [], refl, sym, ap, subst, ◌∙◌}
+use Rattle.std.proofs.Common.{◌≡◌, ℕ, false, [], refl, sym, subst}
 use Rattle.snes_defs.specs.declared.ports.Act.TheVariants.{Quiet}
 use Rattle.cart_map.specs.declared.places.Place.{Place}
 use Rattle.cart_map.specs.declared.places.Place.TheVariants.{BBus}
