@@ -1,6 +1,6 @@
 // Accesses of an instruction one after another, where the one before says which comes next: its fetches, its data. Each
 // function makes as many as the memory and the clocks to the next place of the beam allow, and answers whether it
-// came to its end. Since the place in the instruction's order is known at each call, none is looked for again.
+// came to its end. The place in the instruction's order is given along with each access.
 ghost use Rattle.std.specs.Prelude.{◌≡◌};
 ghost use Rattle.cpu_modes.specs.declared.place.Place.TheVariants.{OperandLow, ImmediateLow, LoadLow, StoreLow, PushHigh, PullLow, PullFirstCycle, ReturnFirstCycle, ReturnLow, DirectOffset, Ended};
 ghost use Rattle.console_machine.specs.Follows.{Follows};

@@ -1,6 +1,5 @@
 // An access of the processor with its clocks, as `try_plain` makes it, for a caller that knows the place in the
-// instruction's order: of the processor's transitions only that place's is left in it then. Where the next access is of
-// another kind, or can't be made at once, nothing has changed.
+// instruction's order. Where the next access is of another kind, or can't be made at once, nothing has changed.
 ghost use Rattle.std.specs.Prelude.{◌≡◌, ◌-◌, ◌<◌, None, IfSome};
 ghost use Rattle.cpu65816.specs.Stands.{access_of};
 ghost use Rattle.beam.specs.Places.{clocks_left};

@@ -19,7 +19,7 @@ impl Micro {
         self.idle_at(place)
     }
 
-    /// The same for a caller that knows the place, so that nothing of the other places is left in it.
+    /// The same for a caller that knows the place: built into that caller, it is that place's transition alone.
     #[inline(always)]
     pub fn idle_at(&mut self, place: Place) -> bool
         requires known { self.old.place ≡ place }

@@ -31,7 +31,7 @@ impl Micro {
         self.took_at(place, got)
     }
 
-    /// The same for a caller that knows the place, so that nothing of the other places is left in it.
+    /// The same for a caller that knows the place: built into that caller, it is that place's transition alone.
     #[inline(always)]
     pub fn took_at(&mut self, place: Place, got: u8) -> bool
         requires known { self.old.place ≡ place }

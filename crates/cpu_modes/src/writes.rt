@@ -21,7 +21,7 @@ impl Micro {
         self.wrote_at(place)
     }
 
-    /// The same for a caller that knows the place, so that nothing of the other places is left in it.
+    /// The same for a caller that knows the place: built into that caller, it is that place's transition alone.
     #[inline(always)]
     pub fn wrote_at(&mut self, place: Place) -> bool
         requires known { self.old.place ≡ place }
