@@ -43,7 +43,6 @@ fn serial_of(alloc: Global, job: &Job) -> Result<Serial<ConsoleSide, AudioSide>,
 
 /// Runs a job to the end of its frames, and on to where a file can be taken: the next start of an instruction of the
 /// sound side at a cycle that 128 divides, or, where none comes within 100,000 cycles, the next one at all.
-#[tactic(auto, using(crate::proofs::Turns::end_is_early))]
 pub fn take(alloc: Global, job: &Job) -> Result<Taken, Cause>
     requires { job.now.frames ≤ 36000 }
     ensures { IfOk result (λ t. IsTaken job.now t.file.items t.cycle) }
