@@ -117,6 +117,6 @@ taken_by job file regs first ended now end side ports cycle end_is starts ran we
     subst (IsTaken job file) (sym cycle') (taken_is job file regs ended now run went begins holds')
 
 -- the longest job ends early enough
-pub end_is_early : (region : Region) (n : ℕ) → n ≤ 36000 → end_stamp_of region n ≤ 2 ^ 62
-end_is_early Ntsc n le = omega (arith, le)
-end_is_early Pal n le = omega (arith, le)
+pub end_is_early : (region : Region) (n end : ℕ) → end ≡ end_stamp_of region n → n ≤ 36000 → end ≤ 2 ^ 62
+end_is_early Ntsc n end is le = omega (arith, is, le)
+end_is_early Pal n end is le = omega (arith, is, le)

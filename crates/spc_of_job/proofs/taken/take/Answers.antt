@@ -1,10 +1,9 @@
-use Rattle.std.proofs.Common.{◌^◌, ◌≤◌, ℕ, subst, sym}
+use Rattle.std.proofs.Common.{arith}
 use Rattle.spc_of_job.proofs.Turns.{end_is_early, taken_by}
 use Rattle.spc_of_job.proofs.taken.take.Goals as goal
 
 pub go_to_end-requires-clause-early : goal.go_to_end-requires-clause-early
-go_to_end-requires-clause-early c = λ lifetimes.
-    subst (λ (n : ℕ). n ≤ 2 ^ 62) (sym c.end_stamp_in-end.ensures) (end_is_early c.args.job.now.region c.args.job.now.frames c.requires)
+go_to_end-requires-clause-early c = λ lifetimes. end_is_early _ _ _ c.end_stamp_in-end.ensures (omega (arith, c.requires))
 
 pub returns-in-Ok-sound_file : goal.returns-in-Ok-sound_file
 returns-in-Ok-sound_file c =
