@@ -110,7 +110,8 @@ fn insist<W: Wire, M: Machine>(
 }
 
 /// Makes the next step of a machine by the call of its act. Where it is refused at first, the own clock is
-/// published, which the other side may be waiting for, and the step is tried `tries` times in a row at most.
+/// published, which the other side may be waiting for, and the step is tried `tries` times in a row at most. Then
+/// `waited` is set, of which no contract speaks.
 #[inline(always)]
 #[tactic(auto, using(crate::proofs::LegGoesOn::hears_then))]
 pub(crate) fn step_by_call<W: Wire, M: Machine>(
@@ -118,6 +119,7 @@ pub(crate) fn step_by_call<W: Wire, M: Machine>(
     pass: &mut W::Pass,
     machine: &mut M,
     tries: u32,
+    waited: &mut bool,
 ) -> Result<(), PassLate>
     requires of { W.is_pass_of wire.now pass.old }
     requires region { M.region_of machine.old ≡ W.region_of wire.now }
@@ -142,7 +144,7 @@ pub(crate) fn step_by_call<W: Wire, M: Machine>(
 {
     match attempt(wire, pass, machine) {
         Ok(()) => return Ok(()),
-        Err(_) => {}
+        Err(_) => *waited = true,
     }
     publish(wire, pass, machine.stamp());
     insist(wire, pass, machine, tries)

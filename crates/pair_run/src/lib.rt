@@ -6,8 +6,9 @@
 // a run of that machine alone against what its pass has heard by then. No step is made at the end stamp or
 // later, and none further ahead of a clock of the other side that the pass was told than the window.
 //
-// `turn` parts a whole, runs a leg of each side in two threads, reunites the passes, and makes one step of the
-// earlier side, which no call refuses. By the laws the two machines then stand on the serial run, further by
+// `turn` parts a whole, runs a leg of each side, reunites the passes, and makes one step of the
+// earlier side, which no call refuses. The two legs are made in two threads, or by the caller alone, which goes from one to
+// the other. By the laws the two machines then stand on the serial run, further by
 // at least one step.
 #![tactic(auto)]
 
@@ -24,4 +25,4 @@ pub use ends::LegEnd;
 pub use legs::leg;
 pub use port_wire::{CallName, Gate, PassLate, Wire};
 pub use stepped::Stepped;
-pub use turns::{Turned, turn};
+pub use turns::{Legs, Turned, turn};

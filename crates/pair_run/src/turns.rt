@@ -9,7 +9,7 @@ ghost use Rattle.pair_run.specs.Tried.{call_of};
 ghost use Rattle.pair_run.specs.Turn.{HasGone, HasTurned, tries_of_turn};
 
 use crate::ends::LegEnd;
-use crate::legs::leg;
+use crate::legs::{go, leg};
 use crate::stepped::{Stepped, step_earlier};
 use port_wire::{Gate, Wire};
 use side_law::Machine;
@@ -26,11 +26,25 @@ pub struct Turned<T> {
     pub sound: LegEnd,
     /// Which side the caller's step moved.
     pub stepped: Stepped,
+    /// Whether the call of a step of the console was refused, so that it waited or the sound side went on meanwhile. No
+    /// contract speaks of it: what takes turns may go by it.
+    pub waited: bool,
 }
 
-/// Two legs at once, each in a thread of its own where one can be made.
-fn both_legs<R: Threads, W: Wire, C: Machine, S: Machine, G: Gate>(
-    rt: &R,
+/// How the two legs of a turn are made. What a turn promises is the same.
+#[derive(Clone, Copy, Debug, PartialEq, Eq)]
+pub enum Legs {
+    /// At once, each in a thread of its own where one can be made.
+    AtOnce,
+    /// By the caller alone, which goes on with the other one where one is held back.
+    Alternating,
+}
+
+/// How often the caller goes from one leg to the other at most.
+const ROUNDS: u64 = 1 << 32;
+
+/// Two legs in the caller's thread: it goes on with the other one where one is held back, until neither gets further.
+fn alternate<W: Wire, C: Machine, S: Machine, G: Gate>(
     wire: &W,
     console_pass: &mut W::Pass,
     sound_pass: &mut W::Pass,
@@ -39,6 +53,7 @@ fn both_legs<R: Threads, W: Wire, C: Machine, S: Machine, G: Gate>(
     gate: &G,
     number: u64,
     end: u64,
+    waited: &mut bool,
 ) -> (LegEnd, LegEnd)
     requires console_pass { W.is_pass_of wire.now console_pass.old }
     requires console_region { C.region_of console.old ≡ W.region_of wire.now }
@@ -72,6 +87,84 @@ fn both_legs<R: Threads, W: Wire, C: Machine, S: Machine, G: Gate>(
     ensures sound_drain { (result.1 ≡ LegEnd.Drain) ↔ ((S.stamp_of sound.new < end) × (¬ (length (S.waiting sound.new) + 2 * S.MOST ≤ S.CAP))) }
     ensures sound_spent { (m : S.State) → S.stands sound.new m → IfHeldBack result.1 (λ late. IsSpent (call_of (S.moves.act m)) (S.stamp_of sound.new) late tries_of_turn (W.seen sound_pass.old).half (W.seen sound_pass.new).half) }
 {
+    gate.arrive(wire.side(console_pass), number);
+    gate.arrive(wire.side(sound_pass), number);
+    let mut rounds = ROUNDS;
+    'rounds: while rounds > 0 {
+        let console_at = console.stamp();
+        let sound_at = sound.stamp();
+        go(wire, console_pass, console, end, 1, waited);
+        go(wire, sound_pass, sound, end, 1, waited);
+        let stuck = console.stamp() == console_at && sound.stamp() == sound_at;
+        rounds = if stuck { 0 } else { rounds - 1 };
+    }
+    let console_end = go(wire, console_pass, console, end, 4096, waited);
+    let sound_end = go(wire, sound_pass, sound, end, 4096, waited);
+    (console_end, sound_end)
+}
+
+/// Two legs, at once or one after the other.
+fn both_legs<R: Threads, W: Wire, C: Machine, S: Machine, G: Gate>(
+    rt: &R,
+    wire: &W,
+    console_pass: &mut W::Pass,
+    sound_pass: &mut W::Pass,
+    console: &mut C,
+    sound: &mut S,
+    gate: &G,
+    number: u64,
+    end: u64,
+    legs: Legs,
+    waited: &mut bool,
+) -> (LegEnd, LegEnd)
+    requires console_pass { W.is_pass_of wire.now console_pass.old }
+    requires console_region { C.region_of console.old ≡ W.region_of wire.now }
+    requires console_ready { length (C.waiting console.old) + 2 * C.MOST ≤ C.CAP }
+    requires console_clock { (W.seen console_pass.old).half.at ≤ C.stamp_of console.old }
+    requires console_reach { IsInReach (W.region_of wire.now) (C.stamp_of console.old) (W.seen console_pass.old).half }
+    requires sound_pass { W.is_pass_of wire.now sound_pass.old }
+    requires sound_region { S.region_of sound.old ≡ W.region_of wire.now }
+    requires sound_ready { length (S.waiting sound.old) + 2 * S.MOST ≤ S.CAP }
+    requires sound_clock { (W.seen sound_pass.old).half.at ≤ S.stamp_of sound.old }
+    requires sound_reach { IsInReach (W.region_of wire.now) (S.stamp_of sound.old) (W.seen sound_pass.old).half }
+    requires end { end ≤ 2 ^ 51 }
+    ensures console_pass { W.is_pass_of wire.now console_pass.new }
+    ensures console_side { (W.seen console_pass.new).side ≡ (W.seen console_pass.old).side }
+    ensures console_clock { (W.seen console_pass.new).half.at ≤ C.stamp_of console.new }
+    ensures console_reach { IsInReach (W.region_of wire.now) (C.stamp_of console.new) (W.seen console_pass.new).half }
+    ensures console_region { C.region_of console.new ≡ C.region_of console.old }
+    ensures console_room { length (C.waiting console.new) + C.MOST ≤ C.CAP }
+    ensures console_ran { HasRun (W.seen console_pass.old).side C.moves (window_of (W.region_of wire.now)) end (C.stands console.old) (C.stands console.new) (W.seen console_pass.old).half (W.seen console_pass.new).half (C.waiting console.old) (C.waiting console.new) }
+    ensures console_done { (result.0 ≡ LegEnd.Done) ↔ (end ≤ C.stamp_of console.new) }
+    ensures console_drain { (result.0 ≡ LegEnd.Drain) ↔ ((C.stamp_of console.new < end) × (¬ (length (C.waiting console.new) + 2 * C.MOST ≤ C.CAP))) }
+    ensures console_spent { (m : C.State) → C.stands console.new m → IfHeldBack result.0 (λ late. IsSpent (call_of (C.moves.act m)) (C.stamp_of console.new) late tries_of_turn (W.seen console_pass.old).half (W.seen console_pass.new).half) }
+    ensures sound_pass { W.is_pass_of wire.now sound_pass.new }
+    ensures sound_side { (W.seen sound_pass.new).side ≡ (W.seen sound_pass.old).side }
+    ensures sound_clock { (W.seen sound_pass.new).half.at ≤ S.stamp_of sound.new }
+    ensures sound_reach { IsInReach (W.region_of wire.now) (S.stamp_of sound.new) (W.seen sound_pass.new).half }
+    ensures sound_region { S.region_of sound.new ≡ S.region_of sound.old }
+    ensures sound_room { length (S.waiting sound.new) + S.MOST ≤ S.CAP }
+    ensures sound_ran { HasRun (W.seen sound_pass.old).side S.moves (window_of (W.region_of wire.now)) end (S.stands sound.old) (S.stands sound.new) (W.seen sound_pass.old).half (W.seen sound_pass.new).half (S.waiting sound.old) (S.waiting sound.new) }
+    ensures sound_done { (result.1 ≡ LegEnd.Done) ↔ (end ≤ S.stamp_of sound.new) }
+    ensures sound_drain { (result.1 ≡ LegEnd.Drain) ↔ ((S.stamp_of sound.new < end) × (¬ (length (S.waiting sound.new) + 2 * S.MOST ≤ S.CAP))) }
+    ensures sound_spent { (m : S.State) → S.stands sound.new m → IfHeldBack result.1 (λ late. IsSpent (call_of (S.moves.act m)) (S.stamp_of sound.new) late tries_of_turn (W.seen sound_pass.old).half (W.seen sound_pass.new).half) }
+{
+    match legs {
+        Legs::AtOnce => {}
+        Legs::Alternating => {
+            return alternate(
+                wire,
+                console_pass,
+                sound_pass,
+                console,
+                sound,
+                gate,
+                number,
+                end,
+                waited,
+            );
+        }
+    }
     // The console has most of the work. It goes on in the caller's thread, which is running, and beside what it
     // left in that processor's caches, while the other thread begins.
     let (sound_end, console_end) = join_mut(
@@ -81,7 +174,10 @@ fn both_legs<R: Threads, W: Wire, C: Machine, S: Machine, G: Gate>(
         { leg(wire, sound_pass, sound, gate, number, end, 4096) },
         &mut || -> LegEnd
             requires { (W.is_pass_of wire.now console_pass.now) × (C.region_of console.now ≡ W.region_of wire.now) × (length (C.waiting console.now) + 2 * C.MOST ≤ C.CAP) × ((W.seen console_pass.now).half.at ≤ C.stamp_of console.now) × IsInReach (W.region_of wire.now) (C.stamp_of console.now) (W.seen console_pass.now).half × (end ≤ 2 ^ 51) }
-        { leg(wire, console_pass, console, gate, number, end, 4096) },
+        {
+            gate.arrive(wire.side(console_pass), number);
+            go(wire, console_pass, console, end, 4096, waited)
+        },
     );
     (console_end, sound_end)
 }
@@ -122,6 +218,7 @@ pub fn turn<R: Threads, W: Wire, C: Machine, S: Machine, G: Gate>(
     gate: &G,
     number: u64,
     end: u64,
+    legs: Legs,
 ) -> Turned<W::Whole>
     requires of { W.is_whole_of wire.now whole }
     requires console_region { C.region_of console.old ≡ W.region_of wire.now }
@@ -151,6 +248,7 @@ pub fn turn<R: Threads, W: Wire, C: Machine, S: Machine, G: Gate>(
     ensures sound_drain { result.sound ≡ LegEnd.Drain → ¬ (length (S.waiting sound.new) + 2 * S.MOST ≤ S.CAP) }
 {
     let (mut console_pass, mut sound_pass) = wire.part(whole);
+    let mut waited = false;
     let (console_end, sound_end) = both_legs(
         rt,
         wire,
@@ -161,6 +259,8 @@ pub fn turn<R: Threads, W: Wire, C: Machine, S: Machine, G: Gate>(
         gate,
         number,
         end,
+        legs,
+        &mut waited,
     );
     let mut whole = wire.reunite(console_pass, sound_pass);
     publish_both(wire, &mut whole, console.stamp(), sound.stamp());
@@ -170,5 +270,6 @@ pub fn turn<R: Threads, W: Wire, C: Machine, S: Machine, G: Gate>(
         console: console_end,
         sound: sound_end,
         stepped,
+        waited,
     }
 }

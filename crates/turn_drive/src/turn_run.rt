@@ -10,6 +10,7 @@ ghost use Rattle.turn_drive.specs.Turns.{HasMadeTurns};
 
 use crate::both::{both_at, pour_both};
 use crate::ends::Ends;
+use crate::pace::Pace;
 use pair_run::{Turned, turn};
 use port_wire::{Gate, Wire};
 use run_drive::Sink;
@@ -64,6 +65,7 @@ where
     let mut sound = sound;
     let begin = console.stamp().min(sound.stamp());
     let mut ends = Ends::new(wire.region(), begin, end);
+    let mut pace = Pace::new();
     let mut turns = 0;
     while !both_at(&console, &sound, end) {
         if both_at(&console, &sound, ends.near) {
@@ -78,14 +80,17 @@ where
                 gate,
                 turns,
                 ends.near,
+                pace.legs(),
             );
             let Turned {
                 whole: again,
                 console: _,
                 sound: _,
                 stepped: _,
+                waited,
             } = turned;
             whole = again;
+            pace.go_on(waited);
             turns += 1;
             pour_both(&mut console, &mut sound, buffer, sink)?;
         }

@@ -3,7 +3,7 @@ ghost use Rattle.std.specs.Prelude.{◌≡◌, ◌^◌, ◌<◌, ◌≤◌, ◌�
 ghost use Rattle.port_wire.specs.Reach.{IsInReach};
 
 use crate::sums::Sums;
-use pair_run::{Turned, turn};
+use pair_run::{Legs, Turned, turn};
 use port_lock::Ports;
 use port_wire::{Gate, Wire};
 use run_drive::{pour, run_serial};
@@ -85,12 +85,19 @@ where
         if both_at(console, sound, end) {
             return true;
         }
-        let turned = turn(rt, wire, whole, console, sound, &OpenGate, number, end);
+        // Three turns of four in two threads, one by the caller alone.
+        let legs = if number % 4 == 3 {
+            Legs::Alternating
+        } else {
+            Legs::AtOnce
+        };
+        let turned = turn(rt, wire, whole, console, sound, &OpenGate, number, end, legs);
         let Turned {
             whole: again,
             console: _,
             sound: _,
             stepped: _,
+            waited: _,
         } = turned;
         whole = again;
         let _ = pour(console, Side::Console, &mut buffer, sums);

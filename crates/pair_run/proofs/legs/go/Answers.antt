@@ -1,15 +1,16 @@
-use Rattle.std.proofs.Common.{◌<◌, refl, sym, ◌∙◌, subst, arith}
+use Rattle.std.proofs.Common.{◌<◌, ℕ, refl, sym, ◌∙◌, subst, arith}
 use Rattle.clock_ratio.specs.Stamp.{window_of}
 use Rattle.pair_run.specs.Leg.{LegRan, IfHeldBack, IsSpent}
 use Rattle.pair_run.specs.Tried.{Tried, call_of}
-use Rattle.pair_run.proofs.LegGoesOn.{leg_waits, leg_steps, leg_runs}
+use Rattle.pair_run.proofs.LegGoesOn.{hears_nothing, hears_then, leg_waits, leg_steps, leg_runs}
 use Rattle.pair_run.proofs.Refusals.{none_risen, of_refusal}
-use Rattle.pair_run.proofs.legs.leg.Goals as goal
+use Rattle.pair_run.proofs.legs.go.Goals as goal
 
 pub steps-init : goal.steps-init
 steps-init g c = record {
   still_of = c.requires.of;
   side = refl;
+  hears = hears_nothing (g.W.Wire.seen c.args.pass.now).half;
   clock = omega (arith, c.requires.clock, c.run_alone.ensures.forward);
   reach = c.run_alone.ensures.reach;
   region = c.run_alone.ensures.same_region;
@@ -34,6 +35,7 @@ steps-preserved g c =
     record {
       still_of = ok.still_of;
       side = ok.side ∙ before_it.side;
+      hears = hears_then (wire.seen c.args.pass.now).half old new before_it.hears ok.hears;
       clock = omega (arith, ok.clock, alone.forward);
       reach = alone.reach;
       region = alone.same_region ∙ ok.same_region ∙ before_it.region;
@@ -103,3 +105,19 @@ returns-else-stamp-end-clause-ran g c = record {
       (wire.seen c.steps.pass).half (wire.seen c.publish.new.pass).half (machine.waiting c.args.machine.now) (machine.waiting c.steps.machine) before
       (c.steps.invariant.ran.from before stands entries) c.publish.ensures.hears c.publish.ensures.mine;
 }
+
+pub returns-in-Err-clause-spent_since : goal.returns-in-Err-clause-spent_since
+returns-in-Err-clause-spent_since g c = λ m stands before risen.
+    let wire = g.W.Wire in
+    let machine = g.M.Machine in
+    let new = (wire.seen c.step_by_call.new.pass).half in
+    let name = call_of (machine.moves.act m) in
+    let there = subst (λ x. machine.stands x m) c.in-Err.ensures.stays stands in
+    subst (λ e. IfHeldBack e (λ late. IsSpent name (machine.stamp_of c.step_by_call.new.machine) late c.args.tries before new)) (sym c.held_back.ensures)
+    (of_refusal c.in-Err.late (λ late. IsSpent name (machine.stamp_of c.step_by_call.new.machine) late c.args.tries before new)
+    (subst (λ x. IsSpent name (machine.stamp_of x) c.in-Err.late c.args.tries before new) (sym c.in-Err.ensures.stays)
+    (c.in-Err.ensures.spent m there before (c.steps.invariant.counted before.tally.refused risen))))
+
+pub returns-in-Err-clause-hears : goal.returns-in-Err-clause-hears
+returns-in-Err-clause-hears g c =
+    hears_then (g.W.Wire.seen c.args.pass.now).half (g.W.Wire.seen c.steps.pass).half (g.W.Wire.seen c.step_by_call.new.pass).half c.steps.invariant.hears c.in-Err.ensures.hears
