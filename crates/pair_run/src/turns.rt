@@ -93,10 +93,15 @@ fn alternate<W: Wire, C: Machine, S: Machine, G: Gate>(
     'rounds: while rounds > 0 {
         let console_at = console.stamp();
         let sound_at = sound.stamp();
-        go(wire, console_pass, console, end, 1, waited);
-        go(wire, sound_pass, sound, end, 1, waited);
-        let stuck = console.stamp() == console_at && sound.stamp() == sound_at;
-        rounds = if stuck { 0 } else { rounds - 1 };
+        let console_leg = go(wire, console_pass, console, end, 1, waited);
+        let sound_leg = go(wire, sound_pass, sound, end, 1, waited);
+        let is_over = console_leg == LegEnd::Done && sound_leg == LegEnd::Done;
+        let is_stuck = console.stamp() == console_at && sound.stamp() == sound_at;
+        rounds = if is_over || is_stuck {
+            0
+        } else {
+            rounds - 1
+        };
     }
     let console_end = go(wire, console_pass, console, end, 4096, waited);
     let sound_end = go(wire, sound_pass, sound, end, 4096, waited);

@@ -4,7 +4,7 @@ use pair_run::Legs;
 const FEWEST: u32 = 1;
 
 /// Each time again it makes so many times as many.
-const GROWTH: u32 = 4;
+const GROWTH: u32 = 2;
 
 /// And so many at most: the turns of 64 frames.
 const MOST: u32 = 256;
