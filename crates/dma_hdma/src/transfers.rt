@@ -1,7 +1,7 @@
 use crate::channel_state::Channel;
 use crate::each::{begin_frame, begin_line, enable_each, start_each};
 use crate::moves::Move;
-use crate::turns::decided;
+use crate::turns::{decided, run_dma};
 use crate::whose::Turn;
 use std::marker::Model;
 
@@ -122,7 +122,12 @@ impl Dma {
         match self.turn {
             Turn::Nobody => unreachable!(),
             Turn::Hdma(x) => self.channels[x].take(byte),
-            Turn::Dma(x) => self.channels[x].run(),
+            Turn::Dma(x) => {
+                if let Some(due) = run_dma(&mut self.channels, x) {
+                    self.due = Some(due);
+                    return;
+                }
+            }
         }
         let (turn, due) = decided(&self.channels);
         self.turn = turn;

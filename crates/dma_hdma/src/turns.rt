@@ -1,6 +1,7 @@
-ghost use Rattle.std.specs.Prelude.{◌≡◌, ◌<◌, length, position, IfSome};
-ghost use Rattle.dma_hdma.specs.Channel.{is_working};
-ghost use Rattle.dma_hdma.specs.Channels.{turn_of, move_in, IsInside};
+ghost use Rattle.std.specs.Prelude.{◌≡◌, ◌<◌, length, position, slice_set, IfSome};
+ghost use Rattle.dma_hdma.specs.Channel.{is_working, dma_move, run_on};
+ghost use Rattle.dma_hdma.specs.Channels.{channel_at, turn_of, move_in, IsInside};
+ghost use Rattle.dma_hdma.specs.declared.whose.Turn.TheVariants.{Dma};
 
 use crate::channel_state::Channel;
 use crate::moves::Move;
@@ -20,6 +21,23 @@ pub(crate) fn decided(channels: &[Channel; 8]) -> (Turn, Option<Move>)
         Some(x) => (Turn::Dma(x), Some(channels[x].dma_move())),
         None => (Turn::Nobody, None),
     }
+}
+
+/// Takes down that a channel whose turn it is by DMA has moved a byte, and answers its next one, where it has one: no HDMA
+/// became due, so the turn is still its.
+#[inline(always)]
+#[tactic(auto, using(crate::proofs::TurnLemmas::turn_stays))]
+pub(crate) fn run_dma(channels: &mut [Channel; 8], x: usize) -> Option<Move>
+    requires { x < 8 }
+    ensures run { channels.new ≡ slice_set channels.old x (run_on (channel_at channels.old x)) }
+    ensures turn { IfSome result (λ due. turn_of channels.old ≡ Dma x → turn_of channels.new ≡ Dma x) }
+    ensures due { IfSome result (λ due. due ≡ dma_move (channel_at channels.new x)) }
+{
+    channels[x].run();
+    if channels[x].running {
+        return Some(channels[x].dma_move());
+    }
+    None
 }
 
 /// The first channel of which an HDMA byte is due.
