@@ -50,25 +50,34 @@ fn opening<R: AllocGlobal + Threads + Print>(rt: &R, rows: &Rows, words: &str) -
     }
 }
 
-/// What the three commands that run a job made of the same files.
-#[derive(Drop)]
-struct Thrice {
-    by_turns: Outcome,
-    serially: Outcome,
-    lockless: Outcome,
+/// Runs the same files by another command, and answers whether it left what `run` did.
+fn leaves_the_same<R: AllocGlobal + Threads>(
+    rt: &R,
+    rows: &Rows,
+    command: &str,
+    words: &str,
+    by_turns: &Outcome,
+) -> Option<bool> {
+    let words = format!(in rt.alloc(); "{command} {words}").ok()?;
+    let outcome = performed(rt, rows, words.as_str(), None)?;
+    Some(are_alike(by_turns, &outcome))
 }
 
-/// Runs the same files by `run`, by `serial` and by `lockless`.
-fn by_each<R: AllocGlobal + Threads>(rt: &R, rows: &Rows, words: &str) -> Option<Thrice> {
-    let alloc = rt.alloc();
-    let by_turns = format!(in alloc; "run {words}").ok()?;
-    let serially = format!(in alloc; "serial {words}").ok()?;
-    let lockless = format!(in alloc; "lockless {words}").ok()?;
-    Some(Thrice {
-        by_turns: performed(rt, rows, by_turns.as_str(), None)?,
-        serially: performed(rt, rows, serially.as_str(), None)?,
-        lockless: performed(rt, rows, lockless.as_str(), None)?,
-    })
+/// What `run` makes of the files.
+fn by_turns<R: AllocGlobal + Threads>(rt: &R, rows: &Rows, words: &str) -> Option<Outcome> {
+    let words = format!(in rt.alloc(); "run {words}").ok()?;
+    performed(rt, rows, words.as_str(), None)
+}
+
+/// Prints whether `serial` and `lockless` left the same as `run`.
+fn show_alike<R: Print>(rt: &R, serially: Option<bool>, lockless: Option<bool>) -> io::Result<()> {
+    match (serially, lockless) {
+        (Some(true), Some(true)) => println!(rt; "  run, serial and lockless alike"),
+        (Some(true), Some(false)) => println!(rt; "  run and lockless differ"),
+        (Some(false), Some(true)) => println!(rt; "  run and serial differ"),
+        (Some(false), Some(false)) => println!(rt; "  run, serial and lockless differ"),
+        _ => println!(rt; "{NO_ROW}"),
+    }
 }
 
 /// A row that is run by `run`, by `serial` and by `lockless`: prints what `run` left, and whether each of the others
@@ -79,19 +88,14 @@ fn both<R: AllocGlobal + Threads + Print>(
     words: &str,
     detail: Detail,
 ) -> io::Result<()> {
-    let Some(ends) = by_each(rt, rows, words) else {
+    let Some(outcome) = by_turns(rt, rows, words) else {
         return println!(rt; "{NO_ROW}");
     };
-    show_answer(rt, &ends.by_turns)?;
-    show_outputs(rt, &ends.by_turns, detail)?;
-    let serially = are_alike(&ends.by_turns, &ends.serially);
-    let lockless = are_alike(&ends.by_turns, &ends.lockless);
-    match (serially, lockless) {
-        (true, true) => println!(rt; "  run, serial and lockless alike"),
-        (true, false) => println!(rt; "  run and lockless differ"),
-        (false, true) => println!(rt; "  run and serial differ"),
-        (false, false) => println!(rt; "  run, serial and lockless differ"),
-    }
+    show_answer(rt, &outcome)?;
+    show_outputs(rt, &outcome, detail)?;
+    let serially = leaves_the_same(rt, rows, "serial", words, &outcome);
+    let lockless = leaves_the_same(rt, rows, "lockless", words, &outcome);
+    show_alike(rt, serially, lockless)
 }
 
 /// How many puts failed, by the output that the answer names.
