@@ -2,6 +2,7 @@
 use crate::answer::answer;
 use crate::rows::{Outcome, Rows, performed, words_of};
 use file_shelf::{FileShelf, Out};
+use run_io::Argv;
 use snes_program::Status;
 use std::rt::Files;
 use std::thread::Threads;
@@ -59,27 +60,38 @@ fn compare<R: AllocGlobal + Files + Print>(
     }
 }
 
+/// Answers the words over real files, and prints what is said, the exit status, and whether the outputs are those in
+/// memory. They are read while their shelf still stands, so that nothing is held back that was not flushed.
+fn answer_on_disk<R: AllocGlobal + Threads + Print + Files>(
+    rt: &R,
+    argv: &Argv,
+    row: &Outcome,
+) -> io::Result<()> {
+    let mut shelf = FileShelf::new(rt);
+    let status = answer(rt, argv, &mut shelf);
+    println!(rt; "  exit {}", status.exit())?;
+    if status != Status::Ok {
+        return Ok(());
+    }
+    compare(rt, "video", Out::Video, row)?;
+    compare(rt, "sound", Out::Sound, row)
+}
+
 /// `disk WORDS`: a row over real files in the folder where the program runs, which holds none of them before and
 /// after. Prints what is said, the exit status, and where that is 0 whether the outputs are those of the same row
-/// in memory. They are read while their shelf still stands, so that nothing is held back that was not flushed.
+/// in memory.
 pub fn disk<R: AllocGlobal + Threads + Print + Files>(
     rt: &R,
     rows: &Rows,
     words: &str,
 ) -> io::Result<()> {
-    let (Some(row), Some(argv)) = (
-        performed(rt, rows, words, None),
-        words_of(rt.alloc(), words),
-    ) else {
+    let Some(row) = performed(rt, rows, words, None) else {
+        return println!(rt; "  no memory, or no row");
+    };
+    let Some(argv) = words_of(rt.alloc(), words) else {
         return println!(rt; "  no memory, or no row");
     };
     lay(rt, rows, words)?;
-    let mut shelf = FileShelf::new(rt);
-    let status = answer(rt, &argv, &mut shelf);
-    println!(rt; "  exit {}", status.exit())?;
-    if status == Status::Ok {
-        compare(rt, "video", Out::Video, &row)?;
-        compare(rt, "sound", Out::Sound, &row)?;
-    }
+    answer_on_disk(rt, &argv, &row)?;
     clear(rt, rows, words, &row)
 }
