@@ -228,7 +228,16 @@ impl Cpu {
         settle(&mut self.micro, has_ended, self.kept, self.irq_level);
     }
 
-    /// The same as `idle`, for a caller that knows the place.
+    /// The same as `idle`, out of line.
+    #[inline(never)]
+    fn idle_between(&mut self)
+        requires { IsTrue (is_inner (access_of self.old)) }
+        ensures { (s : CpuState) → Stands self.old s → Stands self.new (moved_on s 0) }
+    {
+        self.idle();
+    }
+
+    /// The same as `idle`, for a caller that knows the place. What begins between two instructions is out of line.
     #[inline(always)]
     pub fn idle_at(&mut self, place: Place)
         requires known { self.old.micro.place ≡ place }
@@ -236,7 +245,7 @@ impl Cpu {
         ensures { (s : CpuState) → Stands self.old s → Stands self.new (moved_on s 0) }
     {
         if self.micro.has_ended_at(place, self.is_awake()) {
-            self.idle();
+            self.idle_between();
             return;
         }
         let has_ended = self.micro.idle_at(place);

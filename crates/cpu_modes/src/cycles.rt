@@ -1,4 +1,4 @@
-ghost use Rattle.std.specs.Prelude.{◌≡◌, IsTrue};
+ghost use Rattle.std.specs.Prelude.{◌≡◌, IsTrue, false};
 ghost use Rattle.cpu_modes.specs.declared.place.Place.TheVariants.{LowCycle, DataCycle, PushCycle};
 
 use crate::micro::Micro;

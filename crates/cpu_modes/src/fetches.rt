@@ -1,5 +1,5 @@
 // What each place in an instruction's order comes to when its access, a fetch, has got its byte.
-ghost use Rattle.std.specs.Prelude.{◌≡◌, ◌+◌, ◌*◌, ◌%◌};
+ghost use Rattle.std.specs.Prelude.{◌≡◌, ◌+◌, ◌*◌, ◌%◌, false};
 ghost use Rattle.cpu_modes.specs.declared.place.Place.TheVariants.{OperandByte, StatusOperand, ImmediateLow, ImmediateHigh, DirectOffset, StackOffset, StackPointerOffset, OperandLow, OperandHigh, OperandBank, CallBank, CallPointerLow, CallPointerHigh, BranchOffset, BreakOperand, BlockDestination, BlockSource};
 
 use crate::address::{high_byte, join};

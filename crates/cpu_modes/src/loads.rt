@@ -1,5 +1,5 @@
 // What each place in an instruction's order comes to when its access, a read, has got its byte.
-ghost use Rattle.std.specs.Prelude.{◌≡◌, ◌+◌, ◌*◌, ◌%◌};
+ghost use Rattle.std.specs.Prelude.{◌≡◌, ◌+◌, ◌*◌, ◌%◌, false};
 ghost use Rattle.cpu_modes.specs.declared.place.Place.TheVariants.{PointerLow, PointerHigh, PointerBank, PointerBankY, LoadByte, LoadLow, LoadHigh, ChangeReadLow, ChangeReadHigh, TargetLow, TargetHigh, TargetBank, BlockRead};
 
 use crate::address::{join, low_byte, next_in_bank, pointer_next, second_address};

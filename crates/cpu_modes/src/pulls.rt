@@ -1,5 +1,5 @@
 // What each place in an instruction's order comes to when its access, a pull, has got its byte.
-ghost use Rattle.std.specs.Prelude.{◌≡◌, ◌+◌, ◌*◌, ◌%◌};
+ghost use Rattle.std.specs.Prelude.{◌≡◌, ◌+◌, ◌*◌, ◌%◌, false};
 ghost use Rattle.cpu_modes.specs.declared.place.Place.TheVariants.{PullByte, PullLow, PullHigh, ReturnStatus, ReturnLow, ReturnHigh, ReturnBank};
 
 use crate::address::join;

@@ -1,4 +1,4 @@
-ghost use Rattle.std.specs.Prelude.{◌≡◌, IsTrue, true, unwrap_or};
+ghost use Rattle.std.specs.Prelude.{◌≡◌, IsTrue, false, true, unwrap_or};
 ghost use Rattle.cpu_modes.specs.declared.place.Place.TheVariants.{StoreLow, ChangeWriteHigh};
 
 use crate::address::{high_byte, low_byte, second_address};
