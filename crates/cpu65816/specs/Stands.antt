@@ -1,6 +1,6 @@
 -- What contracts see of a processor: the instruction and the accesses so far that it stands for, what it does
 -- next, and what it is once an instruction is in hand.
-use Rattle.std.specs.Prelude.{◌≡◌, ℕ, ⊥, Bool, Option, Some, None}
+use Rattle.std.specs.Prelude.{◌≡◌, ℕ, Bool, Option, Some, None}
 use Rattle.cpu_tables.specs.declared.access.Access.{Access}
 use Rattle.cpu_tables.specs.declared.access.Access.TheVariants.{Fetch, Read, Write, Inner}
 use Rattle.cpu_tables.specs.declared.regs.Regs.{Regs}
