@@ -1,5 +1,5 @@
 -- Bytes of the memory: what a read or a write of the place at an address does.
-use Rattle.std.proofs.Common.{◌≡◌, ℕ, ◌+◌, Bool, true, false, nat_lt, Some, [], slice_index, refl, sym, ap, subst, ◌∙◌, arith, if◌then◌else◌}
+use Rattle.std.proofs.Common.{◌≡◌, ℕ, ◌+◌, Bool, true, false, nat_lt, Option, None, Some, IfSome, [], slice_index, refl, sym, ap, subst, ◌∙◌, arith, if◌then◌else◌}
 use Rattle.std.proofs.lemmas.Bool.Decides.{nat_tests}
 use Rattle.snes_defs.specs.declared.ports.Act.TheVariants.{Quiet}
 use Rattle.cart_map.specs.declared.places.Place.{Place}
@@ -128,3 +128,8 @@ made_where_read cpu cpu' bus bus' (Fetch addr) at clocks e m =
 made_where_read cpu cpu' bus bus' (Read addr) at clocks e m = subst (λ (n : ℕ). IsMadeAtOnce cpu cpu' bus bus' (Read n) clocks) (sym e) m
 made_where_read cpu cpu' bus bus' (Write addr v) at clocks e m = absurd e
 made_where_read cpu cpu' bus bus' Inner at clocks e m = absurd e
+
+pub some_made_where_read : (cpu cpu' : Cpu) (bus bus' : BusState) (access : Access) (at : ℕ) (made : Option ℕ) → gets_at access at
+    → IfSome made (λ clocks. IsMadeAtOnce cpu cpu' bus bus' (Read at) clocks) → IfSome made (λ clocks. IsMadeAtOnce cpu cpu' bus bus' access clocks)
+some_made_where_read cpu cpu' bus bus' access at None e m = m
+some_made_where_read cpu cpu' bus bus' access at (Some clocks) e m = made_where_read cpu cpu' bus bus' access at clocks e m

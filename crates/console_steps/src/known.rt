@@ -12,7 +12,7 @@ use cpu_modes::Place;
 use cpu65816::Cpu;
 
 /// A fetch or a read.
-#[tactic(auto, using(crate::proofs::AtOnce::made_where_read, crate::proofs::AtOnce::gets_where_read))]
+#[tactic(auto, using(crate::proofs::AtOnce::gets_where_read))]
 #[inline(always)]
 pub fn try_read_at(cpu: &mut Cpu, bus: &mut Bus, place: Place) -> Option<u8>
     requires known { cpu.old.micro.place ≡ place }

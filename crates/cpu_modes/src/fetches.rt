@@ -1,5 +1,5 @@
 // What each place in an instruction's order comes to when its access, a fetch, has got its byte.
-ghost use Rattle.std.specs.Prelude.{◌≡◌, ◌+◌, ◌*◌, ◌%◌, false};
+ghost use Rattle.std.specs.Prelude.{◌≡◌, ◌==◌, ◌+◌, ◌*◌, ◌%◌, false, not};
 ghost use Rattle.cpu_modes.specs.declared.place.Place.TheVariants.{OperandByte, StatusOperand, ImmediateLow, ImmediateHigh, DirectOffset, StackOffset, StackPointerOffset, OperandLow, OperandHigh, OperandBank, CallBank, CallPointerLow, CallPointerHigh, BranchOffset, BreakOperand, BlockDestination, BlockSource};
 
 use crate::address::{high_byte, join};
@@ -26,7 +26,7 @@ impl Micro {
     }
 
     /// The only operand byte was fetched: the instruction has ended.
-    #[inline]
+    #[inline(always)]
     pub(crate) fn took_operand_byte(&mut self, got: u8) -> bool
         requires { self.old.place ≡ OperandByte }
         ensures left { remaining self.new ≡ after (remaining self.old) got }
@@ -52,7 +52,7 @@ impl Micro {
     }
 
     /// The low byte of an immediate operand was fetched.
-    #[inline]
+    #[inline(always)]
     pub(crate) fn took_immediate_low(&mut self, got: u8)
         requires { self.old.place ≡ ImmediateLow }
         ensures left { remaining self.new ≡ after (remaining self.old) got }
@@ -65,7 +65,7 @@ impl Micro {
     }
 
     /// Its high byte was fetched: the instruction has ended.
-    #[inline]
+    #[inline(always)]
     pub(crate) fn took_immediate_high(&mut self, got: u8) -> bool
         requires { self.old.place ≡ ImmediateHigh }
         ensures left { remaining self.new ≡ after (remaining self.old) got }
@@ -77,6 +77,14 @@ impl Micro {
         self.finish()
     }
 
+    /// Whether an offset from the direct register takes a cycle more: where the register's low byte isn't 0.
+    #[inline(always)]
+    fn has_low_cycle(&self) -> bool
+        ensures { result ≡ not (self.now.here.d % 256 == 0) }
+    {
+        self.here.d % 256 != 0
+    }
+
     /// An offset from the direct register was fetched.
     #[inline]
     pub(crate) fn took_direct_offset(&mut self, kind: DirectKind, got: u8)
@@ -86,11 +94,28 @@ impl Micro {
         ensures start { self.new.start ≡ self.old.start }
     {
         self.pass_fetch();
-        if self.here.d % 256 == 0 {
-            self.pass_offset(kind, got as u16);
-        } else {
+        if self.has_low_cycle() {
             self.word = got as u16;
             self.to_idle(Place::LowCycle(kind));
+        } else {
+            self.pass_offset(kind, got as u16);
+        }
+    }
+
+    /// The offset of data in the direct page was fetched.
+    #[inline(always)]
+    pub(crate) fn took_direct_data_offset(&mut self, got: u8)
+        requires { self.old.place ≡ DirectOffset DirectKind.Plain }
+        ensures left { remaining self.new ≡ after (remaining self.old) got }
+        ensures keeps { Keeps false self.new }
+        ensures start { self.new.start ≡ self.old.start }
+    {
+        self.pass_fetch();
+        if self.has_low_cycle() {
+            self.word = got as u16;
+            self.to_idle(Place::LowCycle(DirectKind::Plain));
+        } else {
+            self.reach_direct(got as u16);
         }
     }
 
@@ -121,7 +146,7 @@ impl Micro {
     }
 
     /// The low byte of an operand was fetched.
-    #[inline]
+    #[inline(always)]
     pub(crate) fn took_operand_low(&mut self, kind: OperandKind, got: u8)
         requires { self.old.place ≡ OperandLow kind }
         ensures left { remaining self.new ≡ after (remaining self.old) got }
@@ -143,6 +168,42 @@ impl Micro {
     {
         self.pass_fetch();
         self.pass_operand(kind, join(self.word, got))
+    }
+
+    /// The high byte of an address of data was fetched.
+    #[inline(always)]
+    pub(crate) fn took_address_high(&mut self, got: u8)
+        requires { self.old.place ≡ OperandHigh OperandKind.Plain }
+        ensures left { remaining self.new ≡ after (remaining self.old) got }
+        ensures keeps { Keeps false self.new }
+        ensures start { self.new.start ≡ self.old.start }
+    {
+        self.pass_fetch();
+        self.reach_absolute(join(self.word, got));
+    }
+
+    /// The high byte of an address that X is added to was fetched.
+    #[inline(always)]
+    pub(crate) fn took_x_address_high(&mut self, got: u8)
+        requires { self.old.place ≡ OperandHigh OperandKind.X }
+        ensures left { remaining self.new ≡ after (remaining self.old) got }
+        ensures keeps { Keeps false self.new }
+        ensures start { self.new.start ≡ self.old.start }
+    {
+        self.pass_fetch();
+        self.reach_absolute_indexed(join(self.word, got), self.here.x);
+    }
+
+    /// The high byte of an address that Y is added to was fetched.
+    #[inline(always)]
+    pub(crate) fn took_y_address_high(&mut self, got: u8)
+        requires { self.old.place ≡ OperandHigh OperandKind.Y }
+        ensures left { remaining self.new ≡ after (remaining self.old) got }
+        ensures keeps { Keeps false self.new }
+        ensures start { self.new.start ≡ self.old.start }
+    {
+        self.pass_fetch();
+        self.reach_absolute_indexed(join(self.word, got), self.here.y);
     }
 
     /// Its bank was fetched. Answers whether the instruction has ended.

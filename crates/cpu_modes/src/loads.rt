@@ -60,7 +60,7 @@ impl Micro {
     }
 
     /// Data of 8 bits was read: the instruction has ended.
-    #[inline]
+    #[inline(always)]
     pub(crate) fn took_load_byte(&mut self, got: u8) -> bool
         requires { self.old.place ≡ LoadByte }
         ensures left { remaining self.new ≡ after (remaining self.old) got }
@@ -72,7 +72,7 @@ impl Micro {
     }
 
     /// The low byte of data of 16 bits was read.
-    #[inline]
+    #[inline(always)]
     pub(crate) fn took_load_low(&mut self, reach: Reach, got: u8)
         requires { self.old.place ≡ LoadLow reach }
         ensures left { remaining self.new ≡ after (remaining self.old) got }
@@ -85,7 +85,7 @@ impl Micro {
     }
 
     /// Its high byte was read: the instruction has ended.
-    #[inline]
+    #[inline(always)]
     pub(crate) fn took_load_high(&mut self, got: u8) -> bool
         requires { self.old.place ≡ LoadHigh }
         ensures left { remaining self.new ≡ after (remaining self.old) got }
@@ -97,7 +97,7 @@ impl Micro {
     }
 
     /// Data that is to be changed was read, or its low byte.
-    #[inline]
+    #[inline(always)]
     pub(crate) fn took_change_read_low(&mut self, reach: Reach, got: u8)
         requires { self.old.place ≡ ChangeReadLow reach }
         ensures left { remaining self.new ≡ after (remaining self.old) got }
@@ -113,7 +113,7 @@ impl Micro {
     }
 
     /// The high byte of data that is to be changed was read.
-    #[inline]
+    #[inline(always)]
     pub(crate) fn took_change_read_high(&mut self, reach: Reach, got: u8)
         requires { self.old.place ≡ ChangeReadHigh reach }
         ensures left { remaining self.new ≡ after (remaining self.old) got }

@@ -11,7 +11,7 @@ impl Micro {
     ghost use Rattle.cpu_modes.specs.Remaining.{Keeps, remaining};
 
     /// The only byte was pulled: the instruction has ended.
-    #[inline]
+    #[inline(always)]
     pub(crate) fn took_pull_byte(&mut self, got: u8) -> bool
         requires { self.old.place ≡ PullByte }
         ensures left { remaining self.new ≡ after (remaining self.old) got }
@@ -24,7 +24,7 @@ impl Micro {
     }
 
     /// The low byte was pulled.
-    #[inline]
+    #[inline(always)]
     pub(crate) fn took_pull_low(&mut self, got: u8)
         requires { self.old.place ≡ PullLow }
         ensures left { remaining self.new ≡ after (remaining self.old) got }
@@ -37,7 +37,7 @@ impl Micro {
     }
 
     /// The high byte was pulled: the instruction has ended.
-    #[inline]
+    #[inline(always)]
     pub(crate) fn took_pull_high(&mut self, got: u8) -> bool
         requires { self.old.place ≡ PullHigh }
         ensures left { remaining self.new ≡ after (remaining self.old) got }
@@ -63,7 +63,7 @@ impl Micro {
     }
 
     /// The program counter's low byte was pulled.
-    #[inline]
+    #[inline(always)]
     pub(crate) fn took_return_low(&mut self, kind: ReturnKind, got: u8)
         requires { self.old.place ≡ ReturnLow kind }
         ensures left { remaining self.new ≡ after (remaining self.old) got }
@@ -76,7 +76,7 @@ impl Micro {
     }
 
     /// Its high byte was pulled. Answers whether the instruction has ended.
-    #[inline]
+    #[inline(always)]
     pub(crate) fn took_return_high(&mut self, kind: ReturnKind, got: u8) -> bool
         requires { self.old.place ≡ ReturnHigh kind }
         ensures left { remaining self.new ≡ after (remaining self.old) got }

@@ -1,7 +1,7 @@
 ghost use Rattle.std.specs.Prelude.{◌≡◌, IsTrue, true, unwrap_or};
 
 use crate::micro::Micro;
-use crate::place::Place;
+use crate::place::{DirectKind, OperandKind, Place};
 
 impl Micro {
     ghost use Rattle.cpu_modes.specs.Plan.{after, finished, first_access, gets_byte};
@@ -44,6 +44,10 @@ impl Micro {
                 false
             }
             Place::ImmediateHigh => self.took_immediate_high(got),
+            Place::DirectOffset(DirectKind::Plain) => {
+                self.took_direct_data_offset(got);
+                false
+            }
             Place::DirectOffset(kind) => {
                 self.took_direct_offset(kind, got);
                 false
@@ -58,6 +62,18 @@ impl Micro {
             }
             Place::OperandLow(kind) => {
                 self.took_operand_low(kind, got);
+                false
+            }
+            Place::OperandHigh(OperandKind::Plain) => {
+                self.took_address_high(got);
+                false
+            }
+            Place::OperandHigh(OperandKind::X) => {
+                self.took_x_address_high(got);
+                false
+            }
+            Place::OperandHigh(OperandKind::Y) => {
+                self.took_y_address_high(got);
                 false
             }
             Place::OperandHigh(kind) => self.took_operand_high(kind, got),
