@@ -2,7 +2,7 @@
 // function makes as many as the memory and the clocks to the next place of the beam allow, and answers whether it
 // came to its end. The place in the instruction's order is given along with each access.
 ghost use Rattle.std.specs.Prelude.{◌≡◌};
-ghost use Rattle.cpu_modes.specs.declared.place.Place.TheVariants.{OperandLow, ImmediateLow, LoadLow, StoreLow, PushHigh, PullLow, PullFirstCycle, ReturnFirstCycle, ReturnLow, DirectOffset, Ended};
+ghost use Rattle.cpu_modes.specs.declared.place.Place.TheVariants.{OperandLow, ImmediateLow, LoadLow, StoreLow, ChangeReadLow, PushHigh, PullLow, PullFirstCycle, ReturnFirstCycle, ReturnLow, DirectOffset, Ended};
 ghost use Rattle.console_machine.specs.Follows.{Follows};
 
 use console_bus::Bus;
@@ -169,6 +169,54 @@ fn store_high(cpu: &mut Cpu, bus: &mut Bus) -> bool
     true
 }
 
+/// The high byte of data that is changed, where it has one.
+#[tactic(auto, using(crate::proofs::Follows::follows_none))]
+#[inline(always)]
+fn change_high(cpu: &mut Cpu, bus: &mut Bus) -> bool
+    ensures { Follows cpu.old cpu.new bus.old bus.new }
+{
+    if let Place::ChangeReadHigh(reach) = cpu.place() {
+        return read_at(cpu, bus, Place::ChangeReadHigh(reach));
+    }
+    true
+}
+
+/// The cycle in which data is changed.
+#[tactic(auto, using(crate::proofs::Follows::follows_none))]
+#[inline(always)]
+fn change_cycle(cpu: &mut Cpu, bus: &mut Bus) -> bool
+    ensures { Follows cpu.old cpu.new bus.old bus.new }
+{
+    if let Place::ChangeCycle(reach) = cpu.place() {
+        return idle_at(cpu, bus, Place::ChangeCycle(reach));
+    }
+    false
+}
+
+/// The high byte of changed data is written back, where it has one.
+#[tactic(auto, using(crate::proofs::Follows::follows_none))]
+#[inline(always)]
+fn changed_high(cpu: &mut Cpu, bus: &mut Bus) -> bool
+    ensures { Follows cpu.old cpu.new bus.old bus.new }
+{
+    if let Place::ChangeWriteHigh(reach) = cpu.place() {
+        return write_at(cpu, bus, Place::ChangeWriteHigh(reach));
+    }
+    true
+}
+
+/// Its low byte, or its only one.
+#[tactic(auto, using(crate::proofs::Follows::follows_none))]
+#[inline(always)]
+fn changed_low(cpu: &mut Cpu, bus: &mut Bus) -> bool
+    ensures { Follows cpu.old cpu.new bus.old bus.new }
+{
+    if let Place::ChangeWriteLow = cpu.place() {
+        return write_at(cpu, bus, Place::ChangeWriteLow);
+    }
+    false
+}
+
 /// The low byte of a word that is pushed.
 #[tactic(auto, using(crate::proofs::Follows::follows_none))]
 #[inline(always)]
@@ -312,6 +360,52 @@ fn store(cpu: &mut Cpu, bus: &mut Bus, reach: Reach) -> bool
     store_high(cpu, bus)
 }
 
+/// Data that is to be changed is read.
+#[inline(always)]
+fn change_reads(cpu: &mut Cpu, bus: &mut Bus, reach: Reach) -> bool
+    requires known { cpu.old.micro.place ≡ ChangeReadLow reach }
+    ensures { Follows cpu.old cpu.new bus.old bus.new }
+{
+    if !read_at(cpu, bus, Place::ChangeReadLow(reach)) {
+        return false;
+    }
+    change_high(cpu, bus)
+}
+
+/// Changed data is written back.
+#[inline(always)]
+fn change_writes(cpu: &mut Cpu, bus: &mut Bus) -> bool
+    ensures { Follows cpu.old cpu.new bus.old bus.new }
+{
+    if !changed_high(cpu, bus) {
+        return false;
+    }
+    changed_low(cpu, bus)
+}
+
+/// Data is changed, and written back.
+#[inline(always)]
+fn changed(cpu: &mut Cpu, bus: &mut Bus) -> bool
+    ensures { Follows cpu.old cpu.new bus.old bus.new }
+{
+    if !change_cycle(cpu, bus) {
+        return false;
+    }
+    change_writes(cpu, bus)
+}
+
+/// Data is read, changed and written back.
+#[inline(always)]
+fn change(cpu: &mut Cpu, bus: &mut Bus, reach: Reach) -> bool
+    requires known { cpu.old.micro.place ≡ ChangeReadLow reach }
+    ensures { Follows cpu.old cpu.new bus.old bus.new }
+{
+    if !change_reads(cpu, bus, reach) {
+        return false;
+    }
+    changed(cpu, bus)
+}
+
 /// A word is pushed.
 #[inline(always)]
 fn push_word(cpu: &mut Cpu, bus: &mut Bus) -> bool
@@ -371,6 +465,7 @@ fn data_accesses(cpu: &mut Cpu, bus: &mut Bus) -> bool
         Place::LoadByte => read_at(cpu, bus, Place::LoadByte),
         Place::LoadLow(reach) => load(cpu, bus, reach),
         Place::StoreLow(reach) => store(cpu, bus, reach),
+        Place::ChangeReadLow(reach) => change(cpu, bus, reach),
         Place::LastCycle => idle_at(cpu, bus, Place::LastCycle),
         Place::PushHigh => push_word(cpu, bus),
         Place::PushLow => write_at(cpu, bus, Place::PushLow),

@@ -1,14 +1,16 @@
 -- Bytes of the memory: what a read or a write of the place at an address does.
-use Rattle.std.proofs.Common.{◌≡◌, ℕ, ◌+◌, Bool, true, false, nat_lt, Some, [], slice_index, refl, sym, ap, subst, ◌∙◌, arith, if◌then◌else◌}
+use Rattle.std.proofs.Common.{◌≡◌, ℕ, ◌+◌, Bool, true, false, nat_lt, Option, None, Some, IfSome, [], slice_index, refl, sym, ap, subst, ◌∙◌, arith, if◌then◌else◌}
 use Rattle.std.proofs.lemmas.Bool.Decides.{nat_tests}
 use Rattle.snes_defs.specs.declared.ports.Act.TheVariants.{Quiet}
 use Rattle.cart_map.specs.declared.places.Place.{Place}
 use Rattle.cart_map.specs.declared.places.Place.TheVariants.{Wram, Rom, Ram, BBus, Cpu as Chip, Open}
 use Rattle.cart_map.specs.Place.{IsInside}
-use Rattle.cpu_tables.specs.declared.access.Access.TheVariants.{Read, Write}
+use Rattle.cpu_tables.specs.declared.access.Access.{Access}
+use Rattle.cpu_tables.specs.declared.access.Access.TheVariants.{Fetch, Read, Write, Inner}
+use Rattle.cpu_modes.specs.Plan.{gets_byte}
 use Rattle.cpu65816.specs.declared.processor.Cpu.{Cpu}
 use Rattle.cpu65816.specs.Instruction.{CpuState, moved_on}
-use Rattle.cpu65816.specs.Stands.{Stands}
+use Rattle.cpu65816.specs.Stands.{Stands, gets_at}
 use Rattle.console_bus.specs.BusState.{BusState}
 use Rattle.console_bus.specs.Places.{place_at, place_byte, place_read, place_written}
 use Rattle.console_bus.specs.Memory.{index_of, stored, IsMemoryAt}
@@ -104,3 +106,30 @@ write_made cpu cpu' bus bus' addr v at clocks m nothing rest processor =
           let P : BusState → Type 0 = λ r. Stands cpu' (with_interrupt_levels (moved_on s 0) r) in
           subst P (sym after) (rw same.io (processor s h)));
     }
+
+-- an access that gets a byte at an address is a fetch or a read there
+pub gets_where_read : (access : Access) (at : ℕ) → gets_at access at → gets_byte access ≡ true
+gets_where_read (Fetch addr) at e = refl
+gets_where_read (Read addr) at e = refl
+gets_where_read (Write addr v) at e = absurd e
+gets_where_read Inner at e = absurd e
+
+-- and what makes a read there makes it
+pub made_where_read : (cpu cpu' : Cpu) (bus bus' : BusState) (access : Access) (at clocks : ℕ) → gets_at access at
+    → IsMadeAtOnce cpu cpu' bus bus' (Read at) clocks → IsMadeAtOnce cpu cpu' bus bus' access clocks
+made_where_read cpu cpu' bus bus' (Fetch addr) at clocks e m =
+    subst (λ (n : ℕ). IsMadeAtOnce cpu cpu' bus bus' (Fetch n) clocks) (sym e) (record {
+      quiet = m.quiet;
+      lasts = m.lasts;
+      nothing = m.nothing;
+      rest = m.rest;
+      processor = m.processor;
+    })
+made_where_read cpu cpu' bus bus' (Read addr) at clocks e m = subst (λ (n : ℕ). IsMadeAtOnce cpu cpu' bus bus' (Read n) clocks) (sym e) m
+made_where_read cpu cpu' bus bus' (Write addr v) at clocks e m = absurd e
+made_where_read cpu cpu' bus bus' Inner at clocks e m = absurd e
+
+pub some_made_where_read : (cpu cpu' : Cpu) (bus bus' : BusState) (access : Access) (at : ℕ) (made : Option ℕ) → gets_at access at
+    → IfSome made (λ clocks. IsMadeAtOnce cpu cpu' bus bus' (Read at) clocks) → IfSome made (λ clocks. IsMadeAtOnce cpu cpu' bus bus' access clocks)
+some_made_where_read cpu cpu' bus bus' access at None e m = m
+some_made_where_read cpu cpu' bus bus' access at (Some clocks) e m = made_where_read cpu cpu' bus bus' access at clocks e m

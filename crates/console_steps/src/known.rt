@@ -9,10 +9,10 @@ ghost use Rattle.console_steps.specs.Plain.{IsWired, IsCalm};
 use crate::plain::{idle_plainly, read_plainly, write_plainly};
 use console_bus::Bus;
 use cpu_modes::Place;
-use cpu_tables::Access;
 use cpu65816::Cpu;
 
 /// A fetch or a read.
+#[tactic(auto, using(crate::proofs::AtOnce::gets_where_read))]
 #[inline(always)]
 pub fn try_read_at(cpu: &mut Cpu, bus: &mut Bus, place: Place) -> Option<u8>
     requires known { cpu.old.micro.place ≡ place }
@@ -23,11 +23,9 @@ pub fn try_read_at(cpu: &mut Cpu, bus: &mut Bus, place: Place) -> Option<u8>
     ensures bus_stays { result ≡ None → bus.new ≡ bus.old }
     ensures cpu_stays { result ≡ None → cpu.new ≡ cpu.old }
 {
-    match cpu.next() {
-        Access::Fetch(addr) => read_plainly(cpu, bus, place, addr),
-        Access::Read(addr) => read_plainly(cpu, bus, place, addr),
-        Access::Write(_, _) => None,
-        Access::Inner => None,
+    match cpu.reads_at() {
+        Some(addr) => read_plainly(cpu, bus, place, addr),
+        None => None,
     }
 }
 
@@ -42,11 +40,9 @@ pub fn try_write_at(cpu: &mut Cpu, bus: &mut Bus, place: Place) -> Option<u8>
     ensures bus_stays { result ≡ None → bus.new ≡ bus.old }
     ensures cpu_stays { result ≡ None → cpu.new ≡ cpu.old }
 {
-    match cpu.next() {
-        Access::Fetch(_) => None,
-        Access::Read(_) => None,
-        Access::Write(addr, v) => write_plainly(cpu, bus, place, addr, v),
-        Access::Inner => None,
+    match cpu.writes_at() {
+        Some((addr, v)) => write_plainly(cpu, bus, place, addr, v),
+        None => None,
     }
 }
 
@@ -61,10 +57,8 @@ pub fn try_idle_at(cpu: &mut Cpu, bus: &mut Bus, place: Place) -> Option<u8>
     ensures bus_stays { result ≡ None → bus.new ≡ bus.old }
     ensures cpu_stays { result ≡ None → cpu.new ≡ cpu.old }
 {
-    match cpu.next() {
-        Access::Fetch(_) => None,
-        Access::Read(_) => None,
-        Access::Write(_, _) => None,
-        Access::Inner => idle_plainly(cpu, bus, place),
+    if !cpu.is_idle() {
+        return None;
     }
+    idle_plainly(cpu, bus, place)
 }

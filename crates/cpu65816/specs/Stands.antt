@@ -1,7 +1,8 @@
 -- What contracts see of a processor: the instruction and the accesses so far that it stands for, what it does
 -- next, and what it is once an instruction is in hand.
-use Rattle.std.specs.Prelude.{◌≡◌, Bool, Option, Some, None}
+use Rattle.std.specs.Prelude.{◌≡◌, ℕ, Bool, Option, Some, None}
 use Rattle.cpu_tables.specs.declared.access.Access.{Access}
+use Rattle.cpu_tables.specs.declared.access.Access.TheVariants.{Fetch, Read, Write, Inner}
 use Rattle.cpu_tables.specs.declared.regs.Regs.{Regs}
 use Rattle.cpu_modes.specs.Plan.{Plan, first_access}
 use Rattle.cpu_modes.specs.Remaining.{remaining}
@@ -23,6 +24,13 @@ ahead_of cpu = ahead cpu.kept cpu.irq_level (remaining cpu.micro)
 -- its next access
 abbrev pub access_of : Cpu → Access
 access_of cpu = first_access (ahead_of cpu)
+
+-- an access that gets a byte, at an address
+abbrev pub gets_at : Access → ℕ → Type 0
+gets_at (Fetch addr) at = addr ≡ at
+gets_at (Read addr) at = addr ≡ at
+gets_at (Write addr byte) at = ⊥
+gets_at Inner at = ⊥
 
 -- the registers at the start of the instruction that an access belongs to
 abbrev pub start_of : Cpu → Regs

@@ -1,4 +1,4 @@
-ghost use Rattle.std.specs.Prelude.{◌≡◌, ◌<◌, ◌^◌, ◌||◌, IsTrue, MatchBool, None, Some, false, true};
+ghost use Rattle.std.specs.Prelude.{◌≡◌, ◌<◌, ◌^◌, ◌||◌, IfSome, IsTrue, MatchBool, None, Some, false, true};
 ghost use Rattle.cpu_modes.specs.Plan.{address_of, first_access};
 ghost use Rattle.cpu_modes.specs.Remaining.{remaining};
 ghost use Rattle.cpu65816.specs.Instruction.{ahead};
@@ -24,7 +24,8 @@ impl Cpu {
     ghost use Rattle.cpu_modes.specs.Remaining.{Keeps};
     ghost use Rattle.cpu65816.specs.Instruction.{CpuState, at_reset, between_instructions, chosen, kept_after, moved_on, next_of, plan_of, registers_of, row_of_signal, signalled};
     ghost use Rattle.cpu_tables.specs.declared.operation.Op.TheVariants.{Reset};
-    ghost use Rattle.cpu65816.specs.Stands.{Stands, TakesUp, access_of};
+    ghost use Rattle.cpu_tables.specs.declared.access.Access.TheVariants.{Inner, Write};
+    ghost use Rattle.cpu65816.specs.Stands.{Stands, TakesUp, access_of, gets_at};
 
     /// A processor after a reset.
     pub fn new() -> Cpu
@@ -87,6 +88,48 @@ impl Cpu {
         ensures standing { (s : CpuState) → Stands self.now s → result ≡ next_of s }
     {
         self.micro.access
+    }
+
+    /// Where the next access gets a byte, if it is a fetch or a read. The access isn't copied as one value: it was
+    /// written in parts, and a processor waits where it reads as one what it has just written in parts.
+    #[inline(always)]
+    pub fn reads_at(&self) -> Option<u32>
+        ensures gets { IfSome result (λ at. gets_at (access_of self.now) at) }
+        ensures within { IfSome result (λ at. at < 2 ^ 24) }
+    {
+        match self.micro.access {
+            Access::Fetch(at) => Some(at),
+            Access::Read(at) => Some(at),
+            Access::Write(_, _) => None,
+            Access::Inner => None,
+        }
+    }
+
+    /// Where the next access writes which byte, if it is a write.
+    #[inline(always)]
+    pub fn writes_at(&self) -> Option<(u32, u8)>
+        ensures writes { IfSome result (λ to. access_of self.now ≡ Write to.0 to.1) }
+        ensures within { IfSome result (λ to. to.0 < 2 ^ 24) }
+    {
+        match self.micro.access {
+            Access::Fetch(_) => None,
+            Access::Read(_) => None,
+            Access::Write(at, byte) => Some((at, byte)),
+            Access::Inner => None,
+        }
+    }
+
+    /// Whether the next access is an internal cycle.
+    #[inline(always)]
+    pub fn is_idle(&self) -> bool
+        ensures { IsTrue result → access_of self.now ≡ Inner }
+    {
+        match self.micro.access {
+            Access::Fetch(_) => false,
+            Access::Read(_) => false,
+            Access::Write(_, _) => false,
+            Access::Inner => true,
+        }
     }
 
     /// Whether an instruction that waits for an interrupt has one, disabled or not.
@@ -185,15 +228,24 @@ impl Cpu {
         settle(&mut self.micro, has_ended, self.kept, self.irq_level);
     }
 
-    /// The same as `idle`, for a caller that knows the place.
+    /// The same as `idle`, out of line.
+    #[inline(never)]
+    fn idle_between(&mut self)
+        requires { IsTrue (is_inner (access_of self.old)) }
+        ensures { (s : CpuState) → Stands self.old s → Stands self.new (moved_on s 0) }
+    {
+        self.idle();
+    }
+
+    /// The same as `idle`, for a caller that knows the place. What begins between two instructions is out of line.
     #[inline(always)]
     pub fn idle_at(&mut self, place: Place)
         requires known { self.old.micro.place ≡ place }
         requires inner { IsTrue (is_inner (access_of self.old)) }
         ensures { (s : CpuState) → Stands self.old s → Stands self.new (moved_on s 0) }
     {
-        if self.micro.has_ended(self.is_awake()) {
-            self.idle();
+        if self.micro.has_ended_at(place, self.is_awake()) {
+            self.idle_between();
             return;
         }
         let has_ended = self.micro.idle_at(place);

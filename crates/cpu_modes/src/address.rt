@@ -1,5 +1,5 @@
 ghost use Rattle.std.specs.Prelude.{◌≡◌, ◌+◌, ◌*◌, ◌/◌, ◌%◌, ◌<◌, ◌^◌};
-ghost use Rattle.cpu_modes.specs.Addresses.{code, direct, direct_always, has_index_cycle, is_wide, next_in_bank, pulled, pushed, second, stack};
+ghost use Rattle.cpu_modes.specs.Addresses.{code, direct, direct_always, has_index_cycle, is_wide, join, next_in_bank, pulled, pushed, second, stack};
 ghost use Rattle.cpu_modes.specs.Orders.{pointer_next};
 
 use crate::place::{Direction, PointerKind, Reach, Traffic};
@@ -83,6 +83,14 @@ pub fn next_in_bank(at: u32) -> u32
     ensures within { result < 2 ^ 24 }
 {
     at / 65536 * 65536 + (at % 65536 + 1) % 65536
+}
+
+/// A word of two bytes.
+#[inline(always)]
+pub(crate) fn join(low: u16, high: u8) -> u16
+    ensures { result ≡ join low high }
+{
+    low % 256 + 256 * high as u16
 }
 
 /// The low byte of a word.

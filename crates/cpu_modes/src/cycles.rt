@@ -1,11 +1,45 @@
-ghost use Rattle.std.specs.Prelude.{◌≡◌, IsTrue};
+ghost use Rattle.std.specs.Prelude.{◌≡◌, IsTrue, false};
+ghost use Rattle.cpu_modes.specs.declared.place.Place.TheVariants.{LowCycle, DataCycle, PushCycle};
 
 use crate::micro::Micro;
-use crate::place::{Place, TargetKind};
+use crate::place::{DirectKind, Place, Reach, TargetKind};
 
 impl Micro {
     ghost use Rattle.cpu_modes.specs.Plan.{after, first_access, is_inner};
     ghost use Rattle.cpu_modes.specs.Remaining.{Keeps, remaining};
+
+    /// The cycle for a direct register whose low byte isn't 0 was made.
+    #[inline]
+    fn idled_low_cycle(&mut self, kind: DirectKind)
+        requires { self.old.place ≡ LowCycle kind }
+        ensures left { remaining self.new ≡ after (remaining self.old) 0 }
+        ensures keeps { Keeps false self.new }
+        ensures start { self.new.start ≡ self.old.start }
+    {
+        self.pass_offset(kind, self.word);
+    }
+
+    /// The cycle before the data was made.
+    #[inline]
+    fn idled_data_cycle(&mut self, reach: Reach)
+        requires { self.old.place ≡ DataCycle reach }
+        ensures left { remaining self.new ≡ after (remaining self.old) 0 }
+        ensures keeps { Keeps false self.new }
+        ensures start { self.new.start ≡ self.old.start }
+    {
+        self.reach_data(reach, self.base);
+    }
+
+    /// The cycle before a register is pushed was made.
+    #[inline]
+    fn idled_push_cycle(&mut self)
+        requires { self.old.place ≡ PushCycle }
+        ensures left { remaining self.new ≡ after (remaining self.old) 0 }
+        ensures keeps { Keeps false self.new }
+        ensures start { self.new.start ≡ self.old.start }
+    {
+        self.push_written();
+    }
 
     /// The next access, an internal cycle, was made. Answers whether the instruction has ended or waits.
     #[inline(always)]
@@ -30,7 +64,7 @@ impl Micro {
     {
         match place {
             Place::LowCycle(kind) => {
-                self.pass_offset(kind, self.word);
+                self.idled_low_cycle(kind);
                 false
             }
             Place::PointerCycle(kind) => {
@@ -38,7 +72,7 @@ impl Micro {
                 false
             }
             Place::DataCycle(reach) => {
-                self.reach_data(reach, self.base);
+                self.idled_data_cycle(reach);
                 false
             }
             Place::ChangeCycle(reach) => {
@@ -51,7 +85,7 @@ impl Micro {
             }
             Place::LastCycle => self.finish(),
             Place::PushCycle => {
-                self.push_written();
+                self.idled_push_cycle();
                 false
             }
             Place::PushWordCycle => {

@@ -37,7 +37,18 @@ impl Micro {
             (finished awake (remaining self.now) ≡ Some self.now.here)
             (finished awake (remaining self.now) ≡ None) }
     {
-        match self.place {
+        self.has_ended_at(self.place, awake)
+    }
+
+    /// The same for a caller that knows the place.
+    #[inline(always)]
+    pub fn has_ended_at(&self, place: Place, awake: bool) -> bool
+        requires known { self.now.place ≡ place }
+        ensures { MatchBool result
+            (finished awake (remaining self.now) ≡ Some self.now.here)
+            (finished awake (remaining self.now) ≡ None) }
+    {
+        match place {
             Place::Ended => true,
             Place::Waiting => awake,
             Place::OperandByte

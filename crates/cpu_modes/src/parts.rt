@@ -1,5 +1,6 @@
 ghost use Rattle.std.specs.Prelude.{◌≡◌, ◌+◌, ◌*◌, ◌/◌, ◌%◌, ◌<◌, ◌^◌, false};
-ghost use Rattle.cpu_modes.specs.Addresses.{pulled, pushed, fetched};
+ghost use Rattle.cpu_modes.specs.Addresses.{direct, fetched, in_bank, pulled, pushed};
+ghost use Rattle.cpu_modes.specs.declared.place.Reach.TheVariants.{NextAddress, NextInBankZero};
 
 use crate::address::{direct_address, direct_always, has_index_cycle, high_byte, next_in_bank};
 use crate::micro::Micro;
@@ -46,6 +47,39 @@ impl Micro {
         }
     }
 
+    /// The data is next, at an offset from the direct register.
+    #[inline(always)]
+    pub(crate) fn reach_direct(&mut self, offset: u16)
+        ensures left { remaining self.new ≡ data_at self.old.traffic NextInBankZero self.old.row self.old.here (direct self.old.here offset 0) }
+        ensures keeps { Keeps false self.new }
+        ensures start { self.new.start ≡ self.old.start }
+    {
+        let at = direct_address(&self.here, offset, 0);
+        self.reach_data(Reach::NextInBankZero, at);
+    }
+
+    /// The data is next, at an address in the data bank.
+    #[inline(always)]
+    pub(crate) fn reach_absolute(&mut self, word: u16)
+        ensures left { remaining self.new ≡ data_at self.old.traffic NextAddress self.old.row self.old.here (in_bank self.old.here.dbr word) }
+        ensures keeps { Keeps false self.new }
+        ensures start { self.new.start ≡ self.old.start }
+    {
+        let at = 65536 * self.here.dbr as u32 + word as u32;
+        self.reach_data(Reach::NextAddress, at);
+    }
+
+    /// The data is next, at an address in the data bank and an index.
+    #[inline(always)]
+    pub(crate) fn reach_absolute_indexed(&mut self, word: u16, index: u16)
+        ensures left { remaining self.new ≡ data_indexed self.old.traffic self.old.row self.old.here (in_bank self.old.here.dbr word) index }
+        ensures keeps { Keeps false self.new }
+        ensures start { self.new.start ≡ self.old.start }
+    {
+        let at = 65536 * self.here.dbr as u32 + word as u32;
+        self.reach_indexed(at, index);
+    }
+
     /// An offset from the direct register was fetched, and the cycle after it made.
     #[inline(always)]
     pub(crate) fn pass_offset(&mut self, kind: DirectKind, offset: u16)
@@ -54,10 +88,7 @@ impl Micro {
         ensures start { self.new.start ≡ self.old.start }
     {
         match kind {
-            DirectKind::Plain => {
-                let at = direct_address(&self.here, offset, 0);
-                self.reach_data(Reach::NextInBankZero, at);
-            }
+            DirectKind::Plain => self.reach_direct(offset),
             DirectKind::X => {
                 self.base = direct_address(&self.here, offset, self.here.x);
                 self.to_idle(Place::DataCycle(Reach::NextInBankZero));
@@ -133,19 +164,18 @@ impl Micro {
         ensures keeps { Keeps result self.new }
         ensures start { self.new.start ≡ self.old.start }
     {
-        let in_data_bank = 65536 * self.here.dbr as u32 + word as u32;
         self.word = word;
         match kind {
             OperandKind::Plain => {
-                self.reach_data(Reach::NextAddress, in_data_bank);
+                self.reach_absolute(word);
                 false
             }
             OperandKind::X => {
-                self.reach_indexed(in_data_bank, self.here.x);
+                self.reach_absolute_indexed(word, self.here.x);
                 false
             }
             OperandKind::Y => {
-                self.reach_indexed(in_data_bank, self.here.y);
+                self.reach_absolute_indexed(word, self.here.y);
                 false
             }
             OperandKind::Long => {

@@ -1,18 +1,7 @@
-ghost use Rattle.std.specs.Prelude.{◌≡◌, ◌+◌, ◌*◌, ◌%◌, IsTrue, true, unwrap_or};
-ghost use Rattle.cpu_modes.specs.Addresses.{join};
+ghost use Rattle.std.specs.Prelude.{◌≡◌, IsTrue, true, unwrap_or};
 
-use crate::address::{high_byte, low_byte, next_in_bank, pointer_next, second_address};
 use crate::micro::Micro;
-use crate::place::{Place, PointerKind, Reach, ReturnKind};
-use cpu_tables::row;
-
-/// A word of two bytes.
-#[inline(always)]
-fn join(low: u16, high: u8) -> u16
-    ensures { result ≡ join low high }
-{
-    low % 256 + 256 * high as u16
-}
+use crate::place::{DirectKind, OperandKind, Place};
 
 impl Micro {
     ghost use Rattle.cpu_modes.specs.Plan.{after, finished, first_access, gets_byte};
@@ -40,218 +29,136 @@ impl Micro {
         ensures keeps { Keeps result self.new }
         ensures start { self.new.start ≡ unwrap_or (finished true (remaining self.old)) self.old.start }
     {
-        let byte = got as u16;
         match place {
             Place::Ended | Place::Waiting => {
-                self.start = self.here;
-                self.pass_fetch();
-                self.row = row(got);
-                self.enter();
+                self.took_opcode(got);
                 false
             }
-            Place::OperandByte => {
-                self.pass_fetch();
-                self.word = byte;
-                self.finish()
-            }
+            Place::OperandByte => self.took_operand_byte(got),
             Place::StatusOperand => {
-                self.pass_fetch();
-                self.word = byte;
-                self.to_idle(Place::LastCycle);
+                self.took_status_operand(got);
                 false
             }
             Place::ImmediateLow => {
-                self.pass_fetch();
-                self.word = byte;
-                self.to_fetch(Place::ImmediateHigh);
+                self.took_immediate_low(got);
                 false
             }
-            Place::ImmediateHigh => {
-                self.pass_fetch();
-                self.word = join(self.word, got);
-                self.finish()
+            Place::ImmediateHigh => self.took_immediate_high(got),
+            Place::DirectOffset(DirectKind::Plain) => {
+                self.took_direct_data_offset(got);
+                false
             }
             Place::DirectOffset(kind) => {
-                self.pass_fetch();
-                if self.here.d % 256 == 0 {
-                    self.pass_offset(kind, byte);
-                } else {
-                    self.word = byte;
-                    self.to_idle(Place::LowCycle(kind));
-                }
+                self.took_direct_offset(kind, got);
                 false
             }
             Place::StackOffset => {
-                self.pass_fetch();
-                self.base = (self.here.s as u32 + byte as u32) % 65536;
-                self.to_idle(Place::DataCycle(Reach::NextInBankZero));
+                self.took_stack_offset(got);
                 false
             }
             Place::StackPointerOffset => {
-                self.pass_fetch();
-                self.base = (self.here.s as u32 + byte as u32) % 65536;
-                self.to_idle(Place::PointerCycle(PointerKind::StackY));
+                self.took_stack_pointer_offset(got);
                 false
             }
             Place::OperandLow(kind) => {
-                self.pass_fetch();
-                self.word = byte;
-                self.to_fetch(Place::OperandHigh(kind));
+                self.took_operand_low(kind, got);
                 false
             }
-            Place::OperandHigh(kind) => {
-                self.pass_fetch();
-                self.pass_operand(kind, join(self.word, got))
+            Place::OperandHigh(OperandKind::Plain) => {
+                self.took_address_high(got);
+                false
             }
-            Place::OperandBank(kind) => {
-                self.pass_fetch();
-                self.pass_bank(kind, got)
+            Place::OperandHigh(OperandKind::X) => {
+                self.took_x_address_high(got);
+                false
             }
+            Place::OperandHigh(OperandKind::Y) => {
+                self.took_y_address_high(got);
+                false
+            }
+            Place::OperandHigh(kind) => self.took_operand_high(kind, got),
+            Place::OperandBank(kind) => self.took_operand_bank(kind, got),
             Place::CallBank => {
-                self.pass_fetch();
-                self.base = self.here.pc.wrapping_sub(1) as u32;
-                self.here.pbr = got;
-                self.to_push_word();
+                self.took_call_bank(got);
                 false
             }
             Place::CallPointerLow => {
-                self.pass_fetch();
-                self.word = byte;
-                self.to_push(Place::CallPointerPushHigh, high_byte(self.here.pc as u32));
+                self.took_call_pointer_low(got);
                 false
             }
             Place::CallPointerHigh => {
-                self.pass_fetch();
-                let word = join(self.word, got);
-                self.base = 65536 * self.here.pbr as u32
-                    + (word as u32 + self.here.x as u32) % 65536;
-                self.to_idle(Place::TargetCycle);
+                self.took_call_pointer_high(got);
                 false
             }
-            Place::BranchOffset => {
-                self.pass_fetch();
-                self.branch(got)
-            }
+            Place::BranchOffset => self.took_branch_offset(got),
             Place::BreakOperand => {
-                self.pass_fetch();
-                self.interrupt();
+                self.took_break_operand(got);
                 false
             }
             Place::BlockDestination => {
-                self.pass_fetch();
-                self.here.dbr = got;
-                self.to_fetch(Place::BlockSource);
+                self.took_block_destination(got);
                 false
             }
             Place::BlockSource => {
-                self.pass_fetch();
-                self.base = 65536 * got as u32 + self.here.x as u32;
-                self.to_read(Place::BlockRead);
+                self.took_block_source(got);
                 false
             }
             Place::PointerLow(kind) => {
-                self.base = pointer_next(kind, &self.here, self.base);
-                self.word = byte;
-                self.to_read(Place::PointerHigh(kind));
+                self.took_pointer_low(kind, got);
                 false
             }
             Place::PointerHigh(kind) => {
-                self.pass_pointer(kind, self.base, join(self.word, got));
+                self.took_pointer_high(kind, got);
                 false
             }
             Place::PointerBank => {
-                let at = 65536 * got as u32 + self.word as u32;
-                self.reach_data(Reach::NextAddress, at);
+                self.took_pointer_bank(got);
                 false
             }
             Place::PointerBankY => {
-                let at = 65536 * got as u32 + self.word as u32;
-                let to = (at + self.here.y as u32) % 16777216;
-                self.reach_data(Reach::NextAddress, to);
+                self.took_pointer_bank_y(got);
                 false
             }
-            Place::LoadByte => {
-                self.word = byte;
-                self.finish()
-            }
+            Place::LoadByte => self.took_load_byte(got),
             Place::LoadLow(reach) => {
-                self.base = second_address(reach, self.base);
-                self.word = byte;
-                self.to_read(Place::LoadHigh);
+                self.took_load_low(reach, got);
                 false
             }
-            Place::LoadHigh => {
-                self.word = join(self.word, got);
-                self.finish()
-            }
+            Place::LoadHigh => self.took_load_high(got),
             Place::ChangeReadLow(reach) => {
-                self.word = byte;
-                if self.traffic.wide {
-                    self.to_read_second(reach);
-                } else {
-                    self.to_idle(Place::ChangeCycle(reach));
-                }
+                self.took_change_read_low(reach, got);
                 false
             }
             Place::ChangeReadHigh(reach) => {
-                self.word = join(self.word, got);
-                self.to_idle(Place::ChangeCycle(reach));
+                self.took_change_read_high(reach, got);
                 false
             }
             Place::TargetLow(kind) => {
-                self.base = next_in_bank(self.base);
-                self.word = byte;
-                self.to_read(Place::TargetHigh(kind));
+                self.took_target_low(kind, got);
                 false
             }
-            Place::TargetHigh(kind) => self.pass_target(kind, self.base, join(self.word, got)),
-            Place::TargetBank => {
-                self.here.pbr = got;
-                self.finish()
-            }
+            Place::TargetHigh(kind) => self.took_target_high(kind, got),
+            Place::TargetBank => self.took_target_bank(got),
             Place::BlockRead => {
-                self.word = byte;
-                let at = 65536 * self.here.dbr as u32 + self.here.y as u32;
-                self.to_write(Place::BlockWrite, at, low_byte(byte as u32));
+                self.took_block_read(got);
                 false
             }
-            Place::PullByte => {
-                self.pass_pull();
-                self.word = byte;
-                self.finish()
-            }
+            Place::PullByte => self.took_pull_byte(got),
             Place::PullLow => {
-                self.pass_pull();
-                self.word = byte;
-                self.to_pull(Place::PullHigh);
+                self.took_pull_low(got);
                 false
             }
-            Place::PullHigh => {
-                self.pass_pull();
-                self.word = join(self.word, got);
-                self.finish()
-            }
+            Place::PullHigh => self.took_pull_high(got),
             Place::ReturnStatus => {
-                self.pass_pull();
-                self.here.p = got;
-                self.to_pull(Place::ReturnLow(ReturnKind::Interrupt));
+                self.took_return_status(got);
                 false
             }
             Place::ReturnLow(kind) => {
-                self.pass_pull();
-                self.word = byte;
-                self.to_pull(Place::ReturnHigh(kind));
+                self.took_return_low(kind, got);
                 false
             }
-            Place::ReturnHigh(kind) => {
-                self.pass_pull();
-                self.pass_return(kind, join(self.word, got))
-            }
-            Place::ReturnBank => {
-                self.pass_pull();
-                self.here.pbr = got;
-                self.finish()
-            }
+            Place::ReturnHigh(kind) => self.took_return_high(kind, got),
+            Place::ReturnBank => self.took_return_bank(got),
             Place::LowCycle(_)
             | Place::PointerCycle(_)
             | Place::DataCycle(_)

@@ -1,13 +1,45 @@
-ghost use Rattle.std.specs.Prelude.{◌≡◌, IsTrue, true, unwrap_or};
+ghost use Rattle.std.specs.Prelude.{◌≡◌, IsTrue, false, true, unwrap_or};
+ghost use Rattle.cpu_modes.specs.declared.place.Place.TheVariants.{StoreLow, ChangeWriteHigh};
 
 use crate::address::{high_byte, low_byte, second_address};
 use crate::micro::Micro;
-use crate::place::{Place, TargetKind};
+use crate::place::{Place, Reach, TargetKind};
 use cpu_alu::{operand_written, pushed_status};
 
 impl Micro {
     ghost use Rattle.cpu_modes.specs.Plan.{after, finished, first_access, is_write};
     ghost use Rattle.cpu_modes.specs.Remaining.{Keeps, onward, remaining};
+
+    /// The low byte of data was written, or its only one. Answers whether the instruction has ended.
+    #[inline]
+    fn wrote_store_low(&mut self, reach: Reach) -> bool
+        requires { self.old.place ≡ StoreLow reach }
+        ensures left { remaining self.new ≡ after (remaining self.old) 0 }
+        ensures keeps { Keeps result self.new }
+        ensures start { self.new.start ≡ self.old.start }
+    {
+        if self.traffic.wide {
+            self.base = second_address(reach, self.base);
+            let written = operand_written(self.row, self.here, self.word);
+            self.to_write(Place::StoreHigh, self.base, high_byte(written as u32));
+            false
+        } else {
+            self.place = Place::Ended;
+            true
+        }
+    }
+
+    /// The high byte of changed data was written.
+    #[inline]
+    fn wrote_change_write_high(&mut self, reach: Reach)
+        requires { self.old.place ≡ ChangeWriteHigh reach }
+        ensures left { remaining self.new ≡ after (remaining self.old) 0 }
+        ensures keeps { Keeps false self.new }
+        ensures start { self.new.start ≡ self.old.start }
+    {
+        let written = operand_written(self.row, self.here, self.word);
+        self.to_write(Place::ChangeWriteLow, self.base, low_byte(written as u32));
+    }
 
     /// The next access, a write, was made. Answers whether the instruction has ended.
     #[inline(always)]
@@ -31,24 +63,13 @@ impl Micro {
         ensures start { self.new.start ≡ unwrap_or (finished true (remaining self.old)) self.old.start }
     {
         match place {
-            Place::StoreLow(reach) => {
-                if self.traffic.wide {
-                    self.base = second_address(reach, self.base);
-                    let written = operand_written(self.row, self.here, self.word);
-                    self.to_write(Place::StoreHigh, self.base, high_byte(written as u32));
-                    false
-                } else {
-                    self.place = Place::Ended;
-                    true
-                }
-            }
+            Place::StoreLow(reach) => self.wrote_store_low(reach),
             Place::StoreHigh => {
                 self.place = Place::Ended;
                 true
             }
-            Place::ChangeWriteHigh(_) => {
-                let written = operand_written(self.row, self.here, self.word);
-                self.to_write(Place::ChangeWriteLow, self.base, low_byte(written as u32));
+            Place::ChangeWriteHigh(reach) => {
+                self.wrote_change_write_high(reach);
                 false
             }
             Place::ChangeWriteLow => self.finish(),
