@@ -147,6 +147,22 @@ impl Hardware {
         }
     }
 
+    /// The byte that a fetch or a read at an address gets, and a counter that was read is 0. A port is seen first, since
+    /// most accesses that are not made among others are of one.
+    #[tactic(auto, unfolding(crate::specs::Effect::loaded, crate::specs::Effect::register_shown, crate::specs::Effect::after_load))]
+    #[inline(always)]
+    pub fn take(&mut self, at: u16, got: u8) -> u8
+        ensures byte { result ≡ loaded self.old at got }
+        ensures after { self.new ≡ after_load self.old at }
+    {
+        if at >= 0xF4 && at <= 0xF7 {
+            return got;
+        }
+        let byte = self.load(at, got);
+        self.finish_load(at);
+        byte
+    }
+
     /// A write of F1.
     #[tactic(auto, unfolding(crate::specs::Effect::controlled))]
     #[inline(never)]
@@ -219,6 +235,18 @@ impl Hardware {
         } else {
             self.write_ram(at, byte);
         }
+    }
+
+    /// The same. A port, which keeps nothing on this side, is seen first.
+    #[tactic(auto, unfolding(crate::specs::Effect::stored, crate::specs::Effect::register_stored))]
+    #[inline(always)]
+    pub fn put(&mut self, at: u16, byte: u8)
+        ensures { self.new ≡ stored self.old at byte }
+    {
+        if at >= 0xF4 && at <= 0xF7 {
+            return;
+        }
+        self.store(at, byte);
     }
 
     /// A write where the address is none of F0 to FF.

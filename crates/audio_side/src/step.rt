@@ -83,12 +83,11 @@ fn access(spc: &mut Spc, hardware: &mut Hardware, got: u8)
 {
     match spc.next() {
         SpcAccess::Fetch(at) | SpcAccess::Read(at) => {
-            let byte = hardware.load(at, got);
-            hardware.finish_load(at);
+            let byte = hardware.take(at, got);
             spc.took(byte);
         }
         SpcAccess::Write(at, byte) => {
-            hardware.store(at, byte);
+            hardware.put(at, byte);
             spc.wrote();
         }
         SpcAccess::Inner => spc.idle(),

@@ -1,5 +1,6 @@
 -- A step that is an access made at once, told of a console state.
 use Rattle.std.proofs.Common.{◌≡◌, ℕ, ◌≤◌, false, Some, None, [], refl, sym, ap, subst, ◌∙◌}
+use Rattle.snes_defs.specs.declared.ports.Act.{Act}
 use Rattle.snes_defs.specs.declared.ports.Act.TheVariants.{Quiet}
 use Rattle.cpu_tables.specs.declared.access.Access.{Access}
 use Rattle.cpu65816.specs.declared.processor.Cpu.{Cpu}
@@ -8,7 +9,7 @@ use Rattle.cpu65816.specs.Stands.{Stands, access_of}
 use Rattle.dma_hdma.specs.declared.moves.Move.{Move}
 use Rattle.dma_hdma.specs.Channels.{due_of as transfer_of}
 use Rattle.console_bus.specs.BusState.{BusState}
-use Rattle.console_steps.specs.ConsoleState.{ConsoleState, Due, Moves_byte, Accesses, act_of, due_of, due_clocks, after_access, after_move, effect, console_after, bytes_after, after_clocks, bytes_in}
+use Rattle.console_steps.specs.ConsoleState.{ConsoleState, Due, Moves_byte, Accesses, access_act, act_of, due_of, due_clocks, after_access, after_move, effect, console_after, bytes_after, after_clocks, bytes_in}
 use Rattle.console_steps.specs.Stands.{IsAt}
 use Rattle.console_steps.specs.AtOnce.{IsMadeAtOnce, IsMovedAtOnce}
 use Rattle.console_steps.proofs.PassSteps.{went_on}
@@ -26,6 +27,14 @@ due_access cpu bus w at reset refresh transfer =
     let b : w.rest.refresh ≡ false = ap (λ r. r.refresh) (sym at.rest) ∙ refresh in
     let d : transfer_of w.rest.channels ≡ None = ap (λ r. transfer_of r.channels) (sym at.rest) ∙ transfer in
     rw (a, b, d) (ap Accesses (sym (same_access cpu w.processor at.processor)))
+
+-- what it is at the ports
+pub act_due : (cpu : Cpu) (bus : BusState) (w : ConsoleState) (act : Act) → IsAt cpu bus w → act ≡ access_act bus (access_of cpu)
+    → bus.reset ≡ false → bus.refresh ≡ false → transfer_of bus.channels ≡ None → act_of w.rest (due_of w) ≡ act
+act_due cpu bus w act at is reset refresh transfer =
+    let P : Due → Type 0 = λ d. act_of w.rest d ≡ act in
+    let Q : BusState → Type 0 = λ r. access_act r (access_of cpu) ≡ act in
+    subst P (sym (due_access cpu bus w at reset refresh transfer)) (subst Q at.rest (sym is))
 
 -- a step of a console state, which is due: quiet, with nothing emitted, and so many clocks long
 pub record IsStepMade (cpu' : Cpu) (bus' : BusState) (w : ConsoleState) (due : Due) (clocks : ℕ) : Type 0 where

@@ -1,4 +1,4 @@
-ghost use Rattle.std.specs.Prelude.{◌≡◌, ◌<◌, ◌≤◌, ◌+◌, ◌*◌, ◌^◌, ◌++◌, ℕ, [], false, IsTrue, length};
+ghost use Rattle.std.specs.Prelude.{◌≡◌, ◌<◌, ◌≤◌, ◌+◌, ◌*◌, ◌^◌, ◌++◌, ℕ, [], false, IfSome, IsTrue, length};
 ghost use Rattle.snes_defs.specs.declared.ports.Act.TheVariants.{Quiet};
 ghost use Rattle.snes_defs.specs.declared.ports.Side.TheVariants.{Console};
 ghost use Rattle.clock_ratio.specs.Stamp.{least_of, most_of, rate_of};
@@ -6,6 +6,7 @@ ghost use Rattle.side_law.specs.Moves.{IsAtPorts, taken};
 ghost use Rattle.side_law.specs.Quiet.{HasGoneQuietly};
 ghost use Rattle.side_law.proofs.QuietRuns.{IsSilent};
 ghost use Rattle.console_steps.specs.ConsoleState.{ConsoleState, act_of, due_of, console_after, bytes_after, console_moves};
+ghost use Rattle.console_steps.specs.Tried.{IfMade, IfAtPort, IfNotMade};
 ghost use Rattle.console_machine.specs.Side.{IsSome, StandsAt};
 
 use crate::acts::due_act;
@@ -15,6 +16,7 @@ use crate::step::{make_step, try_make, try_other};
 use circular_buffer::HeapCircularBuffer;
 use clock_ratio::{CONSOLE_RATE, PAL_CONSOLE_RATE};
 use console_bus::Bus;
+use console_steps::Tried;
 use cpu65816::Cpu;
 use side_law::Pause;
 use snes_defs::{Act, Region};
@@ -133,26 +135,30 @@ impl Parts {
         }
     }
 
-    /// The same of a step that is a byte of a transfer or an access of a register of the B bus.
+    /// The same of a step that is a byte of a transfer or an access of a register of the B bus. What came of it is
+    /// answered, with the act of an access of a port.
     #[inline(always)]
-    fn try_other_step(&mut self) -> bool
+    fn try_other_step(&mut self) -> Tried
         requires early { self.old.stamp ≤ 2 ^ 62 }
-        ensures quiet { IsTrue result → (w : ConsoleState) → StandsAt (value_of self.old) w → act_of w.rest (due_of w) ≡ Quiet }
-        ensures next { IsTrue result → (w : ConsoleState) → StandsAt (value_of self.old) w → StandsAt (value_of self.new) (console_after w (due_of w) 0) }
-        ensures none { IsTrue result → (w : ConsoleState) → StandsAt (value_of self.old) w → bytes_after w (due_of w) 0 ≡ [] }
+        ensures quiet { IfMade result (λ _. (w : ConsoleState) → StandsAt (value_of self.old) w → act_of w.rest (due_of w) ≡ Quiet) }
+        ensures next { IfMade result (λ _. (w : ConsoleState) → StandsAt (value_of self.old) w → StandsAt (value_of self.new) (console_after w (due_of w) 0)) }
+        ensures none { IfMade result (λ _. (w : ConsoleState) → StandsAt (value_of self.old) w → bytes_after w (due_of w) 0 ≡ []) }
         ensures keeps { IsSome (value_of self.old) → IsSome (value_of self.new) }
-        ensures rises { IsTrue result → self.old.stamp + least_of self.old.region ≤ self.new.stamp }
-        ensures rises_at_most { IsTrue result → self.new.stamp ≤ self.old.stamp + most_of self.old.region }
+        ensures rises { IfMade result (λ _. self.old.stamp + least_of self.old.region ≤ self.new.stamp) }
+        ensures rises_at_most { IfMade result (λ _. self.new.stamp ≤ self.old.stamp + most_of self.old.region) }
         ensures region { self.new.region ≡ self.old.region }
         ensures waiting { self.new.waiting ≡ self.old.waiting }
-        ensures stays { result ≡ false → value_of self.new ≡ value_of self.old }
+        ensures port { IfAtPort result (λ act. (w : ConsoleState) → StandsAt (value_of self.old) w → act_of w.rest (due_of w) ≡ act) }
+        ensures at_ports { IfAtPort result (λ act. IsAtPorts act) }
+        ensures stays { IfNotMade result (value_of self.new ≡ value_of self.old) }
     {
         match try_other(&mut self.cpu, &mut self.bus) {
-            Some(clocks) => {
+            Tried::Made(clocks) => {
                 self.stamp += stamps(self.region, clocks);
-                true
+                Tried::Made(clocks)
             }
-            None => false,
+            Tried::AtPort(act) => Tried::AtPort(act),
+            Tried::Left => Tried::Left,
         }
     }
 
@@ -222,23 +228,29 @@ impl Parts {
         self.hurry(before);
     }
 
-    /// The same with bytes of transfers and accesses of the registers of the B bus between them.
+    /// The same with bytes of transfers and accesses of the registers of the B bus between them. Where it came to an
+    /// access of a port, its act is answered.
     #[inline(always)]
-    fn hasten(&mut self, before: u64)
+    fn hasten(&mut self, before: u64) -> Option<Act>
         requires early { before ≤ 2 ^ 62 }
         ensures gone { (w : ConsoleState) → StandsAt (value_of self.old) w → IsSilent console_moves before (StandsAt (value_of self.new)) self.old.waiting.items w self.new.waiting.items }
         ensures keeps { IsSome (value_of self.old) → IsSome (value_of self.new) }
         ensures forward { self.old.stamp ≤ self.new.stamp }
         ensures region { self.new.region ≡ self.old.region }
         ensures waiting { self.new.waiting ≡ self.old.waiting }
+        ensures port { IfSome result (λ act. (w : ConsoleState) → StandsAt (value_of self.new) w → act_of w.rest (due_of w) ≡ act) }
+        ensures at_ports { IfSome result (λ act. IsAtPorts act) }
     {
         self.hurry_on(before);
         'others: while self.stamp < before {
-            if !self.try_other_step() {
-                return;
+            match self.try_other_step() {
+                Tried::Made(_) => {}
+                Tried::AtPort(act) => return Some(act),
+                Tried::Left => return None,
             }
             self.hurry_on(before);
         }
+        None
     }
 
     /// Makes quiet steps, each begun before a stamp, up to the first that emits bytes, and answers where it stands
@@ -259,7 +271,12 @@ impl Parts {
         ensures few { length self.new.waiting.items ≤ length self.old.waiting.items + 1024 }
     {
         let waited = self.waiting.len();
-        self.hasten(before);
+        if let Some(act) = self.hasten(before) {
+            return Pause {
+                at: self.stamp,
+                act,
+            };
+        }
         let mut at = self.stamp;
         let mut act = self.act();
         'steps: while at < before {
@@ -271,7 +288,12 @@ impl Parts {
                 act = self.act();
                 return Pause { at, act };
             }
-            self.hasten(before);
+            if let Some(act) = self.hasten(before) {
+                return Pause {
+                    at: self.stamp,
+                    act,
+                };
+            }
             at = self.stamp;
             act = self.act();
         }

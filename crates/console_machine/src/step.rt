@@ -7,6 +7,8 @@ ghost use Rattle.cpu65816.specs.Stands.{Stands, access_of};
 ghost use Rattle.console_steps.specs.ConsoleState.{ConsoleState, Accesses, access_clocks, act_of, due_of, due_clocks, rest_after, processor_after, with_interrupt_levels, console_after, bytes_after};
 ghost use Rattle.dma_hdma.specs.Channels.{due_of as transfer_of};
 ghost use Rattle.console_steps.specs.AtOnce.{IsMovedAtOnce};
+ghost use Rattle.console_steps.specs.Tried.{IfMade, IfAtPort, IfNotMade};
+ghost use Rattle.side_law.specs.Moves.{IsAtPorts};
 ghost use Rattle.console_steps.specs.Stands.{IsAt};
 ghost use Rattle.cart_map.specs.Clocks.{clocks_of};
 ghost use Rattle.console_machine.specs.Dues.{due_from};
@@ -15,8 +17,8 @@ use cart_map::clocks;
 use circular_buffer::HeapCircularBuffer;
 use console_bus::Bus;
 use console_steps::{
-    give_interrupt_levels, make_inner, make_move, make_read, make_reset, make_write, pass,
-    try_access, try_move, try_register,
+    Tried, bus_register, give_interrupt_levels, make_inner, make_move, make_read, make_reset,
+    make_write, pass, try_access, try_move, try_register,
 };
 use cpu_tables::Access;
 use cpu65816::Cpu;
@@ -31,6 +33,9 @@ const MOVE_CLOCKS: u8 = 8;
 /// Master clocks of an internal cycle of the processor, and of a reset.
 const INNER_CLOCKS: u8 = 6;
 
+/// Master clocks of an access of the B bus.
+const REGISTER_CLOCKS: u8 = 6;
+
 /// How many clocks an access at an address lasts.
 #[inline(always)]
 #[tactic(auto, using(crate::proofs::Few::few_clocks, crate::proofs::Few::least_clocks))]
@@ -40,7 +45,10 @@ fn lasts(bus: &Bus, addr: u32) -> u8
     ensures least { 6 ≤ result }
     ensures few { result ≤ 40 }
 {
-    clocks(addr, bus.fast())
+    match bus_register(addr) {
+        Some(_register) => REGISTER_CLOCKS,
+        None => clocks(addr, bus.fast()),
+    }
 }
 
 /// Makes the processor's next access, and answers how many clocks it lasts.
@@ -122,16 +130,17 @@ pub(crate) fn try_make(cpu: &mut Cpu, bus: &mut Bus) -> Option<u8>
 
 /// Moves the byte of a transfer that is due where it touches no port and nothing else happens in its clocks.
 #[inline(always)]
-fn try_haul(cpu: &mut Cpu, bus: &mut Bus, due: Move) -> Option<u8>
+fn try_haul(cpu: &mut Cpu, bus: &mut Bus, due: Move) -> Tried
     requires { transfer_of bus.old.channels ≡ Some due }
-    ensures made { IfSome result (λ clocks. (clocks ≡ 8) × IsMovedAtOnce cpu.old cpu.new bus.old bus.new due) }
-    ensures bus_stays { result ≡ None → bus.new ≡ bus.old }
-    ensures cpu_stays { result ≡ None → cpu.new ≡ cpu.old }
+    ensures made { IfMade result (λ clocks. (clocks ≡ 8) × IsMovedAtOnce cpu.old cpu.new bus.old bus.new due) }
+    ensures no_port { IfAtPort result (λ act. ⊥) }
+    ensures bus_stays { IfNotMade result (bus.new ≡ bus.old) }
+    ensures cpu_stays { IfNotMade result (cpu.new ≡ cpu.old) }
 {
     if try_move(cpu, bus, due) {
-        Some(MOVE_CLOCKS)
+        Tried::Made(MOVE_CLOCKS)
     } else {
-        None
+        Tried::Left
     }
 }
 
@@ -145,20 +154,23 @@ fn is_held(bus: &Bus) -> bool
 }
 
 /// Makes the step that is due where it is a byte of a transfer or an access of a register of the B bus, touches no port,
-/// and nothing else happens in its clocks, and answers how many these are. Otherwise nothing has changed.
+/// and nothing else happens in its clocks, and answers how many these are. Otherwise nothing has changed; where it is an
+/// access of a port, its act is answered.
 #[inline(always)]
-pub(crate) fn try_other(cpu: &mut Cpu, bus: &mut Bus) -> Option<u8>
-    ensures quiet { IfSome result (λ clocks. (w : ConsoleState) → IsAt cpu.old bus.old w → act_of w.rest (due_of w) ≡ Quiet) }
-    ensures at { IfSome result (λ clocks. (w : ConsoleState) → IsAt cpu.old bus.old w → IsAt cpu.new bus.new (console_after w (due_of w) 0)) }
-    ensures none { IfSome result (λ clocks. (w : ConsoleState) → IsAt cpu.old bus.old w → bytes_after w (due_of w) 0 ≡ []) }
-    ensures clocks { IfSome result (λ clocks. (w : ConsoleState) → IsAt cpu.old bus.old w → clocks ≡ due_clocks (due_of w) w.rest.io.fast) }
-    ensures least { IfSome result (λ clocks. 6 ≤ clocks) }
-    ensures few { IfSome result (λ clocks. clocks ≤ 40) }
-    ensures bus_stays { result ≡ None → bus.new ≡ bus.old }
-    ensures cpu_stays { result ≡ None → cpu.new ≡ cpu.old }
+pub(crate) fn try_other(cpu: &mut Cpu, bus: &mut Bus) -> Tried
+    ensures quiet { IfMade result (λ clocks. (w : ConsoleState) → IsAt cpu.old bus.old w → act_of w.rest (due_of w) ≡ Quiet) }
+    ensures at { IfMade result (λ clocks. (w : ConsoleState) → IsAt cpu.old bus.old w → IsAt cpu.new bus.new (console_after w (due_of w) 0)) }
+    ensures none { IfMade result (λ clocks. (w : ConsoleState) → IsAt cpu.old bus.old w → bytes_after w (due_of w) 0 ≡ []) }
+    ensures clocks { IfMade result (λ clocks. (w : ConsoleState) → IsAt cpu.old bus.old w → clocks ≡ due_clocks (due_of w) w.rest.io.fast) }
+    ensures least { IfMade result (λ clocks. 6 ≤ clocks) }
+    ensures few { IfMade result (λ clocks. clocks ≤ 40) }
+    ensures port { IfAtPort result (λ act. (w : ConsoleState) → IsAt cpu.old bus.old w → act_of w.rest (due_of w) ≡ act) }
+    ensures at_ports { IfAtPort result (λ act. IsAtPorts act) }
+    ensures bus_stays { IfNotMade result (bus.new ≡ bus.old) }
+    ensures cpu_stays { IfNotMade result (cpu.new ≡ cpu.old) }
 {
     if is_held(bus) {
-        return None;
+        return Tried::Left;
     }
     match bus.transfer() {
         Some(due) => try_haul(cpu, bus, due),

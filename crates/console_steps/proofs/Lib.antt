@@ -8,3 +8,4 @@ pub mod Wires
 pub mod BusRegisters
 pub mod Moves
 pub mod RegisterSteps
+pub mod RegisterPlaces

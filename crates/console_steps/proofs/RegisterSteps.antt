@@ -1,5 +1,6 @@
 -- A register of the B bus that is no port, read or written at an address where it lies.
 use Rattle.std.proofs.Common.{◌≡◌, ℕ, false, [], refl, sym, subst}
+use Rattle.snes_defs.specs.declared.ports.Act.{Act}
 use Rattle.snes_defs.specs.declared.ports.Act.TheVariants.{Quiet}
 use Rattle.cart_map.specs.declared.places.Place.{Place}
 use Rattle.cart_map.specs.declared.places.Place.TheVariants.{BBus}
@@ -10,7 +11,7 @@ use Rattle.cpu65816.specs.Instruction.{CpuState, moved_on}
 use Rattle.cpu65816.specs.Stands.{Stands}
 use Rattle.console_bus.specs.BusState.{BusState}
 use Rattle.console_bus.specs.Places.{place_at, place_byte, is_port, register_byte, register_read, register_written, on_bus}
-use Rattle.console_steps.specs.ConsoleState.{read_at, write_at, after_read, after_write, with_interrupt_levels}
+use Rattle.console_steps.specs.ConsoleState.{access_act, read_at, write_at, after_read, after_write, with_interrupt_levels}
 use Rattle.console_steps.specs.AtOnce.{gone_on, passed_in, IsMadeAtOnce}
 
 read_quiet : (n : ℕ) → is_port n ≡ false → read_at (BBus n) ≡ Quiet
@@ -54,3 +55,15 @@ register_write_made cpu cpu' bus bus' addr n v place lasts port nothing rest pro
       rest = subst D (sym place) rest;
       processor = subst E (sym place) processor;
     }
+
+-- ---- what a port's access is at the ports, told of the address where it lies
+
+pub port_read_act : (r : BusState) (addr n : ℕ) (act : Act) → place_at r.board addr ≡ BBus n → act ≡ read_at (BBus n) → act ≡ access_act r (Read addr)
+port_read_act r addr n act place is =
+    let P : Place → Type 0 = λ p. act ≡ read_at p in
+    subst P (sym place) is
+
+pub port_write_act : (r : BusState) (addr n v : ℕ) (act : Act) → place_at r.board addr ≡ BBus n → act ≡ write_at (BBus n) v → act ≡ access_act r (Write addr v)
+port_write_act r addr n v act place is =
+    let P : Place → Type 0 = λ p. act ≡ write_at p v in
+    subst P (sym place) is

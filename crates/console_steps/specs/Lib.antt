@@ -4,3 +4,4 @@ pub mod Parts
 pub mod Draws
 pub mod AtOnce
 pub mod Plain
+pub mod Tried

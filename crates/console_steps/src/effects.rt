@@ -4,11 +4,12 @@ ghost use Rattle.cpu65816.specs.Instruction.{CpuState, at_reset, moved_on};
 ghost use Rattle.cpu65816.specs.Stands.{Stands, access_of};
 ghost use Rattle.dma_hdma.specs.Channels.{due_of as transfer_of};
 ghost use Rattle.dma_hdma.specs.declared.moves.Move.{Move};
-ghost use Rattle.console_bus.specs.Places.{place_at, place_byte, taken_from};
+ghost use Rattle.console_bus.specs.Places.{place_at, place_byte, register_written, taken_from, on_bus};
 ghost use Rattle.console_bus.specs.Happenings.{was_reset};
 ghost use Rattle.console_steps.specs.ConsoleState.{with_interrupt_levels, after_move, after_read, after_write};
 
-use crate::registers::place_of;
+use crate::other_steps::is_port;
+use crate::registers::bus_register;
 use console_bus::Bus;
 use cpu65816::Cpu;
 use dma_hdma::Move;
@@ -28,15 +29,45 @@ fn take_byte(bus: &mut Bus, addr: u32, got: u8) -> u8
     ensures byte { result ≡ place_byte bus.old (place_at bus.old.board addr) got }
     ensures rest { bus.new ≡ after_read bus.old (place_at bus.old.board addr) result }
 {
+    // A register of the B bus first: most steps that are not made at once are at the ports.
+    if let Some(register) = bus_register(addr) {
+        let byte = bus.read_register(register, got);
+        bus.put(byte);
+        return byte;
+    }
     if let Some(access) = bus.memory_at(addr % 0x100_0000) {
         let byte = bus.load(access.at);
         bus.put(byte);
         return byte;
     }
-    let place = place_of(bus, addr);
+    let place = bus.place(addr);
     let byte = bus.read(place, got);
     bus.put(byte);
     byte
+}
+
+/// A byte is written to a register of the B bus, and goes over the data bus. A port keeps nothing on this side.
+#[inline(always)]
+#[tactic(auto, using(crate::proofs::RegisterPlaces::port_stays))]
+fn put_register(bus: &mut Bus, register: u8, v: u8)
+    ensures { bus.new ≡ on_bus (register_written bus.old register v) v }
+{
+    if is_port(register) {
+        bus.put(v);
+        return;
+    }
+    bus.write_register(register, v);
+    bus.put(v);
+}
+
+/// A byte is written at an address, wherever it is, and goes over the data bus.
+#[inline(always)]
+fn put_elsewhere(bus: &mut Bus, addr: u32, v: u8)
+    ensures { bus.new ≡ after_write bus.old (place_at bus.old.board addr) v }
+{
+    let place = bus.place(addr);
+    bus.write(place, v);
+    bus.put(v);
 }
 
 /// A byte is written at an address, and goes over the data bus.
@@ -44,9 +75,10 @@ fn take_byte(bus: &mut Bus, addr: u32, got: u8) -> u8
 fn put_byte(bus: &mut Bus, addr: u32, v: u8)
     ensures { bus.new ≡ after_write bus.old (place_at bus.old.board addr) v }
 {
-    let place = place_of(bus, addr);
-    bus.write(place, v);
-    bus.put(v);
+    match bus_register(addr) {
+        Some(register) => put_register(bus, register, v),
+        None => put_elsewhere(bus, addr, v),
+    }
 }
 
 /// The processor reads a byte, as an opcode or not.

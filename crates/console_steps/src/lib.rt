@@ -17,6 +17,7 @@ mod passing;
 mod plain;
 mod registers;
 mod rows;
+mod tried;
 
 pub use at_once::try_access;
 pub use effects::{
@@ -26,4 +27,5 @@ pub use known::{try_idle_at, try_read_at, try_write_at};
 pub use other_steps::{try_move, try_register};
 pub use passing::pass;
 pub use plain::{is_calm, is_wired, try_look, try_plain};
-pub use registers::place_of;
+pub use registers::{bus_register, place_of};
+pub use tried::Tried;

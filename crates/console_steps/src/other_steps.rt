@@ -1,6 +1,6 @@
 // Steps that are no access of the memory, with their clocks, where they touch no port and nothing else happens in these:
 // a byte of a transfer, and an access of a register of the B bus.
-ghost use Rattle.std.specs.Prelude.{◌≡◌, ◌<◌, [], false, None, Some, IsTrue, IfSome};
+ghost use Rattle.std.specs.Prelude.{◌≡◌, ◌<◌, [], true, false, Some, IsTrue};
 ghost use Rattle.snes_defs.specs.declared.ports.Act.TheVariants.{Quiet};
 ghost use Rattle.cpu_tables.specs.declared.access.Access.TheVariants.{Read, Write};
 ghost use Rattle.cpu_modes.specs.Plan.{gets_byte, is_write};
@@ -10,15 +10,20 @@ ghost use Rattle.beam.specs.Places.{clocks_left};
 ghost use Rattle.dma_hdma.specs.Channels.{due_of as transfer_of};
 ghost use Rattle.console_bus.specs.BusState.{BusState};
 ghost use Rattle.console_bus.specs.Places.{is_port, register_byte, register_read, register_written, on_bus};
-ghost use Rattle.console_steps.specs.ConsoleState.{move_act, after_move, with_interrupt_levels};
+ghost use Rattle.cart_map.specs.declared.places.Place.TheVariants.{BBus};
+ghost use Rattle.side_law.specs.Moves.{IsAtPorts};
+ghost use Rattle.console_steps.specs.ConsoleState.{access_act, read_at, write_at, move_act, after_move, with_interrupt_levels};
+ghost use Rattle.console_steps.specs.Tried.{IfMade, IfAtPort, IfNotMade};
 ghost use Rattle.console_steps.specs.AtOnce.{gone_on, passed_in, IsMadeAtOnce, IsMovedAtOnce};
 
 use crate::effects::{give_interrupt_levels, make_move};
 use crate::registers::bus_register;
+use crate::tried::Tried;
 use console_bus::Bus;
 use cpu_tables::Access;
 use cpu65816::Cpu;
 use dma_hdma::Move;
+use snes_defs::Act;
 
 /// Master clocks of a byte that a transfer moves.
 const MOVE_CLOCKS: u16 = 8;
@@ -28,10 +33,30 @@ const REGISTER_CLOCKS: u8 = 6;
 
 /// Whether a register of the B bus is a port to the sound side.
 #[inline(always)]
-fn is_port(register: u8) -> bool
+pub(crate) fn is_port(register: u8) -> bool
     ensures { result ≡ is_port register }
 {
     0x40 <= register && register < 0x80
+}
+
+/// What a read of a port is at the ports.
+#[inline(always)]
+fn port_read(register: u8) -> Act
+    requires { is_port register ≡ true }
+    ensures value { result ≡ read_at (BBus register) }
+    ensures at_ports { IsAtPorts result }
+{
+    Act::Read(register % 4)
+}
+
+/// What a write of a port is at the ports.
+#[inline(always)]
+fn port_write(register: u8, v: u8) -> Act
+    requires { is_port register ≡ true }
+    ensures value { result ≡ write_at (BBus register) v }
+    ensures at_ports { IsAtPorts result }
+{
+    Act::Write(register % 4, v)
 }
 
 /// Whether a byte of a transfer goes to a port or comes from one.
@@ -103,7 +128,7 @@ fn load_register(bus: &mut Bus, register: u8) -> u8
 
 /// A register of the B bus is written, and the byte goes over the data bus.
 #[inline(always)]
-fn store_register(bus: &mut Bus, register: u8, v: u8)
+pub(crate) fn store_register(bus: &mut Bus, register: u8, v: u8)
     ensures after { bus.new ≡ on_bus (register_written bus.old register v) v }
     ensures beam { bus.new.beam ≡ bus.old.beam }
 {
@@ -143,55 +168,66 @@ fn give_register(cpu: &mut Cpu, bus: &mut Bus, register: u8, v: u8)
     bus.go_on(REGISTER_CLOCKS as u16);
 }
 
-/// The processor reads a register of the B bus that is no port.
+/// The processor reads a register of the B bus, where that is no port.
 #[inline(always)]
-fn read_register(cpu: &mut Cpu, bus: &mut Bus, addr: u32) -> Option<u8>
+fn read_register(cpu: &mut Cpu, bus: &mut Bus, addr: u32) -> Tried
     requires gets { IsTrue (gets_byte (access_of cpu.old)) }
     requires few { 6 < clocks_left bus.old.beam }
-    ensures made { IfSome result (λ clocks. IsMadeAtOnce cpu.old cpu.new bus.old bus.new (Read addr) clocks) }
-    ensures bus_stays { result ≡ None → bus.new ≡ bus.old }
-    ensures cpu_stays { result ≡ None → cpu.new ≡ cpu.old }
+    ensures made { IfMade result (λ clocks. IsMadeAtOnce cpu.old cpu.new bus.old bus.new (Read addr) clocks) }
+    ensures port { IfAtPort result (λ act. act ≡ access_act bus.old (Read addr)) }
+    ensures at_ports { IfAtPort result (λ act. IsAtPorts act) }
+    ensures bus_stays { IfNotMade result (bus.new ≡ bus.old) }
+    ensures cpu_stays { IfNotMade result (cpu.new ≡ cpu.old) }
 {
-    let register = bus_register(addr)?;
+    let Some(register) = bus_register(addr) else {
+        return Tried::Left;
+    };
     if is_port(register) {
-        return None;
+        return Tried::AtPort(port_read(register));
     }
     take_register(cpu, bus, register);
-    Some(REGISTER_CLOCKS)
+    Tried::Made(REGISTER_CLOCKS)
 }
 
-/// The processor writes a register of the B bus that is no port.
+/// The processor writes a register of the B bus, where that is no port.
 #[inline(always)]
-fn write_register(cpu: &mut Cpu, bus: &mut Bus, addr: u32, v: u8) -> Option<u8>
+fn write_register(cpu: &mut Cpu, bus: &mut Bus, addr: u32, v: u8) -> Tried
     requires writes { IsTrue (is_write (access_of cpu.old)) }
     requires few { 6 < clocks_left bus.old.beam }
-    ensures made { IfSome result (λ clocks. IsMadeAtOnce cpu.old cpu.new bus.old bus.new (Write addr v) clocks) }
-    ensures bus_stays { result ≡ None → bus.new ≡ bus.old }
-    ensures cpu_stays { result ≡ None → cpu.new ≡ cpu.old }
+    ensures made { IfMade result (λ clocks. IsMadeAtOnce cpu.old cpu.new bus.old bus.new (Write addr v) clocks) }
+    ensures port { IfAtPort result (λ act. act ≡ access_act bus.old (Write addr v)) }
+    ensures at_ports { IfAtPort result (λ act. IsAtPorts act) }
+    ensures bus_stays { IfNotMade result (bus.new ≡ bus.old) }
+    ensures cpu_stays { IfNotMade result (cpu.new ≡ cpu.old) }
 {
-    let register = bus_register(addr)?;
+    let Some(register) = bus_register(addr) else {
+        return Tried::Left;
+    };
     if is_port(register) {
-        return None;
+        return Tried::AtPort(port_write(register, v));
     }
     give_register(cpu, bus, register, v);
-    Some(REGISTER_CLOCKS)
+    Tried::Made(REGISTER_CLOCKS)
 }
 
 /// Makes the processor's next access, and lets its clocks pass, where it is one of a register of the B bus that is no
-/// port and nothing else happens in these clocks, and answers how many these are. Otherwise nothing has changed.
+/// port and nothing else happens in these clocks, and answers how many these are. Otherwise nothing has changed; where it is one
+/// of a port, its act is answered.
 #[inline(always)]
-pub fn try_register(cpu: &mut Cpu, bus: &mut Bus) -> Option<u8>
-    ensures made { IfSome result (λ clocks. IsMadeAtOnce cpu.old cpu.new bus.old bus.new (access_of cpu.old) clocks) }
-    ensures bus_stays { result ≡ None → bus.new ≡ bus.old }
-    ensures cpu_stays { result ≡ None → cpu.new ≡ cpu.old }
+pub fn try_register(cpu: &mut Cpu, bus: &mut Bus) -> Tried
+    ensures made { IfMade result (λ clocks. IsMadeAtOnce cpu.old cpu.new bus.old bus.new (access_of cpu.old) clocks) }
+    ensures port { IfAtPort result (λ act. act ≡ access_act bus.old (access_of cpu.old)) }
+    ensures at_ports { IfAtPort result (λ act. IsAtPorts act) }
+    ensures bus_stays { IfNotMade result (bus.new ≡ bus.old) }
+    ensures cpu_stays { IfNotMade result (cpu.new ≡ cpu.old) }
 {
     if bus.clocks_left() <= REGISTER_CLOCKS as u16 {
-        return None;
+        return Tried::Left;
     }
     match cpu.next() {
-        Access::Fetch(_) => None,
+        Access::Fetch(_) => Tried::Left,
         Access::Read(addr) => read_register(cpu, bus, addr),
         Access::Write(addr, v) => write_register(cpu, bus, addr, v),
-        Access::Inner => None,
+        Access::Inner => Tried::Left,
     }
 }

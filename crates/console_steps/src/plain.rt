@@ -9,13 +9,19 @@ ghost use Rattle.cpu65816.specs.Stands.{Stands, access_of};
 ghost use Rattle.beam.specs.Events.{beam_after, passed};
 ghost use Rattle.beam.specs.Places.{clocks_left};
 ghost use Rattle.console_bus.specs.Memory.{stored};
-ghost use Rattle.console_steps.specs.AtOnce.{IsMadeAtOnce};
+ghost use Rattle.console_bus.specs.Places.{register_written, on_bus};
+ghost use Rattle.console_steps.specs.AtOnce.{gone_on, passed_in, IsMadeAtOnce};
 ghost use Rattle.console_steps.specs.Plain.{IsWired, IsCalm, IsLook};
 
+use crate::other_steps::{is_port, store_register};
+use crate::registers::bus_register;
 use console_bus::Bus;
 use cpu_modes::Place;
 use cpu_tables::Access;
 use cpu65816::Cpu;
+
+/// Master clocks of an access of the B bus.
+const REGISTER_CLOCKS: u8 = 6;
 
 /// Whether the processor was given the levels that its lines have now.
 #[inline(always)]
@@ -108,6 +114,51 @@ pub(crate) fn read_plainly(cpu: &mut Cpu, bus: &mut Bus, place: Place, addr: u32
     Some(access.clocks)
 }
 
+/// The processor has written a register of the B bus, and the beam goes on.
+#[inline(always)]
+fn give_register_plainly(cpu: &mut Cpu, bus: &mut Bus, place: Place, register: u8, v: u8)
+    requires known { cpu.old.micro.place ≡ place }
+    requires writes { IsTrue (is_write (access_of cpu.old)) }
+    requires few { 6 < clocks_left bus.old.beam }
+    ensures rest { bus.new ≡ gone_on (on_bus (register_written bus.old register v) v) 6 }
+    ensures nothing { passed_in (on_bus (register_written bus.old register v) v) 6 ≡ [] }
+    ensures left { clocks_left bus.new.beam ≡ clocks_left bus.old.beam - 6 }
+    ensures processor { (s : CpuState) → Stands cpu.old s → Stands cpu.new (moved_on s 0) }
+{
+    store_register(bus, register, v);
+    bus.go_on(REGISTER_CLOCKS as u16);
+    cpu.wrote_at(place);
+}
+
+/// The processor writes a register of the B bus that is no port. Out of line: most writes are of the memory.
+#[inline(never)]
+fn write_register_plainly(
+    cpu: &mut Cpu,
+    bus: &mut Bus,
+    place: Place,
+    addr: u32,
+    v: u8,
+) -> Option<u8>
+    requires known { cpu.old.micro.place ≡ place }
+    requires writes { IsTrue (is_write (access_of cpu.old)) }
+    ensures made { IsWired cpu.old bus.old → IfSome result (λ clocks. IsMadeAtOnce cpu.old cpu.new bus.old bus.new (Write addr v) clocks) }
+    ensures within { IfSome result (λ clocks. clocks < clocks_left bus.old.beam) }
+    ensures left { IfSome result (λ clocks. clocks_left bus.new.beam ≡ clocks_left bus.old.beam - clocks) }
+    ensures calm { IsCalm bus.old → IsCalm bus.new }
+    ensures bus_stays { result ≡ None → bus.new ≡ bus.old }
+    ensures cpu_stays { result ≡ None → cpu.new ≡ cpu.old }
+{
+    if bus.clocks_left() <= REGISTER_CLOCKS as u16 {
+        return None;
+    }
+    let register = bus_register(addr)?;
+    if is_port(register) {
+        return None;
+    }
+    give_register_plainly(cpu, bus, place, register, v);
+    Some(REGISTER_CLOCKS)
+}
+
 /// The processor writes a byte of the memory.
 #[inline(always)]
 pub(crate) fn write_plainly(
@@ -127,7 +178,9 @@ pub(crate) fn write_plainly(
     ensures bus_stays { result ≡ None → bus.new ≡ bus.old }
     ensures cpu_stays { result ≡ None → cpu.new ≡ cpu.old }
 {
-    let access = bus.memory_at(addr)?;
+    let Some(access) = bus.memory_at(addr) else {
+        return write_register_plainly(cpu, bus, place, addr, v);
+    };
     if access.clocks as u16 >= bus.clocks_left() {
         return None;
     }

@@ -130,6 +130,17 @@ module _ {State : Type 0} (moves : Moves State) (first end : ℕ) (stands : Stat
         waits_is = sym (append_assoc waited led.emitted (side_bytes moves q)) ∙ ap (λ w. w ++ side_bytes moves q) led.waits_is ∙ sym joined;
       }
 
+  -- the first step, by its act
+  pub led_first : (next : State → Type 0) (m : State) (waits incoming outgoing more_incoming more_outgoing : List ℕ) → stands m
+      → moves.stamp m < end → moves.stamp m < first → moves.stamp m ≤ moves.stamp (moves.next m (got_of (moves.act m) incoming))
+      → next (moves.next m (got_of (moves.act m) incoming))
+      → waits ≡ waited ++ moves.bytes m (got_of (moves.act m) incoming)
+      → more_incoming ≡ incoming_after (moves.act m) incoming → more_outgoing ≡ outgoing_after (moves.act m) outgoing
+      → HasLed moves first end next waited waits more_incoming more_outgoing (record { own = m; incoming = incoming; outgoing = outgoing })
+  unfolding led_nowhere
+  led_first next m waits incoming outgoing more_incoming more_outgoing now =
+      led_step next (record { own = m; incoming = incoming; outgoing = outgoing }) waited waits incoming outgoing more_incoming more_outgoing (led_nowhere m incoming outgoing now)
+
 module _ {C S : Type 0} (cm : Moves C) (sm : Moves S) (first end : ℕ) (from : SerialState C S) where
   console_side : SerialState C S → SideState C
   console_side w = record { own = w.console; incoming = w.to_console; outgoing = w.to_sound }

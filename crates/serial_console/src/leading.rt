@@ -1,11 +1,58 @@
 // Many steps of one side at once: those that it may make before the other side goes on.
-ghost use Rattle.std.specs.Prelude.{◌≡◌, ◌+◌, ◌^◌, ◌<◌, ◌≤◌, ◌++◌, ℕ, List, length};
+ghost use Rattle.std.specs.Prelude.{◌≡◌, ◌+◌, ◌^◌, ◌<◌, ◌≤◌, ◌++◌, ℕ, false, IsTrue, List, length};
 ghost use Rattle.side_law.specs.Serial.{SerialState};
 ghost use Rattle.serial_console.specs.Serial.{console_of, sound_of};
 ghost use Rattle.serial_console.specs.Lead.{IsLed, HasLed};
 
 use crate::serial::{Serial, step_by};
 use side_law::Machine;
+use snes_defs::Act;
+
+/// Whether a step touches no port.
+#[inline(always)]
+fn is_quiet(act: Act) -> bool {
+    match act {
+        Act::Quiet => true,
+        Act::Read(_) => false,
+        Act::Write(_, _) => false,
+        Act::Clear(_) => false,
+    }
+}
+
+/// Makes the step that is next where it is at a port and begins before the stamp `first`, so that no quiet steps are
+/// looked for before it. Answers whether they may be now: not where a step at a port has to wait for the other side,
+/// and not where a step emitted bytes.
+#[inline(always)]
+fn leave_port<M: Machine>(
+    machine: &mut M,
+    incoming: &mut [u8; 4],
+    outgoing: &mut [u8; 4],
+    first: u64,
+    end: u64,
+) -> bool
+    requires room { M.MOST ≤ M.CAP }
+    requires none { length (M.waiting machine.old) ≡ 0 }
+    requires before { M.stamp_of machine.old < end }
+    requires early { end ≤ 2 ^ 62 }
+    ensures made { (m : M.State) → M.stands machine.old m → HasLed M.moves first end (M.stands machine.new) (M.waiting machine.old) (M.waiting machine.new) incoming.new outgoing.new (record { own = m; incoming = incoming.old; outgoing = outgoing.old }) }
+    ensures few { length (M.waiting machine.new) ≤ M.MOST }
+    ensures goes_on { IsTrue result → length (M.waiting machine.new) ≡ 0 }
+    ensures waits { length (M.waiting machine.new) ≡ 0 → result ≡ false → M.stamp_of machine.new ≡ M.stamp_of machine.old }
+    ensures is_late { M.stamp_of machine.old < first → result ≡ false → 0 < length (M.waiting machine.new) }
+    ensures emitted { 0 < length (M.waiting machine.new) → M.stamp_of machine.old < M.stamp_of machine.new }
+    ensures forward { M.stamp_of machine.old ≤ M.stamp_of machine.new }
+    ensures region { M.region_of machine.new ≡ M.region_of machine.old }
+{
+    let act = machine.act();
+    if is_quiet(act) {
+        return true;
+    }
+    if machine.stamp() >= first {
+        return false;
+    }
+    step_by(act, machine, incoming, outgoing);
+    machine.pending() == 0
+}
 
 /// Makes a side's steps before `end` one after another: any that begins before the stamp `first`, up to which it
 /// is the earlier side, and on from there those that are quiet, up to the first that emits a byte. Answers the stamp
@@ -31,6 +78,13 @@ fn lead<M: Machine>(
     ensures region { M.region_of machine.new ≡ M.region_of machine.old }
 {
     let mut stamp = machine.stamp();
+    if stamp >= end {
+        return stamp;
+    }
+    if !leave_port(machine, incoming, outgoing, first, end) {
+        return stamp;
+    }
+    stamp = machine.stamp();
     while stamp < end {
         let pause = machine.quiet(end);
         if machine.pending() > 0 {

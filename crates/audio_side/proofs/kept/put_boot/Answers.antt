@@ -1,4 +1,4 @@
-use Rattle.std.proofs.Common.{◌≡◌, ◌∙◌, ◌+◌, ℕ, List, ap, sym, rules, slice_index_or, slice_set}
+use Rattle.std.proofs.Common.{◌∙◌, ◌+◌, ℕ, List, ap, sym, rules, slice_index_or, slice_set}
 use Rattle.audio_side.proofs.BootOver.{one_more_byte}
 use Rattle.audio_side.proofs.kept.put_boot.Goals as goal
 

@@ -1,4 +1,4 @@
-use Rattle.std.proofs.Common.{rules, ◌≡◌, refl, sym, ◌∙◌, ◌++◌, ap, subst, length, [], arith}
+use Rattle.std.proofs.Common.{rules, ◌≡◌, sym, ◌∙◌, ◌++◌, ap, subst, length, [], arith}
 use Rattle.std.proofs.lemmas.List.{append-nil}
 use Rattle.std.proofs.lemmas.Grind.{common_steps}
 use Rattle.side_law.proofs.QuietRuns.{IsSilent, goes_on_silently}
@@ -12,15 +12,15 @@ use Rattle.console_machine.proofs.parts.Parts.hasten.Goals as goal
 pub others-preserved : goal.others-preserved
 others-preserved c = record {
   gone = λ w h.
-      let did = c.if-not-try_other_step.ensures in
+      let did = c.in-Made.ensures in
       let was = c.others.invariant.gone w h in
       let same : c.try_other_step.new.self.waiting.items ≡ c.others.self.waiting.items = ap (λ b. b.items) did.waiting in
-      let none : bytes_after was.to (due_of was.to) 0 ≡ [] = did.none refl was.to was.now_stands in
+      let none : bytes_after was.to (due_of was.to) 0 ≡ [] = did.none was.to was.now_stands in
       let made = goes_on_silently console_moves c.args.before (StandsAt (value_of c.others.self)) (StandsAt (value_of c.try_other_step.new.self))
       c.args.self.now.waiting.items c.others.self.waiting.items c.try_other_step.new.self.waiting.items w was
-      (did.quiet refl was.to was.now_stands)
+      (did.quiet was.to was.now_stands)
       (omega (arith, stamp_stands (value_of c.others.self) was.to was.now_stands, c.others-test.true))
-      (did.next refl was.to was.now_stands)
+      (did.next was.to was.now_stands)
       (same ∙ sym (append-nil c.others.self.waiting.items) ∙ ap (λ b. c.others.self.waiting.items ++ b) (sym none))
       (omega (arith, ap length same)) in
       silent_joined console_moves c.args.before (StandsAt (value_of c.try_other_step.new.self)) (StandsAt (value_of c.hurry_on-in-others.new.self))
@@ -31,7 +31,15 @@ others-preserved c = record {
   waiting = search rules;
 }
 
-pub returns-then-not-try_other_step-clause-gone : goal.returns-then-not-try_other_step-clause-gone
-returns-then-not-try_other_step-clause-gone c = λ w h.
-    subst (λ (x : ConsoleValue). IsSilent console_moves c.args.before (StandsAt x) c.args.self.now.waiting.items w x.waiting) (sym (c.if-not-try_other_step.ensures.stays refl))
+pub returns-in-AtPort-clause-gone : goal.returns-in-AtPort-clause-gone
+returns-in-AtPort-clause-gone c = λ w h.
+    subst (λ (x : ConsoleValue). IsSilent console_moves c.args.before (StandsAt x) c.args.self.now.waiting.items w x.waiting) (sym c.in-AtPort.ensures.stays)
+    (c.others.invariant.gone w h)
+
+pub returns-in-AtPort-clause-port : goal.returns-in-AtPort-clause-port
+returns-in-AtPort-clause-port c = λ w h. c.in-AtPort.ensures.port w (subst (λ (x : ConsoleValue). StandsAt x w) c.in-AtPort.ensures.stays h)
+
+pub returns-in-Left-clause-gone : goal.returns-in-Left-clause-gone
+returns-in-Left-clause-gone c = λ w h.
+    subst (λ (x : ConsoleValue). IsSilent console_moves c.args.before (StandsAt x) c.args.self.now.waiting.items w x.waiting) (sym c.in-Left.ensures.stays)
     (c.others.invariant.gone w h)
