@@ -1,127 +1,181 @@
-//! The words of the command line.
+//! The words of the command line: a table of them, and the one place that hands them to `clap`.
 
+use clap::builder::ValueParser;
 use clap::{Arg, ArgAction, Command, value_parser};
 use std::alloc::{AllocError, Global};
 
-/// An argument that has to be there, by its place.
-fn placed<'a>(alloc: Global, name: &'a str, help: &'a str) -> Arg<'a> {
-    Arg::new(alloc, name)
-        .required(true)
-        .action(ArgAction::Set)
-        .help(help)
+/// A command and what it is for.
+#[derive(Clone, Copy)]
+struct About {
+    name: &'static str,
+    text: &'static str,
 }
 
-/// A word that is there or not.
-fn flag<'a>(alloc: Global, name: &'a str, help: &'a str) -> Arg<'a> {
-    Arg::new(alloc, name)
-        .long(name)
-        .action(ArgAction::SetTrue)
-        .help(help)
+/// The commands.
+static COMMANDS: [About; 6] = [
+    About {
+        name: "png",
+        text: "One frame as PNG, as a television shows it: 512 by 478, each row twice",
+    },
+    About {
+        name: "wav",
+        text: "The sound as WAV: 32,000 samples a second, left and right, 16 bits",
+    },
+    About {
+        name: "sums",
+        text: "SHA-256 of each frame's picture and samples, and of both files: CSV",
+    },
+    About {
+        name: "diff",
+        text: "Whether two films are alike, and where they first differ. Status 0: alike; 1: different; 2: not to be read",
+    },
+    About {
+        name: "sheet",
+        text: "A sheet of small pictures with their numbers, as PNG",
+    },
+    About {
+        name: "avi",
+        text: "Picture and sound as AVI, uncompressed: 512 by 478, at the region's exact rate",
+    },
+];
+
+/// What a word is, and which values it takes.
+#[derive(Clone, Copy)]
+enum Kind {
+    /// It has to be there, by its place.
+    Placed,
+    /// A number that has to be there, by its place.
+    Number,
+    /// It may be there, by its place.
+    MayBePlaced,
+    /// It is there or not.
+    Flag,
+    /// An option whose value is any text.
+    Text,
+    /// An option whose value is a region.
+    Region,
+    /// An option whose value is a number of 32 bits from 1 on; it is 60 where the option is not there.
+    Every,
 }
 
-/// An option with a value.
-fn option<'a>(alloc: Global, name: &'a str, value: &'a str, help: &'a str) -> Arg<'a> {
-    Arg::new(alloc, name)
-        .long(name)
-        .value_name(value)
-        .action(ArgAction::Set)
-        .help(help)
+/// A word of a command.
+#[derive(Clone, Copy)]
+struct Word {
+    command: &'static str,
+    kind: Kind,
+    name: &'static str,
+    /// What the help calls an option's value.
+    value: &'static str,
+    help: &'static str,
 }
 
+/// A table of words: of each its command, kind, name, value and help.
+macro_rules! words {
+    ($($command:literal $kind:ident $name:literal $value:literal $help:literal,)*) => {
+        [$(Word {
+            command: $command,
+            kind: Kind::$kind,
+            name: $name,
+            value: $value,
+            help: $help,
+        },)*]
+    };
+}
+
+/// The words of all commands. Those of one command stand in the order in which the help tells them.
+static WORDS: [Word; 21] = words![
+    "png" Placed "VIDEO" "" "raw frames; - is standard input",
+    "png" Number "FRAME" "" "its number, from 0",
+    "png" Placed "OUT" "" "the PNG",
+    "png" Flag "raw" "" "512 by 239, each row once",
+    "wav" Placed "AUDIO" "" "raw samples; - is standard input",
+    "wav" Placed "OUT" "" "the WAV",
+    "sums" Placed "VIDEO" "" "raw frames; - is standard input",
+    "sums" MayBePlaced "AUDIO" "" "raw samples; without it only the pictures are summed",
+    "sums" Region "region" "REGION" "ntsc or pal; else as the lengths of the two files say, and ntsc of pipes",
+    "sums" Flag "json" "" "JSON in place of CSV",
+    "diff" Placed "A" "" "raw frames, or samples with --audio",
+    "diff" Placed "B" "" "the same",
+    "diff" Text "png" "OUT" "a picture of the first frame that differs: red where it does",
+    "diff" Flag "audio" "" "A and B are raw samples",
+    "sheet" Placed "VIDEO" "" "raw frames; - is standard input",
+    "sheet" Placed "OUT" "" "the PNG",
+    "sheet" Every "every" "FRAMES" "a picture each so many frames, from frame 0 on",
+    "avi" Placed "VIDEO" "" "raw frames; - is standard input",
+    "avi" Placed "AUDIO" "" "raw samples",
+    "avi" Placed "OUT" "" "the AVI",
+    "avi" Region "region" "REGION" "ntsc or pal; else as the lengths of the two files say, and ntsc of pipes",
+];
+
+/// The names of the regions.
 static REGIONS: [&str; 2] = ["ntsc", "pal"];
 
-/// The region of a film, where it has to be told.
-fn region<'a>(alloc: Global) -> Arg<'a> {
-    option(
-        alloc,
-        "region",
-        "REGION",
-        "ntsc or pal; else as the lengths of the two files say, and ntsc of pipes",
-    )
-    .value_parser(REGIONS.as_slice())
+/// A word as `clap` takes it.
+fn argument<'a>(alloc: Global, word: &Word) -> Arg<'a> {
+    let plain = Arg::new(alloc, word.name).help(word.help);
+    match word.kind {
+        Kind::Placed => plain.action(ArgAction::Set).required(true),
+        Kind::Number => plain
+            .action(ArgAction::Set)
+            .required(true)
+            .value_parser(value_parser!(u64)),
+        Kind::MayBePlaced => plain.action(ArgAction::Set),
+        Kind::Flag => plain.action(ArgAction::SetTrue).long(word.name),
+        Kind::Text => plain
+            .action(ArgAction::Set)
+            .long(word.name)
+            .value_name(word.value),
+        Kind::Region => plain
+            .action(ArgAction::Set)
+            .long(word.name)
+            .value_name(word.value)
+            .value_parser(REGIONS.as_slice()),
+        Kind::Every => plain
+            .action(ArgAction::Set)
+            .long(word.name)
+            .value_name(word.value)
+            .value_parser(ValueParser::Signed(1, 4_294_967_295))
+            .default_value("60"),
+    }
 }
 
-fn png<'a>(alloc: Global) -> Result<Command<'a>, AllocError> {
-    let frame = placed(alloc, "FRAME", "its number, from 0").value_parser(value_parser!(u64));
-    Command::new(alloc, "png")
-        .about("One frame as PNG, as a television shows it: 512 by 478, each row twice")
-        .arg(placed(alloc, "VIDEO", "raw frames; - is standard input"))?
-        .arg(frame)?
-        .arg(placed(alloc, "OUT", "the PNG"))?
-        .arg(flag(alloc, "raw", "512 by 239, each row once"))
+/// The words of a command.
+fn arguments<'a>(alloc: Global, command: &str) -> Result<Vec<Arg<'a>>, AllocError> {
+    let mut list = Vec::new(alloc);
+    for word in WORDS.iter() {
+        if word.command == command {
+            list.push(argument(alloc, word))?;
+        }
+    }
+    Ok(list)
 }
 
-fn wav<'a>(alloc: Global) -> Result<Command<'a>, AllocError> {
-    Command::new(alloc, "wav")
-        .about("The sound as WAV: 32,000 samples a second, left and right, 16 bits")
-        .arg(placed(alloc, "AUDIO", "raw samples; - is standard input"))?
-        .arg(placed(alloc, "OUT", "the WAV"))
+/// A command with its words.
+fn subcommand<'a>(alloc: Global, about: &About) -> Result<Command<'a>, AllocError> {
+    let list = arguments(alloc, about.name)?;
+    Command::new(alloc, about.name).about(about.text).args(list)
 }
 
-fn sums<'a>(alloc: Global) -> Result<Command<'a>, AllocError> {
-    let audio = Arg::new(alloc, "AUDIO")
-        .action(ArgAction::Set)
-        .help("raw samples; without it only the pictures are summed");
-    Command::new(alloc, "sums")
-        .about("SHA-256 of each frame's picture and samples, and of both files: CSV")
-        .arg(placed(alloc, "VIDEO", "raw frames; - is standard input"))?
-        .arg(audio)?
-        .arg(region(alloc))?
-        .arg(flag(alloc, "json", "JSON in place of CSV"))
+/// The commands with their words.
+fn subcommands<'a>(alloc: Global) -> Result<Vec<Command<'a>>, AllocError> {
+    let mut list = Vec::new(alloc);
+    for about in COMMANDS.iter() {
+        list.push(subcommand(alloc, about)?)?;
+    }
+    Ok(list)
 }
 
-fn diff<'a>(alloc: Global) -> Result<Command<'a>, AllocError> {
-    Command::new(alloc, "diff")
-        .about(
-            "Whether two films are alike, and where they first differ. Status 0: alike; 1: different; 2: not to be read",
-        )
-        .arg(placed(alloc, "A", "raw frames, or samples with --audio"))?
-        .arg(placed(alloc, "B", "the same"))?
-        .arg(option(
-            alloc,
-            "png",
-            "OUT",
-            "a picture of the first frame that differs: red where it does",
-        ))?
-        .arg(flag(alloc, "audio", "A and B are raw samples"))
-}
-
-fn sheet<'a>(alloc: Global) -> Result<Command<'a>, AllocError> {
-    let every = option(
-        alloc,
-        "every",
-        "FRAMES",
-        "a picture each so many frames, from frame 0 on",
-    )
-    .value_parser(value_parser!(u32).range(1..))
-    .default_value("60");
-    Command::new(alloc, "sheet")
-        .about("A sheet of small pictures with their numbers, as PNG")
-        .arg(placed(alloc, "VIDEO", "raw frames; - is standard input"))?
-        .arg(placed(alloc, "OUT", "the PNG"))?
-        .arg(every)
-}
-
-fn avi<'a>(alloc: Global) -> Result<Command<'a>, AllocError> {
-    Command::new(alloc, "avi")
-        .about("Picture and sound as AVI, uncompressed: 512 by 478, at the region's exact rate")
-        .arg(placed(alloc, "VIDEO", "raw frames; - is standard input"))?
-        .arg(placed(alloc, "AUDIO", "raw samples"))?
-        .arg(placed(alloc, "OUT", "the AVI"))?
-        .arg(region(alloc))
-}
-
-/// All commands.
-pub fn command<'a>(alloc: Global) -> Result<Command<'a>, AllocError> {
+/// The program without its commands.
+fn program<'a>(alloc: Global) -> Result<Command<'a>, AllocError> {
     Command::new(alloc, "look")
         .about("Looks at the raw frames and samples that snes wrote")
         .subcommand_required(true)
         .arg_required_else_help(true)
-        .bin_name("look")?
-        .subcommand(png(alloc)?)?
-        .subcommand(wav(alloc)?)?
-        .subcommand(sums(alloc)?)?
-        .subcommand(diff(alloc)?)?
-        .subcommand(sheet(alloc)?)?
-        .subcommand(avi(alloc)?)
+        .bin_name("look")
+}
+
+/// The program with its commands.
+pub fn command<'a>(alloc: Global) -> Result<Command<'a>, AllocError> {
+    let list = subcommands(alloc)?;
+    program(alloc)?.subcommands(list)
 }

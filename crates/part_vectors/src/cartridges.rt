@@ -7,12 +7,12 @@
 //! FAST` says what lies at an address and its clocks with MEMSEL bit 0 clear and set, `at ADDRESS -`
 //! that the file was refused. Sizes and clocks are decimal, all other numbers hexadecimal.
 
+use crate::line::Line;
 use cart_map::{CartEnd, CartRefused, Place, accept, clocks, place};
 use case_text::{Generator, hexadecimal, put};
 use snes_defs::{Cart, MapKind};
 use std::alloc::{AllocError, Global};
 use std::mem;
-use std::str::SplitWhitespace;
 
 /// The case in hand: its file until it is asked for, and then the cartridge that it gave, if any.
 #[derive(Drop)]
@@ -38,80 +38,89 @@ impl CartridgeCase {
 
     /// The same, or nothing for a line that can't be read.
     fn result_of(&mut self, line: &str) -> Option<bool> {
-        let mut words = line.split_whitespace();
-        let kind = words.next()?;
-        if kind == "image" {
-            let size = words.next()?.parse().ok()?;
-            let seed = hexadecimal(words.next()?)?;
-            let ands = hexadecimal(words.next()?)?;
-            self.file = generated(self.alloc, size, seed, ands).ok()?;
-            return Some(true);
+        let mut words = Line::new(line);
+        match words.word()? {
+            "image" => self.is_generated(words),
+            "zeros" => {
+                self.file = zeros(self.alloc, words.decimal()?).ok()?;
+                Some(true)
+            }
+            "p" => {
+                let offset = words.hexadecimal()?;
+                put(self.file.as_mut_slice(), offset, words.word()?)?;
+                Some(true)
+            }
+            "accept" => self.answers(words),
+            "at" => self.lies(words),
+            kind => Some(kind == "cart" || kind == "end"),
         }
-        if kind == "zeros" {
-            let size = words.next()?.parse().ok()?;
-            self.file = zeros(self.alloc, size).ok()?;
-            return Some(true);
-        }
-        if kind == "p" {
-            let offset = hexadecimal(words.next()?)?;
-            put(self.file.as_mut_slice(), offset, words.next()?)?;
-            return Some(true);
-        }
-        if kind == "accept" {
-            return self.answers(words);
-        }
-        if kind == "at" {
-            return self.lies(words);
-        }
-        Some(kind == "cart" || kind == "end")
+    }
+
+    /// Makes the file from the generator.
+    fn is_generated(&mut self, mut words: Line<'_>) -> Option<bool> {
+        let size = words.decimal()?;
+        let seed = words.hexadecimal()?;
+        let ands = words.hexadecimal()?;
+        self.file = generated(self.alloc, size, seed, ands).ok()?;
+        Some(true)
     }
 
     /// Whether the file is accepted or refused as the words say.
-    fn answers(&mut self, mut words: SplitWhitespace<'_>) -> Option<bool> {
+    fn answers(&mut self, mut words: Line<'_>) -> Option<bool> {
         let file = mem::replace(&mut self.file, Vec::new(self.alloc));
-        let kind = words.next()?;
+        let kind = words.word()?;
         match accept(file) {
             Ok(cart) => {
-                let map = if kind == "lorom" {
-                    MapKind::LoRom
-                } else if kind == "hirom" {
-                    MapKind::HiRom
-                } else {
+                let Some(map) = map_named(kind) else {
                     return Some(false);
                 };
-                let size = words.next()?.parse::<usize>().ok()?;
-                let ram = words.next()?.parse::<u32>().ok()?;
-                let same = cart.map == map && cart.rom.get().len() == size && cart.ram == ram;
+                let same = is_as(&cart, map, &mut words)?;
                 self.cart = Some(cart);
                 Some(same)
             }
             Err(CartEnd::NoMemory) => Some(false),
             Err(CartEnd::Refused(cause)) => {
                 self.cart = None;
-                Some(is_named(cause, kind, words.next())?)
+                is_named(cause, kind, words.word())
             }
         }
     }
 
     /// Whether an address has the place and the clocks that the words say. Where the file was refused
     /// they say nothing.
-    fn lies(&mut self, mut words: SplitWhitespace<'_>) -> Option<bool> {
-        let addr = hexadecimal(words.next()?)?;
-        let kind = words.next()?;
+    fn lies(&mut self, mut words: Line<'_>) -> Option<bool> {
+        let addr = words.hexadecimal()?;
+        let kind = words.word()?;
         if kind == "-" {
             return Some(self.cart.is_none());
         }
         if addr >= 0x100_0000 {
             return None;
         }
-        let index = hexadecimal::<u32>(words.next()?)?;
-        let slow = words.next()?.parse::<u8>().ok()?;
-        let fast = words.next()?.parse::<u8>().ok()?;
+        let index = words.hexadecimal::<u32>()?;
+        let slow = words.decimal::<u8>()?;
+        let fast = words.decimal::<u8>()?;
         let cart = self.cart.as_ref()?;
         let (named, number) = named(place(cart, addr));
         let same = named == kind && number == index;
         Some(same && clocks(addr, false) == slow && clocks(addr, true) == fast)
     }
+}
+
+/// The map of a name.
+fn map_named(name: &str) -> Option<MapKind> {
+    match name {
+        "lorom" => Some(MapKind::LoRom),
+        "hirom" => Some(MapKind::HiRom),
+        _ => None,
+    }
+}
+
+/// Whether a cartridge is of this map, and has the sizes that the next words say.
+fn is_as(cart: &Cart, map: MapKind, words: &mut Line<'_>) -> Option<bool> {
+    let size = words.decimal::<usize>()?;
+    let ram = words.decimal::<u32>()?;
+    Some(cart.map == map && cart.rom.get().len() == size && cart.ram == ram)
 }
 
 /// The name of a place, and its number.

@@ -5,14 +5,14 @@
 //! all their events in order, a letter each: L Line, B Blank, F HdmaFrame, R Refresh, D Draw, H
 //! HdmaLine, T Timer, and `-` where none came. The last three are where the beam stands after them.
 
+use crate::line::Line;
 use beam::{Beam, Happens};
 use snes_defs::{IrqTime, Region};
-use std::str::SplitWhitespace;
 
 /// Whether the beam does what a line says. A line of no known form doesn't hold.
 pub fn passes_as(beam: &mut Beam, line: &str) -> bool {
-    let mut words = line.split_whitespace();
-    match words.next() {
+    let mut words = Line::new(line);
+    match words.word() {
         Some("beam") => begins(beam, words).unwrap_or(false),
         Some("end") => true,
         Some("p") => passes(beam, words).unwrap_or(false),
@@ -21,9 +21,9 @@ pub fn passes_as(beam: &mut Beam, line: &str) -> bool {
 }
 
 /// A new beam.
-fn begins(beam: &mut Beam, mut words: SplitWhitespace<'_>) -> Option<bool> {
-    let _number = words.next()?;
-    let region = match words.next()? {
+fn begins(beam: &mut Beam, mut words: Line<'_>) -> Option<bool> {
+    let _number = words.word()?;
+    let region = match words.word()? {
         "ntsc" => Region::Ntsc,
         "pal" => Region::Pal,
         _ => return None,
@@ -33,46 +33,67 @@ fn begins(beam: &mut Beam, mut words: SplitWhitespace<'_>) -> Option<bool> {
 }
 
 /// Whether so many steps give the events of a line, and the beam stands where it says.
-fn passes(beam: &mut Beam, mut words: SplitWhitespace<'_>) -> Option<bool> {
-    let clocks = words.next()?.parse::<u16>().ok()?;
-    let times = words.next()?.parse::<u16>().ok()?;
-    let irq = IrqTime {
-        kind: words.next()?.parse().ok()?,
-        h: words.next()?.parse().ok()?,
-        v: words.next()?.parse().ok()?,
-    };
-    let overscan = words.next()?.parse::<u8>().ok()? == 1;
-    let mut letters = words.next()?.as_bytes();
-    if letters == b"-".as_slice() {
-        letters = b"".as_slice();
-    }
+fn passes(beam: &mut Beam, mut words: Line<'_>) -> Option<bool> {
+    let clocks = words.decimal()?;
+    let times = words.decimal::<u16>()?;
+    let irq = time_of(&mut words)?;
+    let overscan = words.bit()?;
+    let mut letters = letters_of(words.word()?);
     beam.aim(irq);
     let mut same = true;
     for _ in 0..times {
-        let mut rest = clocks;
-        // At most one place a clock.
-        for _ in 0..clocks {
-            let left = beam.clocks_left();
-            if rest < left {
-                break;
-            }
-            rest -= left;
-            let happens = beam.reach(overscan);
-            match after(letters, happens) {
-                Some(others) => letters = others,
-                None => same = false,
-            }
-        }
-        if rest < beam.clocks_left() {
-            beam.go_on(rest);
+        match steps(beam, clocks, overscan, letters) {
+            Some(others) => letters = others,
+            None => same = false,
         }
     }
-    let h = words.next()?.parse::<u16>().ok()?;
-    let v = words.next()?.parse::<u16>().ok()?;
-    let blank = words.next()?.parse::<u8>().ok()? == 1;
+    Some(same && letters.is_empty() && stands_at(beam, &mut words)?)
+}
+
+/// The letters of a word; a hyphen stands for none.
+fn letters_of(word: &str) -> &[u8] {
+    if word == "-" { &[] } else { word.as_bytes() }
+}
+
+/// The timer of the next words.
+pub fn time_of(words: &mut Line<'_>) -> Option<IrqTime> {
+    Some(IrqTime {
+        kind: words.decimal()?,
+        h: words.decimal()?,
+        v: words.decimal()?,
+    })
+}
+
+/// Makes a step of so many clocks. The letters behind those of its events, or nothing where they are others.
+fn steps<'a>(beam: &mut Beam, clocks: u16, overscan: bool, letters: &'a [u8]) -> Option<&'a [u8]> {
+    let mut letters = Some(letters);
+    let mut rest = clocks;
+    // At most one place a clock.
+    for _ in 0..clocks {
+        let left = beam.clocks_left();
+        if rest < left {
+            break;
+        }
+        rest -= left;
+        let happens = beam.reach(overscan);
+        letters = match letters {
+            Some(letters) => after(letters, happens),
+            None => None,
+        };
+    }
+    if rest < beam.clocks_left() {
+        beam.go_on(rest);
+    }
+    letters
+}
+
+/// Whether the beam stands where the next words say.
+fn stands_at(beam: &Beam, words: &mut Line<'_>) -> Option<bool> {
+    let h = words.decimal::<u16>()?;
+    let v = words.decimal::<u16>()?;
+    let blank = words.bit()?;
     let spot = beam.spot();
-    let stands = spot.h == h && spot.v == v && spot.blank == blank;
-    Some(same && letters.is_empty() && stands)
+    Some(spot.h == h && spot.v == v && spot.blank == blank)
 }
 
 /// The letters after those of the events of a place, if they are first, in order.

@@ -13,6 +13,7 @@
 
 mod cartridges;
 mod events;
+mod line;
 mod part;
 mod registers;
 mod tally;

@@ -5,15 +5,16 @@
 //! where it has begun), and what it gets; `frame P1 P2`, `blank P1 P2` and `timer` are events; `l LEVELS
 //! KIND H V` are the levels of NMI and IRQ as two digits, and the timer. H, V and KIND are decimal.
 
-use case_text::{hexadecimal, part};
+use crate::events::time_of;
+use crate::line::Line;
+use case_text::part;
 use io_math::Io;
-use snes_defs::{IrqTime, Spot};
-use std::str::SplitWhitespace;
+use snes_defs::Spot;
 
 /// Whether the registers do what a line says. A line of no known form doesn't hold.
 pub fn act_as(io: &mut Io, line: &str) -> bool {
-    let mut words = line.split_whitespace();
-    match words.next() {
+    let mut words = Line::new(line);
+    match words.word() {
         Some("io") => {
             *io = Io::new();
             true
@@ -45,8 +46,8 @@ pub fn act_as(io: &mut Io, line: &str) -> bool {
 }
 
 /// Makes some writes, each an address and a byte in six digits.
-fn writes(io: &mut Io, words: SplitWhitespace<'_>) -> bool {
-    for text in words {
+fn writes(io: &mut Io, words: Line<'_>) -> bool {
+    for text in words.rest() {
         let (Some(address), Some(value)) = (part(text, 0, 4), part(text, 4, 6)) else {
             return false;
         };
@@ -56,32 +57,28 @@ fn writes(io: &mut Io, words: SplitWhitespace<'_>) -> bool {
 }
 
 /// Whether a read gets what it is to get.
-fn reads(io: &mut Io, mut words: SplitWhitespace<'_>) -> Option<bool> {
-    let address = hexadecimal(words.next()?)?;
-    let bus = hexadecimal(words.next()?)?;
+fn reads(io: &mut Io, mut words: Line<'_>) -> Option<bool> {
+    let address = words.hexadecimal()?;
+    let bus = words.hexadecimal()?;
     let spot = Spot {
-        h: words.next()?.parse().ok()?,
-        v: words.next()?.parse().ok()?,
-        blank: words.next()?.parse::<u8>().ok()? == 1,
+        h: words.decimal()?,
+        v: words.decimal()?,
+        blank: words.bit()?,
     };
-    let got = hexadecimal::<u8>(words.next()?)?;
+    let got = words.hexadecimal::<u8>()?;
     Some(io.read(address, bus, spot) == got)
 }
 
 /// Whether the levels and the timer are those of a line.
-fn levels(io: &Io, mut words: SplitWhitespace<'_>) -> Option<bool> {
-    let levels = hexadecimal::<u8>(words.next()?)?;
-    let time = IrqTime {
-        kind: words.next()?.parse().ok()?,
-        h: words.next()?.parse().ok()?,
-        v: words.next()?.parse().ok()?,
-    };
+fn levels(io: &Io, mut words: Line<'_>) -> Option<bool> {
+    let levels = words.hexadecimal::<u8>()?;
+    let time = time_of(&mut words)?;
     let (nmi, irq) = io.lines();
     let same = nmi == (levels / 16 == 1) && irq == (levels % 16 == 1);
     Some(same && io.irq_time() == time)
 }
 
 /// The words of two pads.
-fn pads(mut words: SplitWhitespace<'_>) -> Option<(u16, u16)> {
-    Some((hexadecimal(words.next()?)?, hexadecimal(words.next()?)?))
+fn pads(mut words: Line<'_>) -> Option<(u16, u16)> {
+    Some((words.hexadecimal()?, words.hexadecimal()?))
 }

@@ -8,9 +8,9 @@
 //! from + port + byte to the B side, `A` + to + port + byte to the A side. `q AAAA BUS GOT` is a read.
 //! N is decimal, all other numbers are hexadecimal.
 
-use case_text::{Generator, hexadecimal, part};
+use crate::line::Line;
+use case_text::{Generator, part};
 use dma_hdma::{Dma, Move};
-use std::str::SplitWhitespace;
 
 /// The case in hand: its channels, and the generator of the bytes that they move.
 #[derive(Drop)]
@@ -37,52 +37,38 @@ impl TransferCase {
 
     /// The same, or nothing for a line that can't be read.
     fn result_of(&mut self, line: &str) -> Option<bool> {
-        let mut words = line.split_whitespace();
-        let kind = words.next()?;
-        if kind == "w" {
-            return self.writes(words);
+        let mut words = Line::new(line);
+        match words.word()? {
+            "w" => self.writes(words),
+            "go" => self.goes(words),
+            "q" => self.reads(words),
+            "count" => Some(self.runs_for(words.decimal()?)),
+            "dma" => {
+                self.dma = Dma::new();
+                self.given = false;
+                Some(true)
+            }
+            kind => self.called(kind, words),
         }
-        if kind == "go" {
-            return self.goes(words);
-        }
-        if kind == "q" {
-            return self.reads(words);
-        }
-        if kind == "count" {
-            let most = words.next()?.parse::<u32>().ok()?;
-            return Some(self.runs_for(most));
-        }
-        if kind == "dma" {
-            self.dma = Dma::new();
-            self.given = false;
-            return Some(true);
-        }
-        self.called(kind, words)
     }
 
     /// Makes the call of a name.
-    fn called(&mut self, kind: &str, mut words: SplitWhitespace<'_>) -> Option<bool> {
-        if kind == "bytes" {
-            self.generator = Generator::new(hexadecimal(words.next()?)?);
-        } else if kind == "given" {
-            self.given = true;
-        } else if kind == "start" {
-            self.dma.start(hexadecimal(words.next()?)?);
-        } else if kind == "enable" {
-            self.dma.enable(hexadecimal(words.next()?)?);
-        } else if kind == "frame" {
-            self.dma.frame();
-        } else if kind == "line" {
-            self.dma.line();
-        } else {
-            return Some(kind == "end");
+    fn called(&mut self, kind: &str, mut words: Line<'_>) -> Option<bool> {
+        match kind {
+            "bytes" => self.generator = Generator::new(words.hexadecimal()?),
+            "given" => self.given = true,
+            "start" => self.dma.start(words.hexadecimal()?),
+            "enable" => self.dma.enable(words.hexadecimal()?),
+            "frame" => self.dma.frame(),
+            "line" => self.dma.line(),
+            _ => return Some(kind == "end"),
         }
         Some(true)
     }
 
     /// Writes registers: four digits of the address and two of the byte each.
-    fn writes(&mut self, words: SplitWhitespace<'_>) -> Option<bool> {
-        for word in words {
+    fn writes(&mut self, words: Line<'_>) -> Option<bool> {
+        for word in words.rest() {
             let addr = part(word, 0, 4)?;
             let v = part(word, 4, 6)?;
             if !(0x4300..=0x437f).contains(&addr) {
@@ -94,10 +80,10 @@ impl TransferCase {
     }
 
     /// Whether a register gives the byte.
-    fn reads(&mut self, mut words: SplitWhitespace<'_>) -> Option<bool> {
-        let addr = hexadecimal(words.next()?)?;
-        let bus = hexadecimal(words.next()?)?;
-        let got = hexadecimal::<u8>(words.next()?)?;
+    fn reads(&mut self, mut words: Line<'_>) -> Option<bool> {
+        let addr = words.hexadecimal()?;
+        let bus = words.hexadecimal()?;
+        let got = words.hexadecimal::<u8>()?;
         if !(0x4300..=0x437f).contains(&addr) {
             return None;
         }
@@ -105,15 +91,15 @@ impl TransferCase {
     }
 
     /// Whether the next bytes are moved as the words say, and no more are due where all were asked for.
-    fn goes(&mut self, mut words: SplitWhitespace<'_>) -> Option<bool> {
-        let count = words.next()?;
+    fn goes(&mut self, mut words: Line<'_>) -> Option<bool> {
+        let count = words.word()?;
         let most = if count == "all" {
             None
         } else {
             Some(count.parse::<u32>().ok()?)
         };
         let mut moved = 0u32;
-        for word in words {
+        for word in words.rest() {
             if !self.moves(word)? {
                 return Some(false);
             }
@@ -151,12 +137,10 @@ impl TransferCase {
                 Some(kind == b'L' && from == place && part::<u8>(word, 7, 9)? == moved)
             }
             Move::ToB { from, port } => {
-                let same = from == place && part::<u8>(word, 7, 9)? == port;
-                Some(kind == b'B' && same && part::<u8>(word, 9, 11)? == moved)
+                Some(kind == b'B' && from == place && names(word, port, moved)?)
             }
             Move::ToA { port, to } => {
-                let same = to == place && part::<u8>(word, 7, 9)? == port;
-                Some(kind == b'A' && same && part::<u8>(word, 9, 11)? == moved)
+                Some(kind == b'A' && to == place && names(word, port, moved)?)
             }
         }
     }
@@ -169,4 +153,9 @@ impl TransferCase {
             Some(self.generator.byte(1))
         }
     }
+}
+
+/// Whether the word of a move names this port and this byte.
+fn names(word: &str, port: u8, moved: u8) -> Option<bool> {
+    Some(part::<u8>(word, 7, 9)? == port && part::<u8>(word, 9, 11)? == moved)
 }

@@ -24,6 +24,3 @@ pub use lines::{
 pub use options::Count;
 pub use pairs::{input_name, output_name};
 pub use words::{Argv, Word};
-
-#[cfg(test)]
-mod tests;

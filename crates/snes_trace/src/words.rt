@@ -1,92 +1,107 @@
-//! The words of the command line.
+//! The words of the command line: a table of them, and the one place that hands them to `clap`.
 
 use clap::{Arg, ArgAction, Command, value_parser};
 use std::alloc::{AllocError, Global};
 
-/// An option with a value.
-fn option<'a>(alloc: Global, name: &'a str, value: &'a str, help: &'a str) -> Arg<'a> {
-    Arg::new(alloc, name)
-        .long(name)
-        .value_name(value)
-        .action(ArgAction::Set)
-        .help(help)
+/// What a word is, and which values it takes.
+#[derive(Clone, Copy)]
+enum Kind {
+    /// The name of a file, which has to be there.
+    File,
+    /// The name of a file that may be there.
+    MayBeFile,
+    /// A number.
+    Number,
+    /// A side, or both.
+    Side,
+    /// It is there or not.
+    Flag,
 }
 
-/// A number that may be told.
-fn number<'a>(alloc: Global, name: &'a str, value: &'a str, help: &'a str) -> Arg<'a> {
-    option(alloc, name, value, help).value_parser(value_parser!(u64))
+/// A word of the command line.
+#[derive(Clone, Copy)]
+struct Word {
+    kind: Kind,
+    name: &'static str,
+    /// What the help calls its value.
+    value: &'static str,
+    /// Its value where it is not there, or the empty text for none.
+    default: &'static str,
+    help: &'static str,
 }
 
-/// A word that is there or not.
-fn flag<'a>(alloc: Global, name: &'a str, help: &'a str) -> Arg<'a> {
-    Arg::new(alloc, name)
-        .long(name)
-        .action(ArgAction::SetTrue)
-        .help(help)
+/// A table of words: of each its kind, name, value, default and help.
+macro_rules! words {
+    ($($kind:ident $name:literal $value:literal $default:literal $help:literal,)*) => {
+        [$(Word {
+            kind: Kind::$kind,
+            name: $name,
+            value: $value,
+            default: $default,
+            help: $help,
+        },)*]
+    };
 }
 
-/// The files of the job.
-fn with_files<'a>(alloc: Global, command: Command<'a>) -> Result<Command<'a>, AllocError> {
-    command
-        .arg(option(alloc, "cart", "FILE", "the cartridge").required(true))?
-        .arg(option(alloc, "boot", "FILE", "the sound side's boot ROM").required(true))?
-        .arg(option(alloc, "table", "FILE", "the interpolation table").required(true))?
-        .arg(option(alloc, "script", "FILE", "the controllers' script").required(true))
-}
+/// The words, in the order in which the help tells them.
+static WORDS: [Word; 14] = words![
+    File "cart" "FILE" "" "the cartridge",
+    File "boot" "FILE" "" "the sound side's boot ROM",
+    File "table" "FILE" "" "the interpolation table",
+    File "script" "FILE" "" "the controllers' script",
+    Number "frame" "N" "0" "the first frame that is told, from 0",
+    Number "frames" "COUNT" "1" "how many frames are told",
+    Number "from" "STAMP" "" "tell the steps from this stamp on, in place of --frame; with --to",
+    Number "to" "STAMP" "" "and before this stamp",
+    Side "side" "SIDE" "both" "whose steps are told: console, sound or both",
+    Flag "instructions" "" "" "tell opcode fetches, resets and hits, no other step",
+    MayBeFile "break" "FILE" "" "tell only the steps that hit a breakpoint of this file (below)",
+    Number "then" "STEPS" "0" "and so many steps behind each hit; a large number goes on from the first hit",
+    Number "lines" "COUNT" "" "end after so many lines",
+    Flag "csv" "" "" "CSV in place of text, with a head",
+];
 
-/// Which part of the run is told.
-fn with_range<'a>(alloc: Global, command: Command<'a>) -> Result<Command<'a>, AllocError> {
-    let frame = number(alloc, "frame", "N", "the first frame that is told, from 0").default_value(
-        "0",
-    );
-    let frames = number(alloc, "frames", "COUNT", "how many frames are told").default_value("1");
-    let from = number(
-        alloc,
-        "from",
-        "STAMP",
-        "tell the steps from this stamp on, in place of --frame; with --to",
-    );
-    let to = number(alloc, "to", "STAMP", "and before this stamp");
-    command.arg(frame)?.arg(frames)?.arg(from)?.arg(to)
-}
-
+/// The values of a side.
 static SIDES: [&str; 3] = ["console", "sound", "both"];
 
-/// Which steps are told, and how.
-fn with_choice<'a>(alloc: Global, command: Command<'a>) -> Result<Command<'a>, AllocError> {
-    let side = option(
-        alloc,
-        "side",
-        "SIDE",
-        "whose steps are told: console, sound or both",
-    )
-    .value_parser(SIDES.as_slice())
-    .default_value("both");
-    let breaks = option(
-        alloc,
-        "break",
-        "FILE",
-        "tell only the steps that hit a breakpoint of this file (below)",
-    );
-    let then = number(
-        alloc,
-        "then",
-        "STEPS",
-        "and so many steps behind each hit; a large number goes on from the first hit",
-    )
-    .default_value("0");
-    let lines = number(alloc, "lines", "COUNT", "end after so many lines");
-    command
-        .arg(side)?
-        .arg(flag(
-            alloc,
-            "instructions",
-            "tell opcode fetches, resets and hits, no other step",
-        ))?
-        .arg(breaks)?
-        .arg(then)?
-        .arg(lines)?
-        .arg(flag(alloc, "csv", "CSV in place of text, with a head"))
+/// A word as `clap` takes it, without a default.
+fn plain<'a>(alloc: Global, word: &Word) -> Arg<'a> {
+    let plain = Arg::new(alloc, word.name).long(word.name).help(word.help);
+    match word.kind {
+        Kind::File => plain
+            .action(ArgAction::Set)
+            .value_name(word.value)
+            .required(true),
+        Kind::MayBeFile => plain.action(ArgAction::Set).value_name(word.value),
+        Kind::Number => plain
+            .action(ArgAction::Set)
+            .value_name(word.value)
+            .value_parser(value_parser!(u64)),
+        Kind::Side => plain
+            .action(ArgAction::Set)
+            .value_name(word.value)
+            .value_parser(SIDES.as_slice()),
+        Kind::Flag => plain.action(ArgAction::SetTrue),
+    }
+}
+
+/// A word as `clap` takes it.
+fn argument<'a>(alloc: Global, word: &Word) -> Arg<'a> {
+    let plain = plain(alloc, word);
+    if word.default.is_empty() {
+        plain
+    } else {
+        plain.default_value(word.default)
+    }
+}
+
+/// All words as `clap` takes them.
+fn arguments<'a>(alloc: Global) -> Result<Vec<Arg<'a>>, AllocError> {
+    let mut list = Vec::new(alloc);
+    for word in WORDS.iter() {
+        list.push(argument(alloc, word))?;
+    }
+    Ok(list)
 }
 
 /// What the help says behind the options.
@@ -99,14 +114,19 @@ transfer is at both its addresses, that of the A side and 002100 to 0021FF. # be
 Statuses: 0 done; 1 there are breakpoints, and none was hit; 2 a file could not be read or is refused,
 the trace could not be written, or the words are at fault: standard error says which.";
 
-/// The command.
-pub fn command<'a>(alloc: Global) -> Result<Command<'a>, AllocError> {
-    let command = Command::new(alloc, "trace")
+/// The program without its words.
+fn program<'a>(alloc: Global) -> Result<Command<'a>, AllocError> {
+    Command::new(alloc, "trace")
         .about(
             "Tells each step of a run of snes: its time, address, byte and kind, and instructions with registers",
         )
         .arg_required_else_help(true)
-        .bin_name("trace")?
-        .after_help(AFTER);
-    with_choice(alloc, with_range(alloc, with_files(alloc, command)?)?)
+        .after_help(AFTER)
+        .bin_name("trace")
+}
+
+/// The command.
+pub fn command<'a>(alloc: Global) -> Result<Command<'a>, AllocError> {
+    let list = arguments(alloc)?;
+    program(alloc)?.args(list)
 }
