@@ -11,6 +11,7 @@ use crate::columns::put_column;
 use crate::entries::block;
 use crate::modes::depth;
 use crate::scrolls::own;
+use crate::small_tiles::paint_small;
 use ppu_regs::{Background, Ppu, Registers};
 use scanline_ops::spread_blocks;
 use tile_cache::TileCache;
@@ -87,13 +88,13 @@ fn paint(
     match (mode, bits, b.large) {
         (1, 2, false) => {
             let b = Background { large: false, ..b };
-            paint_columns(
+            paint_small(
                 p, tiles, &b, 1, 2, layer, y, odd, low, high, values, bases, firsts,
             )
         }
         (1, 4, false) => {
             let b = Background { large: false, ..b };
-            paint_columns(
+            paint_small(
                 p, tiles, &b, 1, 4, layer, y, odd, low, high, values, bases, firsts,
             )
         }

@@ -1,0 +1,245 @@
+//! A row of tiles of 8 by 8 pixels, in modes whose columns have no scrolls of their own: each thing that a column needs
+//! is taken for all 33 columns in a pass of its own, which the compiler makes vector code of.
+
+ghost use Rattle.std.specs.Prelude.{◌≡◌, ℕ, List, true, false, ◌<◌, ◌≤◌, ◌+◌, ◌-◌, ◌*◌, ◌/◌, ◌%◌, ◌==◌, ◌&&◌, length, slice_index, if◌then◌else◌};
+ghost use Rattle.ppu_regs.specs.Reads.{bit_of};
+ghost use Rattle.ppu_regs.specs.Picture.{background_of};
+ghost use Rattle.tile_cache.specs.Bitplanes.{IsInStep, value_of, eight};
+ghost use Rattle.ppu_tiles.specs.Modes.{depth_of, is_hires, has_offsets};
+ghost use Rattle.ppu_tiles.specs.Backgrounds.{own_scroll, map_word, number_of};
+ghost use Rattle.ppu_tiles.specs.Columns.{IsDepth, half_word, direct_palette_of, column_entry, column_value, column_base, column_first};
+
+use crate::columns::{base, direct_palette, first_number, half_place, put_bytes, put_same, start};
+use crate::entries::{entry, map_place};
+use crate::scrolls::{Scroll, in_column, own};
+use ppu_regs::{Background, Ppu, Registers};
+use tile_cache::TileCache;
+
+/// The map entry of a column.
+#[inline(always)]
+fn entry_in_column(p: &Ppu, b: &Background, mode: u8, layer: u8, own: Scroll, y: u16, c: u16) -> u16
+    requires mode { mode ≡ p.now.registers.mode }
+    requires own { own ≡ own_scroll b.now }
+    requires across { own.across < 1024 }
+    requires down { own.down < 1024 }
+    requires background { b.now ≡ background_of p.now.registers layer }
+    requires c { c ≤ 32 }
+    requires y { y ≤ 239 }
+    ensures { result ≡ column_entry p.now layer y c }
+{
+    let s = in_column(p, mode, layer, own, c);
+    entry(p, mode, b, start(mode, c + s.across / 8), y + 1 + s.down)
+}
+
+/// Copies map entries that stand side by side.
+#[inline(always)]
+fn copy_entries(vram: &[u16], from: usize, at: usize, count: usize, entries: &mut [u16; 33])
+    requires size { length vram.now ≡ 32768 }
+    requires from { from + count ≤ 32768 }
+    requires room { at + count ≤ 33 }
+    ensures put { (k : ℕ) → k < count → slice_index entries.new (at + k) ≡ slice_index vram.now (from + k) }
+    ensures below { (k : ℕ) → k < at → slice_index entries.new k ≡ slice_index entries.old k }
+{
+    for k in 0..count {
+        entries[at + k] = vram[from + k];
+    }
+}
+
+/// Copies the 33 entries of a row of the map from column `first` on, which stand in two screens of 32 side by side; answers
+/// whether it could, since a screen's line may lie over the end of VRAM.
+#[inline(always)]
+#[tactic(auto, using(crate::proofs::SmallSteps::near, crate::proofs::SmallSteps::far))]
+fn copy_row(vram: &[u16], b: &Background, first: u16, row: u16, entries: &mut [u16; 33]) -> bool
+    requires size { length vram.now ≡ 32768 }
+    requires first { first < 128 }
+    ensures { (c : ℕ) → c < 33 → result ≡ true → slice_index entries.new c ≡ slice_index vram.now (map_word b.now (first + c) row) }
+{
+    let left = map_place(b, first / 32 * 32, row);
+    let right = map_place(b, first / 32 * 32 + 32, row);
+    let inner = (first % 32) as usize;
+    if left > 32736 || right > 32736 {
+        return false;
+    }
+    copy_entries(vram, left + inner, 0, 32 - inner, entries);
+    copy_entries(vram, right, 32 - inner, 1 + inner, entries);
+    true
+}
+
+/// The map entries of a row, one by one.
+fn find_entries(
+    p: &Ppu,
+    b: &Background,
+    mode: u8,
+    layer: u8,
+    own: Scroll,
+    y: u16,
+    entries: &mut [u16; 33],
+)
+    requires mode { mode ≡ p.now.registers.mode }
+    requires own { own ≡ own_scroll b.now }
+    requires across { own.across < 1024 }
+    requires down { own.down < 1024 }
+    requires background { b.now ≡ background_of p.now.registers layer }
+    requires y { y ≤ 239 }
+    ensures { (c : ℕ) → c < 33 → slice_index entries.new c ≡ column_entry p.now layer y c }
+{
+    for c in 0..33usize {
+        entries[c] = entry_in_column(p, b, mode, layer, own, y, c as u16);
+    }
+}
+
+/// The map entries of a row.
+#[inline(always)]
+#[tactic(auto, using(crate::proofs::SmallSteps::entry_is))]
+fn take_entries(
+    p: &Ppu,
+    b: &Background,
+    mode: u8,
+    layer: u8,
+    own: Scroll,
+    y: u16,
+    entries: &mut [u16; 33],
+)
+    requires mode { mode ≡ p.now.registers.mode }
+    requires small { b.now.large ≡ false }
+    requires halves { is_hires mode ≡ false }
+    requires offsets { has_offsets mode ≡ false }
+    requires own { own ≡ own_scroll b.now }
+    requires across { own.across < 1024 }
+    requires down { own.down < 1024 }
+    requires background { b.now ≡ background_of p.now.registers layer }
+    requires y { y ≤ 239 }
+    ensures { (c : ℕ) → c < 33 → slice_index entries.new c ≡ column_entry p.now layer y c }
+{
+    let row = (y + 1 + own.down) / 8;
+    if !copy_row(p.vram(), b, own.across / 8, row, entries) {
+        find_entries(p, b, mode, layer, own, y, entries);
+    }
+}
+
+/// The bytes of map entries in the plane of ranks.
+#[inline(never)]
+fn take_bases(r: &Registers, bits: u8, low: u8, high: u8, entries: &[u16; 33], bases: &mut [u8; 33])
+    requires low { low ≤ 248 }
+    requires high { high ≤ 248 }
+    ensures { (c : ℕ) → c < 33 → slice_index bases.new c ≡
+        (if slice_index entries.now c / 8192 % 2 == 1 then high else low) + direct_palette_of r.now bits (slice_index entries.now c) }
+{
+    for c in 0..33usize {
+        let palette = (entries[c] / 1024 % 8) as u8;
+        bases[c] = base(entries[c], low, high, direct_palette(r, bits, palette));
+    }
+}
+
+/// The numbers from which the values of map entries are counted.
+#[inline(never)]
+fn take_firsts(mode: u8, layer: u8, bits: u8, entries: &[u16; 33], firsts: &mut [u8; 33])
+    requires first { 1 ≤ layer }
+    requires last { layer ≤ 4 }
+    ensures { (c : ℕ) → c < 33 → slice_index firsts.new c ≡ number_of mode layer bits (slice_index entries.now c / 1024 % 8) 0 }
+{
+    for c in 0..33usize {
+        let palette = (entries[c] / 1024 % 8) as u8;
+        firsts[c] = first_number(mode, layer, bits, palette);
+    }
+}
+
+/// The words of VRAM at which the lines of map entries begin, at row `py` of the map.
+#[inline(never)]
+fn take_words(b: &Background, bits: u8, py: u16, entries: &[u16; 33], words: &mut [u16; 33])
+    requires depth { bits ≤ 8 }
+    ensures words { (c : ℕ) → c < 33 → slice_index words.new c ≡ half_word b.now bits (slice_index entries.now c) 0 py }
+    ensures within { (c : ℕ) → c < 33 → slice_index words.new c < 32768 }
+{
+    for c in 0..33usize {
+        words[c] = half_place(b, bits, entries[c], 0, py) as u16;
+    }
+}
+
+/// Each byte eight times.
+#[inline(never)]
+fn spread(bytes: &[u8; 33], row: &mut [u8; 264])
+    ensures { (k : ℕ) → k < 264 → slice_index row.new k ≡ slice_index bytes.now (k / 8) }
+{
+    for c in 0..33usize {
+        put_same(row, 8 * c, bytes[c]);
+    }
+}
+
+/// The pixels of a map entry whose line begins at a word.
+#[inline(always)]
+fn line_of_entry(tiles: &TileCache, bits: u8, entry: u16, word: u16) -> [u8; 8]
+    requires depth { IsDepth bits }
+    requires word { word < 32768 }
+    ensures { (vram : List ℕ) → IsInStep tiles.now vram → result ≡
+        eight (λ k. value_of vram word bits (if entry / 16384 % 2 == 1 then 7 - k else k)) }
+{
+    tiles.turned_line(word as usize, bits, entry / 16384 % 2 == 1)
+}
+
+/// The pixels of a row of map entries whose lines begin at these words.
+#[inline(always)]
+fn put_pixels(
+    tiles: &TileCache,
+    bits: u8,
+    entries: &[u16; 33],
+    words: &[u16; 33],
+    values: &mut [u8; 264],
+)
+    requires depth { IsDepth bits }
+    requires within { (c : ℕ) → c < 33 → slice_index words.now c < 32768 }
+    ensures { (vram : List ℕ) → IsInStep tiles.now vram → (k : ℕ) → k < 264 → slice_index values.new k ≡
+        value_of vram (slice_index words.now (k / 8)) bits (if slice_index entries.now (k / 8) / 16384 % 2 == 1 then 7 - k % 8 else k % 8) }
+{
+    for c in 0..33usize {
+        let line = line_of_entry(tiles, bits, entries[c], words[c]);
+        put_bytes(values, 8 * c, &line);
+    }
+}
+
+/// The 33 columns of a row, side by side, where tiles are small and columns have no scrolls of their own.
+#[inline(always)]
+pub fn paint_small(
+    p: &Ppu,
+    tiles: &TileCache,
+    b: &Background,
+    mode: u8,
+    bits: u8,
+    layer: u8,
+    y: u16,
+    odd: bool,
+    low: u8,
+    high: u8,
+    values: &mut [u8; 264],
+    bases: &mut [u8; 264],
+    firsts: &mut [u8; 264],
+)
+    requires first { 1 ≤ layer }
+    requires last { layer ≤ 4 }
+    requires mode { mode ≡ p.now.registers.mode }
+    requires small { b.now.large ≡ false }
+    requires halves { is_hires mode ≡ false }
+    requires offsets { has_offsets mode ≡ false }
+    requires background { b.now ≡ background_of p.now.registers layer }
+    requires bits { bits ≡ depth_of p.now.registers.mode layer }
+    requires depth { IsDepth bits }
+    requires step { IsInStep tiles.now p.now.vram }
+    requires y { y ≤ 239 }
+    requires low { low ≤ 248 }
+    requires high { high ≤ 248 }
+    ensures values { (k : ℕ) → k < 264 → slice_index values.new k ≡ column_value p.now layer y (bit_of odd) (k / 8) (k % 8) }
+    ensures bases { (k : ℕ) → k < 264 → slice_index bases.new k ≡ column_base p.now layer y low high (k / 8) }
+    ensures firsts { (k : ℕ) → k < 264 → slice_index firsts.new k ≡ column_first p.now layer y (k / 8) }
+{
+    let own = own(b);
+    let mut entries = [0u16; 33];
+    take_entries(p, b, mode, layer, own, y, &mut entries);
+    let mut bytes = [0u8; 33];
+    take_bases(p.registers(), bits, low, high, &entries, &mut bytes);
+    spread(&bytes, bases);
+    take_firsts(mode, layer, bits, &entries, &mut bytes);
+    spread(&bytes, firsts);
+    let mut words = [0u16; 33];
+    take_words(b, bits, y + 1 + own.down, &entries, &mut words);
+    put_pixels(tiles, bits, &entries, &words, values);
+}
