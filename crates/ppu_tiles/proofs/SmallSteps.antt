@@ -2,14 +2,14 @@
 use Rattle.std.proofs.Common.{◌≡◌, ℕ, ◌+◌, ◌-◌, ◌*◌, ◌/◌, ◌%◌, ◌<◌, ◌≤◌, ◌==◌, List, Bool, true, false, slice_index, if◌then◌else◌, inl, inr, subst, refl, sym, ap, ◌∙◌, arith}
 use Rattle.std.proofs.lemmas.Bool.{cases_lt}
 use Rattle.ppu_regs.specs.declared.registers.Background.{Background}
-use Rattle.ppu_regs.specs.declared.registers.Registers.{Registers}
 use Rattle.ppu_regs.specs.Picture.{Picture, background_of}
+use Rattle.ppu_regs.specs.Dots.{rank_of}
 use Rattle.tile_cache.specs.Bitplanes.{value_of}
 use Rattle.ppu_tiles.specs.declared.scrolls.Scroll.{Scroll}
 use Rattle.ppu_tiles.specs.Modes.{depth_of, is_hires, has_offsets, tile_width}
-use Rattle.ppu_tiles.specs.Backgrounds.{map_word, own_scroll, column_scroll, entry_at, turned, number_of}
-use Rattle.ppu_tiles.specs.Columns.{half_word, half_value, column_m, column_row, column_entry, column_value, column_base, column_first, direct_palette_of}
-use Rattle.ppu_tiles.proofs.ColumnSteps.{line_value}
+use Rattle.ppu_tiles.specs.Backgrounds.{map_word, own_scroll, column_scroll, entry_at, turned, number_of, layer_dot_at}
+use Rattle.ppu_tiles.specs.Columns.{base_of, half_word, half_value, attribute_of, column_m, column_row, column_entry, column_value, column_base, column_first}
+use Rattle.ppu_tiles.proofs.ColumnSteps.{line_value, column_rank, column_number}
 
 -- a row of eights is one eight longer
 pub one_more :
@@ -115,7 +115,7 @@ small_value p b layer y odd c j py bits own hj hb ho hd hl hh hf hp =
     ∙ line_value p b bits entry m odd j py hj hh
     ∙ rw (hb, hd, row) refl
 
--- a pixel, a rank byte and a first number of a row, from what was taken of its columns
+-- a pixel of a row, from what was taken of its columns
 pub small_pixel :
     (p : Picture) (b : Background) (layer y odd k py bits : ℕ) (own : Scroll) (values words entries : List ℕ) →
     b ≡ background_of p.registers layer → own ≡ own_scroll b → bits ≡ depth_of p.registers.mode layer → b.large ≡ false →
@@ -123,23 +123,62 @@ pub small_pixel :
     slice_index entries (k / 8) ≡ column_entry p layer y (k / 8) →
     slice_index words (k / 8) ≡ half_word b bits (slice_index entries (k / 8)) 0 py →
     slice_index values k ≡ value_of p.vram (slice_index words (k / 8)) bits
-        (if slice_index entries (k / 8) / 16384 % 2 == 1 then 7 - k % 8 else k % 8) →
+    (if slice_index entries (k / 8) / 16384 % 2 == 1 then 7 - k % 8 else k % 8) →
     slice_index values k ≡ column_value p layer y odd (k / 8) (k % 8)
 small_pixel p b layer y odd k py bits own values words entries hb ho hd hl hh hf hp he hw hv =
     hv ∙ rw (hw, he) (small_value p b layer y odd (k / 8) (k % 8) py bits own (omega arith) hb ho hd hl hh hf hp)
 
-pub small_base :
-    (p : Picture) (r : Registers) (layer y low high n bits : ℕ) (bytes entries : List ℕ) → r ≡ p.registers →
-    bits ≡ depth_of p.registers.mode layer → slice_index entries n ≡ column_entry p layer y n →
-    slice_index bytes n ≡ (if slice_index entries n / 8192 % 2 == 1 then high else low) + direct_palette_of r bits (slice_index entries n) →
-    slice_index bytes n ≡ column_base p layer y low high n
-unfolding column_base
-small_base p r layer y low high n bits bytes entries hr hd he h = h ∙ rw (he, hr, hd) refl
+-- the two halves of an entry's attributes
+number_small :
+    (mode layer depth palette : ℕ) → layer ≤ 4 → palette < 8 → number_of mode layer depth palette 0 < 128
+unfolding number_of
+number_small mode layer depth palette hl hp = grind arith
 
-pub small_first :
-    (p : Picture) (layer y n bits mode : ℕ) (bytes entries : List ℕ) → mode ≡ p.registers.mode →
-    bits ≡ depth_of p.registers.mode layer → slice_index entries n ≡ column_entry p layer y n →
-    slice_index bytes n ≡ number_of mode layer bits (slice_index entries n / 1024 % 8) 0 →
-    slice_index bytes n ≡ column_first p layer y n
+priority_of :
+    (mode layer depth entry : ℕ) → layer ≤ 4 → attribute_of mode layer depth entry / 128 ≡ entry / 8192 % 2
+unfolding attribute_of
+priority_of mode layer depth entry hl =
+    let small = number_small mode layer depth (entry / 1024 % 8) hl (omega arith) in omega (arith, small)
+
+first_of :
+    (mode layer depth entry : ℕ) → layer ≤ 4 →
+    attribute_of mode layer depth entry % 128 ≡ number_of mode layer depth (entry / 1024 % 8) 0
+unfolding attribute_of
+first_of mode layer depth entry hl =
+    let small = number_small mode layer depth (entry / 1024 % 8) hl (omega arith) in omega (arith, small)
+
+undirect : (depth : ℕ) → depth ≤ 4 → (depth == 8) ≡ false
+undirect depth h = grind arith
+
+small_base :
+    (p : Picture) (layer y low high c mode bits : ℕ) → layer ≤ 4 → bits ≤ 4 → bits ≡ depth_of p.registers.mode layer →
+    (if attribute_of mode layer bits (column_entry p layer y c) / 128 == 1 then high else low) ≡ column_base p layer y low high c
+unfolding column_base
+small_base p layer y low high c mode bits hl hb hd =
+    let few : (depth_of p.registers.mode layer == 8) ≡ false = ap (λ n. n == 8) (sym hd) ∙ undirect bits hb in
+    rw (priority_of mode layer bits (column_entry p layer y c) hl, few) (omega arith)
+
+pub small_rank :
+    (p : Picture) (layer y odd low high x from mode bits value attribute : ℕ) → odd < 2 → layer ≤ 4 → bits ≤ 4 →
+    bits ≡ depth_of p.registers.mode layer → from ≡ (background_of p.registers layer).scroll_x % 8 →
+    value ≡ column_value p layer y odd ((x + from) / 8) ((x + from) % 8) →
+    attribute ≡ attribute_of mode layer bits (column_entry p layer y ((x + from) / 8)) →
+    (let c = layer_dot_at p layer y x odd in
+    (if value == 0 then 0 else (if attribute / 128 == 1 then high else low)) ≡ rank_of (base_of low high c) c)
+small_rank p layer y odd low high x from mode bits value attribute ho hl hb hd hf hv ha =
+    rw (hv, ha, small_base p layer y low high ((x + from) / 8) mode bits hl hb hd) (rw hf (column_rank p layer y x odd low high ho))
+
+small_first :
+    (p : Picture) (layer y c mode bits : ℕ) → layer ≤ 4 → mode ≡ p.registers.mode → bits ≡ depth_of p.registers.mode layer →
+    attribute_of mode layer bits (column_entry p layer y c) % 128 ≡ column_first p layer y c
 unfolding column_first
-small_first p layer y n bits mode bytes entries hm hd he h = h ∙ rw (he, hd, hm) refl
+small_first p layer y c mode bits hl hm hd = first_of mode layer bits (column_entry p layer y c) hl ∙ rw (hd, hm) refl
+
+pub small_number :
+    (p : Picture) (layer y odd x from mode bits value attribute : ℕ) → odd < 2 → layer ≤ 4 → mode ≡ p.registers.mode →
+    bits ≡ depth_of p.registers.mode layer → from ≡ (background_of p.registers layer).scroll_x % 8 →
+    value ≡ column_value p layer y odd ((x + from) / 8) ((x + from) % 8) →
+    attribute ≡ attribute_of mode layer bits (column_entry p layer y ((x + from) / 8)) →
+    (attribute % 128 + value) % 256 ≡ (layer_dot_at p layer y x odd).number
+small_number p layer y odd x from mode bits value attribute ho hl hm hd hf hv ha =
+    rw (hv, ha, small_first p layer y ((x + from) / 8) mode bits hl hm hd) (rw hf (column_number p layer y x odd ho hl))

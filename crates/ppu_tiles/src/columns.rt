@@ -140,7 +140,8 @@ pub fn first_number(mode: u8, layer: u8, depth: u8, palette: u8) -> u8
     requires palette { palette < 8 }
     requires first { 1 ≤ layer }
     requires last { layer ≤ 4 }
-    ensures { result ≡ number_of mode layer depth palette 0 }
+    ensures value { result ≡ number_of mode layer depth palette 0 }
+    ensures small { result < 128 }
 {
     match depth {
         2 => {
@@ -154,7 +155,7 @@ pub fn first_number(mode: u8, layer: u8, depth: u8, palette: u8) -> u8
 
 /// The palette of direct colour, where colours are direct, else 0.
 #[inline(always)]
-pub fn direct_palette(r: &Registers, depth: u8, palette: u8) -> u8
+fn direct_palette(r: &Registers, depth: u8, palette: u8) -> u8
     requires { palette < 8 }
     ensures small { result < 8 }
     ensures palette { result ≡ (if (depth == 8) && r.now.colour.direct then palette else 0) }
@@ -168,7 +169,7 @@ pub fn direct_palette(r: &Registers, depth: u8, palette: u8) -> u8
 
 /// The byte of a map entry in the plane of ranks: that of its priority, and the palette of direct colour.
 #[inline(always)]
-pub fn base(entry: u16, low: u8, high: u8, palette: u8) -> u8
+fn base(entry: u16, low: u8, high: u8, palette: u8) -> u8
     requires low { low ≤ 248 }
     requires high { high ≤ 248 }
     requires palette { palette < 8 }

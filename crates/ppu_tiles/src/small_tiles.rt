@@ -6,13 +6,14 @@ ghost use Rattle.ppu_regs.specs.Reads.{bit_of};
 ghost use Rattle.ppu_regs.specs.Picture.{background_of};
 ghost use Rattle.tile_cache.specs.Bitplanes.{IsInStep, value_of, eight};
 ghost use Rattle.ppu_tiles.specs.Modes.{depth_of, is_hires, has_offsets};
-ghost use Rattle.ppu_tiles.specs.Backgrounds.{own_scroll, map_word, number_of};
-ghost use Rattle.ppu_tiles.specs.Columns.{IsDepth, half_word, direct_palette_of, column_entry, column_value, column_base, column_first};
+ghost use Rattle.ppu_tiles.specs.Backgrounds.{own_scroll, map_word, layer_dot_at};
+ghost use Rattle.ppu_regs.specs.Dots.{rank_of};
+ghost use Rattle.ppu_tiles.specs.Columns.{IsDepth, base_of, half_word, attribute_of, column_entry, column_value};
 
-use crate::columns::{base, direct_palette, first_number, half_place, put_bytes, put_same, start};
+use crate::columns::{first_number, half_place, put_bytes, put_same, start};
 use crate::entries::{entry, map_place};
 use crate::scrolls::{Scroll, in_column, own};
-use ppu_regs::{Background, Ppu, Registers};
+use ppu_regs::{Background, Ppu};
 use tile_cache::TileCache;
 
 /// The map entry of a column.
@@ -117,30 +118,28 @@ fn take_entries(
     }
 }
 
-/// The bytes of map entries in the plane of ranks.
-#[inline(never)]
-fn take_bases(r: &Registers, bits: u8, low: u8, high: u8, entries: &[u16; 33], bases: &mut [u8; 33])
-    requires low { low ≤ 248 }
-    requires high { high ≤ 248 }
-    ensures { (c : ℕ) → c < 33 → slice_index bases.new c ≡
-        (if slice_index entries.now c / 8192 % 2 == 1 then high else low) + direct_palette_of r.now bits (slice_index entries.now c) }
-{
-    for c in 0..33usize {
-        let palette = (entries[c] / 1024 % 8) as u8;
-        bases[c] = base(entries[c], low, high, direct_palette(r, bits, palette));
-    }
-}
-
-/// The numbers from which the values of map entries are counted.
-#[inline(never)]
-fn take_firsts(mode: u8, layer: u8, bits: u8, entries: &[u16; 33], firsts: &mut [u8; 33])
+/// The attributes of a map entry.
+#[inline(always)]
+#[tactic(auto, unfolding(crate::specs::Columns::attribute_of))]
+fn attribute(mode: u8, layer: u8, bits: u8, entry: u16) -> u8
     requires first { 1 ≤ layer }
     requires last { layer ≤ 4 }
-    ensures { (c : ℕ) → c < 33 → slice_index firsts.new c ≡ number_of mode layer bits (slice_index entries.now c / 1024 % 8) 0 }
+    ensures { result ≡ attribute_of mode layer bits entry }
+{
+    let palette = (entry / 1024 % 8) as u8;
+    let priority = (entry / 8192 % 2) as u8;
+    first_number(mode, layer, bits, palette) + 128 * priority
+}
+
+/// The attributes of map entries, a byte each: the number from which an entry's values are counted, and its priority as bit 7.
+#[inline(never)]
+fn take_attributes(mode: u8, layer: u8, bits: u8, entries: &[u16; 33], attributes: &mut [u8; 33])
+    requires first { 1 ≤ layer }
+    requires last { layer ≤ 4 }
+    ensures { (c : ℕ) → c < 33 → slice_index attributes.new c ≡ attribute_of mode layer bits (slice_index entries.now c) }
 {
     for c in 0..33usize {
-        let palette = (entries[c] / 1024 % 8) as u8;
-        firsts[c] = first_number(mode, layer, bits, palette);
+        attributes[c] = attribute(mode, layer, bits, entries[c]);
     }
 }
 
@@ -197,9 +196,9 @@ fn put_pixels(
     }
 }
 
-/// The 33 columns of a row, side by side, where tiles are small and columns have no scrolls of their own.
+/// The 33 columns of a row, side by side: their values and their attributes.
 #[inline(always)]
-pub fn paint_small(
+fn paint_small(
     p: &Ppu,
     tiles: &TileCache,
     b: &Background,
@@ -208,11 +207,8 @@ pub fn paint_small(
     layer: u8,
     y: u16,
     odd: bool,
-    low: u8,
-    high: u8,
     values: &mut [u8; 264],
-    bases: &mut [u8; 264],
-    firsts: &mut [u8; 264],
+    attributes: &mut [u8; 264],
 )
     requires first { 1 ≤ layer }
     requires last { layer ≤ 4 }
@@ -225,21 +221,99 @@ pub fn paint_small(
     requires depth { IsDepth bits }
     requires step { IsInStep tiles.now p.now.vram }
     requires y { y ≤ 239 }
-    requires low { low ≤ 248 }
-    requires high { high ≤ 248 }
     ensures values { (k : ℕ) → k < 264 → slice_index values.new k ≡ column_value p.now layer y (bit_of odd) (k / 8) (k % 8) }
-    ensures bases { (k : ℕ) → k < 264 → slice_index bases.new k ≡ column_base p.now layer y low high (k / 8) }
-    ensures firsts { (k : ℕ) → k < 264 → slice_index firsts.new k ≡ column_first p.now layer y (k / 8) }
+    ensures attributes { (k : ℕ) → k < 264 → slice_index attributes.new k ≡ attribute_of mode layer bits (column_entry p.now layer y (k / 8)) }
 {
     let own = own(b);
     let mut entries = [0u16; 33];
     take_entries(p, b, mode, layer, own, y, &mut entries);
     let mut bytes = [0u8; 33];
-    take_bases(p.registers(), bits, low, high, &entries, &mut bytes);
-    spread(&bytes, bases);
-    take_firsts(mode, layer, bits, &entries, &mut bytes);
-    spread(&bytes, firsts);
+    take_attributes(mode, layer, bits, &entries, &mut bytes);
+    spread(&bytes, attributes);
     let mut words = [0u16; 33];
     take_words(b, bits, y + 1 + own.down, &entries, &mut words);
     put_pixels(tiles, bits, &entries, &words, values);
+}
+
+/// The byte of a pixel in the plane of ranks.
+#[inline(always)]
+fn rank(value: u8, attribute: u8, low: u8, high: u8) -> u8
+    ensures { result ≡ (if value == 0 then 0 else (if attribute / 128 == 1 then high else low)) }
+{
+    let base = if attribute / 128 == 1 { high } else { low };
+    if value == 0 { 0 } else { base }
+}
+
+/// The two planes from a painted row, from one of its first eight pixels on.
+#[inline(always)]
+fn rank_pixels(
+    values: &[u8; 264],
+    attributes: &[u8; 264],
+    from: usize,
+    low: u8,
+    high: u8,
+    ranks: &mut [u8; 256],
+    numbers: &mut [u8; 256],
+)
+    requires { from < 8 }
+    ensures ranks { (x : ℕ) → x < 256 → slice_index ranks.new x ≡
+        (if slice_index values.now (x + from) == 0 then 0 else (if slice_index attributes.now (x + from) / 128 == 1 then high else low)) }
+    ensures numbers { (x : ℕ) → x < 256 → slice_index numbers.new x ≡
+        (slice_index attributes.now (x + from) % 128 + slice_index values.now (x + from)) % 256 }
+{
+    for x in 0..256usize {
+        let value = values[x + from];
+        let attribute = attributes[x + from];
+        ranks[x] = rank(value, attribute, low, high);
+        numbers[x] = (attribute % 128).wrapping_add(value);
+    }
+}
+
+/// A row of small tiles of 2 or 4 bits, without mosaic, of row `y` of the screen.
+#[inline(always)]
+pub fn small_row(
+    p: &Ppu,
+    tiles: &TileCache,
+    b: &Background,
+    mode: u8,
+    bits: u8,
+    layer: u8,
+    y: u16,
+    odd: bool,
+    low: u8,
+    high: u8,
+    ranks: &mut [u8; 256],
+    numbers: &mut [u8; 256],
+)
+    requires first { 1 ≤ layer }
+    requires last { layer ≤ 4 }
+    requires mode { mode ≡ p.now.registers.mode }
+    requires small { b.now.large ≡ false }
+    requires halves { is_hires mode ≡ false }
+    requires offsets { has_offsets mode ≡ false }
+    requires background { b.now ≡ background_of p.now.registers layer }
+    requires bits { bits ≡ depth_of p.now.registers.mode layer }
+    requires depth { IsDepth bits }
+    requires few { bits ≤ 4 }
+    requires step { IsInStep tiles.now p.now.vram }
+    requires y { y ≤ 239 }
+    ensures ranks { (x : ℕ) → x < 256 → slice_index ranks.new x ≡ (let c = layer_dot_at p.now layer y x (bit_of odd) in rank_of (base_of low high c) c) }
+    ensures numbers { (x : ℕ) → x < 256 → slice_index numbers.new x ≡ (layer_dot_at p.now layer y x (bit_of odd)).number }
+{
+    let mut values = [0u8; 264];
+    let mut attributes = [0u8; 264];
+    paint_small(
+        p,
+        tiles,
+        b,
+        mode,
+        bits,
+        layer,
+        y,
+        odd,
+        &mut values,
+        &mut attributes,
+    );
+    let from = (b.scroll_x % 8) as usize;
+    rank_pixels(&values, &attributes, from, low, high, ranks, numbers);
 }

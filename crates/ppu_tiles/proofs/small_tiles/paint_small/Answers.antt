@@ -2,7 +2,8 @@
 use Rattle.std.proofs.Common.{◌/◌, ◌<◌, ap, sym, refl, ◌∙◌, arith}
 use Rattle.ppu_regs.specs.Reads.{bit_of}
 use Rattle.ppu_tiles.specs.Modes.{is_hires, has_offsets}
-use Rattle.ppu_tiles.proofs.SmallSteps.{small_pixel, small_base, small_first}
+use Rattle.ppu_tiles.specs.Columns.{attribute_of}
+use Rattle.ppu_tiles.proofs.SmallSteps.{small_pixel}
 use Rattle.ppu_tiles.proofs.small_tiles.paint_small.Goals as goal
 
 pub returns-clause-values : goal.returns-clause-values
@@ -15,18 +16,8 @@ returns-clause-values c = λ k h.
     c.requires.bits c.requires.small lores plain refl (c.take_entries.ensures (k / 8) within)
     (c.take_words.ensures.words (k / 8) within) (c.put_pixels.ensures c.args.p.now.vram c.requires.step k h)
 
-pub returns-clause-bases : goal.returns-clause-bases
-returns-clause-bases c = λ k h.
+pub returns-clause-attributes : goal.returns-clause-attributes
+returns-clause-attributes c = λ k h.
     let within : k / 8 < 33 = omega arith in
-    c.spread.ensures k h
-    ∙ small_base c.args.p.now c.registers.result.now c.args.layer c.args.y c.args.low c.args.high (k / 8) c.args.bits
-    c.take_bases.new.bases c.take_entries.new.entries c.registers.ensures c.requires.bits (c.take_entries.ensures (k / 8) within)
-    (c.take_bases.ensures (k / 8) within)
-
-pub returns-clause-firsts : goal.returns-clause-firsts
-returns-clause-firsts c = λ k h.
-    let within : k / 8 < 33 = omega arith in
-    c.spread-2.ensures k h
-    ∙ small_first c.args.p.now c.args.layer c.args.y (k / 8) c.args.bits c.args.mode c.take_firsts.new.firsts
-    c.take_entries.new.entries c.requires.mode c.requires.bits (c.take_entries.ensures (k / 8) within)
-    (c.take_firsts.ensures (k / 8) within)
+    c.spread.ensures k h ∙ c.take_attributes.ensures (k / 8) within
+    ∙ ap (λ e. attribute_of c.args.mode c.args.layer c.args.bits e) (c.take_entries.ensures (k / 8) within)
