@@ -196,6 +196,53 @@ fn put_pixels(
     }
 }
 
+/// Whether any of a row of map entries is turned over left to right.
+#[inline(always)]
+fn is_any_turned(entries: &[u16; 33]) -> bool
+    ensures { (c : ℕ) → c < 33 → result ≡ false → slice_index entries.now c / 16384 % 2 ≡ 0 }
+{
+    let mut most = 0u16;
+    for c in 0..33usize {
+        most = (entries[c] / 16384 % 2).max(most);
+    }
+    most != 0
+}
+
+/// The pixels of a row of map entries none of which is turned over left to right.
+#[inline(always)]
+fn put_straight(tiles: &TileCache, bits: u8, words: &[u16; 33], values: &mut [u8; 264])
+    requires depth { IsDepth bits }
+    requires within { (c : ℕ) → c < 33 → slice_index words.now c < 32768 }
+    ensures { (vram : List ℕ) → IsInStep tiles.now vram → (k : ℕ) → k < 264 → slice_index values.new k ≡
+        value_of vram (slice_index words.now (k / 8)) bits (k % 8) }
+{
+    for c in 0..33usize {
+        let line = line_of_entry(tiles, bits, 0, words[c]);
+        put_bytes(values, 8 * c, &line);
+    }
+}
+
+/// The pixels of a row of map entries whose lines begin at these words.
+#[inline(always)]
+fn put_all(
+    tiles: &TileCache,
+    bits: u8,
+    entries: &[u16; 33],
+    words: &[u16; 33],
+    values: &mut [u8; 264],
+)
+    requires depth { IsDepth bits }
+    requires within { (c : ℕ) → c < 33 → slice_index words.now c < 32768 }
+    ensures { (vram : List ℕ) → IsInStep tiles.now vram → (k : ℕ) → k < 264 → slice_index values.new k ≡
+        value_of vram (slice_index words.now (k / 8)) bits (if slice_index entries.now (k / 8) / 16384 % 2 == 1 then 7 - k % 8 else k % 8) }
+{
+    if is_any_turned(entries) {
+        put_pixels(tiles, bits, entries, words, values);
+    } else {
+        put_straight(tiles, bits, words, values);
+    }
+}
+
 /// The 33 columns of a row, side by side: their values and their attributes.
 #[inline(always)]
 fn paint_small(
@@ -232,7 +279,7 @@ fn paint_small(
     spread(&bytes, attributes);
     let mut words = [0u16; 33];
     take_words(b, bits, y + 1 + own.down, &entries, &mut words);
-    put_pixels(tiles, bits, &entries, &words, values);
+    put_all(tiles, bits, &entries, &words, values);
 }
 
 /// The byte of a pixel in the plane of ranks.

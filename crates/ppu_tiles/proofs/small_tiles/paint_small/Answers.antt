@@ -12,9 +12,9 @@ returns-clause-values c = λ k h.
     let lores = ap is_hires (sym c.requires.mode) ∙ c.requires.halves in
     let plain = ap has_offsets (sym c.requires.mode) ∙ c.requires.offsets in
     small_pixel c.args.p.now c.args.b.now c.args.layer c.args.y (bit_of c.args.odd) k _ c.args.bits c.own-own.result
-    c.put_pixels.new.values c.take_words.new.words c.take_entries.new.entries c.requires.background c.own-own.ensures.scroll
+    c.put_all.new.values c.take_words.new.words c.take_entries.new.entries c.requires.background c.own-own.ensures.scroll
     c.requires.bits c.requires.small lores plain refl (c.take_entries.ensures (k / 8) within)
-    (c.take_words.ensures.words (k / 8) within) (c.put_pixels.ensures c.args.p.now.vram c.requires.step k h)
+    (c.take_words.ensures.words (k / 8) within) (c.put_all.ensures c.args.p.now.vram c.requires.step k h)
 
 pub returns-clause-attributes : goal.returns-clause-attributes
 returns-clause-attributes c = λ k h.
