@@ -1,2 +1,3 @@
 pub mod ColumnSteps
 pub mod DotSteps
+mod SmallSteps

@@ -68,6 +68,11 @@ unfoldable pub column_first : Picture → ℕ → ℕ → ℕ → ℕ
 column_first p layer y c =
     number_of p.registers.mode layer (depth_of p.registers.mode layer) (column_entry p layer y c / 1024 % 8) 0
 
+-- the attributes of a map entry in a byte, where values are of 2 or 4 bits: the number from which they are counted, and the
+-- priority as bit 7
+unfoldable pub attribute_of : ℕ → ℕ → ℕ → ℕ → ℕ
+attribute_of mode layer depth entry = number_of mode layer depth (entry / 1024 % 8) 0 + 128 * (entry / 8192 % 2)
+
 -- the layer dot that two bytes of a row stand for, where the byte of priority 1 is 32 and that of 0 is 16
 unfoldable pub planes_layer_dot : ℕ → ℕ → Bool → LayerDot
 planes_layer_dot rank number direct = record {

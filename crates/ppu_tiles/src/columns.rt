@@ -14,7 +14,7 @@ use tile_cache::TileCache;
 
 /// Puts eight bytes.
 #[inline(always)]
-fn put_bytes(row: &mut [u8; 264], at: usize, bytes: &[u8; 8])
+pub fn put_bytes(row: &mut [u8; 264], at: usize, bytes: &[u8; 8])
     requires { at + 8 ≤ 264 }
     ensures put { (k : ℕ) → k < 8 → slice_index row.new (at + k) ≡ slice_index bytes.now k }
     ensures below { (k : ℕ) → k < at → slice_index row.new k ≡ slice_index row.old k }
@@ -39,7 +39,7 @@ fn put_half(row: &mut [u8; 264], at: usize, bytes: &[u8; 8], odd: bool)
 /// The line of one half of a tile at row `py` of the map: the word of VRAM where it begins.
 #[inline(always)]
 #[tactic(auto, unfolding(crate::specs::Columns::half_word))]
-fn half_place(b: &Background, depth: u8, entry: u16, x: u16, py: u16) -> usize
+pub fn half_place(b: &Background, depth: u8, entry: u16, x: u16, py: u16) -> usize
     requires depth { depth ≤ 8 }
     requires x { x < 16 }
     ensures word { result ≡ half_word b.now depth entry x py }
@@ -114,7 +114,7 @@ fn put_values(
 
 /// The first pixel of the map in a column of which `m` is the place there, in eights of pixels.
 #[inline(always)]
-fn start(mode: u8, m: u16) -> u16
+pub fn start(mode: u8, m: u16) -> u16
     requires { m ≤ 160 }
     ensures { result ≡ column_start mode m }
 {
@@ -123,7 +123,7 @@ fn start(mode: u8, m: u16) -> u16
 
 /// Puts a byte eight times.
 #[inline(always)]
-fn put_same(row: &mut [u8; 264], at: usize, v: u8)
+pub fn put_same(row: &mut [u8; 264], at: usize, v: u8)
     requires { at + 8 ≤ 264 }
     ensures put { (k : ℕ) → k < 8 → slice_index row.new (at + k) ≡ v }
     ensures below { (k : ℕ) → k < at → slice_index row.new k ≡ slice_index row.old k }
@@ -136,11 +136,12 @@ fn put_same(row: &mut [u8; 264], at: usize, v: u8)
 /// The number of a palette's first colour.
 #[inline(always)]
 #[tactic(auto, unfolding(crate::specs::Backgrounds::number_of))]
-fn first_number(mode: u8, layer: u8, depth: u8, palette: u8) -> u8
+pub fn first_number(mode: u8, layer: u8, depth: u8, palette: u8) -> u8
     requires palette { palette < 8 }
     requires first { 1 ≤ layer }
     requires last { layer ≤ 4 }
-    ensures { result ≡ number_of mode layer depth palette 0 }
+    ensures value { result ≡ number_of mode layer depth palette 0 }
+    ensures small { result < 128 }
 {
     match depth {
         2 => {

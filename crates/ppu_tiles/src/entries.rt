@@ -21,7 +21,7 @@ pub fn block(r: &Registers, b: &Background, n: u16) -> u16
 /// The word of VRAM with the map entry at a column and a row of tiles.
 #[inline(always)]
 #[tactic(auto, unfolding(crate::specs::Backgrounds::map_word))]
-fn map_place(b: &Background, col: u16, row: u16) -> usize
+pub fn map_place(b: &Background, col: u16, row: u16) -> usize
     ensures word { result ≡ map_word b.now col row }
     ensures within { result < 32768 }
 {

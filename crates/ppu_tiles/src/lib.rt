@@ -12,6 +12,7 @@ mod entries;
 mod modes;
 mod rows;
 mod scrolls;
+mod small_tiles;
 
 pub use dots::bg_row;
 pub use modes::depth;

@@ -11,6 +11,7 @@ use crate::columns::put_column;
 use crate::entries::block;
 use crate::modes::depth;
 use crate::scrolls::own;
+use crate::small_tiles::small_row;
 use ppu_regs::{Background, Ppu, Registers};
 use scanline_ops::spread_blocks;
 use tile_cache::TileCache;
@@ -55,8 +56,7 @@ fn paint_columns(
     }
 }
 
-/// The same, written out by mode and depth, and for mode 1 by the size of its tiles too, so that each case is one run
-/// of loads and stores.
+/// The same, written out by mode and depth, so that each case is one run of loads and stores.
 #[inline(always)]
 fn paint(
     p: &Ppu,
@@ -84,50 +84,38 @@ fn paint(
     let mode = p.registers().mode;
     let bits = depth(mode, layer);
     let b = *p.registers().background(layer);
-    match (mode, bits, b.large) {
-        (1, 2, false) => {
-            let b = Background { large: false, ..b };
-            paint_columns(
-                p, tiles, &b, 1, 2, layer, y, odd, low, high, values, bases, firsts,
-            )
-        }
-        (1, 4, false) => {
-            let b = Background { large: false, ..b };
-            paint_columns(
-                p, tiles, &b, 1, 4, layer, y, odd, low, high, values, bases, firsts,
-            )
-        }
-        (0, 2, _) => paint_columns(
+    match (mode, bits) {
+        (0, 2) => paint_columns(
             p, tiles, &b, 0, 2, layer, y, odd, low, high, values, bases, firsts,
         ),
-        (1, 2, _) => paint_columns(
+        (1, 2) => paint_columns(
             p, tiles, &b, 1, 2, layer, y, odd, low, high, values, bases, firsts,
         ),
-        (1, 4, _) => paint_columns(
+        (1, 4) => paint_columns(
             p, tiles, &b, 1, 4, layer, y, odd, low, high, values, bases, firsts,
         ),
-        (2, 4, _) => paint_columns(
+        (2, 4) => paint_columns(
             p, tiles, &b, 2, 4, layer, y, odd, low, high, values, bases, firsts,
         ),
-        (3, 4, _) => paint_columns(
+        (3, 4) => paint_columns(
             p, tiles, &b, 3, 4, layer, y, odd, low, high, values, bases, firsts,
         ),
-        (3, 8, _) => paint_columns(
+        (3, 8) => paint_columns(
             p, tiles, &b, 3, 8, layer, y, odd, low, high, values, bases, firsts,
         ),
-        (4, 2, _) => paint_columns(
+        (4, 2) => paint_columns(
             p, tiles, &b, 4, 2, layer, y, odd, low, high, values, bases, firsts,
         ),
-        (4, 8, _) => paint_columns(
+        (4, 8) => paint_columns(
             p, tiles, &b, 4, 8, layer, y, odd, low, high, values, bases, firsts,
         ),
-        (5, 2, _) => paint_columns(
+        (5, 2) => paint_columns(
             p, tiles, &b, 5, 2, layer, y, odd, low, high, values, bases, firsts,
         ),
-        (5, 4, _) => paint_columns(
+        (5, 4) => paint_columns(
             p, tiles, &b, 5, 4, layer, y, odd, low, high, values, bases, firsts,
         ),
-        (6, 4, _) => paint_columns(
+        (6, 4) => paint_columns(
             p, tiles, &b, 6, 4, layer, y, odd, low, high, values, bases, firsts,
         ),
         _ => paint_columns(
@@ -177,9 +165,9 @@ fn take_blocks(r: &Registers, b: &Background, row: &mut [u8; 256])
     }
 }
 
-/// A row without mosaic, of row `y` of the screen.
+/// A row without mosaic, of row `y` of the screen, from its columns one by one.
 #[inline(always)]
-fn plain_row(
+fn columns_row(
     p: &Ppu,
     tiles: &TileCache,
     layer: u8,
@@ -217,6 +205,54 @@ fn plain_row(
     );
     let from = (p.registers().background(layer).scroll_x % 8) as usize;
     rank_pixels(&values, &bases, &firsts, from, ranks, numbers);
+}
+
+/// A row without mosaic, of row `y` of the screen. Small tiles in modes without scrolls by column are written out by mode and
+/// depth.
+#[inline(always)]
+fn plain_row(
+    p: &Ppu,
+    tiles: &TileCache,
+    layer: u8,
+    y: u16,
+    odd: bool,
+    low: u8,
+    high: u8,
+    ranks: &mut [u8; 256],
+    numbers: &mut [u8; 256],
+)
+    requires first { 1 ≤ layer }
+    requires last { layer ≤ 4 }
+    requires depth { IsDepth (depth_of p.now.registers.mode layer) }
+    requires y { y ≤ 239 }
+    requires low { low ≤ 248 }
+    requires high { high ≤ 248 }
+    requires step { IsInStep tiles.now p.now.vram }
+    ensures ranks { (x : ℕ) → x < 256 → slice_index ranks.new x ≡ (let c = layer_dot_at p.now layer y x (bit_of odd) in rank_of (base_of low high c) c) }
+    ensures numbers { (x : ℕ) → x < 256 → slice_index numbers.new x ≡ (layer_dot_at p.now layer y x (bit_of odd)).number }
+{
+    let mode = p.registers().mode;
+    let bits = depth(mode, layer);
+    let b = *p.registers().background(layer);
+    match (mode, bits, b.large) {
+        (0, 2, false) => {
+            let b = Background { large: false, ..b };
+            small_row(p, tiles, &b, 0, 2, layer, y, odd, low, high, ranks, numbers)
+        }
+        (1, 2, false) => {
+            let b = Background { large: false, ..b };
+            small_row(p, tiles, &b, 1, 2, layer, y, odd, low, high, ranks, numbers)
+        }
+        (1, 4, false) => {
+            let b = Background { large: false, ..b };
+            small_row(p, tiles, &b, 1, 4, layer, y, odd, low, high, ranks, numbers)
+        }
+        (3, 4, false) => {
+            let b = Background { large: false, ..b };
+            small_row(p, tiles, &b, 3, 4, layer, y, odd, low, high, ranks, numbers)
+        }
+        _ => columns_row(p, tiles, layer, y, odd, low, high, ranks, numbers),
+    }
 }
 
 /// A row of a layer in two byte planes: `ranks` has 0 where the layer has nothing, else `low` or `high` by the

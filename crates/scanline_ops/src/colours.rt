@@ -1,39 +1,84 @@
 //! Colours: look-up, arithmetic and brightness.
 
-ghost use Rattle.std.specs.Prelude.{◌≡◌, ℕ, ◌+◌, ◌*◌, ◌/◌, ◌%◌, ◌<◌, ◌^◌, Bool, true, false, not, ◌&&◌, ◌||◌, ◌==◌, length, slice_index, if◌then◌else◌};
+ghost use Rattle.std.specs.Prelude.{◌≡◌, ℕ, ◌+◌, ◌-◌, ◌*◌, ◌/◌, ◌%◌, ◌<◌, ◌≤◌, ◌^◌, Bool, true, false, not, ◌&&◌, ◌||◌, ◌==◌, length, slice_index, if◌then◌else◌};
 ghost use Rattle.scanline_ops.specs.Colours.{component_with, colour_with, dimmed, direct_colour, pixel_colour};
 
 use crate::ranked_pixels::is_found_key;
 
+/// The sum or the difference, not below 0, of two components that stand in the same bits of their colours.
 #[inline(always)]
-#[tactic(auto, unfolding(crate::specs::Colours::component_with))]
-fn component(subtracts: bool, halves: bool, one: u16, two: u16) -> u16
-    requires one_small { one < 32 }
-    requires two_small { two < 32 }
-    ensures value { result ≡ component_with subtracts halves one two }
-    ensures small { result < 32 }
+fn joined(subtracts: bool, one: u16, two: u16) -> u16
+    requires { one + two < 65536 }
+    ensures { result ≡ (if subtracts then one - two else one + two) }
 {
     let difference = one.saturating_sub(two);
     let sum = one + two;
-    let whole = if subtracts { difference } else { sum };
-    // Of a number up to 62, 129 parts of 256 are its half and 257 parts the whole, rounded down. A choice between
-    // halves and wholes would be a shift by lanes, which the processor hasn't.
-    let weight = 257 - 128 * halves as u16;
-    let part = whole * weight / 256;
-    part.min(31)
+    if subtracts { difference } else { sum }
 }
 
-/// Two colours joined component by component: their sum or difference, halved or not, within 0 to 31.
+// Components stay in the bits where they stand in their colours: green has 32 as its unit, blue 1,024. So none is shifted
+// down and up again.
+
+#[inline(always)]
+#[tactic(auto, unfolding(crate::specs::Colours::component_with))]
+fn red(subtracts: bool, halves: bool, one: u16, two: u16) -> u16
+    ensures value { result ≡ component_with subtracts halves (one % 32) (two % 32) }
+    ensures small { result ≤ 31 }
+{
+    let both = joined(subtracts, one % 32, two % 32);
+    if halves { both / 2 } else { both.min(31) }
+}
+
+#[inline(always)]
+#[tactic(auto, unfolding(crate::specs::Colours::component_with))]
+fn green(subtracts: bool, halves: bool, one: u16, two: u16) -> u16
+    ensures value { result ≡ 32 * component_with subtracts halves (one / 32 % 32) (two / 32 % 32) }
+    ensures small { result ≤ 992 }
+{
+    let both = joined(subtracts, one / 32 % 32 * 32, two / 32 % 32 * 32);
+    if halves {
+        both / 64 * 32
+    } else {
+        both.min(992)
+    }
+}
+
+#[inline(always)]
+#[tactic(auto, unfolding(crate::specs::Colours::component_with))]
+fn blue(subtracts: bool, halves: bool, one: u16, two: u16) -> u16
+    ensures value { result ≡ 1024 * component_with subtracts halves (one / 1024 % 32) (two / 1024 % 32) }
+    ensures small { result ≤ 31744 }
+{
+    let both = joined(subtracts, one / 1024 % 32 * 1024, two / 1024 % 32 * 1024);
+    if halves {
+        both / 2048 * 1024
+    } else {
+        both.min(31744)
+    }
+}
+
+/// Two colours joined component by component, all halved or none.
 #[inline(always)]
 #[tactic(auto, unfolding(crate::specs::Colours::colour_with))]
+fn join_all(subtracts: bool, halves: bool, one: u16, two: u16) -> u16
+    ensures value { result ≡ colour_with subtracts halves one two }
+    ensures small { result < 2 ^ 15 }
+{
+    red(subtracts, halves, one, two)
+        + green(subtracts, halves, one, two)
+        + blue(subtracts, halves, one, two)
+}
+
+/// Two colours joined component by component: their sum or difference, halved or not, within 0 to 31. Both are made, so that
+/// a loop over pixels has one choice at each.
+#[inline(always)]
 pub fn join_colours(subtracts: bool, halves: bool, one: u16, two: u16) -> u16
     ensures value { result ≡ colour_with subtracts halves one two }
     ensures small { result < 2 ^ 15 }
 {
-    let red = component(subtracts, halves, one % 32, two % 32);
-    let green = component(subtracts, halves, one / 32 % 32, two / 32 % 32);
-    let blue = component(subtracts, halves, one / 1024 % 32, two / 1024 % 32);
-    red + 32 * green + 1024 * blue
+    let whole = join_all(subtracts, false, one, two);
+    let half = join_all(subtracts, true, one, two);
+    if halves { half } else { whole }
 }
 
 /// The colour of a direct byte with these palette bits.

@@ -16,7 +16,7 @@ fn key_behind(hidden: u8, key: u8) -> u8
 fn second_is_nearer(first: u8, second: u8) -> bool
     ensures { result ≡ Rattle.scanline_ops.specs.RankedPixels.is_nearer first second }
 {
-    first / 16 < second / 16
+    first / 16 * 16 + 15 < second
 }
 
 /// One of two bytes, without a branch, so that loops become vector code.

@@ -5,7 +5,7 @@ use Rattle.ppu_regs.specs.Picture.{background_of}
 use Rattle.ppu_regs.specs.declared.registers.Registers.{Registers}
 use Rattle.ppu_regs.specs.declared.registers.Background.{Background}
 use Rattle.ppu_tiles.proofs.ColumnSteps.{row_rank, row_number, odd_small}
-use Rattle.ppu_tiles.proofs.rows.plain_row.Goals as goal
+use Rattle.ppu_tiles.proofs.rows.columns_row.Goals as goal
 
 pub returns-clause-ranks : goal.returns-clause-ranks
 returns-clause-ranks c =
