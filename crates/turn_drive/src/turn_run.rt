@@ -87,7 +87,7 @@ where
         if both_at(&console.value, &sound.value, ends.near) {
             ends.go_on();
         } else {
-            let legs = pace.set_out(rt, console.value.stamp());
+            let legs = pace.set_out(rt, console.value.stamp(), ends.part());
             let turned = turn(
                 rt,
                 wire,
