@@ -7,6 +7,7 @@ use run_drive::Watch;
 use std::alloc::Global;
 use std::io;
 use std::thread::Threads;
+use std::time::Clock;
 
 /// What came of the jobs so far.
 #[derive(Drop)]
@@ -85,7 +86,11 @@ struct ByTurns {
 }
 
 /// Runs a job by turns over a wire, or nothing where it is no job.
-fn by_turns<R: AllocGlobal + Threads>(rt: &R, case: &Case, carrier: Carrier) -> Option<ByTurns> {
+fn by_turns<R: AllocGlobal + Threads + Clock>(
+    rt: &R,
+    case: &Case,
+    carrier: Carrier,
+) -> Option<ByTurns> {
     let alloc = rt.alloc();
     let job = case.job(alloc)?;
     let mut marks = case.marks(alloc)?;
@@ -99,7 +104,7 @@ fn by_turns<R: AllocGlobal + Threads>(rt: &R, case: &Case, carrier: Carrier) -> 
 }
 
 /// Compares a job each way, counts it, and names what is wrong.
-pub fn compare<R: AllocGlobal + Threads + Print>(
+pub fn compare<R: AllocGlobal + Threads + Clock + Print>(
     rt: &R,
     case: &Case,
     tally: &mut Tally,

@@ -14,6 +14,7 @@ use run_drive::{Player, Sink, Workers, run_serial};
 use snes_defs::{Job, NoMemory, Side};
 use std::alloc::Global;
 use std::thread::Threads;
+use std::time::Clock;
 use turn_drive::run_turns;
 use word_log::Words;
 
@@ -45,7 +46,7 @@ pub enum Carrier {
 
 /// Runs a job's console on two workers, each of which passes the gate as it sets out on a turn, and
 /// answers how many turns it made: no more than the frames of the job have.
-pub fn play_by_turns<R: Threads, G: Gate, K: Sink>(
+pub fn play_by_turns<R: Threads + Clock, G: Gate, K: Sink>(
     player: Console,
     rt: &R,
     carrier: Carrier,

@@ -6,6 +6,7 @@ use run_io::Argv;
 use snes_program::Status;
 use std::rt::Files;
 use std::thread::Threads;
+use std::time::Clock;
 use std::{fs, io};
 
 /// Writes the files that the words name.
@@ -62,7 +63,7 @@ fn compare<R: AllocGlobal + Files + Print>(
 
 /// Answers the words over real files, and prints what is said, the exit status, and whether the outputs are those in
 /// memory. They are read while their shelf still stands, so that nothing is held back that was not flushed.
-fn answer_on_disk<R: AllocGlobal + Threads + Print + Files>(
+fn answer_on_disk<R: AllocGlobal + Threads + Clock + Print + Files>(
     rt: &R,
     argv: &Argv,
     row: &Outcome,
@@ -80,7 +81,7 @@ fn answer_on_disk<R: AllocGlobal + Threads + Print + Files>(
 /// `disk WORDS`: a row over real files in the folder where the program runs, which holds none of them before and
 /// after. Prints what is said, the exit status, and where that is 0 whether the outputs are those of the same row
 /// in memory.
-pub fn disk<R: AllocGlobal + Threads + Print + Files>(
+pub fn disk<R: AllocGlobal + Threads + Clock + Print + Files>(
     rt: &R,
     rows: &Rows,
     words: &str,

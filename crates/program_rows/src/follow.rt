@@ -7,6 +7,7 @@ use snes_program::Status;
 use std::alloc::Global;
 use std::rt::Files;
 use std::thread::Threads;
+use std::time::Clock;
 use std::{io, str};
 
 /// More puts than any row makes that lets each fail in turn.
@@ -25,7 +26,11 @@ fn keep(rows: &mut Rows, outcome: &Outcome) -> Option<()> {
 }
 
 /// A row of words: prints the answer and all that was written.
-fn row<R: AllocGlobal + Threads + Print>(rt: &R, rows: &mut Rows, words: &str) -> io::Result<()> {
+fn row<R: AllocGlobal + Threads + Clock + Print>(
+    rt: &R,
+    rows: &mut Rows,
+    words: &str,
+) -> io::Result<()> {
     let Some(outcome) = performed(rt, rows, words, None) else {
         return println!(rt; "{NO_ROW}");
     };
@@ -38,7 +43,11 @@ fn row<R: AllocGlobal + Threads + Print>(rt: &R, rows: &mut Rows, words: &str) -
 }
 
 /// A row of words of which two numbers of the line are not known from outside: prints the line up to them.
-fn opening<R: AllocGlobal + Threads + Print>(rt: &R, rows: &Rows, words: &str) -> io::Result<()> {
+fn opening<R: AllocGlobal + Threads + Clock + Print>(
+    rt: &R,
+    rows: &Rows,
+    words: &str,
+) -> io::Result<()> {
     let Some(outcome) = performed(rt, rows, words, None) else {
         return println!(rt; "{NO_ROW}");
     };
@@ -51,7 +60,7 @@ fn opening<R: AllocGlobal + Threads + Print>(rt: &R, rows: &Rows, words: &str) -
 }
 
 /// Runs the same files by another command, and answers whether it left what `run` did.
-fn leaves_the_same<R: AllocGlobal + Threads>(
+fn leaves_the_same<R: AllocGlobal + Threads + Clock>(
     rt: &R,
     rows: &Rows,
     command: &str,
@@ -64,7 +73,7 @@ fn leaves_the_same<R: AllocGlobal + Threads>(
 }
 
 /// What `run` makes of the files.
-fn by_turns<R: AllocGlobal + Threads>(rt: &R, rows: &Rows, words: &str) -> Option<Outcome> {
+fn by_turns<R: AllocGlobal + Threads + Clock>(rt: &R, rows: &Rows, words: &str) -> Option<Outcome> {
     let words = format!(in rt.alloc(); "run {words}").ok()?;
     performed(rt, rows, words.as_str(), None)
 }
@@ -82,7 +91,7 @@ fn show_alike<R: Print>(rt: &R, serially: Option<bool>, lockless: Option<bool>) 
 
 /// A row that is run by `run`, by `serial` and by `lockless`: prints what `run` left, and whether each of the others
 /// left the same.
-fn both<R: AllocGlobal + Threads + Print>(
+fn both<R: AllocGlobal + Threads + Clock + Print>(
     rt: &R,
     rows: &Rows,
     words: &str,
@@ -132,7 +141,7 @@ fn tell<R: Print>(rt: &R, nth: u32, part: &Outcome, whole: &Outcome) -> io::Resu
 }
 
 /// Lets the nth put of a row fail, and counts the answer. It answers whether it was one of a put that failed.
-fn fail_put<R: AllocGlobal + Threads + Print>(
+fn fail_put<R: AllocGlobal + Threads + Clock + Print>(
     rt: &R,
     rows: &Rows,
     words: &str,
@@ -157,7 +166,7 @@ fn fail_put<R: AllocGlobal + Threads + Print>(
 }
 
 /// Lets each put of a row fail in turn, until none is left to fail, and prints how many did, by output.
-fn fail_each<R: AllocGlobal + Threads + Print>(
+fn fail_each<R: AllocGlobal + Threads + Clock + Print>(
     rt: &R,
     rows: &Rows,
     words: &str,
@@ -180,7 +189,11 @@ fn fail_each<R: AllocGlobal + Threads + Print>(
 }
 
 /// A row whose puts fail in turn.
-fn each<R: AllocGlobal + Threads + Print>(rt: &R, rows: &Rows, words: &str) -> io::Result<()> {
+fn each<R: AllocGlobal + Threads + Clock + Print>(
+    rt: &R,
+    rows: &Rows,
+    words: &str,
+) -> io::Result<()> {
     match performed(rt, rows, words, None) {
         Some(whole) => fail_each(rt, rows, words, &whole),
         None => println!(rt; "{NO_ROW}"),
@@ -189,7 +202,11 @@ fn each<R: AllocGlobal + Threads + Print>(rt: &R, rows: &Rows, words: &str) -> i
 
 /// A row of words some put of which fails: prints the answer, and whether first bytes are left, at least one of the
 /// output that failed, of what the row leaves without a failure. How many depends on where the two workers met.
-fn part<R: AllocGlobal + Threads + Print>(rt: &R, rows: &mut Rows, words: &str) -> io::Result<()> {
+fn part<R: AllocGlobal + Threads + Clock + Print>(
+    rt: &R,
+    rows: &mut Rows,
+    words: &str,
+) -> io::Result<()> {
     let Some(part) = performed(rt, rows, words, None) else {
         return println!(rt; "{NO_ROW}");
     };
@@ -255,7 +272,7 @@ fn kind_of(word: &str) -> Option<Kind> {
 }
 
 /// Follows a line that runs something. The failures were for it alone.
-fn run<R: AllocGlobal + Threads + Print + Files>(
+fn run<R: AllocGlobal + Threads + Clock + Print + Files>(
     rt: &R,
     rows: &mut Rows,
     kind: Kind,
@@ -276,7 +293,7 @@ fn run<R: AllocGlobal + Threads + Print + Files>(
 }
 
 /// Follows a line of a file of rows. Headings and rows are printed.
-pub fn follow<R: AllocGlobal + Threads + Print + Files>(
+pub fn follow<R: AllocGlobal + Threads + Clock + Print + Files>(
     rt: &R,
     rows: &mut Rows,
     line: &str,

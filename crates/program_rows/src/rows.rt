@@ -6,6 +6,7 @@ use snes_program::Status;
 use std::alloc::Global;
 use std::str;
 use std::thread::Threads;
+use std::time::Clock;
 
 /// The nth call of this kind fails.
 #[derive(Clone, Copy)]
@@ -115,7 +116,7 @@ pub fn words_of(alloc: Global, line: &str) -> Option<Argv> {
 
 /// Calls the program with the words of a line, over a shelf that fails where it is planned, and here.
 /// Nothing where there is no memory for the shelf and the words.
-pub fn performed<R: AllocGlobal + Threads>(
+pub fn performed<R: AllocGlobal + Threads + Clock>(
     rt: &R,
     rows: &Rows,
     line: &str,

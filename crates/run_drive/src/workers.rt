@@ -1,9 +1,11 @@
 use crate::watch::Watch;
+use std::io;
 use std::thread::Threads;
+use std::time::{Clock, Duration};
 
-/// A runtime on which two workers run a job: it starts threads, and may have a watch that each worker passes as it
-/// sets out on a turn.
-pub trait Workers: Threads {
+/// A runtime on which two workers run a job: it starts threads, has a clock by which the run sees whether two threads pay,
+/// and may have a watch that each worker passes as it sets out on a turn.
+pub trait Workers: Threads + Clock {
     /// The watch, where there is one.
     fn watch(&self) -> Option<&Watch>;
 }
@@ -41,7 +43,17 @@ impl<R: Alloc> Alloc for Host<'_, R> {
     }
 }
 
-impl<R: Threads> Workers for Host<'_, R> {
+impl<R: Clock> Clock for Host<'_, R> {
+    fn monotonic(&self) -> io::Result<Duration> {
+        self.rt.monotonic()
+    }
+
+    fn since_1970(&self) -> io::Result<Duration> {
+        self.rt.since_1970()
+    }
+}
+
+impl<R: Threads + Clock> Workers for Host<'_, R> {
     fn watch(&self) -> Option<&Watch> {
         self.watch
     }

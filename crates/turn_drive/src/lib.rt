@@ -11,6 +11,7 @@
 
 mod both;
 mod ends;
+mod pace;
 mod turn_run;
 
 pub use turn_run::run_turns;

@@ -9,6 +9,7 @@ use snes_defs::{Region, Side};
 use std::alloc::AllocGlobal;
 use std::test::Fail;
 use std::thread::Threads;
+use std::time::Clock;
 
 /// Pairs of a region.
 const PAIRS: u64 = 100;
@@ -61,7 +62,7 @@ fn serially<R: AllocGlobal>(rt: &R, pair: Pair) -> Result<Sums, Fail>
 }
 
 /// And what turns make of it.
-fn by_turns<R: AllocGlobal + Threads>(
+fn by_turns<R: AllocGlobal + Threads + Clock>(
     rt: &R,
     pair: Pair,
     carrier: Carrier,
@@ -85,7 +86,7 @@ fn by_turns<R: AllocGlobal + Threads>(
 
 /// Runs the pairs of a region: four by `run_turns`, four by bare turns, and so on, and of these eight over the lock,
 /// then eight over words.
-fn compare<R: AllocGlobal + Threads>(rt: &R, region: Region) -> Result<Compared, Fail> {
+fn compare<R: AllocGlobal + Threads + Clock>(rt: &R, region: Region) -> Result<Compared, Fail> {
     let mut compared = Compared {
         alike: 0,
         heard: 0,

@@ -3,7 +3,7 @@ ghost use Rattle.std.specs.Prelude.{◌≡◌, ◌^◌, ◌<◌, ◌≤◌, ◌�
 ghost use Rattle.port_wire.specs.Reach.{IsInReach};
 
 use crate::sums::Sums;
-use pair_run::{Turned, turn};
+use pair_run::{Legs, Turned, turn};
 use port_lock::Ports;
 use port_wire::{Gate, Wire};
 use run_drive::{pour, run_serial};
@@ -12,6 +12,7 @@ use snes_defs::Side;
 use std::alloc::AllocGlobal;
 use std::test::Fail;
 use std::thread::Threads;
+use std::time::Clock;
 use turn_drive::run_turns;
 use word_log::Words;
 
@@ -57,7 +58,7 @@ fn both_at(console: &Tape, sound: &Tape, end: u64) -> bool
 }
 
 /// Turns to the end stamp, one after another, until both tapes are there. Whether they are.
-fn turns_to<R: Threads, W: Wire>(
+fn turns_to<R: Threads + Clock, W: Wire>(
     rt: &R,
     wire: &W,
     whole: W::Whole,
@@ -85,7 +86,15 @@ where
         if both_at(console, sound, end) {
             return true;
         }
-        let turned = turn(rt, wire, whole, console, sound, &OpenGate, number, end);
+        // Three turns of four in two threads, one by the caller alone.
+        let legs = if number % 4 == 3 {
+            Legs::Alternating
+        } else {
+            Legs::AtOnce
+        };
+        let turned = turn(
+            rt, wire, whole, console, sound, &OpenGate, number, end, legs,
+        );
         let Turned {
             whole: again,
             console: _,
@@ -100,7 +109,7 @@ where
 }
 
 /// What turns over a new wire emit.
-fn emitted<R: Threads, W: Wire>(
+fn emitted<R: Threads + Clock, W: Wire>(
     rt: &R,
     wire: &W,
     whole: W::Whole,
@@ -156,7 +165,7 @@ where
 }
 
 /// What turns over the log behind its lock emit.
-pub(crate) fn by_lock<R: AllocGlobal + Threads>(
+pub(crate) fn by_lock<R: AllocGlobal + Threads + Clock>(
     rt: &R,
     console: Tape,
     sound: Tape,
@@ -175,7 +184,7 @@ pub(crate) fn by_lock<R: AllocGlobal + Threads>(
 }
 
 /// What turns over words without a lock emit.
-pub(crate) fn by_words<R: AllocGlobal + Threads>(
+pub(crate) fn by_words<R: AllocGlobal + Threads + Clock>(
     rt: &R,
     console: Tape,
     sound: Tape,

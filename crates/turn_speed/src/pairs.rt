@@ -13,6 +13,7 @@ use side_law::Tape;
 use snes_defs::{NoMemory, Region};
 use std::alloc::Global;
 use std::thread::Threads;
+use std::time::Clock;
 use turn_drive::run_turns;
 use word_log::Words;
 
@@ -60,7 +61,7 @@ pub(crate) fn samples(alloc: Global) -> Result<Samples, NoMemory>
 }
 
 /// Runs the two by turns, and answers how many turns that took.
-pub fn emitted<R: Threads>(rt: &R, alloc: Global, frames: u32) -> Result<u64, NoMemory>
+pub fn emitted<R: Threads + Clock>(rt: &R, alloc: Global, frames: u32) -> Result<u64, NoMemory>
     requires { frames ≤ 36000 }
 {
     let console = rows(alloc)?;
@@ -88,7 +89,7 @@ pub fn emitted<R: Threads>(rt: &R, alloc: Global, frames: u32) -> Result<u64, No
 }
 
 /// Runs two tapes whose steps cost time by turns over a new wire, and answers how many turns that took.
-fn worked<R: Threads, W: Wire>(
+fn worked<R: Threads + Clock, W: Wire>(
     rt: &R,
     wire: &W,
     whole: W::Whole,
@@ -127,7 +128,7 @@ where
 }
 
 /// Runs the two over the log behind its lock.
-pub fn worked_by_lock<R: Threads>(
+pub fn worked_by_lock<R: Threads + Clock>(
     rt: &R,
     alloc: Global,
     console: Tape,
@@ -143,7 +144,7 @@ pub fn worked_by_lock<R: Threads>(
 }
 
 /// Runs the two over words without a lock.
-pub fn worked_by_words<R: Threads>(
+pub fn worked_by_words<R: Threads + Clock>(
     rt: &R,
     alloc: Global,
     console: Tape,

@@ -5,7 +5,7 @@ ghost use Rattle.port_wire.specs.Reach.{IsInReach};
 
 use crate::count::{Count, OpenGate};
 use crate::tapes::RISE;
-use pair_run::{Turned, turn};
+use pair_run::{Legs, Turned, turn};
 use port_lock::{Ports, Whole};
 use run_drive::pour;
 use side_law::{Machine, Tape};
@@ -54,6 +54,7 @@ pub fn quiet_turns<R: Threads>(
                 &OpenGate,
                 number as u64,
                 end,
+                Legs::AtOnce,
             );
             let Turned {
                 whole: again,

@@ -6,6 +6,7 @@ use run_io::Argv;
 use snes_program::{Status, snes};
 use std::alloc::Global;
 use std::thread::Threads;
+use std::time::Clock;
 use std::{io, str};
 
 /// A command line with one space between two words, the programs that its files hold, and the number that none of
@@ -88,7 +89,7 @@ fn is_numbered(turns: Option<u64>, limit: u64) -> bool {
 }
 
 /// Runs a row, or gives nothing where there is no memory for it.
-fn run<R: AllocGlobal + Threads + Print>(rt: &R, row: &Row) -> Option<io::Result<()>> {
+fn run<R: AllocGlobal + Threads + Clock + Print>(rt: &R, row: &Row) -> Option<io::Result<()>> {
     let words = words_of(rt.alloc(), row)?;
     let mut shelf = shelf(rt.alloc(), &row.programs)?;
     let watch = Watch::new();
@@ -105,7 +106,7 @@ fn run<R: AllocGlobal + Threads + Print>(rt: &R, row: &Row) -> Option<io::Result
 }
 
 /// Runs a row through the program, and prints its answer and what was seen of its workers.
-pub fn show<R: AllocGlobal + Threads + Print>(rt: &R, row: &Row) -> io::Result<()> {
+pub fn show<R: AllocGlobal + Threads + Clock + Print>(rt: &R, row: &Row) -> io::Result<()> {
     match run(rt, row) {
         Some(printed) => printed,
         None => println!(rt; "no memory"),

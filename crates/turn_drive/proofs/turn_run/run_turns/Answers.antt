@@ -61,9 +61,9 @@ few g c =
     let going = c.loop-ends.invariant.going m n console sound in
     let turned = c.turn-turned.ensures.turned m n console_ok sound_ok going.c going.s going.on going.console_now going.sound_now going.console_entries going.sound_entries in
     turns_are_few region (C.valid region) (S.valid region) C.MOST S.MOST C.moves S.moves (of_console.lawful region) (of_sound.lawful region) m n console_ok sound_ok
-    c.loop-ends.ends.near c.loop-ends.turns (C.stands c.loop-ends.console) (C.stands c.turn-turned.new.console) (S.stands c.loop-ends.sound) (S.stands c.turn-turned.new.sound)
-    (g.W.Wire.both c.loop-ends.whole) (g.W.Wire.both c.turn-turned.result.whole) (g.K.Sink.holds c.loop-ends.sink) (C.waiting c.loop-ends.console) (C.waiting c.turn-turned.new.console)
-    (S.waiting c.loop-ends.sound) (S.waiting c.turn-turned.new.sound) c.turn-turned.result.console c.turn-turned.result.sound c.turn-turned.result.stepped going turned)
+    c.loop-ends.ends.near c.loop-ends.turns (C.stands c.loop-ends.console.value) (C.stands c.turn-turned.new.console) (S.stands c.loop-ends.sound.value) (S.stands c.turn-turned.new.sound)
+    (g.W.Wire.both c.loop-ends.whole) (g.W.Wire.both c.turn-turned.result.whole) (g.K.Sink.holds c.loop-ends.sink) (C.waiting c.loop-ends.console.value) (C.waiting c.turn-turned.new.console)
+    (S.waiting c.loop-ends.sound.value) (S.waiting c.turn-turned.new.sound) c.turn-turned.result.console c.turn-turned.result.sound c.turn-turned.result.stepped going turned)
 
 pub loop-ends-smaller : goal.loop-ends-smaller
 loop-ends-smaller g c = omega (arith, few g c, c.loop-ends.ends.within, c.loop-ends.invariant.to_end)
@@ -81,9 +81,9 @@ loop-ends-preserved g c = record {
       let going = c.loop-ends.invariant.going m n console sound in
       let turned = c.turn-turned.ensures.turned m n console_ok sound_ok going.c going.s going.on going.console_now going.sound_now going.console_entries going.sound_entries in
       going_on region (C.valid region) (S.valid region) C.MOST S.MOST C.moves S.moves (of_console.lawful region) (of_sound.lawful region) m n console_ok sound_ok
-      c.loop-ends.ends.near c.loop-ends.turns (C.stands c.loop-ends.console) (C.stands c.turn-turned.new.console) (S.stands c.loop-ends.sound) (S.stands c.turn-turned.new.sound)
-      (g.W.Wire.both c.loop-ends.whole) (g.W.Wire.both c.turn-turned.result.whole) (g.K.Sink.holds c.loop-ends.sink) (C.waiting c.loop-ends.console) (C.waiting c.turn-turned.new.console)
-      (S.waiting c.loop-ends.sound) (S.waiting c.turn-turned.new.sound) c.turn-turned.result.console c.turn-turned.result.sound c.turn-turned.result.stepped going turned
+      c.loop-ends.ends.near c.loop-ends.turns (C.stands c.loop-ends.console.value) (C.stands c.turn-turned.new.console) (S.stands c.loop-ends.sound.value) (S.stands c.turn-turned.new.sound)
+      (g.W.Wire.both c.loop-ends.whole) (g.W.Wire.both c.turn-turned.result.whole) (g.K.Sink.holds c.loop-ends.sink) (C.waiting c.loop-ends.console.value) (C.waiting c.turn-turned.new.console)
+      (S.waiting c.loop-ends.sound.value) (S.waiting c.turn-turned.new.sound) c.turn-turned.result.console c.turn-turned.result.sound c.turn-turned.result.stepped going turned
       (g.K.Sink.holds c.pour_both.new.sink) c.loop-ends.invariant.console_empty c.loop-ends.invariant.sound_empty
       (C.stands c.pour_both.new.console) (S.stands c.pour_both.new.sound) c.pour_both.ensures.console_state c.pour_both.ensures.sound_state c.in_ok-pour_both.ensures.video c.in_ok-pour_both.ensures.audio;
   of = search rules;
@@ -112,9 +112,9 @@ returns-in_err-pour_both-clause-first g c = λ m n console sound.
     let going = c.loop-ends.invariant.going m n console sound in
     let turned = c.turn-turned.ensures.turned m n console_ok sound_ok going.c going.s going.on going.console_now going.sound_now going.console_entries going.sound_entries in
     going_stops region (C.valid region) (S.valid region) C.MOST S.MOST C.moves S.moves (of_console.lawful region) (of_sound.lawful region) m n console_ok sound_ok
-    c.loop-ends.ends.near c.loop-ends.turns (C.stands c.loop-ends.console) (C.stands c.turn-turned.new.console) (S.stands c.loop-ends.sound) (S.stands c.turn-turned.new.sound)
-    (g.W.Wire.both c.loop-ends.whole) (g.W.Wire.both c.turn-turned.result.whole) (g.K.Sink.holds c.loop-ends.sink) (C.waiting c.loop-ends.console) (C.waiting c.turn-turned.new.console)
-    (S.waiting c.loop-ends.sound) (S.waiting c.turn-turned.new.sound) c.turn-turned.result.console c.turn-turned.result.sound c.turn-turned.result.stepped going turned
+    c.loop-ends.ends.near c.loop-ends.turns (C.stands c.loop-ends.console.value) (C.stands c.turn-turned.new.console) (S.stands c.loop-ends.sound.value) (S.stands c.turn-turned.new.sound)
+    (g.W.Wire.both c.loop-ends.whole) (g.W.Wire.both c.turn-turned.result.whole) (g.K.Sink.holds c.loop-ends.sink) (C.waiting c.loop-ends.console.value) (C.waiting c.turn-turned.new.console)
+    (S.waiting c.loop-ends.sound.value) (S.waiting c.turn-turned.new.sound) c.turn-turned.result.console c.turn-turned.result.sound c.turn-turned.result.stepped going turned
     (g.K.Sink.holds c.pour_both.new.sink) c.loop-ends.invariant.console_empty c.loop-ends.invariant.sound_empty
     c.args.end (omega (arith, c.loop-ends.ends.within, c.loop-ends.invariant.to_end)) c.in_err-pour_both.ensures.some_video c.in_err-pour_both.ensures.some_audio
 
@@ -130,8 +130,8 @@ returns-clause-whole g c = λ m n console sound.
     let going = c.loop-ends.invariant.going m n console sound in
     going_is_whole region (C.valid region) (S.valid region) C.MOST S.MOST C.moves S.moves (of_console.lawful region) (of_sound.lawful region) m n console_ok sound_ok
     _ _ _ _ _ _ _ (omega (arith, c.loop-ends.ends.within, c.loop-ends.invariant.to_end)) going
-    (search (rules, of_console.stands_stamp c.loop-ends.console going.c.now going.console_now))
-    (search (rules, of_sound.stands_stamp c.loop-ends.sound going.s.now going.sound_now))
+    (search (rules, of_console.stands_stamp c.loop-ends.console.value going.c.now going.console_now))
+    (search (rules, of_sound.stands_stamp c.loop-ends.sound.value going.s.now going.sound_now))
 
 pub returns-clause-made : goal.returns-clause-made
 returns-clause-made g c = λ m n console sound.
@@ -145,8 +145,8 @@ returns-clause-made g c = λ m n console sound.
     let going = c.loop-ends.invariant.going m n console sound in
     going_is_made region (C.valid region) (S.valid region) C.MOST S.MOST C.moves S.moves (of_console.lawful region) (of_sound.lawful region) m n console_ok sound_ok
     _ _ _ _ _ _ _ going
-    (search (rules, of_console.stands_stamp c.loop-ends.console going.c.now going.console_now))
-    (search (rules, of_sound.stands_stamp c.loop-ends.sound going.s.now going.sound_now))
+    (search (rules, of_console.stands_stamp c.loop-ends.console.value going.c.now going.console_now))
+    (search (rules, of_sound.stands_stamp c.loop-ends.sound.value going.s.now going.sound_now))
 
 pub returns-clause-first : goal.returns-clause-first
 returns-clause-first g c = λ m n console sound.

@@ -10,16 +10,16 @@ invariant-loop-ends g l =
     let W = g.W.Wire in
     record {
       going : (c : C.State) (s : S.State) → C.stands l.fn.console c → S.stands l.fn.sound s
-          → IsGoing C.moves S.moves c s l.ends.near l.turns (C.stands l.console) (S.stands l.sound) (W.both l.whole) (g.K.Sink.holds l.sink);
+          → IsGoing C.moves S.moves c s l.ends.near l.turns (C.stands l.console.value) (S.stands l.sound.value) (W.both l.whole) (g.K.Sink.holds l.sink);
       of : W.is_whole_of l.wire l.whole;
-      console_region : C.region_of l.console ≡ W.region_of l.wire;
-      sound_region : S.region_of l.sound ≡ W.region_of l.wire;
-      console_clock : (W.both l.whole).console.at ≤ C.stamp_of l.console;
-      sound_clock : (W.both l.whole).sound.at ≤ S.stamp_of l.sound;
-      console_reach : IsInReach (W.region_of l.wire) (C.stamp_of l.console) (W.both l.whole).console;
-      sound_reach : IsInReach (W.region_of l.wire) (S.stamp_of l.sound) (W.both l.whole).sound;
-      console_empty : C.waiting l.console ≡ [];
-      sound_empty : S.waiting l.sound ≡ [];
+      console_region : C.region_of l.console.value ≡ W.region_of l.wire;
+      sound_region : S.region_of l.sound.value ≡ W.region_of l.wire;
+      console_clock : (W.both l.whole).console.at ≤ C.stamp_of l.console.value;
+      sound_clock : (W.both l.whole).sound.at ≤ S.stamp_of l.sound.value;
+      console_reach : IsInReach (W.region_of l.wire) (C.stamp_of l.console.value) (W.both l.whole).console;
+      sound_reach : IsInReach (W.region_of l.wire) (S.stamp_of l.sound.value) (W.both l.whole).sound;
+      console_empty : C.waiting l.console.value ≡ [];
+      sound_empty : S.waiting l.sound.value ≡ [];
       to_end : l.ends.end ≡ l.end;
       few : l.turns ≤ 2 * l.end;
       only : g.K.Sink.only_takes l.initial.sink l.sink;
