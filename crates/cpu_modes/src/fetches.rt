@@ -158,7 +158,7 @@ impl Micro {
         self.to_fetch(Place::OperandHigh(kind));
     }
 
-    /// Its high byte was fetched. Answers whether the instruction has ended.
+    /// The high byte of an operand was fetched. Answers whether the instruction has ended.
     #[inline]
     pub(crate) fn took_operand_high(&mut self, kind: OperandKind, got: u8) -> bool
         requires { self.old.place ≡ OperandHigh kind }
@@ -206,7 +206,7 @@ impl Micro {
         self.reach_absolute_indexed(join(self.word, got), self.here.y);
     }
 
-    /// Its bank was fetched. Answers whether the instruction has ended.
+    /// The bank of an operand was fetched. Answers whether the instruction has ended.
     #[inline]
     pub(crate) fn took_operand_bank(&mut self, kind: BankKind, got: u8) -> bool
         requires { self.old.place ≡ OperandBank kind }
