@@ -95,6 +95,7 @@ impl Cpu {
     #[inline(always)]
     pub fn reads_at(&self) -> Option<u32>
         ensures gets { IfSome result (λ at. gets_at (access_of self.now) at) }
+        ensures none { result ≡ None → gets_byte (access_of self.now) ≡ false }
         ensures within { IfSome result (λ at. at < 2 ^ 24) }
     {
         match self.micro.access {
@@ -109,6 +110,7 @@ impl Cpu {
     #[inline(always)]
     pub fn writes_at(&self) -> Option<(u32, u8)>
         ensures writes { IfSome result (λ to. access_of self.now ≡ Write to.0 to.1) }
+        ensures none { result ≡ None → is_write (access_of self.now) ≡ false }
         ensures within { IfSome result (λ to. to.0 < 2 ^ 24) }
     {
         match self.micro.access {
@@ -122,7 +124,8 @@ impl Cpu {
     /// Whether the next access is an internal cycle.
     #[inline(always)]
     pub fn is_idle(&self) -> bool
-        ensures { IsTrue result → access_of self.now ≡ Inner }
+        ensures exact { result ≡ is_inner (access_of self.now) }
+        ensures inner { IsTrue result → access_of self.now ≡ Inner }
     {
         match self.micro.access {
             Access::Fetch(_) => false,
