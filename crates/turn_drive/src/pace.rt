@@ -7,14 +7,17 @@ use std::time::Clock;
 /// Master clocks of a line.
 const LINE: u64 = 1364;
 
-/// How many turns the caller makes alone after the first one of two threads that took too long: those of a frame.
-const FEWEST: u32 = 4;
+/// The turns of a frame, each to a near end of its own.
+const PARTS: usize = 4;
+
+/// How many turns the caller makes alone after the first one of two threads that took too long: those of 16 frames.
+const FEWEST: u32 = 64;
 
 /// After each more so many times as many.
-const GROWTH: u32 = 4;
+const GROWTH: u32 = 16;
 
-/// The most: the turns of 64 frames.
-const MOST: u32 = 256;
+/// The most: the turns of 256 frames. On a busy machine a turn of two threads can take as long as fifty by the caller alone.
+const MOST: u32 = 1024;
 
 /// What is known of turns alone ages by one part of so many with each turn of two threads.
 const AGES: u64 = 64;
@@ -31,7 +34,7 @@ pub(crate) struct Pace {
     from: u64,
     part: usize,
     /// The nanoseconds that the caller alone takes for a line of each part of a frame, 0 where that isn't known.
-    alone: [u64; 4],
+    alone: [u64; PARTS],
     /// How many turns more it makes alone.
     left: u32,
     /// How many it makes alone where two threads take too long again.
@@ -67,7 +70,7 @@ impl Pace {
             begun: 0,
             from: 0,
             part: 0,
-            alone: [0; 4],
+            alone: [0; PARTS],
             left: 0,
             next: FEWEST,
         }
@@ -76,7 +79,7 @@ impl Pace {
     /// A turn begins at this stamp of the console, in this part of a frame. How its legs are made.
     pub(crate) fn set_out<R: Clock>(&mut self, rt: &R, stamp: u64, part: usize) -> Legs {
         self.from = stamp;
-        self.part = part % 4;
+        self.part = part % PARTS;
         self.begun = nanoseconds(rt);
         if self.left == 0 {
             Legs::AtOnce
@@ -94,18 +97,18 @@ impl Pace {
 
     /// Goes on after a turn that took so many nanoseconds a line.
     fn go_on(&mut self, taken: u64) {
-        let known = self.alone[self.part % 4];
+        let known = self.alone[self.part % PARTS];
         if self.left > 0 {
             self.left -= 1;
-            self.alone[self.part % 4] = learnt(known, taken);
+            self.alone[self.part % PARTS] = learnt(known, taken);
         } else if known == 0 {
-            self.left = FEWEST;
+            self.left = PARTS as u32;
         } else if taken > known.saturating_add(known / 2) {
             self.left = self.next;
             self.next = self.next.saturating_mul(GROWTH).min(MOST);
         } else {
             self.next = (self.next - self.next / 4).max(FEWEST);
-            self.alone[self.part % 4] = known - known / AGES;
+            self.alone[self.part % PARTS] = known - known / AGES;
         }
     }
 }
