@@ -13,10 +13,10 @@
 #     workers      the bodies that make a run by one worker (try_one_worker.sh)
 #     bodies       the wrong bodies of each crate (try_wrong_bodies.sh)
 #
-# It can be ended at any time and called again. What held is noted in the file `held` of the folder CHECKED
-# (/tmp/snes-full-check), a line an item: a sum of all that the item rests on (sources, edits, scripts, built programs, toolchain),
-# part, item, date, commit. An item whose sum stands there is not tried again, at this commit or a later one.
-# The output of each item goes to CHECKED/PART-ITEM.
+# It can be ended at any time and called again. What held is noted in tools/full_check.held (HELD names another file), a line
+# an item: a sum of all that the item rests on (sources, edits, scripts, built programs, toolchain), part, item, date,
+# commit. An item whose sum stands there is not tried again, at this commit or a later one, here or on another machine: so
+# the file is committed after a run. The output of each item goes to CHECKED/PART-ITEM (CHECKED: /tmp/snes-full-check).
 #
 # It wants the built programs (./snes demo 7 --frames 0; in crates/wild_jobs `rt run`, or ONLY_BUILD=1 tools/run_built.sh
 # jobs wild_jobs), a C compiler, and some three hours of four processors, of which the wrong bodies take nearly all.
@@ -24,7 +24,8 @@
 # checks what is committed. The status is 1 where a part doesn't hold.
 top=$(cd "$(dirname "${BASH_SOURCE[0]}")/.." && pwd) || exit 2
 checked=${CHECKED:-/tmp/snes-full-check}
-mkdir -p "$checked" && touch "$checked/held" || exit 2
+held=${HELD:-$top/tools/full_check.held}
+mkdir -p "$checked" && touch "$held" || exit 2
 export snes=${SNES:-$top/crates/snes_run/out/snes_run}
 jobs=${WILD_JOBS:-$top/crates/wild_jobs/out/wild_jobs}
 commit=$(git -C "$top" rev-parse --short HEAD) || exit 2
@@ -75,16 +76,27 @@ sources_of() {
 # What is committed in a file or folder.
 committed() { git -C "$top" rev-parse "HEAD:$1"; }
 
+# Notes that an item held, in place of what was noted of it before: SUM NAME.
+note() {
+  local line
+  line="$1 $part $2 $(date -u +%Y-%m-%dT%H:%MZ) $commit"
+  (
+    flock 9
+    { grep -v " $part $2 " "$held"; echo "$line"; } | sort -k 2,3 >"$checked/held.new"
+    cp "$checked/held.new" "$held"
+  ) 9>"$checked/lock"
+}
+
 # Tries an item of a part, unless it is noted that all it rests on held before.
 item() {
   local name=$1 sum=$2
   shift 2
   [ -z "$only" ] || [ "$only" = "$name" ] || return
   items=$((items + 1))
-  if [ "$sum" != now ] && grep -q "^$sum $part $name " "$checked/held"; then
+  if [ "$sum" != now ] && grep -q "^$sum $part $name " "$held"; then
     noted=$((noted + 1))
   elif "$@" >"$checked/$part-$name" 2>&1; then
-    echo "$sum $part $name $(date -u +%Y-%m-%dT%H:%MZ) $commit" >>"$checked/held"
+    [ "$sum" = now ] || note "$sum" "$name"
   else
     bad=$((bad + 1))
     echo "$part, $name: $(tail -n 1 "$checked/$part-$name")"
