@@ -14,9 +14,11 @@
 #     bodies       the wrong bodies of each crate (try_wrong_bodies.sh)
 #
 # It can be ended at any time and called again. What held is noted in tools/full_check.held (HELD names another file), a line
-# an item: a sum of all that the item rests on (sources, edits, scripts, built programs, toolchain), part, item, date,
-# commit. An item whose sum stands there is not tried again, at this commit or a later one, here or on another machine: so
-# the file is committed after a run. The output of each item goes to CHECKED/PART-ITEM (CHECKED: /tmp/snes-full-check).
+# an item: a sum of all that the item rests on (sources, edits, scripts, built programs, the toolchain's logic), part, item,
+# date, commit, kit. An item whose sum stands there is not tried again, at this commit or a later one, here or on another
+# machine: so the file is committed after a run. Of the toolchain the sum has what `rt version` says behind `logic`, a sum
+# of the libraries that the prover takes; two kits that differ by name alone count as one, and the line names the one that was used.
+# The output of each item goes to CHECKED/PART-ITEM (CHECKED: /tmp/snes-full-check).
 #
 # It wants the built programs (./snes demo 7 --frames 0; in crates/wild_jobs `rt run`, or ONLY_BUILD=1 tools/run_built.sh
 # jobs wild_jobs), a C compiler, and some three hours of four processors, of which the wrong bodies take nearly all.
@@ -29,6 +31,7 @@ mkdir -p "$checked" && touch "$held" || exit 2
 export snes=${SNES:-$top/crates/snes_run/out/snes_run}
 jobs=${WILD_JOBS:-$top/crates/wild_jobs/out/wild_jobs}
 commit=$(git -C "$top" rev-parse --short HEAD) || exit 2
+read -r kit logic < <(rt version) || exit 2
 parts=("$@")
 [ $# -gt 0 ] || parts=(edits device allocations soak rows workers bodies)
 
@@ -65,12 +68,10 @@ sum_of() {
   for word; do if [ -f "$word" ]; then sha256sum <"$word"; else echo "$word"; fi; done | sha256sum | cut -c 1-20
 }
 
-# What the check of a crate rests on: the committed sources of it and of all below, and the toolchain.
+# What the check of a crate rests on: the committed sources of it and of all below, and the toolchain's logic.
 sources_of() {
-  rt version
-  "$top/tools/lines_below.sh" "$1" | sed 's/[ :].*//' | sort | while read -r name; do
-    git -C "$top" ls-tree HEAD "crates/$name/src" "crates/$name/specs" "crates/$name/proofs"
-  done
+  echo "$logic"
+  "$top/tools/lines_below.sh" "$1" | sed 's,[ :].*,,; s,.*,crates/&/src crates/&/specs crates/&/proofs,' | xargs git -C "$top" ls-tree HEAD
 }
 
 # What is committed in a file or folder.
@@ -79,7 +80,7 @@ committed() { git -C "$top" rev-parse "HEAD:$1"; }
 # Notes that an item held, in place of what was noted of it before: SUM NAME.
 note() {
   local line
-  line="$1 $part $2 $(date -u +%Y-%m-%dT%H:%MZ) $commit"
+  line="$1 $part $2 $(date -u +%Y-%m-%dT%H:%MZ) $commit $kit"
   (
     flock 9
     { grep -v " $part $2 " "$held"; echo "$line"; } | sort -k 2,3 >"$checked/held.new"
@@ -87,11 +88,14 @@ note() {
   ) 9>"$checked/lock"
 }
 
+# Whether an item is to be tried: all of a part are, where no word names one.
+chosen() { [ -z "$only" ] || [ "$only" = "$1" ]; }
+
 # Tries an item of a part, unless it is noted that all it rests on held before.
 item() {
   local name=$1 sum=$2
   shift 2
-  [ -z "$only" ] || [ "$only" = "$name" ] || return
+  chosen "$name" || return
   items=$((items + 1))
   if [ "$sum" != now ] && grep -q "^$sum $part $name " "$held"; then
     noted=$((noted + 1))
@@ -140,6 +144,7 @@ bodies() {
   local crate
   for crate in "$top"/tools/wrong_bodies/*/; do
     crate=$(basename "$crate")
+    chosen "$crate" || continue
     item "$crate" "$(sum_of "$(sources_of "$crate")" "$(committed "tools/wrong_bodies/$crate")")" \
       "$top/tools/try_wrong_bodies.sh" "$crate"
   done
