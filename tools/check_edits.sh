@@ -3,7 +3,7 @@
 # each text that it replaces stands there once when its turn comes; the new text is another; no two of a crate make the same
 # change; and none changes what is proved and not the code: a clause, a definition, a proof.
 #
-# `rt ci` only passes over an edit that can't be made. This takes no proof and a second. The status is 1 where one can't.
+# Not every toolchain's `rt ci` fails at an edit that can't be made. This takes no proof and a second. The status is 1 where one can't.
 top=$(cd "$(dirname "${BASH_SOURCE[0]}")/.." && pwd) || exit 2
 cd "$top" && exec python3 - <<'P'
 import collections, glob, os, re, sys
