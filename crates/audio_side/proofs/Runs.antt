@@ -63,11 +63,11 @@ halted_run (suc n) spc b s inner stays stands =
 -- ---- steps of the sound side
 
 -- nothing comes at the end of a cycle whose number is none of those at which something may
-ends_nothing : (fast : Bool) (n : ℕ) (b : HardwareState) → b.timer2.on ≡ fast → (n + 1) % beat_of fast ≢ 0 → passed n b ≡ b
+pub ends_nothing : (fast : Bool) (n : ℕ) (b : HardwareState) → b.timer2.on ≡ fast → (n + 1) % beat_of fast ≢ 0 → passed n b ≡ b
 ends_nothing true n b is none = passes_nothing n b none
 ends_nothing false n b is none = rests_nothing n b is none
 
-emits_none : (fast : Bool) (n : ℕ) (b : HardwareState) → (n + 1) % beat_of fast ≢ 0 → emitted n b ≡ []
+pub emits_none : (fast : Bool) (n : ℕ) (b : HardwareState) → (n + 1) % beat_of fast ≢ 0 → emitted n b ≡ []
 unfolding emitted
 emits_none true n b none =
     let sample : (n % 32 == 31) ≡ false = ne_eqb (n % 32) 31 (λ e. none (omega (arith, e))) in
@@ -90,10 +90,10 @@ free_act : (fast : Bool) (before : ℕ) (s : SpcState) (b : HardwareState) (k : 
 unfolding sound_act
 free_act fast before s b k quiet free = rw free.no_reset quiet
 
-later_none : (c : Clock) → later 0 c ≡ c
+pub later_none : (c : Clock) → later 0 c ≡ c
 later_none c = ap (λ (n : ℕ). record c { cycle = n }) (add-zero c.cycle)
 
-later_more : (n : ℕ) (c : Clock) → later n (gone_on c) ≡ later (suc n) c
+pub later_more : (n : ℕ) (c : Clock) → later n (gone_on c) ≡ later (suc n) c
 later_more n c = ap (λ (k : ℕ). record c { cycle = k }) (omega arith)
 
 -- a run in free cycles is made of silent steps

@@ -14,6 +14,7 @@ mod kept;
 mod parts;
 mod side;
 mod step;
+mod talking;
 mod timer;
 
 pub use side::AudioSide;

@@ -96,7 +96,7 @@ fn access(spc: &mut Spc, hardware: &mut Hardware, got: u8)
 
 /// Whether an address is one of the registers F0 to FF.
 #[inline(always)]
-fn is_register(at: u16) -> bool
+pub fn is_register(at: u16) -> bool
     ensures { MatchBool result (at / 16 ≡ 15) (at / 16 ≢ 15) }
 {
     at / 16 == 15
