@@ -5,3 +5,4 @@ pub mod Ticks
 pub mod FromParts
 pub mod BootOver
 pub mod Runs
+pub mod Follows

@@ -8,3 +8,4 @@ pub mod SoundLaws
 pub mod FromParts
 pub mod Kept
 pub mod Runs
+pub mod Follows

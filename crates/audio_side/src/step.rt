@@ -11,6 +11,7 @@ ghost use Rattle.audio_side.specs.Sound.{IsRunning, SoundState, hardware_before_
 
 use crate::clock::CycleClock;
 use crate::hardware::{Hardware, cleared};
+use crate::instructions::make_all;
 use circular_buffer::HeapCircularBuffer;
 use snes_defs::Act;
 use spc700::{Spc, SpcAccess};
@@ -96,7 +97,7 @@ fn access(spc: &mut Spc, hardware: &mut Hardware, got: u8)
 
 /// Whether an address is one of the registers F0 to FF.
 #[inline(always)]
-fn is_register(at: u16) -> bool
+pub fn is_register(at: u16) -> bool
     ensures { MatchBool result (at / 16 ≡ 15) (at / 16 ≢ 15) }
 {
     at / 16 == 15
@@ -252,12 +253,9 @@ pub fn make_accesses(spc: &mut Spc, hardware: &mut Hardware, most: u8) -> u8
     if spc.is_halted() {
         return most;
     }
-    'accesses: for made in 0..most {
-        if !try_plain(spc, hardware) {
-            return made;
-        }
-    }
-    most
+    let mut left = most;
+    make_all(spc, hardware, &mut left);
+    most - left
 }
 
 /// A processor at the vector `pc`.
