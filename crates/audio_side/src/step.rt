@@ -244,7 +244,7 @@ pub fn try_plain(spc: &mut Spc, hardware: &mut Hardware) -> bool
 
 /// Makes the processor's accesses one after another, at most so many, as long as they are internal cycles or at none of
 /// the registers F0 to FF, and answers how many it made.
-#[inline(never)]
+#[inline(always)]
 pub fn make_accesses(spc: &mut Spc, hardware: &mut Hardware, most: u8) -> u8
     ensures run { (s : SpcState) → Stands spc.old s → HasRun spc.new hardware.new s hardware.old result }
     ensures few { result ≤ most }
