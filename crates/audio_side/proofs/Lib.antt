@@ -6,3 +6,4 @@ pub mod FromParts
 pub mod BootOver
 pub mod Runs
 pub mod Talks
+pub mod Follows

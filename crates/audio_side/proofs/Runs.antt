@@ -33,6 +33,20 @@ plain_more zero s b to b' (same, is) quiet timer =
 plain_more (suc n) s b to b' (first, still, rest) quiet timer =
     (first, still, plain_more n (moved_on s (given b (next_of s) 0)) (effect b (next_of s)) to b' rest quiet timer)
 
+-- a run after a run
+pub plain_then : (n k : ℕ) (s : SpcState) (b : HardwareState) (mid : SpcState) (c : HardwareState) (to : SpcState) (b' : HardwareState)
+    → PlainAccesses n s b mid c → PlainAccesses k mid c to b' → PlainAccesses (n + k) s b to b'
+plain_then zero k s b mid c to b' (same, is) then =
+    let all : k ≡ 0 + k = omega arith in
+    let R : ℕ → Type 0 = λ x. PlainAccesses x s b to b' in
+    let P : SpcState → Type 0 = λ x. PlainAccesses k x b to b' in
+    let Q : HardwareState → Type 0 = λ x. PlainAccesses k mid x to b' in
+    subst R all (subst P (sym same) (subst Q (sym is) then))
+plain_then (suc n) k s b mid c to b' (first, still, rest) then =
+    let all : suc (n + k) ≡ suc n + k = omega arith in
+    let R : ℕ → Type 0 = λ x. PlainAccesses x s b to b' in
+    subst R all (first, still, plain_then n k (moved_on s (given b (next_of s) 0)) (effect b (next_of s)) mid c to b' rest then)
+
 pub no_run : (spc : Spc) (b : HardwareState) (s : SpcState) → Stands spc s → HasRun spc b s b 0
 no_run spc b s stands = record { to = s; run = (refl, refl); stands = stands }
 

@@ -9,3 +9,4 @@ pub mod FromParts
 pub mod Kept
 pub mod Runs
 pub mod Talks
+pub mod Follows

@@ -10,6 +10,7 @@
 mod clock;
 mod from_parts;
 mod hardware;
+mod instructions;
 mod kept;
 mod parts;
 mod side;

@@ -173,9 +173,14 @@ impl Parts {
         ensures runs { IsRunning self.old.spc → IsRunning self.new.spc }
     {
         let waited = self.waiting.len();
-        let mut stopped = self.rush(before);
         let mut at = self.clock.stamp();
         'steps: while at < before {
+            let stopped = self.rush(before);
+            at = self.clock.stamp();
+            if at >= before {
+                let act = self.act();
+                return Pause { at, act };
+            }
             if stopped {
                 // Where the register is a port, no step is tried in vain.
                 let act = self.act();
@@ -191,7 +196,6 @@ impl Parts {
                 let act = self.act();
                 return Pause { at, act };
             }
-            stopped = self.rush(before);
             at = self.clock.stamp();
         }
         let act = self.act();

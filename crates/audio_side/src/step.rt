@@ -11,6 +11,7 @@ ghost use Rattle.audio_side.specs.Sound.{IsRunning, SoundState, hardware_before_
 
 use crate::clock::CycleClock;
 use crate::hardware::{Hardware, cleared};
+use crate::instructions::make_all;
 use circular_buffer::HeapCircularBuffer;
 use snes_defs::Act;
 use spc700::{Spc, SpcAccess};
@@ -243,7 +244,7 @@ pub fn try_plain(spc: &mut Spc, hardware: &mut Hardware) -> bool
 
 /// Makes the processor's accesses one after another, at most so many, as long as they are internal cycles or at none of
 /// the registers F0 to FF, and answers how many it made.
-#[inline(never)]
+#[inline(always)]
 pub fn make_accesses(spc: &mut Spc, hardware: &mut Hardware, most: u8) -> u8
     ensures run { (s : SpcState) → Stands spc.old s → HasRun spc.new hardware.new s hardware.old result }
     ensures few { result ≤ most }
@@ -252,12 +253,9 @@ pub fn make_accesses(spc: &mut Spc, hardware: &mut Hardware, most: u8) -> u8
     if spc.is_halted() {
         return most;
     }
-    'accesses: for made in 0..most {
-        if !try_plain(spc, hardware) {
-            return made;
-        }
-    }
-    most
+    let mut left = most;
+    make_all(spc, hardware, &mut left);
+    most - left
 }
 
 /// A processor at the vector `pc`.
