@@ -1,7 +1,9 @@
 -- Runs of accesses while the other side stands still: none, one more; and that a run in free cycles is made of steps that
 -- emit nothing, with the bytes at the ports.
-use Rattle.std.proofs.Common.{◌≡◌, ◌∙◌, ◌+◌, ◌≤◌, ℕ, Bool, zero, suc, List, [], refl, sym, ap, subst, arith}
+use Rattle.std.proofs.Common.{◌≡◌, ◌∙◌, ◌+◌, ◌-◌, ◌<◌, ◌≤◌, ℕ, Bool, zero, suc, List, [], refl, sym, ap, subst, arith}
+use mathlib.Core.Logic.{∥∥₁_map}
 use Rattle.snes_defs.specs.declared.ports.Act.{Act}
+use Rattle.snes_defs.specs.declared.ports.Act.TheVariants.{Quiet}
 use Rattle.side_law.specs.Serial.{got_of, incoming_after, outgoing_after}
 use Rattle.side_law.specs.Sides.{SideState, side_step, side_bytes, MayTalk, TalkSteps, HasTalked}
 use Rattle.spc700.specs.Instruction.{SpcState, moved_on, next_of}
@@ -11,9 +13,10 @@ use Rattle.audio_side.specs.HardwareState.{HardwareState}
 use Rattle.audio_side.specs.declared.timer.Timer.{Timer}
 use Rattle.audio_side.specs.Clock.{Clock, gone_on, stamp_now}
 use Rattle.audio_side.specs.Effect.{act_of, effect, emitted, given, passed}
-use Rattle.audio_side.specs.Runs.{later, IsFree, AreFree}
-use Rattle.audio_side.specs.Talks.{TalkAccesses, HasTalkRun}
-use Rattle.audio_side.specs.Sound.{AudioValue, SoundState, StandsAt, hardware_before_end, sound_act, sound_moves, sound_next}
+use Rattle.audio_side.specs.Follows.{Follows}
+use Rattle.audio_side.specs.Runs.{later, IsFree, AreFree, PlainAccesses}
+use Rattle.audio_side.specs.Talks.{TalkAccesses, HasTalkRun, TalksOn}
+use Rattle.audio_side.specs.Sound.{AudioValue, IsRunning, SoundState, StandsAt, hardware_before_end, sound_act, sound_moves, sound_next}
 use Rattle.audio_side.specs.SoundLaws.{sound_is_lawful}
 use Rattle.audio_side.proofs.Moves.{not_reset_processor, not_reset_hardware, same_state, state_with}
 use Rattle.audio_side.proofs.Runs.{emits_none, ends_nothing, later_more, later_none}
@@ -21,44 +24,93 @@ use Rattle.audio_side.proofs.Runs.{emits_none, ends_nothing, later_more, later_n
 -- ---- runs
 
 module _ (incoming : List ℕ) where
-  -- one access more
-  talk_more : (n : ℕ) (s : SpcState) (b : HardwareState) (out : List ℕ) (to : SpcState) (b' : HardwareState) (out' : List ℕ) → TalkAccesses incoming n s b out to b' out'
-      → incoming_after (act_of (next_of to)) incoming ≡ incoming → (effect b' (next_of to)).timer2 ≡ b'.timer2
-      → TalkAccesses incoming (suc n) s b out (moved_on to (given b' (next_of to) (got_of (act_of (next_of to)) incoming))) (effect b' (next_of to)) (outgoing_after (act_of (next_of to)) out')
-  talk_more zero s b out to b' out' (same, is, sent) clears timer =
-      let end = moved_on to (given b' (next_of to) (got_of (act_of (next_of to)) incoming)) in
-      let b'' = effect b' (next_of to) in
-      let out'' = outgoing_after (act_of (next_of to)) out' in
-      let P : SpcState → Type 0 = λ x. TalkAccesses incoming 1 x b out end b'' out'' in
-      let Q : HardwareState → Type 0 = λ x. TalkAccesses incoming 1 to x out end b'' out'' in
-      let R : List ℕ → Type 0 = λ x. TalkAccesses incoming 1 to b' x end b'' out'' in
-      subst P (sym same) (subst Q (sym is) (subst R (sym sent) (clears, timer, (refl, refl, refl))))
-  talk_more (suc n) s b out to b' out' (first, still, rest) clears timer = (
-    first,
-    still,
-    talk_more n (moved_on s (given b (next_of s) (got_of (act_of (next_of s)) incoming))) (effect b (next_of s)) (outgoing_after (act_of (next_of s)) out) to b' out' rest clears timer,
-  )
+  -- accesses after others
+  talk_then : (n k : ℕ) (s : SpcState) (b : HardwareState) (out : List ℕ) (mid : SpcState) (c : HardwareState) (sent : List ℕ) (to : SpcState) (b' : HardwareState) (out' : List ℕ)
+      → TalkAccesses incoming n s b out mid c sent → TalkAccesses incoming k mid c sent to b' out' → TalkAccesses incoming (n + k) s b out to b' out'
+  talk_then zero k s b out mid c sent to b' out' (same, is, goes) then =
+      let all : k ≡ 0 + k = omega arith in
+      let R : ℕ → Type 0 = λ x. TalkAccesses incoming x s b out to b' out' in
+      let P : SpcState → Type 0 = λ x. TalkAccesses incoming k x b out to b' out' in
+      let Q : HardwareState → Type 0 = λ x. TalkAccesses incoming k mid x out to b' out' in
+      let O : List ℕ → Type 0 = λ x. TalkAccesses incoming k mid c x to b' out' in
+      subst R all (subst P (sym same) (subst Q (sym is) (subst O (sym goes) then)))
+  talk_then (suc n) k s b out mid c sent to b' out' (first, still, rest) then =
+      let all : suc (n + k) ≡ suc n + k = omega arith in
+      let R : ℕ → Type 0 = λ x. TalkAccesses incoming x s b out to b' out' in
+      subst R all (
+        first,
+        still,
+        talk_then n k (moved_on s (given b (next_of s) (got_of (act_of (next_of s)) incoming))) (effect b (next_of s)) (outgoing_after (act_of (next_of s)) out) mid c sent to b' out' rest then,
+      )
 
-  pub no_talk : (spc : Spc) (b : HardwareState) (out : List ℕ) (s : SpcState) → Stands spc s → HasTalkRun incoming spc b out s b out 0
-  no_talk spc b out s stands = record { to = s; run = (refl, refl, refl); stands = stands }
+  -- accesses at no port
+  plain_talk : (n : ℕ) (s : SpcState) (b : HardwareState) (out : List ℕ) (to : SpcState) (b' : HardwareState) → PlainAccesses n s b to b' → TalkAccesses incoming n s b out to b' out
+  plain_talk zero s b out to b' (same, is) = (same, is, refl)
+  plain_talk (suc n) s b out to b' (quiet, still, rest) =
+      let P : Act → Type 0 = λ act. TalkAccesses incoming n (moved_on s (given b (next_of s) (got_of act incoming))) (effect b (next_of s)) (outgoing_after act out) to b' out in
+      (ap (λ (act : Act). incoming_after act incoming) quiet, still, subst P (sym quiet) (plain_talk n (moved_on s (given b (next_of s) 0)) (effect b (next_of s)) out to b' rest))
 
-  -- a run and one access more
-  pub talk_on : (old new : Spc) (mid end : HardwareState) (mid_out end_out : List ℕ) (s : SpcState) (b : HardwareState) (out : List ℕ) (n k : ℕ)
-      → (h : HasTalkRun incoming old mid mid_out s b out n)
-      → incoming_after (act_of (next_of h.to)) incoming ≡ incoming → end.timer2 ≡ mid.timer2
-      → Stands new (moved_on h.to (given mid (next_of h.to) (got_of (act_of (next_of h.to)) incoming))) → end ≡ effect mid (next_of h.to)
-      → end_out ≡ outgoing_after (act_of (next_of h.to)) mid_out
-      → k ≡ suc n → HasTalkRun incoming new end end_out s b out k
-  talk_on old new mid end mid_out end_out s b out n k h clears timer stands is sent sum =
-      let still : (effect mid (next_of h.to)).timer2 ≡ mid.timer2 = ap (λ (x : HardwareState). x.timer2) (sym is) ∙ timer in
-      let P : HardwareState → Type 0 = λ x. HasTalkRun incoming new x end_out s b out k in
-      let R : List ℕ → Type 0 = λ x. HasTalkRun incoming new (effect mid (next_of h.to)) x s b out k in
-      let Q : ℕ → Type 0 = λ x. HasTalkRun incoming new (effect mid (next_of h.to)) (outgoing_after (act_of (next_of h.to)) mid_out) s b out x in
-      subst P (sym is) (subst R (sym sent) (subst Q (sym sum) (record {
-        to = moved_on h.to (given mid (next_of h.to) (got_of (act_of (next_of h.to)) incoming));
-        run = talk_more n s b out h.to mid mid_out h.run clears still;
-        stands = stands;
-      })))
+  -- no access
+  pub talks_none : (spc : Spc) (b : HardwareState) (out : List ℕ) (left : ℕ) → TalksOn incoming spc spc b b out out left left
+  talks_none spc b out left = record {
+    fewer = omega arith;
+    come = λ s stands. (
+        let none : left - left ≡ 0 = omega arith in
+        let P : ℕ → Type 0 = λ n. HasTalkRun incoming spc b out s b out n in
+        subst P (sym none) (record { to = s; run = (refl, refl, refl); stands = stands }));
+  }
+
+  -- one access
+  pub talks_one : (old new : Spc) (b : HardwareState) (out out' : List ℕ) (left left' : ℕ) → left' + 1 ≡ left
+      → ((s : SpcState) → Stands old s → incoming_after (act_of (next_of s)) incoming ≡ incoming)
+      → ((s : SpcState) → Stands old s → Stands new (moved_on s (given b (next_of s) (got_of (act_of (next_of s)) incoming))))
+      → ((s : SpcState) → Stands old s → b ≡ effect b (next_of s))
+      → ((s : SpcState) → Stands old s → out' ≡ outgoing_after (act_of (next_of s)) out)
+      → TalksOn incoming old new b b out out' left left'
+  talks_one old new b out out' left left' made clears moves is sends = record {
+    fewer = omega (arith, made);
+    come = λ s stands. (
+        let sum : left - left' ≡ 1 = omega (arith, made) in
+        let P : ℕ → Type 0 = λ n. HasTalkRun incoming new b out' s b out n in
+        let still : (effect b (next_of s)).timer2 ≡ b.timer2 = ap (λ (x : HardwareState). x.timer2) (sym (is s stands)) in
+        subst P (sym sum) (record {
+          to = moved_on s (given b (next_of s) (got_of (act_of (next_of s)) incoming));
+          run = (clears s stands, still, (refl, sym (is s stands), sym (sends s stands)));
+          stands = moves s stands;
+        }));
+  }
+
+  -- accesses at no port after others
+  pub talks_plainly : (x y z : Spc) (b c d : HardwareState) (out sent : List ℕ) (k l m : ℕ) → TalksOn incoming x y b c out sent k l → Follows y z c d l m → TalksOn incoming x z b d out sent k m
+  talks_plainly x y z b c d out sent k l m f g = record {
+    fewer = (let first = f.fewer in let then = g.fewer in omega (arith, first, then));
+    come = λ s stands. (
+        let first = f.fewer in
+        let then = g.fewer in
+        let sum : k - m ≡ (k - l) + (l - m) = omega (arith, first, then) in
+        let p = f.come s stands in
+        let q = g.come p.to p.stands in
+        let P : ℕ → Type 0 = λ n. HasTalkRun incoming z d sent s b out n in
+        subst P (sym sum) (record { to = q.to; run = talk_then (k - l) (l - m) s b out p.to c sent q.to d sent p.run (plain_talk (l - m) p.to c sent q.to d q.run); stands = q.stands }));
+  }
+
+  -- accesses after others
+  pub talks_then : (x y z : Spc) (b c d : HardwareState) (out sent out' : List ℕ) (k l m : ℕ) → TalksOn incoming x y b c out sent k l → TalksOn incoming y z c d sent out' l m → TalksOn incoming x z b d out out' k m
+  talks_then x y z b c d out sent out' k l m f g = record {
+    fewer = (let first = f.fewer in let then = g.fewer in omega (arith, first, then));
+    come = λ s stands. (
+        let first = f.fewer in
+        let then = g.fewer in
+        let sum : k - m ≡ (k - l) + (l - m) = omega (arith, first, then) in
+        let p = f.come s stands in
+        let q = g.come p.to p.stands in
+        let P : ℕ → Type 0 = λ n. HasTalkRun incoming z d out' s b out n in
+        subst P (sym sum) (record { to = q.to; run = talk_then (k - l) (l - m) s b out p.to c sent q.to d out' p.run q.run; stands = q.stands }));
+  }
+
+  -- the processor stands for some instruction still
+  pub talks_runs : (old new : Spc) (b b' : HardwareState) (out out' : List ℕ) (left left' : ℕ) → TalksOn incoming old new b b' out out' left left' → IsRunning old → IsRunning new
+  talks_runs old new b b' out out' left left' f runs = ∥∥₁_map runs (λ p. (let h = f.come p.0 p.1 in (h.to, h.stands)))
 
 -- ---- steps of the sound side
 

@@ -1,6 +1,6 @@
 -- Many cycles in one call while the other side stands still: accesses of the memory and of the ports, and internal
 -- cycles, at whose ends neither timers nor a sample come, and none of which is a reset.
-use Rattle.std.specs.Prelude.{◌≡◌, ℕ, zero, suc, List}
+use Rattle.std.specs.Prelude.{◌≡◌, ℕ, zero, suc, ◌-◌, ◌≤◌, List}
 use Rattle.side_law.specs.Serial.{got_of, incoming_after, outgoing_after}
 use Rattle.spc700.specs.Instruction.{SpcState, moved_on, next_of}
 use Rattle.spc700.specs.Stands.{Stands}
@@ -22,3 +22,8 @@ pub record HasTalkRun (incoming : List ℕ) (spc : Spc) (b' : HardwareState) (ou
   pub to : SpcState
   pub run : TalkAccesses incoming n s b out to b' out'
   pub stands : Stands spc to
+
+-- such accesses led from a processor, its hardware and the bytes that go out to these, as many as are left fewer
+pub record TalksOn (incoming : List ℕ) (spc spc' : Spc) (b b' : HardwareState) (out out' : List ℕ) (left left' : ℕ) : Type 0 where
+  pub fewer : left' ≤ left
+  pub come : (s : SpcState) → Stands spc s → HasTalkRun incoming spc' b' out' s b out (left - left')

@@ -1,11 +1,10 @@
-use Rattle.spc700.specs.Instruction.{SpcState}
-use Rattle.spc700.specs.Stands.{Stands}
-use Rattle.audio_side.specs.Talks.{HasTalkRun}
-use Rattle.audio_side.specs.Sound.{IsRunning}
+use Rattle.audio_side.specs.Talks.{TalksOn}
 use Rattle.audio_side.proofs.talking.talk_accesses.Given as goal
 
 abbrev pub invariant-accesses : goal.invariant-accesses
 invariant-accesses l = record {
-  run : (s : SpcState) → Stands l.initial.spc s → HasTalkRun l.incoming l.spc l.hardware l.outgoing s l.initial.hardware l.initial.outgoing l.made;
-  runs : IsRunning l.initial.spc → IsRunning l.spc;
+  talks : TalksOn l.incoming l.fn.spc l.spc l.fn.hardware l.hardware l.fn.outgoing l.outgoing l.most l.left;
 }
+
+abbrev pub decreases-accesses : goal.decreases-accesses
+decreases-accesses l = l.left
