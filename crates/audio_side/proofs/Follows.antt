@@ -40,17 +40,27 @@ follows_one old new b b' left left' timer made quiet moves is = record {
       run_on old new b b' s b 0 _ none (quiet s stands) timer (moves s stands) (is s stands) sum);
 }
 
+-- a processor of which it is known which access is next moves on by it
+pub moves_by : (old new : Spc) (b : HardwareState) (byte got : ℕ) (a : SpcAccess) → access_of old ≡ a → given b a got ≡ byte → Advances old new byte
+    → (s : SpcState) → Stands old s → Stands new (moved_on s (given b (next_of s) got))
+moves_by old new b byte got a known is advances s h =
+    let next : a ≡ next_of s = sym known ∙ ap first_access h.left in
+    let byte_is : byte ≡ given b (next_of s) got = sym is ∙ ap (λ (x : SpcAccess). given b x got) next in
+    subst (λ (n : ℕ). Stands new (moved_on s n)) byte_is (Stands-moved_on old new s byte h advances)
+
+-- and so does its hardware
+pub acts_by : (old : Spc) (b b' : HardwareState) (a : SpcAccess) → access_of old ≡ a → b' ≡ effect b a → (s : SpcState) → Stands old s → b' ≡ effect b (next_of s)
+acts_by old b b' a known is s h =
+    let next : a ≡ next_of s = sym known ∙ ap first_access h.left in
+    subst (λ (x : SpcAccess). b' ≡ effect b x) next is
+
 -- one access, as a caller sees it who knows which one it is
 pub follows_access : (old new : Spc) (b b' : HardwareState) (left left' byte : ℕ) (a : SpcAccess) → access_of old ≡ a → b'.timer2 ≡ b.timer2 → left' + 1 ≡ left
     → act_of a ≡ Quiet → given b a 0 ≡ byte → b' ≡ effect b a → Advances old new byte → Follows old new b b' left left'
 follows_access old new b b' left left' byte a known timer made quiet got is advances =
     let next : (s : SpcState) → Stands old s → a ≡ next_of s = λ s h. sym known ∙ ap first_access h.left in
-    follows_one old new b b' left left' timer made
-    (λ s h. subst (λ (x : SpcAccess). act_of x ≡ Quiet) (next s h) quiet)
-    (λ s h. (
-    let byte_is : byte ≡ given b (next_of s) 0 = sym got ∙ ap (λ (x : SpcAccess). given b x 0) (next s h) in
-    subst (λ (n : ℕ). Stands new (moved_on s n)) byte_is (Stands-moved_on old new s byte h advances)))
-    (λ s h. subst (λ (x : SpcAccess). b' ≡ effect b x) (next s h) is)
+    follows_one old new b b' left left' timer made (λ s h. subst (λ (x : SpcAccess). act_of x ≡ Quiet) (next s h) quiet)
+    (moves_by old new b byte 0 a known got advances) (acts_by old b b' a known is)
 
 -- a fetch or a read
 pub follows_got : (old new : Spc) (b : HardwareState) (left left' byte : ℕ) (a : SpcAccess) → access_of old ≡ a → Gets a b byte → left' + 1 ≡ left
