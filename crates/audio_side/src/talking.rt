@@ -48,12 +48,7 @@ fn send(hardware: &Hardware, outgoing: &mut [u8; 4], at: u16, byte: u8) -> bool
 /// The processor's next access is made where it is of a port, and whether it was is answered. Otherwise nothing has
 /// changed.
 #[inline(always)]
-fn try_port(
-    spc: &mut Spc,
-    hardware: &Hardware,
-    incoming: &[u8; 4],
-    outgoing: &mut [u8; 4],
-) -> bool
+fn try_port(spc: &mut Spc, hardware: &Hardware, incoming: &[u8; 4], outgoing: &mut [u8; 4]) -> bool
     ensures processor { IsTrue result → (s : SpcState) → Stands spc.old s → Stands spc.new (moved_on s (given hardware.now (next_of s) (got_of (act_of (next_of s)) incoming.now))) }
     ensures hardware { IsTrue result → (s : SpcState) → Stands spc.old s → hardware.now ≡ effect hardware.now (next_of s) }
     ensures outgoing { IsTrue result → (s : SpcState) → Stands spc.old s → outgoing.new ≡ outgoing_after (act_of (next_of s)) outgoing.old }
@@ -118,7 +113,7 @@ pub fn talk_accesses(
     'accesses: while left > 0 {
         make_all(spc, hardware, &mut left);
         if left == 0 {
-            return most;
+            return most - left;
         }
         if !make_port(spc, hardware, incoming, outgoing, &mut left) {
             return most - left;
