@@ -1,5 +1,5 @@
 -- Accesses that follow one another: none, one, and some after others.
-use Rattle.std.proofs.Common.{◌≡◌, ◌∙◌, ℕ, ◌+◌, ◌-◌, ◌<◌, zero, suc, refl, sym, ap, subst, arith}
+use Rattle.std.proofs.Common.{◌≡◌, ◌∙◌, ℕ, ◌+◌, ◌-◌, suc, refl, sym, ap, subst, arith}
 use mathlib.Core.Logic.{∥∥₁_map}
 use Rattle.snes_defs.specs.declared.ports.Act.TheVariants.{Quiet}
 use Rattle.spc_tables.specs.declared.access.SpcAccess.{SpcAccess}
@@ -13,7 +13,7 @@ use Rattle.spc700.specs.declared.processor.Spc.{Spc}
 use Rattle.spc700.proofs.Moves.{Stands-moved_on}
 use Rattle.audio_side.specs.HardwareState.{HardwareState}
 use Rattle.audio_side.specs.Effect.{act_of, act_of_store, effect, given, stored}
-use Rattle.audio_side.specs.Runs.{PlainAccesses, HasRun}
+use Rattle.audio_side.specs.Runs.{HasRun}
 use Rattle.audio_side.specs.Sound.{IsRunning}
 use Rattle.audio_side.specs.Follows.{Gets, Follows}
 use Rattle.audio_side.proofs.Runs.{no_run, run_on, plain_then}

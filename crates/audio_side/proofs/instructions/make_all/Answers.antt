@@ -1,4 +1,3 @@
-use Rattle.std.proofs.Common.{refl, arith}
 use Rattle.audio_side.proofs.Follows.{follows_none, follows_then}
 use Rattle.audio_side.proofs.instructions.make_all.Goals as goal
 

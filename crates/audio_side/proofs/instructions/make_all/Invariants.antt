@@ -1,4 +1,3 @@
-use Rattle.std.specs.Prelude.{ℕ}
 use Rattle.audio_side.specs.Follows.{Follows}
 use Rattle.audio_side.proofs.instructions.make_all.Given as goal
 
