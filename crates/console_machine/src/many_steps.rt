@@ -16,7 +16,7 @@ use crate::instructions::instruction;
 use crate::patience::Patience;
 use cart_map::Place as BusPlace;
 use console_bus::Bus;
-use console_steps::{is_calm, is_wired, try_look, try_plain};
+use console_steps::{is_calm, is_plain_ahead, is_wired, look_past, refresh, try_look, try_plain};
 use cpu_modes::Place;
 use cpu65816::Cpu;
 
@@ -137,7 +137,8 @@ fn last_byte(bus: &mut Bus) -> u8
 }
 
 /// Whether the processor does what another one does, and a byte is the last on the data bus.
-fn is_back(cpu: &Cpu, bus: &mut Bus, first: &Cpu, byte: u8) -> bool
+#[inline(never)]
+fn is_like_first(cpu: &Cpu, bus: &mut Bus, first: &Cpu, byte: u8) -> bool
     ensures processor { IsTrue result → (s : CpuState) → Stands cpu.now s → Stands first.now s }
     ensures last { IsTrue result → bus.new.last ≡ byte }
     ensures stays { bus.new ≡ bus.old }
@@ -146,6 +147,19 @@ fn is_back(cpu: &Cpu, bus: &mut Bus, first: &Cpu, byte: u8) -> bool
         return false;
     }
     last_byte(bus) == byte
+}
+
+/// The same, seen at once where no instruction has ended.
+#[inline(always)]
+fn is_back(cpu: &Cpu, bus: &mut Bus, first: &Cpu, byte: u8) -> bool
+    ensures processor { IsTrue result → (s : CpuState) → Stands cpu.now s → Stands first.now s }
+    ensures last { IsTrue result → bus.new.last ≡ byte }
+    ensures stays { bus.new ≡ bus.old }
+{
+    if !cpu.is_between() {
+        return false;
+    }
+    is_like_first(cpu, bus, first, byte)
 }
 
 /// The clocks of the rounds, of so many clocks each, that end before the next place.
@@ -175,10 +189,59 @@ fn go_rounds(bus: &mut Bus, round: u16) -> u16
     more
 }
 
+const MOST_CLOCKS: u16 = 1364;
+
+fn look_to_place(cpu: &mut Cpu, bus: &mut Bus) -> u16 {
+    let left = bus.clocks_left();
+    for _ in 0..MOST_OF_ROUND {
+        if look_once(cpu, bus).is_none() { break; }
+    }
+    left - bus.clocks_left()
+}
+
+fn look_to_round(cpu: &mut Cpu, bus: &mut Bus, back: &Cpu, byte: u8) -> bool {
+    for _ in 0..MOST_OF_ROUND {
+        if is_back(cpu, bus, back, byte) { return true; }
+        if look_once(cpu, bus).is_none() { return false; }
+    }
+    false
+}
+
+#[inline(never)]
+fn pass_plainly(cpu: &mut Cpu, bus: &mut Bus) -> Option<u16> {
+    if !is_plain_ahead(bus) { return None; }
+    let clocks = look_past(cpu, bus)?;
+    if bus.refreshes() {
+        refresh(bus);
+        return Some(clocks as u16 + 40);
+    }
+    Some(clocks as u16)
+}
+
+#[inline(never)]
+fn go_beyond(cpu: &mut Cpu, bus: &mut Bus, back: &Cpu, byte: u8, round: u16, before: u16) -> u16 {
+    let mut gone = before;
+    for _ in 0..4 {
+        if gone + bus.clocks_left() > MOST_CLOCKS - 80 { return gone; }
+        gone += look_to_place(cpu, bus);
+        match pass_plainly(cpu, bus) {
+            Some(clocks) => gone += clocks,
+            None => return gone,
+        }
+        if gone + bus.clocks_left() > MOST_CLOCKS { return gone; }
+        let left = bus.clocks_left();
+        if !look_to_round(cpu, bus, back, byte) { return gone + (left - bus.clocks_left()); }
+        *cpu = *back;
+        go_rounds(bus, round);
+        gone += left - bus.clocks_left();
+    }
+    gone
+}
+
 /// Makes accesses that only look, and where they come back to the processor and the byte on the data bus that they
 /// began with, passes the rounds that fit before the next place. Answers how many clocks all of them last.
 #[inline(never)]
-fn make_rounds(cpu: &mut Cpu, bus: &mut Bus, patience: &mut Patience) -> u16
+fn make_rounds(cpu: &mut Cpu, bus: &mut Bus, patience: &mut Patience, before: u16) -> u16
     ensures run { (w : ConsoleState) → IsAt cpu.old bus.old w → w.rest.beam.h < 1364 → HasRun cpu.new bus.new w result }
     ensures left { result + clocks_left bus.new.beam ≡ clocks_left bus.old.beam }
 {
@@ -201,7 +264,8 @@ fn make_rounds(cpu: &mut Cpu, bus: &mut Bus, patience: &mut Patience) -> u16
         if is_back(cpu, bus, &first, byte) {
             patience.found();
             let more = go_rounds(bus, gone);
-            return gone + more;
+            let back = *cpu;
+            return go_beyond(cpu, bus, &back, byte, gone, before + gone + more) - before;
         }
     }
     gone
@@ -220,7 +284,7 @@ fn look_for_rounds(cpu: &mut Cpu, bus: &mut Bus, patience: &mut Patience) -> u16
         return 0;
     }
     let first = finish_instruction(cpu, bus);
-    let rounds = make_rounds(cpu, bus, patience);
+    let rounds = make_rounds(cpu, bus, patience, first);
     first + rounds
 }
 
@@ -230,8 +294,10 @@ pub(crate) fn make_plain_steps(cpu: &mut Cpu, bus: &mut Bus, patience: &mut Pati
     ensures left { result + clocks_left bus.new.beam ≡ clocks_left bus.old.beam }
     ensures few { result ≤ 1364 }
 {
-    let _left = bus.clocks_left();
     let rounds = look_for_rounds(cpu, bus, patience);
+    if rounds + bus.clocks_left() > MOST_CLOCKS {
+        return rounds;
+    }
     let others = make_accesses(cpu, bus);
     rounds + others
 }
