@@ -1,5 +1,4 @@
--- Steps that only look do the same wherever the beam stands, as long as it passes nothing: so a round of them, which leads
--- back to the processor and the byte on the data bus that it began with, can be gone again and again.
+-- Steps that only look: what one of them does, what many leave as it is, and what they are as a run; and the clocks of rounds.
 use Rattle.std.proofs.Common.{◌≡◌, ℕ, zero, suc, ◌+◌, ◌-◌, ◌*◌, ◌/◌, ◌<◌, Bool, List, [], ◌∷◌, ◌++◌, refl, sym, ap, subst, ◌∙◌, arith, add-zero, append_assoc, slice_index, Some}
 use Rattle.snes_defs.specs.declared.ports.Act.TheVariants.{Quiet}
 use Rattle.cart_map.specs.declared.places.Place.{Place}
@@ -59,7 +58,7 @@ passed_parts o b j k h =
     let e = sym (passed_joined o b j k) ∙ h in
     (first_empty (passed o b j) (passed o (beam_after o b j) k) e, second_empty (passed o b j) (passed o (beam_after o b j) k) e)
 
-pub passed_both : (o : Bool) (b : BeamValue) (j k : ℕ) → passed o b j ≡ [] → passed o (beam_after o b j) k ≡ [] → passed o b (j + k) ≡ []
+passed_both : (o : Bool) (b : BeamValue) (j k : ℕ) → passed o b j ≡ [] → passed o (beam_after o b j) k ≡ [] → passed o b (j + k) ≡ []
 passed_both o b j k first then =
     passed_joined o b j k ∙ ap (λ (x : List Event). x ++ passed o (beam_after o b j) k) first ∙ then
 
@@ -106,7 +105,7 @@ look_facts r Inner h = record { quiet = refl; after = refl }
 abbrev pub look_effect : ConsoleState → ConsoleState
 look_effect w = effect w (Accesses (next_of w.processor)) 0
 
-pub look_due : (w : ConsoleState) → IsCalm w.rest → due_of w ≡ Accesses (next_of w.processor)
+look_due : (w : ConsoleState) → IsCalm w.rest → due_of w ≡ Accesses (next_of w.processor)
 look_due w calm = rw (calm.reset, calm.refresh, calm.transfer) refl
 
 pub record LookMade (w : ConsoleState) : Type 0 where
@@ -210,11 +209,6 @@ pub looks_run : (cpu : Cpu) (bus : BusState) (w : ConsoleState) (k : ℕ) → w.
 looks_run cpu bus w k line h =
     let run = looks_silent h.steps w h.to k line h.run in
     record { steps = run.0; to = h.to; run = run.1.0; at = h.at; after = run.1.1 }
-
-pub looks_run_by : (cpu : Cpu) (bus : BusState) (w : ConsoleState) (k n : ℕ) → w.rest.beam.h < 1364 → LooksTo cpu bus w k → n ≡ k → HasRun cpu bus w n
-looks_run_by cpu bus w k n line h same =
-    let P : ℕ → Type 0 = λ i. HasRun cpu bus w i in
-    subst P (sym same) (looks_run cpu bus w k line h)
 
 -- no step, and one more
 pub no_looks : (cpu : Cpu) (bus : BusState) (w : ConsoleState) (k : ℕ) → IsAt cpu bus w → k ≡ 0 → LooksTo cpu bus w k

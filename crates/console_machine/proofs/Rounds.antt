@@ -1,5 +1,5 @@
--- Steps that only look do the same from any place of the beam; so a round that was gone once is one after a refresh or the
--- end of a line, too.
+-- Steps that only look do the same wherever the beam stands, as long as it passes nothing: so a round of them, which leads back to the
+-- processor and the byte on the data bus that it began with, can be gone again and again, after a refresh or the end of a line, too.
 use Rattle.std.proofs.Common.{◌≡◌, ℕ, zero, suc, ◌+◌, ◌-◌, ◌<◌, None, Bool, List, [], refl, sym, ap, subst, ◌∙◌, arith, add-zero, false, true, slice_index}
 use Rattle.cpu_tables.specs.declared.access.Access.{Access}
 use Rattle.cpu_tables.specs.declared.access.Access.TheVariants.{Fetch, Read, Write, Inner}
@@ -25,7 +25,7 @@ use Rattle.console_machine.specs.Runs.{HasRun, clocks_next, IsLookStep, LookStep
 use Rattle.console_machine.specs.Rounds.{IsElsewhere, HasGone, GoesOn, IsRound, IsRoundFrom}
 use Rattle.console_machine.proofs.AtOnce.{IsStepMade, due_access, is_step}
 use Rattle.console_machine.proofs.Runs.{no_run, run_on, run_then}
-use Rattle.console_machine.proofs.Looks.{beam_joined, passed_parts, passed_both, no_clocks, gone_joined, at_beam, read_is, look_facts, look_effect, look_made, with_bus, looks_end, looks_joined, looks_run}
+use Rattle.console_machine.proofs.Looks.{beam_joined, passed_parts, no_clocks, gone_joined, at_beam, read_is, look_facts, look_effect, look_made, with_bus, looks_end, looks_joined, looks_run}
 
 -- ---- steps that only look, from another place of the beam
 
@@ -93,10 +93,10 @@ steps_at (suc n) w to k b clock h none =
       run = steps_at n w h.mid j b clock h.run parts.0;
       step = look_step_at h.mid (beam_after o b j) (clock + j) h.step there;
       next = step_at h.mid (beam_after o b j) (clock + j) h.step there
-      ∙ ap (λ (x : ConsoleState). at_beam x (beam_after (overscan_of h.mid) (beam_after o b j) c) (clock + j + c)) h.next
-      ∙ ap (λ (x : Bool). at_beam to (beam_after x (beam_after o b j) c) (clock + j + c)) over
-      ∙ ap (λ (x : BeamValue). at_beam to x (clock + j + c)) (beam_joined o b j c ∙ ap (beam_after o b) (sym h.sum))
-      ∙ ap (λ (n : ℕ). at_beam to (beam_after o b k) n) sum;
+          ∙ ap (λ (x : ConsoleState). at_beam x (beam_after (overscan_of h.mid) (beam_after o b j) c) (clock + j + c)) h.next
+          ∙ ap (λ (x : Bool). at_beam to (beam_after x (beam_after o b j) c) (clock + j + c)) over
+          ∙ ap (λ (x : BeamValue). at_beam to x (clock + j + c)) (beam_joined o b j c ∙ ap (beam_after o b) (sym h.sum))
+          ∙ ap (λ (n : ℕ). at_beam to (beam_after o b k) n) sum;
       sum = h.sum;
     }
 

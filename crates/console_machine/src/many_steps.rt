@@ -17,7 +17,9 @@ use crate::instructions::instruction;
 use crate::patience::Patience;
 use cart_map::Place as BusPlace;
 use console_bus::Bus;
-use console_steps::{is_calm, is_plain_ahead, is_wired, look_past, make_refresh, try_look, try_plain};
+use console_steps::{
+    is_calm, is_plain_ahead, is_wired, look_past, make_refresh, try_look, try_plain,
+};
 use cpu_modes::Place;
 use cpu65816::Cpu;
 
@@ -350,44 +352,16 @@ fn look_for_rounds(cpu: &mut Cpu, bus: &mut Bus, patience: &mut Patience) -> u16
     first + rounds
 }
 
-/// Makes the access that lasts to the next place or past it, where nothing comes there but a refresh or the next line.
-/// Answers how many clocks it lasts with the refresh, or none.
-fn pass_once(cpu: &mut Cpu, bus: &mut Bus) -> u16
-    ensures run { (w : ConsoleState) → IsAt cpu.old bus.old w → w.rest.beam.h < 1364 → HasRun cpu.new bus.new w result }
-    ensures few { result ≤ 295 }
-{
-    if !is_calm(bus) {
-        return 0;
-    }
-    if !is_wired(cpu, bus) {
-        return 0;
-    }
-    match pass_plainly(cpu, bus) {
-        Some(clocks) => clocks,
-        None => 0,
-    }
-}
-
-/// Makes quiet steps that emit nothing, up to a place of the beam where more comes than a refresh or the next line, for a
-/// line's clocks at most. Answers how many clocks they last.
+/// Makes quiet steps that emit nothing, up to the next place of the beam, or with rounds past some, for a line's clocks at most.
+/// Answers how many clocks they last.
 pub(crate) fn make_plain_steps(cpu: &mut Cpu, bus: &mut Bus, patience: &mut Patience) -> u16
     ensures run { (w : ConsoleState) → IsAt cpu.old bus.old w → w.rest.beam.h < 1364 → HasRun cpu.new bus.new w result }
     ensures few { result ≤ 1364 }
 {
-    let mut gone = look_for_rounds(cpu, bus, patience);
-    'places: for _ in 0..MOST_PLACES {
-        if gone + bus.clocks_left() > LINE {
-            return gone;
-        }
-        gone += make_accesses(cpu, bus);
-        if gone > LINE - MOST_PAST {
-            return gone;
-        }
-        let past = pass_once(cpu, bus);
-        if past == 0 {
-            return gone;
-        }
-        gone += past;
+    let rounds = look_for_rounds(cpu, bus, patience);
+    if rounds + bus.clocks_left() > LINE {
+        return rounds;
     }
-    gone
+    let others = make_accesses(cpu, bus);
+    rounds + others
 }

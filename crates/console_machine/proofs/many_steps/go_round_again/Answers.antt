@@ -14,7 +14,7 @@ looks-preserved c =
     record {
       sum = (let sum : c.looks.gone + clocks_left c.is_back.new.bus.beam ≡ clocks_left c.args.bus.now.beam = rw same was.sum in omega (arith, sum, step.left, step.within));
       goes = goes_then c.args.cpu.now c.looks.cpu c.look_once.new.cpu c.args.bus.now c.is_back.new.bus c.look_once.new.bus c.looks.gone c.in-Some.clocks _ (rw same was.goes)
-      (goes_look c.looks.cpu c.look_once.new.cpu c.is_back.new.bus c.look_once.new.bus c.in-Some.clocks step.made step.looks step.calm) refl;
+          (goes_look c.looks.cpu c.look_once.new.cpu c.is_back.new.bus c.look_once.new.bus c.in-Some.clocks step.made step.looks step.calm) refl;
     }
 
 pub returns-then-is_back-clause-goes : goal.returns-then-is_back-clause-goes

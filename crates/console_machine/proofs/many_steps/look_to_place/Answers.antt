@@ -12,7 +12,7 @@ looks-preserved c =
     record {
       sum = omega (arith, was.sum, step.left, step.within);
       goes = goes_then c.args.cpu.now c.looks.cpu c.look_once.new.cpu c.args.bus.now c.looks.bus c.look_once.new.bus c.looks.gone c.in-Some.clocks _ was.goes
-      (goes_look c.looks.cpu c.look_once.new.cpu c.looks.bus c.look_once.new.bus c.in-Some.clocks step.made step.looks step.calm) refl;
+          (goes_look c.looks.cpu c.look_once.new.cpu c.looks.bus c.look_once.new.bus c.in-Some.clocks step.made step.looks step.calm) refl;
     }
 
 pub returns-in-None-clause-goes : goal.returns-in-None-clause-goes
