@@ -93,12 +93,10 @@ fn make_accesses(cpu: &mut Cpu, bus: &mut Bus) -> u16
         return 0;
     }
     let left = bus.clocks_left();
-    let mut more = true;
     'steps: for _ in 0..MOST_ACCESSES {
-        if !more {
+        if !make_some(cpu, bus) {
             return clocks_since(left, bus);
         }
-        more = make_some(cpu, bus);
     }
     clocks_since(left, bus)
 }
