@@ -5,3 +5,5 @@ pub mod Ticks
 pub mod FromParts
 pub mod BootOver
 pub mod Runs
+pub mod Talks
+pub mod Follows

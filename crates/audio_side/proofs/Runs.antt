@@ -33,6 +33,20 @@ plain_more zero s b to b' (same, is) quiet timer =
 plain_more (suc n) s b to b' (first, still, rest) quiet timer =
     (first, still, plain_more n (moved_on s (given b (next_of s) 0)) (effect b (next_of s)) to b' rest quiet timer)
 
+-- a run after a run
+pub plain_then : (n k : ℕ) (s : SpcState) (b : HardwareState) (mid : SpcState) (c : HardwareState) (to : SpcState) (b' : HardwareState)
+    → PlainAccesses n s b mid c → PlainAccesses k mid c to b' → PlainAccesses (n + k) s b to b'
+plain_then zero k s b mid c to b' (same, is) then =
+    let all : k ≡ 0 + k = omega arith in
+    let R : ℕ → Type 0 = λ x. PlainAccesses x s b to b' in
+    let P : SpcState → Type 0 = λ x. PlainAccesses k x b to b' in
+    let Q : HardwareState → Type 0 = λ x. PlainAccesses k mid x to b' in
+    subst R all (subst P (sym same) (subst Q (sym is) then))
+plain_then (suc n) k s b mid c to b' (first, still, rest) then =
+    let all : suc (n + k) ≡ suc n + k = omega arith in
+    let R : ℕ → Type 0 = λ x. PlainAccesses x s b to b' in
+    subst R all (first, still, plain_then n k (moved_on s (given b (next_of s) 0)) (effect b (next_of s)) mid c to b' rest then)
+
 pub no_run : (spc : Spc) (b : HardwareState) (s : SpcState) → Stands spc s → HasRun spc b s b 0
 no_run spc b s stands = record { to = s; run = (refl, refl); stands = stands }
 
@@ -63,11 +77,11 @@ halted_run (suc n) spc b s inner stays stands =
 -- ---- steps of the sound side
 
 -- nothing comes at the end of a cycle whose number is none of those at which something may
-ends_nothing : (fast : Bool) (n : ℕ) (b : HardwareState) → b.timer2.on ≡ fast → (n + 1) % beat_of fast ≢ 0 → passed n b ≡ b
+pub ends_nothing : (fast : Bool) (n : ℕ) (b : HardwareState) → b.timer2.on ≡ fast → (n + 1) % beat_of fast ≢ 0 → passed n b ≡ b
 ends_nothing true n b is none = passes_nothing n b none
 ends_nothing false n b is none = rests_nothing n b is none
 
-emits_none : (fast : Bool) (n : ℕ) (b : HardwareState) → (n + 1) % beat_of fast ≢ 0 → emitted n b ≡ []
+pub emits_none : (fast : Bool) (n : ℕ) (b : HardwareState) → (n + 1) % beat_of fast ≢ 0 → emitted n b ≡ []
 unfolding emitted
 emits_none true n b none =
     let sample : (n % 32 == 31) ≡ false = ne_eqb (n % 32) 31 (λ e. none (omega (arith, e))) in
@@ -90,10 +104,10 @@ free_act : (fast : Bool) (before : ℕ) (s : SpcState) (b : HardwareState) (k : 
 unfolding sound_act
 free_act fast before s b k quiet free = rw free.no_reset quiet
 
-later_none : (c : Clock) → later 0 c ≡ c
+pub later_none : (c : Clock) → later 0 c ≡ c
 later_none c = ap (λ (n : ℕ). record c { cycle = n }) (add-zero c.cycle)
 
-later_more : (n : ℕ) (c : Clock) → later n (gone_on c) ≡ later (suc n) c
+pub later_more : (n : ℕ) (c : Clock) → later n (gone_on c) ≡ later (suc n) c
 later_more n c = ap (λ (k : ℕ). record c { cycle = k }) (omega arith)
 
 -- a run in free cycles is made of silent steps

@@ -8,3 +8,5 @@ pub mod SoundLaws
 pub mod FromParts
 pub mod Kept
 pub mod Runs
+pub mod Talks
+pub mod Follows

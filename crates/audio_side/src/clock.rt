@@ -180,8 +180,25 @@ impl CycleClock {
         }
     }
 
-    /// How many cycles, each begun before a stamp, are seen at once to be no resets and to have nothing come at their
-    /// ends.
+    /// Whether several cycles end before a stamp.
+    #[inline(always)]
+    pub fn is_well_before(&self, before: u64) -> bool {
+        self.stamp + 8 * self.rate <= before
+    }
+
+    /// How many cycles end by a stamp.
+    #[inline(always)]
+    fn cycles_until(&self, before: u64) -> u64
+        ensures { 0 < result → stamp_now self.now + rate_of self.now.region Sound * result ≤ before }
+    {
+        let left = before.saturating_sub(self.stamp());
+        match self.region {
+            Region::Ntsc => left / SOUND_RATE,
+            Region::Pal => left / PAL_SOUND_RATE,
+        }
+    }
+
+    /// How many cycles, each ended by a stamp, are seen at once to be no resets and to have nothing come at their ends.
     #[inline(always)]
     pub fn free_cycles(&self, before: u64, fast: bool) -> u8
         ensures free { AreFree fast before result self.now }
@@ -190,10 +207,13 @@ impl CycleClock {
         if !self.is_far_from_reset() {
             return 0;
         }
-        if before.saturating_sub(self.stamp()) < 32 * self.rate() {
-            return 0;
+        let until = self.cycles_until(before);
+        let most = self.cycles_to_end(fast);
+        if until < most as u64 {
+            until as u8
+        } else {
+            most
         }
-        self.cycles_to_end(fast)
     }
 
     /// So many cycles have ended.

@@ -10,10 +10,12 @@
 mod clock;
 mod from_parts;
 mod hardware;
+mod instructions;
 mod kept;
 mod parts;
 mod side;
 mod step;
+mod talking;
 mod timer;
 
 pub use side::AudioSide;

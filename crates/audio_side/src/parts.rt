@@ -2,6 +2,7 @@ ghost use Rattle.std.specs.Prelude.{◌≡◌, false, IsTrue, ◌<◌, ◌≤◌
 ghost use Rattle.snes_defs.specs.declared.ports.Act.TheVariants.{Quiet};
 ghost use Rattle.side_law.specs.Moves.{IsAtPorts, taken};
 ghost use Rattle.side_law.specs.Quiet.{HasGoneQuietly};
+ghost use Rattle.side_law.specs.Sides.{HasTalked};
 ghost use Rattle.audio_side.specs.Clock.{gone_on, stamp_now};
 ghost use Rattle.side_law.proofs.QuietRuns.{IsSilent};
 ghost use Rattle.audio_side.specs.Effect.{emitted};
@@ -10,6 +11,7 @@ ghost use Rattle.audio_side.specs.Sound.{IsRunning, SoundState, StandsAt, hardwa
 use crate::clock::CycleClock;
 use crate::hardware::Hardware;
 use crate::step::{begin, finish, make_accesses, next_act, try_access};
+use crate::talking::talk_accesses;
 use circular_buffer::HeapCircularBuffer;
 use side_law::Pause;
 use snes_defs::Act;
@@ -118,6 +120,41 @@ impl Parts {
         made < free
     }
 
+    /// Makes accesses of the memory and the ports and internal cycles, each ended by a stamp until which the other side
+    /// stands still, at most up to the next cycle at whose end something may come.
+    #[inline(never)]
+    fn talk_on(&mut self, incoming: &[u8; 4], outgoing: &mut [u8; 4], before: u64)
+        requires early { before ≤ 2 ^ 62 }
+        ensures talked { (m : SoundState) → StandsAt (value_of self.old) m → HasTalked sound_moves before (StandsAt (value_of self.new)) incoming.now outgoing.new (record { own = m; incoming = incoming.now; outgoing = outgoing.old }) }
+        ensures forward { stamp_now self.old.clock ≤ stamp_now self.new.clock }
+        ensures region { self.new.clock.region ≡ self.old.clock.region }
+        ensures waiting { self.new.waiting ≡ self.old.waiting }
+        ensures runs { IsRunning self.old.spc → IsRunning self.new.spc }
+    {
+        let fast = self.hardware.has_fast_timer();
+        let free = self.clock.free_cycles(before, fast);
+        if free == 0 {
+            return;
+        }
+        let made = talk_accesses(&mut self.spc, &mut self.hardware, incoming, outgoing, free);
+        self.clock.go_on_by(made);
+    }
+
+    /// The same, where it is worth a call. A processor that has halted talks no more, and `quiet` passes its cycles.
+    #[inline(always)]
+    pub fn talk(&mut self, incoming: &[u8; 4], outgoing: &mut [u8; 4], before: u64)
+        requires early { before ≤ 2 ^ 62 }
+        ensures talked { (m : SoundState) → StandsAt (value_of self.old) m → HasTalked sound_moves before (StandsAt (value_of self.new)) incoming.now outgoing.new (record { own = m; incoming = incoming.now; outgoing = outgoing.old }) }
+        ensures forward { stamp_now self.old.clock ≤ stamp_now self.new.clock }
+        ensures region { self.new.clock.region ≡ self.old.clock.region }
+        ensures waiting { self.new.waiting ≡ self.old.waiting }
+        ensures runs { IsRunning self.old.spc → IsRunning self.new.spc }
+    {
+        if self.clock.is_well_before(before) && !self.spc.is_halted() {
+            self.talk_on(incoming, outgoing, before);
+        }
+    }
+
     /// Makes quiet steps, each begun before a stamp, up to the first that emits bytes, and answers where it stands
     /// then.
     #[inline(never)]
@@ -136,9 +173,14 @@ impl Parts {
         ensures runs { IsRunning self.old.spc → IsRunning self.new.spc }
     {
         let waited = self.waiting.len();
-        let mut stopped = self.rush(before);
         let mut at = self.clock.stamp();
         'steps: while at < before {
+            let stopped = self.rush(before);
+            at = self.clock.stamp();
+            if at >= before {
+                let act = self.act();
+                return Pause { at, act };
+            }
             if stopped {
                 // Where the register is a port, no step is tried in vain.
                 let act = self.act();
@@ -154,7 +196,6 @@ impl Parts {
                 let act = self.act();
                 return Pause { at, act };
             }
-            stopped = self.rush(before);
             at = self.clock.stamp();
         }
         let act = self.act();

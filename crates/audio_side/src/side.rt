@@ -220,6 +220,11 @@ impl Machine for AudioSide {
     }
 
     #[inline(always)]
+    fn talk(&mut self, incoming: &[u8; 4], outgoing: &mut [u8; 4], before: u64) {
+        self.parts.talk(incoming, outgoing, before);
+    }
+
+    #[inline(always)]
     fn pending(&self) -> usize {
         self.parts.waiting.len()
     }

@@ -1,8 +1,9 @@
-ghost use Rattle.std.specs.Prelude.{IfSome, None, ◌≡◌, ◌≢◌, ◌/◌, false, IsTrue, MatchBool, ◌≤◌, ◌+◌, ◌%◌, ◌^◌, ◌++◌, length};
+ghost use Rattle.std.specs.Prelude.{ℕ, IfSome, None, ◌≡◌, ◌≢◌, ◌/◌, false, IsTrue, MatchBool, ◌≤◌, ◌+◌, ◌%◌, ◌^◌, ◌++◌, length};
 ghost use Rattle.side_law.specs.Moves.{IsAtPorts};
 ghost use Rattle.snes_defs.specs.declared.ports.Act.TheVariants.{Quiet};
 ghost use Rattle.spc700.specs.Instruction.{SpcState, at_reset, moved_on, next_of};
 ghost use Rattle.spc_modes.specs.Plan.{gets_byte};
+ghost use Rattle.spc_modes.specs.declared.place.Place.TheVariants.{Load, WriteLast};
 ghost use Rattle.spc700.specs.Stands.{Stands, access_of};
 ghost use Rattle.audio_side.specs.HardwareState.{vector};
 ghost use Rattle.audio_side.specs.Effect.{act_of, act_of_load, after_load, loaded, act_of_store, effect, emitted, given, passed, reset_hardware, stored};
@@ -11,9 +12,10 @@ ghost use Rattle.audio_side.specs.Sound.{IsRunning, SoundState, hardware_before_
 
 use crate::clock::CycleClock;
 use crate::hardware::{Hardware, cleared};
+use crate::instructions::make_all;
 use circular_buffer::HeapCircularBuffer;
 use snes_defs::Act;
-use spc700::{Spc, SpcAccess};
+use spc700::{Place, Spc, SpcAccess};
 
 /// What a fetch or a read does at the ports.
 #[tactic(auto, unfolding(crate::specs::Effect::act_of_load))]
@@ -75,9 +77,31 @@ pub fn next_act(spc: &Spc, hardware: &Hardware, clock: &CycleClock) -> Act
     }
 }
 
-/// The processor's next access is made.
+/// A byte of data is read.
 #[inline(always)]
-fn access(spc: &mut Spc, hardware: &mut Hardware, got: u8)
+fn read_data(spc: &mut Spc, hardware: &mut Hardware, got: u8)
+    requires known { spc.old.micro.place ≡ Load }
+    ensures processor { (s : SpcState) → Stands spc.old s → Stands spc.new (moved_on s (given hardware.old (next_of s) got)) }
+    ensures hardware { (s : SpcState) → Stands spc.old s → hardware.new ≡ effect hardware.old (next_of s) }
+{
+    let byte = hardware.take(spc.base(), got);
+    spc.took_data(byte);
+}
+
+/// The last write is made.
+#[inline(always)]
+fn write_last(spc: &mut Spc, hardware: &mut Hardware)
+    requires known { spc.old.micro.place ≡ WriteLast }
+    ensures processor { (s : SpcState) (got : ℕ) → Stands spc.old s → Stands spc.new (moved_on s (given hardware.old (next_of s) got)) }
+    ensures hardware { (s : SpcState) → Stands spc.old s → hardware.new ≡ effect hardware.old (next_of s) }
+{
+    hardware.put(spc.base(), spc.last_byte());
+    spc.wrote_last();
+}
+
+/// An access of any kind is made.
+#[inline(always)]
+fn other_access(spc: &mut Spc, hardware: &mut Hardware, got: u8)
     ensures processor { (s : SpcState) → Stands spc.old s → Stands spc.new (moved_on s (given hardware.old (next_of s) got)) }
     ensures hardware { (s : SpcState) → Stands spc.old s → hardware.new ≡ effect hardware.old (next_of s) }
 {
@@ -94,9 +118,22 @@ fn access(spc: &mut Spc, hardware: &mut Hardware, got: u8)
     }
 }
 
+/// The processor's next access is made. Most that are not made among others are of a port, by the commonest modes.
+#[inline(always)]
+fn access(spc: &mut Spc, hardware: &mut Hardware, got: u8)
+    ensures processor { (s : SpcState) → Stands spc.old s → Stands spc.new (moved_on s (given hardware.old (next_of s) got)) }
+    ensures hardware { (s : SpcState) → Stands spc.old s → hardware.new ≡ effect hardware.old (next_of s) }
+{
+    match spc.place() {
+        Place::Load => read_data(spc, hardware, got),
+        Place::WriteLast => write_last(spc, hardware),
+        _ => other_access(spc, hardware, got),
+    }
+}
+
 /// Whether an address is one of the registers F0 to FF.
 #[inline(always)]
-fn is_register(at: u16) -> bool
+pub fn is_register(at: u16) -> bool
     ensures { MatchBool result (at / 16 ≡ 15) (at / 16 ≢ 15) }
 {
     at / 16 == 15
@@ -243,7 +280,7 @@ pub fn try_plain(spc: &mut Spc, hardware: &mut Hardware) -> bool
 
 /// Makes the processor's accesses one after another, at most so many, as long as they are internal cycles or at none of
 /// the registers F0 to FF, and answers how many it made.
-#[inline(never)]
+#[inline(always)]
 pub fn make_accesses(spc: &mut Spc, hardware: &mut Hardware, most: u8) -> u8
     ensures run { (s : SpcState) → Stands spc.old s → HasRun spc.new hardware.new s hardware.old result }
     ensures few { result ≤ most }
@@ -252,12 +289,9 @@ pub fn make_accesses(spc: &mut Spc, hardware: &mut Hardware, most: u8) -> u8
     if spc.is_halted() {
         return most;
     }
-    'accesses: for made in 0..most {
-        if !try_plain(spc, hardware) {
-            return made;
-        }
-    }
-    most
+    let mut left = most;
+    make_all(spc, hardware, &mut left);
+    most - left
 }
 
 /// A processor at the vector `pc`.

@@ -16,7 +16,7 @@ use Rattle.cart_map.specs.Place.{IsInside, lies, is_cpu_register, is_system_bank
 use Rattle.console_bus.specs.declared.cart_board.CartBoard.{CartBoard}
 use Rattle.console_bus.specs.Places.{place_at}
 use Rattle.console_bus.specs.declared.address_map.Page.{Page}
-use Rattle.console_bus.specs.Memory.{index_of, IsWhole, IsPageOf, ArePages}
+use Rattle.console_bus.specs.Memory.{index_of, IsWhole, IsMemoryAt, page_clocks, IsPageOf, ArePages}
 
 -- ---- a ROM of whole pages keeps its pages whole
 
@@ -272,16 +272,30 @@ clocks_in_page board number o at fast few within h =
     rw (bank, bank', offset, offset')
     (clocks_inside (nat_lt (number / 8 % 128) 64) fast (number % 8) o (number / 8) within (λ s j. no_memory board (number / 8) (number % 8) at s (omega arith) j h'))
 
+-- an access to a page of memory, whether ROM is fast or not
+page_lies : (fast : Bool) (board : CartBoard) (number : ℕ) (page : Page) (o : ℕ) → IsThere board (place_at board (8192 * number + o)) (page.at + o)
+    → page.slow ≡ clocks_of (8192 * number + o) false → page.fast ≡ clocks_of (8192 * number + o) true → page.slow < 256 → page.fast < 256
+    → IsMemoryAt board fast (8192 * number + o) (page.at + o) (page_clocks page fast)
+page_lies true board number page o there slow fast slow_few fast_few = record { place = there.index; lasts = fast; few = fast_few; lies = there.lies; inside = there.inside }
+page_lies false board number page o there slow fast slow_few fast_few = record { place = there.index; lasts = slow; few = slow_few; lies = there.lies; inside = there.inside }
+
 -- a page of memory, from its first address
 pub is_page : (board : CartBoard) (number : ℕ) (page : Page) → 0 < board.rom → number < 2048
     → index_of board (place_at board (8192 * number)) ≡ Some page.at → IsWhole board (place_at board (8192 * number))
-    → page.slow ≡ clocks_of (8192 * number) false → page.fast ≡ clocks_of (8192 * number) true → IsPageOf board number page
-is_page board number page some few h whole slow fast =
-    let there : (o : ℕ) → o < 8192 → IsThere board (place_at board (8192 * number + o)) (page.at + o) = λ o within. byte_in_page board number o page.at some few within h whole in
-    record {
-      slow = λ o within. record { place = (there o within).index; lasts = slow ∙ sym (clocks_in_page board number o page.at false few within h); lies = (there o within).lies; inside = (there o within).inside };
-      fast = λ o within. record { place = (there o within).index; lasts = fast ∙ sym (clocks_in_page board number o page.at true few within h); lies = (there o within).lies; inside = (there o within).inside };
-    }
+    → page.slow ≡ clocks_of (8192 * number) false → page.fast ≡ clocks_of (8192 * number) true → page.slow < 256 → page.fast < 256 → IsPageOf board number page
+is_page board number page some few h whole slow fast slow_few fast_few = λ kind below o within.
+    page_lies kind board number page o (byte_in_page board number o page.at some few within h whole)
+    (slow ∙ sym (clocks_in_page board number o page.at false few within h)) (fast ∙ sym (clocks_in_page board number o page.at true few within h)) slow_few fast_few
+
+alike : (b : Bool) (x y n : ℕ) → x ≡ n → y ≡ n → (if b then x else y) ≡ n
+alike true x y n h k = h
+alike false x y n h k = k
+
+-- a page that is no memory says nothing
+pub no_page : (board : CartBoard) (number : ℕ) (page : Page) → page.slow ≡ 2000 → page.fast ≡ 2000 → IsPageOf board number page
+no_page board number page slow fast = λ kind below o within.
+    let many : page_clocks page kind ≡ 2000 = alike kind page.fast page.slow 2000 fast slow in
+    absurd (omega (arith, many, below))
 
 -- the place at a page's first address, by bank and offset
 pub first_place : (board : CartBoard) (number : ℕ) → number < 2048
@@ -291,15 +305,15 @@ first_place board number few =
     rw bank refl
 
 -- a list of pages with one more
-pub one_more : (board : CartBoard) (pages : List Page) (page : Page) → ArePages board pages → (IsTrue page.memory → IsPageOf board (length pages) page) → ArePages board (pages ++ page ∷ [])
+pub one_more : (board : CartBoard) (pages : List Page) (page : Page) → ArePages board pages → IsPageOf board (length pages) page → ArePages board (pages ++ page ∷ [])
 one_more board pages page are new = λ number d below.
-    let Holds : Page → Type 0 = λ q. IsTrue q.memory → IsPageOf board number q in
+    let Holds : Page → Type 0 = λ q. IsPageOf board number q in
     let size : length (pages ++ page ∷ []) ≡ length pages + 1 = length-append pages (page ∷ []) in
     ⊎_elim
     (λ before. subst Holds (sym (get_or-append pages (page ∷ []) d number before)) (are number d before))
     (λ last. (
     let end : number ≡ length pages = omega arith in
-    let Q : ℕ → Type 0 = λ n. IsTrue (slice_index_or (pages ++ page ∷ []) n d).memory → IsPageOf board n (slice_index_or (pages ++ page ∷ []) n d) in
-    let R : Page → Type 0 = λ q. IsTrue q.memory → IsPageOf board (length pages) q in
+    let Q : ℕ → Type 0 = λ n. IsPageOf board n (slice_index_or (pages ++ page ∷ []) n d) in
+    let R : Page → Type 0 = λ q. IsPageOf board (length pages) q in
     subst Q (sym end) (subst R (sym (get_or-append_seam pages page [] d)) new)))
     (cases_lt number (length pages))

@@ -1,5 +1,5 @@
 -- Where in the memory the byte at an address lies, and how long an access there lasts.
-use Rattle.std.specs.Prelude.{◌≡◌, ℕ, ◌+◌, ◌*◌, ◌<◌, ◌≤◌, ◌%◌, nat_lt, slice_set, if◌then◌else◌, Bool, true, false, IsTrue, Option, Some, None, List, length, slice_index_or}
+use Rattle.std.specs.Prelude.{◌≡◌, ℕ, ◌+◌, ◌*◌, ◌<◌, ◌≤◌, ◌%◌, nat_lt, slice_set, if◌then◌else◌, Bool, Option, Some, None, List, length, slice_index_or}
 use Rattle.cart_map.specs.declared.places.Place.{Place}
 use Rattle.cart_map.specs.declared.places.Place.TheVariants.{Wram, Rom, Ram, BBus, Cpu, Open}
 use Rattle.cart_map.specs.Place.{IsInside}
@@ -35,15 +35,19 @@ IsWhole board Open = Unit {0}
 pub record IsMemoryAt (board : CartBoard) (fast : Bool) (addr at clocks : ℕ) : Type 0 where
   pub place : index_of board (place_at board addr) ≡ Some at
   pub lasts : clocks ≡ clocks_of addr fast
+  pub few : clocks < 256
   pub lies : IsInside board.rom board.ram (place_at board addr)
   pub inside : at < 131072 + board.ram + board.rom
 
--- the addresses of a page of 8 KiB are memory, one byte after another
-pub record IsPageOf (board : CartBoard) (number : ℕ) (page : Page) : Type 0 where
-  pub slow : (o : ℕ) → o < 8192 → IsMemoryAt board false (8192 * number + o) (page.at + o) page.slow
-  pub fast : (o : ℕ) → o < 8192 → IsMemoryAt board true (8192 * number + o) (page.at + o) page.fast
+-- the clocks that a page says an access lasts
+abbrev pub page_clocks : Page → Bool → ℕ
+page_clocks page fast = if fast then page.fast else page.slow
 
--- each page that is marked as memory is such a page
+-- the addresses of a page of 8 KiB are memory, one byte after another, where its clocks are fewer than those of a page that is none
+abbrev pub IsPageOf : CartBoard → ℕ → Page → Type 0
+IsPageOf board number page = (fast : Bool) → page_clocks page fast < 2000
+    → (o : ℕ) → o < 8192 → IsMemoryAt board fast (8192 * number + o) (page.at + o) (page_clocks page fast)
+
+-- each page is such a page
 abbrev pub ArePages : CartBoard → List Page → Type 0
-ArePages board pages = (number : ℕ) (d : Page) → number < length pages
-    → IsTrue (slice_index_or pages number d).memory → IsPageOf board number (slice_index_or pages number d)
+ArePages board pages = (number : ℕ) (d : Page) → number < length pages → IsPageOf board number (slice_index_or pages number d)

@@ -1,5 +1,5 @@
 -- A script that goes on: the console that plays the longer one.
-use Rattle.std.specs.Prelude.{ℕ, List, [], ◌∷◌, ◌++◌}
+use Rattle.std.specs.Prelude.{ℕ, [], ◌∷◌, ◌++◌}
 use Rattle.snes_defs.specs.declared.script.Span.{Span}
 use Rattle.snes_defs.specs.Script.{Script, pads_at}
 use Rattle.io_math.specs.Words.{with_words}

@@ -2,7 +2,7 @@
 ghost use Rattle.std.specs.Prelude.{◌≡◌, ℕ, ◌<◌, ◌≤◌, ◌+◌, ◌*◌, ◌^◌, false, IfOk, IfSome, IsTrue, length};
 ghost use Rattle.cart_map.specs.Place.{IsInside};
 ghost use Rattle.console_bus.specs.declared.cart_board.CartBoard.{CartBoard};
-ghost use Rattle.console_bus.specs.Memory.{index_of, IsWhole, IsMemoryAt, IsPageOf, ArePages};
+ghost use Rattle.console_bus.specs.Memory.{index_of, IsWhole, IsMemoryAt, page_clocks, IsPageOf, ArePages};
 
 use crate::bus::WORK_RAM;
 use crate::cart_board::CartBoard;
@@ -17,24 +17,26 @@ const PAGE: u32 = 0x2000;
 /// How many pages there are.
 const PAGES: u32 = 2048;
 
+/// What a page that isn't memory says an access lasts: longer than a line, so that one comparison with the clocks
+/// that are left tells both that an access is of the memory and that nothing else happens in its clocks.
+const NO_MEMORY: u16 = 2000;
+
 /// An access to the memory: to which byte, and how many clocks it lasts.
 #[derive(Clone, Copy, Debug, PartialEq, Eq)]
 pub struct MemoryAccess {
     pub at: usize,
-    pub clocks: u8,
+    pub clocks: u16,
 }
 
-/// Eight KiB of addresses.
+/// Eight KiB of addresses, which are memory, one byte after another, or `NO_MEMORY`.
 #[derive(Clone, Copy, Debug, PartialEq, Eq)]
 pub(crate) struct Page {
-    /// Whether they are memory, one byte after another.
-    memory: bool,
     /// The byte of the memory at the first address.
     at: u32,
     /// How many clocks an access lasts.
-    slow: u8,
+    slow: u16,
     /// The same where MEMSEL makes ROM fast.
-    fast: u8,
+    fast: u16,
 }
 
 /// A cartridge's board with its pages, seen in contracts as the board.
@@ -74,30 +76,53 @@ impl AddressMap {
         &self.board
     }
 
+    /// The byte of the memory at an address, where the page of the address is memory and an access lasts fewer
+    /// clocks than so many.
+    #[inline(always)]
+    pub(crate) fn memory_within(&self, addr: u32, fast: bool, limit: u16) -> Option<MemoryAccess>
+        requires addr { addr < 2 ^ 24 }
+        requires limit { limit ≤ 2000 }
+        ensures memory { IfSome result (λ access. IsMemoryAt self.now fast addr access.at access.clocks) }
+        ensures within { IfSome result (λ access. access.clocks < limit) }
+    {
+        let page = self.pages[(addr / PAGE) as usize];
+        access(page, addr % PAGE, fast, limit)
+    }
+
     /// The byte of the memory at an address, where the page of the address is memory.
     #[inline(always)]
     pub(crate) fn memory_at(&self, addr: u32, fast: bool) -> Option<MemoryAccess>
         requires { addr < 2 ^ 24 }
         ensures { IfSome result (λ access. IsMemoryAt self.now fast addr access.at access.clocks) }
     {
-        let page = self.pages[(addr / PAGE) as usize];
-        access(page, addr % PAGE, fast)
+        self.memory_within(addr, fast, NO_MEMORY)
     }
 }
 
-/// The byte so many addresses after a page's first, where the page is memory.
+/// How many clocks an access to a page lasts.
 #[inline(always)]
-fn access(page: Page, offset: u32, fast: bool) -> Option<MemoryAccess>
-    requires { offset < 8192 }
-    ensures { (board : CartBoard) (number : ℕ) → (IsTrue page.memory → IsPageOf board number page)
-        → IfSome result (λ access. IsMemoryAt board fast (8192 * number + offset) access.at access.clocks) }
+fn page_clocks(page: Page, fast: bool) -> u16
+    ensures { result ≡ page_clocks page fast }
 {
-    if !page.memory {
+    if fast { page.fast } else { page.slow }
+}
+
+/// The byte so many addresses after a page's first, where an access lasts fewer clocks than so many.
+#[inline(always)]
+fn access(page: Page, offset: u32, fast: bool, limit: u16) -> Option<MemoryAccess>
+    requires offset { offset < 8192 }
+    requires limit { limit ≤ 2000 }
+    ensures memory { (board : CartBoard) (number : ℕ) → IsPageOf board number page
+        → IfSome result (λ access. IsMemoryAt board fast (8192 * number + offset) access.at access.clocks) }
+    ensures within { IfSome result (λ access. access.clocks < limit) }
+{
+    let clocks = page_clocks(page, fast);
+    if clocks >= limit {
         return None;
     }
     Some(MemoryAccess {
         at: page.at as usize + offset as usize,
-        clocks: if fast { page.fast } else { page.slow },
+        clocks,
     })
 }
 
@@ -120,13 +145,13 @@ fn pages_of(alloc: Global, board: &CartBoard) -> Result<Vec<Page>, NoMemory>
 
 /// A page that isn't memory, or not one byte after another.
 fn no_page() -> Page
-    ensures { result.memory ≡ false }
+    ensures slow { result.slow ≡ 2000 }
+    ensures fast { result.fast ≡ 2000 }
 {
     Page {
-        memory: false,
         at: 0,
-        slow: 0,
-        fast: 0,
+        slow: NO_MEMORY,
+        fast: NO_MEMORY,
     }
 }
 
@@ -135,16 +160,15 @@ fn no_page() -> Page
 fn page_from(board: &CartBoard, number: u32) -> Page
     requires some { 0 < board.now.rom }
     requires number { number < 2048 }
-    ensures { IsTrue result.memory → IsPageOf board.now number result }
+    ensures { IsPageOf board.now number result }
 {
     let first = PAGE * number;
     let place = place_in(board.map, board.rom, board.ram, first);
     match first_byte(board, place) {
         Some(at) => Page {
-            memory: true,
             at,
-            slow: clocks(first, false),
-            fast: clocks(first, true),
+            slow: clocks(first, false) as u16,
+            fast: clocks(first, true) as u16,
         },
         None => no_page(),
     }

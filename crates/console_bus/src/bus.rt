@@ -1,5 +1,6 @@
 ghost use Rattle.std.specs.Prelude.{◌≡◌, ◌<◌, ◌≤◌, ◌+◌, ◌^◌, ◌++◌, length, IfOk, IfSome, List, slice_index};
 ghost use Rattle.snes_defs.specs.declared.cart.Cart.{Cart};
+ghost use Rattle.beam.specs.Places.{clocks_left};
 ghost use Rattle.cart_map.specs.Place.{IsInside};
 ghost use Rattle.io_math.specs.Registers.{written as io_written};
 ghost use Rattle.ppu_regs.specs.Writes.{after_write};
@@ -70,6 +71,17 @@ impl Bus {
         ensures { IfSome result (λ access. IsMemoryAt self.now.board self.now.io.fast addr access.at access.clocks) }
     {
         self.map.memory_at(addr, self.io.fast())
+    }
+
+    /// The same where the access lasts fewer clocks than are left to the beam's next place: nothing else happens in them.
+    #[inline(always)]
+    pub fn memory_within(&self, addr: u32) -> Option<MemoryAccess>
+        requires { addr < 2 ^ 24 }
+        ensures memory { IfSome result (λ access. IsMemoryAt self.now.board self.now.io.fast addr access.at access.clocks) }
+        ensures within { IfSome result (λ access. access.clocks < clocks_left self.now.beam) }
+    {
+        self.map
+            .memory_within(addr, self.io.fast(), self.beam.clocks_left())
     }
 
     /// A byte of the memory.

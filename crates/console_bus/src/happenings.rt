@@ -1,4 +1,4 @@
-ghost use Rattle.std.specs.Prelude.{◌≡◌, ℕ, ◌+◌, ◌==◌, if◌then◌else◌, ◌<◌, ◌≤◌, ◌-◌, Bool, true, false, [], None, IsSome, map, slice_index};
+ghost use Rattle.std.specs.Prelude.{◌≡◌, IsTrue, ℕ, ◌+◌, ◌==◌, if◌then◌else◌, ◌<◌, ◌≤◌, ◌-◌, Bool, true, false, [], None, IsSome, map, slice_index};
 ghost use Rattle.beam.specs.Events.{happens_next, beam_next, beam_after, passed};
 ghost use Rattle.beam.specs.Places.{clocks_left};
 ghost use Rattle.dma_hdma.specs.Channel.{frame_begun as channel_frame_begun, line_begun};
@@ -118,10 +118,27 @@ impl Bus {
         ensures last { let overscan = self.old.picture.registers.settings.overscan in result ≡ happens_next overscan (beam_after overscan self.old.beam (clocks_left self.old.beam - 1)) }
         ensures moved { let overscan = self.old.picture.registers.settings.overscan in let there = beam_next overscan (beam_after overscan self.old.beam (clocks_left self.old.beam - 1)) in self.new ≡ record self.old { beam = there } }
         ensures clock { self.new.beam.h ≡ (if self.old.beam.h + clocks_left self.old.beam == 1364 then 0 else self.old.beam.h + clocks_left self.old.beam) }
+        ensures same_timer { self.new.beam.timer ≡ self.old.beam.timer }
         ensures same_region { self.new.beam.region ≡ self.old.beam.region }
     {
         let overscan = self.ppu.registers().settings.overscan;
         self.beam.reach(overscan)
+    }
+
+    /// The line clock of the next place at which something may happen, 1,364 for the end of the line.
+    #[inline(always)]
+    pub fn place_ahead(&self) -> u16
+        ensures { result ≡ self.now.beam.h + clocks_left self.now.beam }
+    {
+        self.beam.spot().h + self.beam.clocks_left()
+    }
+
+    /// Whether the timer asks for no interrupts.
+    #[inline(always)]
+    pub fn is_timer_off(&self) -> bool
+        ensures { IsTrue result → self.now.beam.timer.kind ≡ 0 }
+    {
+        self.io.irq_time().kind == 0
     }
 
     /// The line where the beam stands.

@@ -20,7 +20,7 @@ pub same_access : (cpu : Cpu) (s : CpuState) → Stands cpu s → access_of cpu 
 same_access cpu s h = rw (h.kept, h.irq_level, h.left) refl
 
 -- the step that is due is that access
-due_access : (cpu : Cpu) (bus : BusState) (w : ConsoleState) → IsAt cpu bus w → bus.reset ≡ false → bus.refresh ≡ false → transfer_of bus.channels ≡ None
+pub due_access : (cpu : Cpu) (bus : BusState) (w : ConsoleState) → IsAt cpu bus w → bus.reset ≡ false → bus.refresh ≡ false → transfer_of bus.channels ≡ None
     → due_of w ≡ Accesses (access_of cpu)
 due_access cpu bus w at reset refresh transfer =
     let a : w.rest.reset ≡ false = ap (λ r. r.reset) (sym at.rest) ∙ reset in

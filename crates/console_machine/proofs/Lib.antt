@@ -6,3 +6,4 @@ pub mod Steps
 pub mod Runs
 pub mod Looks
 pub mod Follows
+pub mod Rounds

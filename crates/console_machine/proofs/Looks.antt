@@ -1,5 +1,4 @@
--- Steps that only look do the same wherever the beam stands, as long as it passes nothing: so a round of them, which leads
--- back to the processor and the byte on the data bus that it began with, can be gone again and again.
+-- Steps that only look: what one of them does, what many leave as it is, and what they are as a run; and the clocks of rounds.
 use Rattle.std.proofs.Common.{◌≡◌, ℕ, zero, suc, ◌+◌, ◌-◌, ◌*◌, ◌/◌, ◌<◌, Bool, List, [], ◌∷◌, ◌++◌, refl, sym, ap, subst, ◌∙◌, arith, add-zero, append_assoc, slice_index, Some}
 use Rattle.snes_defs.specs.declared.ports.Act.TheVariants.{Quiet}
 use Rattle.cart_map.specs.declared.places.Place.{Place}
@@ -35,7 +34,7 @@ second_empty : (xs ys : List Event) → xs ++ ys ≡ [] → ys ≡ []
 second_empty [] ys e = e
 second_empty (x ∷ xs) ys e = absurd (cc)
 
-beam_joined : (o : Bool) (b : BeamValue) (j k : ℕ) → beam_after o (beam_after o b j) k ≡ beam_after o b (j + k)
+pub beam_joined : (o : Bool) (b : BeamValue) (j k : ℕ) → beam_after o (beam_after o b j) k ≡ beam_after o b (j + k)
 unfolding beam_after
 beam_joined o b zero k =
     let z : zero + k ≡ k = omega arith in
@@ -54,7 +53,7 @@ passed_joined o b (suc j) k =
     rw s (ap (λ (x : List Event). events_of (happens_next o b) ++ x) (passed_joined o (beam_next o b) j k)
     ∙ sym (append_assoc (events_of (happens_next o b)) (passed o (beam_next o b) j) (passed o (beam_after o (beam_next o b) j) k)))
 
-passed_parts : (o : Bool) (b : BeamValue) (j k : ℕ) → passed o b (j + k) ≡ [] → (passed o b j ≡ []) × (passed o (beam_after o b j) k ≡ [])
+pub passed_parts : (o : Bool) (b : BeamValue) (j k : ℕ) → passed o b (j + k) ≡ [] → (passed o b j ≡ []) × (passed o (beam_after o b j) k ≡ [])
 passed_parts o b j k h =
     let e = sym (passed_joined o b j k) ∙ h in
     (first_empty (passed o b j) (passed o (beam_after o b j) k) e, second_empty (passed o b j) (passed o (beam_after o b j) k) e)
@@ -63,34 +62,26 @@ passed_both : (o : Bool) (b : BeamValue) (j k : ℕ) → passed o b j ≡ [] →
 passed_both o b j k first then =
     passed_joined o b j k ∙ ap (λ (x : List Event). x ++ passed o (beam_after o b j) k) first ∙ then
 
-no_clocks : (o : Bool) (b : BeamValue) → (beam_after o b 0 ≡ b) × (passed o b 0 ≡ [])
+pub no_clocks : (o : Bool) (b : BeamValue) → (beam_after o b 0 ≡ b) × (passed o b 0 ≡ [])
 unfolding beam_after passed
 no_clocks o b = (refl, refl)
 
-gone_joined : (r : BusState) (j k : ℕ) → gone_on (gone_on r j) k ≡ gone_on r (j + k)
+pub gone_joined : (r : BusState) (j k : ℕ) → gone_on (gone_on r j) k ≡ gone_on r (j + k)
 gone_joined r j k = ap (λ (b : BeamValue). record r { beam = b }) (beam_joined r.picture.registers.settings.overscan r.beam j k)
 
-abbrev at_beam : ConsoleState → BeamValue → ℕ → ConsoleState
+abbrev pub at_beam : ConsoleState → BeamValue → ℕ → ConsoleState
 at_beam w b clock = record w { rest = record w.rest { beam = b }; clock = clock }
-
-drifts_joined : (w : ConsoleState) (j k : ℕ) → drifted (drifted w j) k ≡ drifted w (j + k)
-drifts_joined w j k =
-    let sum : w.clock + j + k ≡ w.clock + (j + k) = omega arith in
-    ap (λ (b : BeamValue). at_beam w b (w.clock + j + k)) (beam_joined (overscan_of w) w.rest.beam j k)
-    ∙ ap (λ (n : ℕ). at_beam w (beam_after (overscan_of w) w.rest.beam (j + k)) n) sum
 
 -- ---- an access that only looks
 
-read_is : (r : BusState) (p : Place) (at : ℕ) → index_of r.board p ≡ Some at → on_bus (place_read r p) (place_byte r p 0) ≡ on_bus r (slice_index r.memory at)
+pub read_is : (r : BusState) (p : Place) (at : ℕ) → index_of r.board p ≡ Some at → on_bus (place_read r p) (place_byte r p 0) ≡ on_bus r (slice_index r.memory at)
 read_is r p at h =
     let q = reads r p at h in
     rw (q.after, q.byte) refl
 
-record LookFacts (r : BusState) (a : Access) : Type 0 where
+pub record LookFacts (r : BusState) (a : Access) : Type 0 where
   pub quiet : access_act r a ≡ Quiet
   pub after : after_access r a 0 ≡ on_bus r (after_access r a 0).last
-  pub drifts : (d : ℕ) → after_access (gone_on r d) a 0 ≡ gone_on (after_access r a 0) d
-  pub byte : (d : ℕ) → byte_of (gone_on r d) a 0 ≡ byte_of r a 0
 
 read_facts : (r : BusState) (addr at : ℕ) → index_of r.board (place_at r.board addr) ≡ Some at → LookFacts r (Read addr)
 read_facts r addr at h =
@@ -99,38 +90,30 @@ read_facts r addr at h =
     record {
       quiet = (reads r p at h).act;
       after = is ∙ ap (λ (x : BusState). on_bus r x.last) (sym is);
-      drifts = λ d. read_is (gone_on r d) p at h ∙ ap (λ (x : BusState). gone_on x d) (sym is);
-      byte = λ d. (reads (gone_on r d) p at h).byte ∙ sym (reads r p at h).byte;
     }
 
-look_facts : (r : BusState) (a : Access) → IsLook r a → LookFacts r a
+pub look_facts : (r : BusState) (a : Access) → IsLook r a → LookFacts r a
 look_facts r (Fetch addr) h =
     let f = read_facts r addr h.0 h.1 in
-    record { quiet = f.quiet; after = f.after; drifts = f.drifts; byte = f.byte }
+    record { quiet = f.quiet; after = f.after }
 look_facts r (Read addr) h = read_facts r addr h.0 h.1
 look_facts r (Write addr v) h = absurd h
-look_facts r Inner h = record { quiet = refl; after = refl; drifts = λ d. refl; byte = λ d. refl }
-
-look_drifts : (r : BusState) (d : ℕ) (a : Access) → IsLook r a → IsLook (gone_on r d) a
-look_drifts r d (Fetch addr) h = h
-look_drifts r d (Read addr) h = h
-look_drifts r d (Write addr v) h = absurd h
-look_drifts r d Inner h = tt
+look_facts r Inner h = record { quiet = refl; after = refl }
 
 -- ---- a step that only looks
 
-abbrev look_effect : ConsoleState → ConsoleState
+abbrev pub look_effect : ConsoleState → ConsoleState
 look_effect w = effect w (Accesses (next_of w.processor)) 0
 
 look_due : (w : ConsoleState) → IsCalm w.rest → due_of w ≡ Accesses (next_of w.processor)
 look_due w calm = rw (calm.reset, calm.refresh, calm.transfer) refl
 
-record LookMade (w : ConsoleState) : Type 0 where
+pub record LookMade (w : ConsoleState) : Type 0 where
   pub quiet : act_of w.rest (due_of w) ≡ Quiet
   pub next : console_after w (due_of w) 0 ≡ drifted (look_effect w) (clocks_next w)
   pub none : bytes_after w (due_of w) 0 ≡ []
 
-look_made : (w : ConsoleState) → IsLookStep w → LookMade w
+pub look_made : (w : ConsoleState) → IsLookStep w → LookMade w
 look_made w s =
     let a = next_of w.processor in
     let f = look_facts w.rest a s.look in
@@ -143,42 +126,18 @@ look_made w s =
     let B : Due → Type 0 = λ d. bytes_after w d 0 ≡ [] in
     record { quiet = subst A (sym due) f.quiet; next = subst N (sym due) q.0; none = subst B (sym due) q.1 }
 
-effect_drifts : (w : ConsoleState) (d : ℕ) → IsLook w.rest (next_of w.processor) → look_effect (drifted w d) ≡ drifted (look_effect w) d
-effect_drifts w d look =
-    let a = next_of w.processor in
-    let f = look_facts w.rest a look in
-    let E : ℕ → BusState → ConsoleState = λ byte r. record { processor = with_interrupt_levels (moved_on w.processor byte) r; rest = r; clock = w.clock + d } in
-    ap (λ (byte : ℕ). E byte (after_access (gone_on w.rest d) a 0)) (f.byte d) ∙ ap (λ (r : BusState). E (byte_of w.rest a 0) r) (f.drifts d)
-
-drifted_look : (w : ConsoleState) (d : ℕ) → IsLookStep w → passed (overscan_of w) w.rest.beam (d + clocks_next w) ≡ [] → IsLookStep (drifted w d)
-drifted_look w d s none = record {
-  calm = record { reset = s.calm.reset; refresh = s.calm.refresh; transfer = s.calm.transfer };
-  look = look_drifts w.rest d (next_of w.processor) s.look;
-  nothing = (passed_parts (overscan_of w) w.rest.beam d (clocks_next w) none).1;
-}
-
-step_drifts : (w : ConsoleState) (d : ℕ) → IsLookStep w → passed (overscan_of w) w.rest.beam (d + clocks_next w) ≡ []
-    → console_after (drifted w d) (due_of (drifted w d)) 0 ≡ drifted (console_after w (due_of w) 0) d
-step_drifts w d s none =
-    let c = clocks_next w in
-    let x = look_effect w in
-    let sum : d + c ≡ c + d = omega arith in
-    (look_made (drifted w d) (drifted_look w d s none)).next ∙ ap (λ (y : ConsoleState). drifted y c) (effect_drifts w d s.look)
-    ∙ drifts_joined x d c ∙ ap (λ (n : ℕ). drifted x n) sum ∙ sym (drifts_joined x c d)
-    ∙ ap (λ (y : ConsoleState). drifted y d) (sym (look_made w s).next)
-
 -- ---- many of them
 
-abbrev with_bus : BusState → ℕ → BeamValue → BusState
+abbrev pub with_bus : BusState → ℕ → BeamValue → BusState
 with_bus r last beam = record r { last = last; beam = beam }
 
 -- they leave all but the processor, the byte on the data bus, the beam and the clock, and pass nothing
-record LooksEnd (w to : ConsoleState) (k : ℕ) : Type 0 where
+pub record LooksEnd (w to : ConsoleState) (k : ℕ) : Type 0 where
   pub rest : to.rest ≡ with_bus w.rest to.rest.last (beam_after (overscan_of w) w.rest.beam k)
   pub nothing : passed (overscan_of w) w.rest.beam k ≡ []
   pub clock : to.clock ≡ w.clock + k
 
-looks_end : (n : ℕ) (w to : ConsoleState) (k : ℕ) → LookSteps n w to k → LooksEnd w to k
+pub looks_end : (n : ℕ) (w to : ConsoleState) (k : ℕ) → LookSteps n w to k → LooksEnd w to k
 looks_end zero w to k h =
     let o = overscan_of w in
     let b = w.rest.beam in
@@ -212,31 +171,7 @@ looks_end (suc n) w to k h =
       clock = omega (arith, sum, at_mid, at_to);
     }
 
-steps_drift : (n : ℕ) (w to : ConsoleState) (k d : ℕ) → LookSteps n w to k → passed (overscan_of w) w.rest.beam (d + k) ≡ [] → LookSteps n (drifted w d) (drifted to d) k
-steps_drift zero w to k d h none = (ap (λ (x : ConsoleState). drifted x d) h.0, h.1)
-steps_drift (suc n) w to k d h none =
-    let o = overscan_of w in
-    let b = w.rest.beam in
-    let j = h.before in
-    let c = clocks_next h.mid in
-    let was = looks_end n w h.mid j h.run in
-    let sum = h.sum in
-    let one : d + k ≡ d + j + c = omega (arith, sum) in
-    let other : d + k ≡ j + (d + c) = omega (arith, sum) in
-    let first : passed o b (d + j) ≡ [] = (passed_parts o b (d + j) c (ap (passed o b) (sym one) ∙ none)).0 in
-    let then : passed o (beam_after o b j) (d + c) ≡ [] = (passed_parts o b j (d + c) (ap (passed o b) (sym other) ∙ none)).1 in
-    let P : BusState → Type 0 = λ r. passed r.picture.registers.settings.overscan r.beam (d + c) ≡ [] in
-    let there : passed (overscan_of h.mid) h.mid.rest.beam (d + c) ≡ [] = subst P (sym was.rest) then in
-    record {
-      mid = drifted h.mid d;
-      before = j;
-      run = steps_drift n w h.mid j d h.run first;
-      step = drifted_look h.mid d h.step there;
-      next = step_drifts h.mid d h.step there ∙ ap (λ (x : ConsoleState). drifted x d) h.next;
-      sum = h.sum;
-    }
-
-looks_joined : (n m : ℕ) (w mid to : ConsoleState) (j k : ℕ) → LookSteps n w mid j → LookSteps m mid to k → (q : ℕ) × LookSteps q w to (j + k)
+pub looks_joined : (n m : ℕ) (w mid to : ConsoleState) (j k : ℕ) → LookSteps n w mid j → LookSteps m mid to k → (q : ℕ) × LookSteps q w to (j + k)
 looks_joined n zero w mid to j k h then =
     let P : ConsoleState → Type 0 = λ x. LookSteps n w x j in
     let Q : ℕ → Type 0 = λ i. LookSteps n w to i in
@@ -247,48 +182,6 @@ looks_joined n (suc m) w mid to j k h then =
     let rest = looks_joined n m w mid then.mid j then.before h then.run in
     let sum = then.sum in
     (suc rest.0, record { mid = then.mid; before = j + then.before; run = rest.1; step = then.step; next = then.next; sum = omega (arith, sum) })
-
--- ---- rounds
-
-module _ (first cpu : Cpu) (bus : BusState) (k : ℕ) (round : (w : ConsoleState) → IsAt cpu bus w → LooksTo cpu (gone_on bus k) w k) where
-  -- one round more
-  one_more : (m : ℕ) → ((w : ConsoleState) → IsAt first bus w → LooksTo cpu (gone_on bus m) w m) → passed_in bus (m + k) ≡ []
-      → (w : ConsoleState) → IsAt first bus w → LooksTo cpu (gone_on bus (m + k)) w (m + k)
-  one_more m so_far none w at =
-      let i = so_far w at in
-      let end = looks_end i.steps w i.to m i.run in
-      let u : ConsoleState = record { processor = i.to.processor; rest = bus; clock = w.clock } in
-      let clock = end.clock in
-      let same : drifted u m ≡ i.to =
-      ap (λ (r : BusState). record { processor = i.to.processor; rest = r; clock = w.clock + m }) i.at.rest
-      ∙ ap (λ (n : ℕ). record { processor = i.to.processor; rest = i.to.rest; clock = n }) (sym clock) in
-      let r = round u (record { processor = i.at.processor; rest = refl }) in
-      let moved = steps_drift r.steps u r.to k m r.run none in
-      let P : ConsoleState → Type 0 = λ x. LookSteps r.steps x (drifted r.to m) k in
-      let all = looks_joined i.steps r.steps w i.to (drifted r.to m) m k i.run (subst P same moved) in
-      let sum : m + k ≡ k + m = omega arith in
-      record {
-        steps = all.0;
-        to = drifted r.to m;
-        run = all.1;
-        at = record {
-          processor = r.at.processor;
-          rest = ap (λ (n : ℕ). gone_on bus n) sum ∙ sym (gone_joined bus k m) ∙ ap (λ (x : BusState). gone_on x m) r.at.rest;
-        };
-      }
-
-  many_rounds : ((w : ConsoleState) → IsAt first bus w → LooksTo cpu (gone_on bus k) w k) → (n : ℕ) → passed_in bus (k + rounds_of n k) ≡ []
-      → (w : ConsoleState) → IsAt first bus w → LooksTo cpu (gone_on bus (k + rounds_of n k)) w (k + rounds_of n k)
-  many_rounds once zero none w at =
-      let P : ℕ → Type 0 = λ m. LooksTo cpu (gone_on bus m) w m in
-      subst P (sym (add-zero k)) (once w at)
-  many_rounds once (suc n) none w at =
-      let m = k + rounds_of n k in
-      let sum : k + rounds_of (suc n) k ≡ m + k = omega arith in
-      let o = bus.picture.registers.settings.overscan in
-      let all : passed_in bus (m + k) ≡ [] = ap (passed o bus.beam) (sym sum) ∙ none in
-      let P : ℕ → Type 0 = λ i. LooksTo cpu (gone_on bus i) w i in
-      subst P (sym sum) (one_more m (many_rounds once n (passed_parts o bus.beam m k all).0) all w at)
 
 -- ---- told as a run
 
@@ -312,15 +205,10 @@ looks_silent (suc n) w to k line h =
     let after : IsAfter w (console_after h.mid (due_of h.mid) 0) k = record { region = s.region ∙ was.region; line = s.line; clock = omega (arith, before, step, lasts, sum) } in
     (suc rest.0, (subst P h.next (silent_more rest.0 w h.mid rest.1.0 made.quiet made.none), subst Q h.next after))
 
-looks_run : (cpu : Cpu) (bus : BusState) (w : ConsoleState) (k : ℕ) → w.rest.beam.h < 1364 → LooksTo cpu bus w k → HasRun cpu bus w k
+pub looks_run : (cpu : Cpu) (bus : BusState) (w : ConsoleState) (k : ℕ) → w.rest.beam.h < 1364 → LooksTo cpu bus w k → HasRun cpu bus w k
 looks_run cpu bus w k line h =
     let run = looks_silent h.steps w h.to k line h.run in
     record { steps = run.0; to = h.to; run = run.1.0; at = h.at; after = run.1.1 }
-
-pub looks_run_by : (cpu : Cpu) (bus : BusState) (w : ConsoleState) (k n : ℕ) → w.rest.beam.h < 1364 → LooksTo cpu bus w k → n ≡ k → HasRun cpu bus w n
-looks_run_by cpu bus w k n line h same =
-    let P : ℕ → Type 0 = λ i. HasRun cpu bus w i in
-    subst P (sym same) (looks_run cpu bus w k line h)
 
 -- no step, and one more
 pub no_looks : (cpu : Cpu) (bus : BusState) (w : ConsoleState) (k : ℕ) → IsAt cpu bus w → k ≡ 0 → LooksTo cpu bus w k
@@ -370,31 +258,3 @@ some_rounds n k = record { number = n; times = rounds_times n k }
 
 pub rounds_within : (left k : ℕ) → 0 < left → (left - 1) / k * k < left
 rounds_within left k some = omega (arith, div-mul-le_self (left - 1) k, some)
-
--- the steps led back to a processor that does what the first does, and to the byte that they began with, and the beam went on by some rounds more
-pub rounds_run : (cpu cpu' : Cpu) (bus bus' end : BusState) (k n more all : ℕ) → ((w : ConsoleState) → IsAt cpu bus w → LooksTo cpu' bus' w k)
-    → ((s : CpuState) → Stands cpu' s → Stands cpu s) → bus'.last ≡ bus.last → more ≡ rounds_of n k → end ≡ gone_on bus' more → passed_in bus' more ≡ [] → all ≡ k + more
-    → (w : ConsoleState) → IsAt cpu bus w → w.rest.beam.h < 1364 → HasRun cpu' end w all
-rounds_run cpu cpu' bus bus' end k n more all looks like last times on none sum w at line =
-    let first = looks w at in
-    let e = looks_end first.steps w first.to k first.run in
-    let ends : bus' ≡ with_bus bus bus'.last (beam_after bus.picture.registers.settings.overscan bus.beam k) =
-    first.at.rest ∙ e.rest
-    ∙ ap (λ (r : BusState). with_bus r first.to.rest.last (beam_after r.picture.registers.settings.overscan r.beam k)) (sym at.rest)
-    ∙ ap (λ (r : BusState). with_bus bus r.last (beam_after bus.picture.registers.settings.overscan bus.beam k)) (sym first.at.rest) in
-    let back : bus' ≡ gone_on bus k = ends ∙ ap (λ (i : ℕ). with_bus bus i (beam_after bus.picture.registers.settings.overscan bus.beam k)) last in
-    let S : BusState → Type 0 = λ r. (u : ConsoleState) → IsAt cpu bus u → LooksTo cpu' r u k in
-    let once : (u : ConsoleState) → IsAt cpu bus u → LooksTo cpu' (gone_on bus k) u k = subst S back looks in
-    let round : (u : ConsoleState) → IsAt cpu' bus u → LooksTo cpu' (gone_on bus k) u k = λ u there. once u (record { processor = like u.processor there.processor; rest = there.rest }) in
-    let P : BusState → Type 0 = λ r. passed_in r k ≡ [] in
-    let before : passed_in bus k ≡ [] = subst P (sym at.rest) e.nothing in
-    let Q : BusState → Type 0 = λ r. passed_in r more ≡ [] in
-    let after : passed_in (gone_on bus k) more ≡ [] = subst Q back none in
-    let whole : passed_in bus (k + more) ≡ [] = passed_both bus.picture.registers.settings.overscan bus.beam k more before after in
-    let W : ℕ → Type 0 = λ i. passed_in bus (k + i) ≡ [] in
-    let far = many_rounds cpu cpu' bus k round once n (subst W times whole) w at in
-    let L : ℕ → Type 0 = λ i. LooksTo cpu' (gone_on bus (k + i)) w (k + i) in
-    let there : LooksTo cpu' (gone_on bus (k + more)) w (k + more) = subst L (sym times) far in
-    let is : end ≡ gone_on bus (k + more) = on ∙ ap (λ (r : BusState). gone_on r more) back ∙ gone_joined bus k more in
-    let E : BusState → Type 0 = λ r. LooksTo cpu' r w (k + more) in
-    looks_run_by cpu' end w (k + more) all line (subst E (sym is) there) sum

@@ -8,3 +8,4 @@ pub mod Taken
 pub mod Playing
 pub mod Runs
 pub mod Follows
+pub mod Rounds

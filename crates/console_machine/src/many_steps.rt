@@ -11,12 +11,15 @@ ghost use Rattle.console_steps.specs.AtOnce.{gone_on, passed_in, IsMadeAtOnce};
 ghost use Rattle.console_steps.specs.Plain.{IsWired, IsCalm, IsLook};
 ghost use Rattle.console_machine.specs.Follows.{Follows};
 ghost use Rattle.console_machine.specs.Runs.{HasRun, IsRounds};
+ghost use Rattle.console_machine.specs.Rounds.{GoesOn, IsRoundFrom};
 
 use crate::instructions::instruction;
 use crate::patience::Patience;
 use cart_map::Place as BusPlace;
 use console_bus::Bus;
-use console_steps::{is_calm, is_wired, try_look, try_plain};
+use console_steps::{
+    is_calm, is_plain_ahead, is_wired, look_past, make_refresh, try_look, try_plain,
+};
 use cpu_modes::Place;
 use cpu65816::Cpu;
 
@@ -31,6 +34,18 @@ const MOST_OF_ROUND: u16 = 32;
 
 /// With fewer clocks to the next place than these no round is looked for.
 const FEW_CLOCKS: u16 = 128;
+
+/// The master clocks of a line, and of the longest run of steps that is made at once.
+const LINE: u16 = 1364;
+
+/// How many places at most a round goes past.
+const MOST_PLACES: u8 = 4;
+
+/// More clocks than an access that lasts past a place has, with a refresh.
+const MOST_PAST: u16 = 295;
+
+/// Master clocks of a refresh of work RAM.
+const REFRESH_CLOCKS: u16 = 40;
 
 /// One access, wherever it stands in its instruction.
 #[tactic(auto, using(crate::proofs::Follows::follows_same))]
@@ -78,12 +93,10 @@ fn make_accesses(cpu: &mut Cpu, bus: &mut Bus) -> u16
         return 0;
     }
     let left = bus.clocks_left();
-    let mut more = true;
     'steps: for _ in 0..MOST_ACCESSES {
-        if !more {
+        if !make_some(cpu, bus) {
             return clocks_since(left, bus);
         }
-        more = make_some(cpu, bus);
     }
     clocks_since(left, bus)
 }
@@ -137,7 +150,8 @@ fn last_byte(bus: &mut Bus) -> u8
 }
 
 /// Whether the processor does what another one does, and a byte is the last on the data bus.
-fn is_back(cpu: &Cpu, bus: &mut Bus, first: &Cpu, byte: u8) -> bool
+#[inline(never)]
+fn is_like_first(cpu: &Cpu, bus: &mut Bus, first: &Cpu, byte: u8) -> bool
     ensures processor { IsTrue result → (s : CpuState) → Stands cpu.now s → Stands first.now s }
     ensures last { IsTrue result → bus.new.last ≡ byte }
     ensures stays { bus.new ≡ bus.old }
@@ -146,6 +160,19 @@ fn is_back(cpu: &Cpu, bus: &mut Bus, first: &Cpu, byte: u8) -> bool
         return false;
     }
     last_byte(bus) == byte
+}
+
+/// The same, seen at once where no instruction has ended.
+#[inline(always)]
+fn is_back(cpu: &Cpu, bus: &mut Bus, first: &Cpu, byte: u8) -> bool
+    ensures processor { IsTrue result → (s : CpuState) → Stands cpu.now s → Stands first.now s }
+    ensures last { IsTrue result → bus.new.last ≡ byte }
+    ensures stays { bus.new ≡ bus.old }
+{
+    if !cpu.is_between() {
+        return false;
+    }
+    is_like_first(cpu, bus, first, byte)
 }
 
 /// The clocks of the rounds, of so many clocks each, that end before the next place.
@@ -175,12 +202,109 @@ fn go_rounds(bus: &mut Bus, round: u16) -> u16
     more
 }
 
-/// Makes accesses that only look, and where they come back to the processor and the byte on the data bus that they
-/// began with, passes the rounds that fit before the next place. Answers how many clocks all of them last.
-#[inline(never)]
-fn make_rounds(cpu: &mut Cpu, bus: &mut Bus, patience: &mut Patience) -> u16
-    ensures run { (w : ConsoleState) → IsAt cpu.old bus.old w → w.rest.beam.h < 1364 → HasRun cpu.new bus.new w result }
+/// Makes accesses that only look, as long as they end before the next place, and answers how many clocks they last.
+fn look_to_place(cpu: &mut Cpu, bus: &mut Bus) -> u16
+    ensures goes { GoesOn cpu.old cpu.new bus.old bus.new result }
     ensures left { result + clocks_left bus.new.beam ≡ clocks_left bus.old.beam }
+{
+    let _left = bus.clocks_left();
+    let mut gone: u16 = 0;
+    'looks: for _ in 0..MOST_OF_ROUND {
+        match look_once(cpu, bus) {
+            Some(clocks) => gone += clocks as u16,
+            None => return gone,
+        }
+    }
+    gone
+}
+
+/// Makes the access that lasts to the next place or past it, where it only looks and nothing comes there but a refresh or the
+/// next line, and the refresh. Answers how many clocks they last.
+#[inline(never)]
+fn pass_plainly(cpu: &mut Cpu, bus: &mut Bus) -> Option<u16>
+    ensures goes { IfSome result (λ clocks. GoesOn cpu.old cpu.new bus.old bus.new clocks) }
+    ensures few { IfSome result (λ clocks. clocks ≤ 295) }
+    ensures bus_stays { result ≡ None → bus.new ≡ bus.old }
+    ensures cpu_stays { result ≡ None → cpu.new ≡ cpu.old }
+{
+    if !is_plain_ahead(bus) {
+        return None;
+    }
+    let clocks = look_past(cpu, bus)?;
+    if bus.refreshes() {
+        make_refresh(bus);
+        return Some(clocks as u16 + REFRESH_CLOCKS);
+    }
+    Some(clocks as u16)
+}
+
+/// Makes accesses that only look up to such a place, and past it.
+fn go_past(cpu: &mut Cpu, bus: &mut Bus) -> u16
+    ensures goes { GoesOn cpu.old cpu.new bus.old bus.new result }
+    ensures few { result ≤ clocks_left bus.old.beam + 295 }
+{
+    let _left = bus.clocks_left();
+    let before = look_to_place(cpu, bus);
+    match pass_plainly(cpu, bus) {
+        Some(past) => before + past,
+        None => before,
+    }
+}
+
+/// Makes accesses that only look up to the beginning of a round that is known, and passes the rounds that fit before the next place.
+fn go_round_again(cpu: &mut Cpu, bus: &mut Bus, back: &Cpu, byte: u8, round: u16) -> u16
+    ensures goes { IsRoundFrom back.now bus.old byte round → GoesOn cpu.old cpu.new bus.old bus.new result }
+    ensures left { result + clocks_left bus.new.beam ≡ clocks_left bus.old.beam }
+{
+    let _left = bus.clocks_left();
+    let mut gone: u16 = 0;
+    'looks: for _ in 0..MOST_OF_ROUND {
+        if is_back(cpu, bus, back, byte) {
+            *cpu = *back;
+            let more = go_rounds(bus, round);
+            return gone + more;
+        }
+        match look_once(cpu, bus) {
+            Some(clocks) => gone += clocks as u16,
+            None => return gone,
+        }
+    }
+    gone
+}
+
+/// Goes on with a round that is known past places where nothing comes but a refresh or the next line, for a line's clocks
+/// at most, of which some are gone before. Answers how many clocks it lasts.
+#[inline(never)]
+fn go_beyond(cpu: &mut Cpu, bus: &mut Bus, back: &Cpu, byte: u8, round: u16, before: u16) -> u16
+    requires few { before ≤ 1364 }
+    ensures goes { IsRoundFrom back.now bus.old byte round → GoesOn cpu.old cpu.new bus.old bus.new result }
+    ensures few { before + result ≤ 1364 }
+{
+    let mut gone: u16 = 0;
+    'places: for _ in 0..MOST_PLACES {
+        if !is_plain_ahead(bus) {
+            return gone;
+        }
+        if before + gone + bus.clocks_left() > LINE - MOST_PAST {
+            return gone;
+        }
+        gone += go_past(cpu, bus);
+        if before + gone + bus.clocks_left() > LINE {
+            return gone;
+        }
+        gone += go_round_again(cpu, bus, back, byte, round);
+    }
+    gone
+}
+
+/// Makes accesses that only look, and where they come back to the processor and the byte on the data bus that they
+/// began with, passes the rounds that fit before the next place, and goes on with them past places where little comes, for a
+/// line's clocks at most, of which some are gone before. Answers how many clocks all of them last.
+#[inline(never)]
+fn make_rounds(cpu: &mut Cpu, bus: &mut Bus, patience: &mut Patience, before: u16) -> u16
+    requires few { before + clocks_left bus.old.beam ≤ 1364 }
+    ensures run { (w : ConsoleState) → IsAt cpu.old bus.old w → w.rest.beam.h < 1364 → HasRun cpu.new bus.new w result }
+    ensures few { before + result ≤ 1364 }
 {
     if !is_calm(bus) {
         return 0;
@@ -201,7 +325,9 @@ fn make_rounds(cpu: &mut Cpu, bus: &mut Bus, patience: &mut Patience) -> u16
         if is_back(cpu, bus, &first, byte) {
             patience.found();
             let more = go_rounds(bus, gone);
-            return gone + more;
+            let back = *cpu;
+            let all = gone + more;
+            return all + go_beyond(cpu, bus, &back, byte, gone, before + all);
         }
     }
     gone
@@ -210,7 +336,7 @@ fn make_rounds(cpu: &mut Cpu, bus: &mut Bus, patience: &mut Patience) -> u16
 /// Looks for a round where the next place is far enough and it is time for it.
 fn look_for_rounds(cpu: &mut Cpu, bus: &mut Bus, patience: &mut Patience) -> u16
     ensures run { (w : ConsoleState) → IsAt cpu.old bus.old w → w.rest.beam.h < 1364 → HasRun cpu.new bus.new w result }
-    ensures left { result + clocks_left bus.new.beam ≡ clocks_left bus.old.beam }
+    ensures few { result ≤ 1364 }
 {
     let left = bus.clocks_left();
     if left < FEW_CLOCKS {
@@ -220,18 +346,20 @@ fn look_for_rounds(cpu: &mut Cpu, bus: &mut Bus, patience: &mut Patience) -> u16
         return 0;
     }
     let first = finish_instruction(cpu, bus);
-    let rounds = make_rounds(cpu, bus, patience);
+    let rounds = make_rounds(cpu, bus, patience, first);
     first + rounds
 }
 
-/// Makes quiet steps that emit nothing, at most up to the next place of the beam, and answers how many clocks they last.
+/// Makes quiet steps that emit nothing, up to the next place of the beam, or with rounds past some, for a line's clocks at most.
+/// Answers how many clocks they last.
 pub(crate) fn make_plain_steps(cpu: &mut Cpu, bus: &mut Bus, patience: &mut Patience) -> u16
     ensures run { (w : ConsoleState) → IsAt cpu.old bus.old w → w.rest.beam.h < 1364 → HasRun cpu.new bus.new w result }
-    ensures left { result + clocks_left bus.new.beam ≡ clocks_left bus.old.beam }
     ensures few { result ≤ 1364 }
 {
-    let _left = bus.clocks_left();
     let rounds = look_for_rounds(cpu, bus, patience);
+    if rounds + bus.clocks_left() > LINE {
+        return rounds;
+    }
     let others = make_accesses(cpu, bus);
     rounds + others
 }

@@ -9,3 +9,4 @@ pub mod BusRegisters
 pub mod Moves
 pub mod RegisterSteps
 pub mod RegisterPlaces
+pub mod PlainPlaces

@@ -19,7 +19,7 @@ use cpu65816::Cpu;
 
 /// The processor takes a byte of the memory, and the beam goes on.
 #[inline(always)]
-fn take_memory(cpu: &mut Cpu, bus: &mut Bus, at: usize, clocks: u8)
+fn take_memory(cpu: &mut Cpu, bus: &mut Bus, at: usize, clocks: u16)
     requires gets { IsTrue (gets_byte (access_of cpu.old)) }
     requires at { at < 131072 + bus.old.board.ram + bus.old.board.rom }
     requires few { clocks < clocks_left bus.old.beam }
@@ -31,7 +31,7 @@ fn take_memory(cpu: &mut Cpu, bus: &mut Bus, at: usize, clocks: u8)
     bus.put(byte);
     cpu.took(byte);
     give_interrupt_levels(cpu, bus);
-    bus.go_on(clocks as u16);
+    bus.go_on(clocks);
 }
 
 /// A byte of the memory is written, and goes over the data bus.
@@ -49,7 +49,7 @@ fn put_memory(bus: &mut Bus, at: usize, v: u8)
 
 /// The processor has written a byte of the memory, and the beam goes on.
 #[inline(always)]
-fn give_memory(cpu: &mut Cpu, bus: &mut Bus, at: usize, v: u8, clocks: u8)
+fn give_memory(cpu: &mut Cpu, bus: &mut Bus, at: usize, v: u8, clocks: u16)
     requires writes { IsTrue (is_write (access_of cpu.old)) }
     requires at { at < 131072 + bus.old.board.ram + bus.old.board.rom }
     requires few { clocks < clocks_left bus.old.beam }
@@ -60,7 +60,7 @@ fn give_memory(cpu: &mut Cpu, bus: &mut Bus, at: usize, v: u8, clocks: u8)
     put_memory(bus, at, v);
     cpu.wrote();
     give_interrupt_levels(cpu, bus);
-    bus.go_on(clocks as u16);
+    bus.go_on(clocks);
 }
 
 /// The processor reads a byte of the memory.
@@ -73,11 +73,11 @@ fn try_read(cpu: &mut Cpu, bus: &mut Bus, addr: u32) -> Option<u8>
     ensures cpu_stays { result ≡ None → cpu.new ≡ cpu.old }
 {
     let access = bus.memory_at(addr)?;
-    if access.clocks as u16 >= bus.clocks_left() {
+    if access.clocks >= bus.clocks_left() {
         return None;
     }
     take_memory(cpu, bus, access.at, access.clocks);
-    Some(access.clocks)
+    Some(access.clocks as u8)
 }
 
 /// The processor writes a byte of the memory.
@@ -90,11 +90,11 @@ fn try_write(cpu: &mut Cpu, bus: &mut Bus, addr: u32, v: u8) -> Option<u8>
     ensures cpu_stays { result ≡ None → cpu.new ≡ cpu.old }
 {
     let access = bus.memory_at(addr)?;
-    if access.clocks as u16 >= bus.clocks_left() {
+    if access.clocks >= bus.clocks_left() {
         return None;
     }
     give_memory(cpu, bus, access.at, v, access.clocks);
-    Some(access.clocks)
+    Some(access.clocks as u8)
 }
 
 /// The processor makes an internal cycle.

@@ -43,7 +43,7 @@ pub fn is_calm(bus: &Bus) -> bool
 
 /// The processor takes a byte of the memory, and the beam goes on.
 #[inline(always)]
-fn take_plainly(cpu: &mut Cpu, bus: &mut Bus, place: Place, at: usize, clocks: u8)
+fn take_plainly(cpu: &mut Cpu, bus: &mut Bus, place: Place, at: usize, clocks: u16)
     requires known { cpu.old.micro.place ≡ place }
     requires gets { IsTrue (gets_byte (access_of cpu.old)) }
     requires at { at < 131072 + bus.old.board.ram + bus.old.board.rom }
@@ -55,7 +55,7 @@ fn take_plainly(cpu: &mut Cpu, bus: &mut Bus, place: Place, at: usize, clocks: u
 {
     let byte = bus.load(at);
     bus.put(byte);
-    bus.go_on(clocks as u16);
+    bus.go_on(clocks);
     cpu.took_at(place, byte);
 }
 
@@ -76,7 +76,7 @@ fn put_plainly(bus: &mut Bus, at: usize, v: u8)
 
 /// The processor has written a byte of the memory, and the beam goes on.
 #[inline(always)]
-fn give_plainly(cpu: &mut Cpu, bus: &mut Bus, place: Place, at: usize, v: u8, clocks: u8)
+fn give_plainly(cpu: &mut Cpu, bus: &mut Bus, place: Place, at: usize, v: u8, clocks: u16)
     requires known { cpu.old.micro.place ≡ place }
     requires writes { IsTrue (is_write (access_of cpu.old)) }
     requires at { at < 131072 + bus.old.board.ram + bus.old.board.rom }
@@ -88,7 +88,7 @@ fn give_plainly(cpu: &mut Cpu, bus: &mut Bus, place: Place, at: usize, v: u8, cl
     ensures processor { (s : CpuState) → Stands cpu.old s → Stands cpu.new (moved_on s 0) }
 {
     put_plainly(bus, at, v);
-    bus.go_on(clocks as u16);
+    bus.go_on(clocks);
     cpu.wrote_at(place);
 }
 
@@ -106,12 +106,9 @@ pub(crate) fn read_plainly(cpu: &mut Cpu, bus: &mut Bus, place: Place, addr: u32
     ensures bus_stays { result ≡ None → bus.new ≡ bus.old }
     ensures cpu_stays { result ≡ None → cpu.new ≡ cpu.old }
 {
-    let access = bus.memory_at(addr)?;
-    if access.clocks as u16 >= bus.clocks_left() {
-        return None;
-    }
+    let access = bus.memory_within(addr)?;
     take_plainly(cpu, bus, place, access.at, access.clocks);
-    Some(access.clocks)
+    Some(access.clocks as u8)
 }
 
 /// The processor has written a register of the B bus, and the beam goes on.
@@ -130,7 +127,8 @@ fn give_register_plainly(cpu: &mut Cpu, bus: &mut Bus, place: Place, register: u
     cpu.wrote_at(place);
 }
 
-/// The processor writes a register of the B bus that is no port. Out of line: most writes are of the memory.
+/// The processor writes a register of the B bus that is no port; else nothing has changed. Out of line: most writes
+/// are of the memory.
 #[inline(never)]
 fn write_register_plainly(
     cpu: &mut Cpu,
@@ -178,14 +176,11 @@ pub(crate) fn write_plainly(
     ensures bus_stays { result ≡ None → bus.new ≡ bus.old }
     ensures cpu_stays { result ≡ None → cpu.new ≡ cpu.old }
 {
-    let Some(access) = bus.memory_at(addr) else {
+    let Some(access) = bus.memory_within(addr) else {
         return write_register_plainly(cpu, bus, place, addr, v);
     };
-    if access.clocks as u16 >= bus.clocks_left() {
-        return None;
-    }
     give_plainly(cpu, bus, place, access.at, v, access.clocks);
-    Some(access.clocks)
+    Some(access.clocks as u8)
 }
 
 /// The processor makes an internal cycle, and the beam goes on.

@@ -2,3 +2,4 @@ pub mod Firsts
 pub mod Seen
 pub mod Lines
 pub mod Marks
+mod Pairs

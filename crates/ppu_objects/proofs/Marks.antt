@@ -1,7 +1,5 @@
 -- Objects that are too far by their Y don't stand on the row.
-use Rattle.std.proofs.Common.{◌≡◌, ℕ, zero, suc, ◌+◌, ◌*◌, ◌%◌, ◌<◌, ◌≤◌, ◌&&◌, Bool, true, false, nat_lt, List, [], slice_index, length, if◌then◌else◌, inl, inr, refl, sym, ap, subst, ◌∙◌, arith}
-use Rattle.std.proofs.lemmas.Bool.{cases_lt}
-use Rattle.std.proofs.lemmas.List.{get_or_past}
+use Rattle.std.proofs.Common.{◌≡◌, ℕ, zero, suc, ◌+◌, ◌*◌, ◌%◌, ◌<◌, ◌≤◌, ◌&&◌, Bool, true, false, nat_lt, List, [], slice_index, if◌then◌else◌, refl, sym, ap, ◌∙◌, arith}
 use Rattle.ppu_regs.specs.Picture.{Picture}
 use Rattle.ppu_objects.specs.declared.objects.Object.{Object}
 use Rattle.ppu_objects.specs.Near.{near_mark}
@@ -52,20 +50,6 @@ unfolding grown
 grown_not code o row tall xs most none = rw (stands_not code o row tall most none) refl
 
 pub ruleset far = grown_not
-
--- a mark is 0 or 1
-mark_small : (b : Bool) → (let n : ℕ = if b then 1 else 0 in n) ≤ 1
-mark_small true = omega arith
-mark_small false = omega arith
-
-pub marks_small :
-    (near oam : List ℕ) (tall row : ℕ) → length near ≡ 256 →
-    ((n : ℕ) → n < 256 → slice_index near n ≡ near_mark tall row (slice_index oam (4 * (n % 128) + 1))) → (n : ℕ) → slice_index near n ≤ 1
-unfolding near_mark
-marks_small near oam tall row size marks n = elim (cases_lt n 256) [
-  | inl within ↦ subst (λ m. m ≤ 1) (sym (marks n within)) (mark_small (nat_lt (line_in (slice_index oam (4 * (n % 128) + 1)) row) tall))
-  | inr past ↦ (let e = get_or_past near n 0 (omega (arith, size)) in omega (arith, e))
-]
 
 -- the mark of an object in turn
 pub mark_in_turn :

@@ -10,6 +10,7 @@
 mod objects;
 mod painting;
 mod rows;
+mod sizes;
 mod slivers;
 
 pub use objects::Object;

@@ -1,10 +1,11 @@
 //! What OAM says of one object, and which objects stand on a row.
 
 ghost use Rattle.std.specs.Prelude.{◌≡◌, ℕ, ◌+◌, ◌*◌, ◌/◌, ◌%◌, ◌<◌, ◌≤◌, Bool, false, List, [], take, length, nat_lt, slice_index};
-ghost use Rattle.ppu_objects.specs.Objects.{pair_at, object_of, width_of, height_of, line_in, stands_on, first_object, place_in_turn, object_in_turn, grown, on_row, drawn_objects, passes_range};
+ghost use Rattle.ppu_objects.specs.Objects.{pair_at, object_of, height_of, line_in, stands_on, first_object, place_in_turn, object_in_turn, grown, on_row, drawn_objects, passes_range};
 ghost use Rattle.ppu_objects.specs.Near.{near_mark};
 ghost use Rattle.ppu_objects.specs.declared.objects.Object.{Object};
 
+use crate::sizes::Sizes;
 use arrayvec::ArrayVec;
 use ppu_regs::Ppu;
 
@@ -30,17 +31,12 @@ pub struct Object {
 }
 
 #[inline(always)]
-#[tactic(auto, unfolding(crate::specs::Objects::pair_at))]
 fn pair(byte: u8, k: u8) -> u8
+    requires { k < 4 }
     ensures value { result ≡ pair_at byte k }
     ensures small { result < 4 }
 {
-    match k {
-        0 => byte % 4,
-        1 => byte / 4 % 4,
-        2 => byte / 16 % 4,
-        _ => byte / 64,
-    }
+    (byte >> (2 * k)) % 4
 }
 
 /// Object `n` of OAM.
@@ -70,56 +66,6 @@ pub fn read_object(oam: &[u8; 544], n: u8) -> Object
     }
 }
 
-/// The width of an object in pixels.
-#[inline(always)]
-#[tactic(auto, unfolding(crate::specs::Objects::width_of))]
-pub fn width(code: u8, large: bool) -> u16
-    ensures value { result ≡ width_of code large }
-    ensures least { 8 ≤ result }
-    ensures most { result ≤ 64 }
-{
-    if large {
-        if code == 0 {
-            16
-        } else if code == 2 || code == 4 || code == 5 {
-            64
-        } else {
-            32
-        }
-    } else if code <= 2 {
-        8
-    } else if code == 5 {
-        32
-    } else {
-        16
-    }
-}
-
-/// The height of an object in pixels.
-#[inline(always)]
-#[tactic(auto, unfolding(crate::specs::Objects::height_of))]
-pub fn height(code: u8, large: bool) -> u16
-    ensures value { result ≡ height_of code large }
-    ensures least { 8 ≤ result }
-    ensures most { result ≤ 64 }
-{
-    if large {
-        if code == 0 {
-            16
-        } else if code == 1 || code == 3 || code == 7 {
-            32
-        } else {
-            64
-        }
-    } else if code <= 2 {
-        8
-    } else if code <= 4 {
-        16
-    } else {
-        32
-    }
-}
-
 /// The row's line in an object from its top.
 #[inline(always)]
 #[tactic(auto, unfolding(crate::specs::Objects::line_in))]
@@ -133,12 +79,12 @@ pub fn line_of_object(y: u8, row: u16) -> u16
 
 #[inline(always)]
 #[tactic(auto, unfolding(crate::specs::Objects::stands_on))]
-fn stands(code: u8, o: &Object, row: u16) -> bool
+fn stands(sizes: &Sizes, o: &Object, row: u16) -> bool
     requires { row < 239 }
-    ensures { result ≡ stands_on code o.now row }
+    ensures { result ≡ stands_on sizes.now o.now row }
 {
-    line_of_object(o.y, row) < height(code, o.large)
-        && (o.x < 256 || o.x as u32 + width(code, o.large) as u32 > 512)
+    line_of_object(o.y, row) < sizes.height(o.large)
+        && (o.x < 256 || o.x as u32 + sizes.width(o.large) as u32 > 512)
 }
 
 #[inline(always)]
@@ -197,10 +143,10 @@ fn note(list: &mut ArrayVec<Object, 32>, more: bool, does: bool, o: Object) -> b
 
 /// The height of the taller of both kinds of objects.
 #[inline(always)]
-fn tallest(code: u8) -> u8
-    ensures { (large : Bool) → height_of code large ≤ result }
+fn tallest(sizes: &Sizes) -> u8
+    ensures { (large : Bool) → height_of sizes.now large ≤ result }
 {
-    height(code, false).max(height(code, true)) as u8
+    sizes.height(false).max(sizes.height(true)) as u8
 }
 
 /// Whether an object with this Y may stand on a row, where none is taller than `tall`: 1 or 0.
@@ -225,17 +171,27 @@ fn look(oam: &[u8; 544], tall: u8, row: u8, near: &mut [u8; 256])
     }
 }
 
-/// Whether any of eight marks is set.
+/// Four bytes as one number.
+#[inline(always)]
+fn four(near: &[u8; 256], at: usize) -> u64
+    requires { at + 4 ≤ 256 }
+    ensures value { result ≡ slice_index near.now at + 256 * slice_index near.now (at + 1) + 65536 * slice_index near.now (at + 2) + 16777216 * slice_index near.now (at + 3) }
+    ensures small { result < 4294967296 }
+{
+    near[at] as u64
+        + 256 * near[at + 1] as u64
+        + 65_536 * near[at + 2] as u64
+        + 16_777_216 * near[at + 3] as u64
+}
+
+/// Whether any of eight marks is set. As the bytes of one number they are looked at together.
 #[inline(always)]
 #[tactic(auto, using(crate::proofs::Marks::marks))]
 fn is_any(near: &[u8; 256], at: usize) -> bool
-    requires room { at + 8 ≤ 256 }
-    requires small { (n : ℕ) → slice_index near.now n ≤ 1 }
+    requires { at + 8 ≤ 256 }
     ensures { (j : ℕ) → j < 8 → result ≡ false → slice_index near.now (at + j) ≡ 0 }
 {
-    let left = near[at] + near[at + 1] + near[at + 2] + near[at + 3];
-    let right = near[at + 4] + near[at + 5] + near[at + 6] + near[at + 7];
-    left + right != 0
+    four(near, at) + 4_294_967_296 * four(near, at + 4) != 0
 }
 
 /// Looks at the object `k` in turn.
@@ -243,6 +199,7 @@ fn is_any(near: &[u8; 256], at: usize) -> bool
 #[tactic(auto, using(crate::proofs::Marks::far))]
 fn note_nth(
     p: &Ppu,
+    sizes: &Sizes,
     row: u16,
     tall: u8,
     first: u8,
@@ -251,6 +208,7 @@ fn note_nth(
     list: &mut ArrayVec<Object, 32>,
     more: bool,
 ) -> bool
+    requires sizes { sizes.now ≡ p.now.registers.object_tiles.size }
     requires row { row < 239 }
     requires tall { (large : Bool) → height_of p.now.registers.object_tiles.size large ≤ tall }
     requires first { first ≡ first_object p.now }
@@ -266,18 +224,14 @@ fn note_nth(
         return more;
     }
     let o = nth_in_turn(p, first, k);
-    note(
-        list,
-        more,
-        stands(p.registers().object_tiles.size, &o, row),
-        o,
-    )
+    note(list, more, stands(sizes, &o, row), o)
 }
 
 /// Looks at eight objects in turn, from `8 * group` on.
 #[inline(always)]
 fn note_group(
     p: &Ppu,
+    sizes: &Sizes,
     row: u16,
     tall: u8,
     first: u8,
@@ -286,6 +240,7 @@ fn note_group(
     list: &mut ArrayVec<Object, 32>,
     over: bool,
 ) -> bool
+    requires sizes { sizes.now ≡ p.now.registers.object_tiles.size }
     requires row { row < 239 }
     requires tall { (large : Bool) → height_of p.now.registers.object_tiles.size large ≤ tall }
     requires first { first ≡ first_object p.now }
@@ -301,7 +256,7 @@ fn note_group(
     for j in 0..8usize {
         let k = 8 * group + j;
         let mark = near[first as usize + k];
-        more = note_nth(p, row, tall, first, k as u8, mark, list, more);
+        more = note_nth(p, sizes, row, tall, first, k as u8, mark, list, more);
     }
     more
 }
@@ -320,18 +275,19 @@ fn is_any_near(near: &[u8; 256]) -> bool
 /// Looks at all objects in turn, those eight at once of which none may stand on the row.
 fn note_near(
     p: &Ppu,
+    sizes: &Sizes,
     row: u16,
     tall: u8,
     first: u8,
     near: &[u8; 256],
     list: &mut ArrayVec<Object, 32>,
 ) -> bool
+    requires sizes { sizes.now ≡ p.now.registers.object_tiles.size }
     requires row { row < 239 }
     requires tall { (large : Bool) → height_of p.now.registers.object_tiles.size large ≤ tall }
     requires first { first ≡ first_object p.now }
     requires small { first < 128 }
     requires near { (n : ℕ) → n < 256 → slice_index near.now n ≡ near_mark tall row (slice_index p.now.oam (4 * (n % 128) + 1)) }
-    requires marks { (n : ℕ) → slice_index near.now n ≤ 1 }
     requires empty { list.old.items ≡ [] }
     ensures objects { list.new.items ≡ take 32 (on_row p.now row 128) }
     ensures range { result ≡ nat_lt 32 (length (on_row p.now row 128)) }
@@ -339,7 +295,7 @@ fn note_near(
     let mut more = false;
     for g in 0..16usize {
         if is_any(near, first as usize + 8 * g) {
-            more = note_group(p, row, tall, first, g, near, list, more);
+            more = note_group(p, sizes, row, tall, first, g, near, list, more);
         }
     }
     more
@@ -354,12 +310,13 @@ pub fn gather(p: &Ppu, row: u16, list: &mut ArrayVec<Object, 32>) -> bool
     ensures objects { list.new.items ≡ drawn_objects p.now row }
     ensures range { result ≡ passes_range p.now row }
 {
-    let tall = tallest(p.registers().object_tiles.size);
+    let sizes = Sizes::of(p.registers().object_tiles.size);
+    let tall = tallest(&sizes);
     let first = first(p);
     let mut near = [0u8; 256];
     look(p.oam(), tall, row as u8, &mut near);
     if is_any_near(&near) {
-        note_near(p, row, tall, first, &near, list)
+        note_near(p, &sizes, row, tall, first, &near, list)
     } else {
         false
     }

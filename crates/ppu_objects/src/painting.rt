@@ -6,7 +6,8 @@ ghost use Rattle.ppu_objects.specs.Covering.{covers, no_sliver, sliver_pixel};
 ghost use Rattle.ppu_objects.specs.Slivers.{shown_line, shown_column, tile_number, tile_word, sliver_word, pixel_value, sliver_layer_dot};
 ghost use Rattle.ppu_objects.specs.Ranks.{rank_byte, object_rank};
 
-use crate::objects::{Object, height, line_of_object, width};
+use crate::objects::{Object, line_of_object};
+use crate::sizes::Sizes;
 use crate::slivers::{Sliver, left_of, on_screen};
 use ppu_regs::{ObjectTiles, Ppu};
 use scanline_ops::choose;
@@ -14,21 +15,21 @@ use tile_cache::line_of_words;
 
 #[inline(always)]
 #[tactic(auto, unfolding(crate::specs::Slivers::shown_line))]
-fn line_shown(code: u8, o: &Object, row: u16) -> u16
+fn line_shown(sizes: &Sizes, o: &Object, row: u16) -> u16
     requires { row < 239 }
-    ensures { result ≡ shown_line code o.now row }
+    ensures { result ≡ shown_line sizes.now o.now row }
 {
     let line = line_of_object(o.y, row);
-    let turned = (height(code, o.large) - 1).saturating_sub(line);
+    let turned = (sizes.height(o.large) - 1).saturating_sub(line);
     if o.flip_y { turned } else { line }
 }
 
 #[inline(always)]
 #[tactic(auto, unfolding(crate::specs::Slivers::shown_column))]
-fn column_shown(code: u8, o: &Object, column: u8) -> u16
-    ensures { result ≡ shown_column code o.now column }
+fn column_shown(sizes: &Sizes, o: &Object, column: u8) -> u16
+    ensures { result ≡ shown_column sizes.now o.now column }
 {
-    let turned = (width(code, o.large) / 8 - 1).saturating_sub(column as u16);
+    let turned = (sizes.width(o.large) / 8 - 1).saturating_sub(column as u16);
     if o.flip_x { turned } else { column as u16 }
 }
 
@@ -55,14 +56,15 @@ fn word(tiles: &ObjectTiles, table: u8, tile: u32, line: u16) -> usize
 
 #[inline(always)]
 #[tactic(auto, unfolding(crate::specs::Slivers::sliver_word))]
-fn word_of_sliver(tiles: &ObjectTiles, sliver: &Sliver, row: u16) -> usize
-    requires { row < 239 }
+fn word_of_sliver(tiles: &ObjectTiles, sizes: &Sizes, sliver: &Sliver, row: u16) -> usize
+    requires row { row < 239 }
+    requires sizes { sizes.now ≡ tiles.now.size }
     ensures value { result ≡ sliver_word tiles.now sliver.now.object sliver.now.column row }
     ensures small { result < 32768 }
 {
     let o = &sliver.object;
-    let line = line_shown(tiles.size, o, row);
-    let column = column_shown(tiles.size, o, sliver.column);
+    let line = line_shown(sizes, o, row);
+    let column = column_shown(sizes, o, sliver.column);
     word(tiles, o.table, tile(o.tile, column, line), line)
 }
 
@@ -80,12 +82,13 @@ fn rank_of_object(bases: &[u8; 4], named: bool, o: &Object) -> u8
 
 /// The eight pixels of a sliver on a row, left to right on the screen.
 #[inline(always)]
-fn line_of_sliver(p: &Ppu, row: u16, sliver: &Sliver) -> [u8; 8]
+fn line_of_sliver(p: &Ppu, sizes: &Sizes, row: u16, sliver: &Sliver) -> [u8; 8]
     requires row { row < 239 }
+    requires sizes { sizes.now ≡ p.now.registers.object_tiles.size }
     ensures { result ≡ eight (pixel_value p.now.vram p.now.registers.object_tiles sliver.now.object sliver.now.column row) }
 {
     let vram = p.vram();
-    let at = word_of_sliver(&p.registers().object_tiles, sliver, row);
+    let at = word_of_sliver(&p.registers().object_tiles, sizes, sliver, row);
     line_of_words(vram[at], vram[(at + 8) % 32768], sliver.object.flip_x)
 }
 
@@ -110,8 +113,9 @@ pub fn put_lines(p: &Ppu, row: u16, slivers: &[Sliver], lines: &mut [u8; 272])
     ensures { (i k : ℕ) → i < length slivers.now → k < 8 →
         slice_index lines.new (8 * i + k) ≡ sliver_pixel p.now row (slice_index_or slivers.now i no_sliver) k }
 {
+    let sizes = Sizes::of(p.registers().object_tiles.size);
     for i in 0..slivers.len() {
-        let line = line_of_sliver(p, row, &slivers[i]);
+        let line = line_of_sliver(p, &sizes, row, &slivers[i]);
         put_bytes(lines, 8 * i, &line);
     }
 }

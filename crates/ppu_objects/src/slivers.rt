@@ -5,7 +5,8 @@ ghost use Rattle.ppu_objects.specs.Objects.{grown};
 ghost use Rattle.ppu_objects.specs.Slivers.{sliver_left, is_on_screen, slivers_of, all_slivers};
 ghost use Rattle.ppu_objects.specs.declared.slivers.Sliver.{Sliver};
 
-use crate::objects::{Object, width};
+use crate::objects::Object;
+use crate::sizes::Sizes;
 use arrayvec::ArrayVec;
 
 /// One sliver of an object: its column of eight pixels, from the left on the screen.
@@ -54,11 +55,11 @@ fn note_sliver(list: &mut ArrayVec<Sliver, 34>, more: bool, does: bool, sliver: 
 
 /// Adds the slivers of one object, left to right.
 #[tactic(auto, unfolding(crate::specs::Slivers::slivers_of, crate::specs::Slivers::first_slivers))]
-fn add_slivers(code: u8, o: &Object, list: &mut ArrayVec<Sliver, 34>, over: bool) -> bool
-    ensures items { (xs : List Sliver) → list.old.items ≡ take 34 xs → list.new.items ≡ take 34 (xs ++ slivers_of code o.now) }
-    ensures more { (xs : List Sliver) → list.old.items ≡ take 34 xs → over ≡ nat_lt 34 (length xs) → result ≡ nat_lt 34 (length (xs ++ slivers_of code o.now)) }
+fn add_slivers(sizes: &Sizes, o: &Object, list: &mut ArrayVec<Sliver, 34>, over: bool) -> bool
+    ensures items { (xs : List Sliver) → list.old.items ≡ take 34 xs → list.new.items ≡ take 34 (xs ++ slivers_of sizes.now o.now) }
+    ensures more { (xs : List Sliver) → list.old.items ≡ take 34 xs → over ≡ nat_lt 34 (length xs) → result ≡ nat_lt 34 (length (xs ++ slivers_of sizes.now o.now)) }
 {
-    let columns = (width(code, o.large) / 8) as u8;
+    let columns = (sizes.width(o.large) / 8) as u8;
     let mut more = over;
     for column in 0..columns {
         let sliver = Sliver { object: *o, column };
@@ -75,10 +76,11 @@ pub fn gather_slivers(code: u8, objects: &[Object], list: &mut ArrayVec<Sliver, 
     ensures slivers { list.new.items ≡ take 34 (all_slivers code objects.now) }
     ensures time { result ≡ nat_lt 34 (length (all_slivers code objects.now)) }
 {
+    let sizes = Sizes::of(code);
     let mut more = false;
     for j in 0..objects.len() {
         let o = objects[objects.len() - 1 - j];
-        more = add_slivers(code, &o, list, more);
+        more = add_slivers(&sizes, &o, list, more);
     }
     more
 }

@@ -165,8 +165,9 @@ fn take_blocks(r: &Registers, b: &Background, row: &mut [u8; 256])
     }
 }
 
-/// A row without mosaic, of row `y` of the screen, from its columns one by one.
-#[inline(always)]
+/// A row without mosaic, of row `y` of the screen, from its columns one by one. It stands out of line, so that rows of small
+/// tiles, which don't need it, have none of its registers and bytes to keep.
+#[inline(never)]
 fn columns_row(
     p: &Ppu,
     tiles: &TileCache,

@@ -6,7 +6,8 @@ use Rattle.snes_defs.specs.declared.ports.Act.TheVariants.{Quiet}
 use Rattle.side_law.specs.Moves.{Moves, IsLawful}
 use Rattle.side_law.specs.Quiet.{SilentSteps, LastStep, silent, emits, HasGoneQuietly}
 use Rattle.side_law.specs.Serial.{SerialState, got_of, incoming_after, outgoing_after, console_step, sound_step}
-use Rattle.serial_console.specs.Lead.{IsLead, SideState, side_step, side_bytes, MayStep, SideSteps, HasLed}
+use Rattle.side_law.specs.Sides.{SideState, side_step, side_bytes, TalkSteps, HasTalked}
+use Rattle.serial_console.specs.Lead.{IsLead, MayStep, SideSteps, HasLed}
 use Rattle.serial_console.proofs.Lead.{lead_console_quiet, lead_console_turn, lead_sound_quiet, lead_sound_turn, quiet_console_step, quiet_sound_step}
 
 module _ {State : Type 0} (moves : Moves State) (first end : ℕ) where
@@ -23,6 +24,23 @@ module _ {State : Type 0} (moves : Moves State) (first end : ℕ) where
       sym (append_assoc (side_bytes moves p) later (side_bytes moves q)) ∙ ap (λ v. v ++ side_bytes moves q) joined,
       steps_on n (side_step moves p) q later rest may,
     ),
+  )
+
+  -- steps after steps
+  pub steps_then : (n k : ℕ) (p q r : SideState State) (bytes more : List ℕ) → SideSteps moves first end n p q bytes → SideSteps moves first end k q r more
+      → (m : ℕ) × SideSteps moves first end m p r (bytes ++ more)
+  steps_then zero k p q r bytes more (same, none) then =
+      (k, subst (λ b. SideSteps moves first end k p r (b ++ more)) (sym none) (subst (λ x. SideSteps moves first end k x r more) (sym same) then))
+  steps_then (suc n) k p q r bytes more (goes, (later, joined, rest)) then =
+      let all = steps_then n k (side_step moves p) q r later more rest then in
+      (suc all.0, (goes, (later ++ more, sym (append_assoc (side_bytes moves p) later more) ∙ ap (λ v. v ++ more) joined, all.1)))
+
+  -- steps that emit nothing and are begun while this side is the earlier one
+  pub talk_steps : (before n : ℕ) (p q : SideState State) → before ≤ first → before ≤ end → TalkSteps moves before n p q → SideSteps moves first end n p q []
+  talk_steps before zero p q by_first by_end same = (same, refl)
+  talk_steps before (suc n) p q by_first by_end (may, rest) = (
+    record { before = omega (arith, may.early, by_end); may = inr (omega (arith, may.early, by_first)); rises = may.rises },
+    ([], ap (λ b. b ++ []) may.none, talk_steps before n (side_step moves p) q by_first by_end rest),
   )
 
   -- a quiet step leaves the bytes at the ports, and is one by 0
@@ -93,6 +111,36 @@ module _ {State : Type 0} (region : Region) (valid : State → Type 0) (most : �
         emitted = led.emitted ++ gone.emitted;
         made = there.made;
         waits_is = sym (append_assoc waited led.emitted gone.emitted) ∙ ap (λ w. w ++ gone.emitted) led.waits_is ∙ gone.waits_is;
+      }
+
+module _ {State : Type 0} (moves : Moves State) (first end : ℕ) (stood stands : State → Type 0) where
+  -- the steps of a call that emits nothing
+  pub led_talking : (before : ℕ) (waited waits incoming outgoing : List ℕ) (p : SideState State) → before ≤ first → before ≤ end → waits ≡ waited
+      → HasTalked moves before stands incoming outgoing p → HasLed moves first end stands waited waits incoming outgoing p
+  led_talking before waited waits incoming outgoing p by_first by_end same talked = record {
+    to = talked.to;
+    now_stands = talked.now_stands;
+    steps = talked.steps;
+    emitted = [];
+    made = talk_steps moves first end before talked.steps p (record { own = talked.to; incoming = incoming; outgoing = outgoing }) by_first by_end talked.made;
+    waits_is = append-nil waited ∙ sym same;
+  }
+
+  -- steps after steps
+  pub led_then : (waited mid waits incoming outgoing more_incoming more_outgoing : List ℕ) (p : SideState State)
+      → (led : HasLed moves first end stood waited mid incoming outgoing p)
+      → HasLed moves first end stands mid waits more_incoming more_outgoing (record { own = led.to; incoming = incoming; outgoing = outgoing })
+      → HasLed moves first end stands waited waits more_incoming more_outgoing p
+  led_then waited mid waits incoming outgoing more_incoming more_outgoing p led then =
+      let all = steps_then moves first end led.steps then.steps p (record { own = led.to; incoming = incoming; outgoing = outgoing })
+      (record { own = then.to; incoming = more_incoming; outgoing = more_outgoing }) led.emitted then.emitted led.made then.made in
+      record {
+        to = then.to;
+        now_stands = then.now_stands;
+        steps = all.0;
+        emitted = led.emitted ++ then.emitted;
+        made = all.1;
+        waits_is = sym (append_assoc waited led.emitted then.emitted) ∙ ap (λ w. w ++ then.emitted) led.waits_is ∙ then.waits_is;
       }
 
 module _ {State : Type 0} (moves : Moves State) (first end : ℕ) (stands : State → Type 0) (waited : List ℕ) where

@@ -3,7 +3,8 @@
 use Rattle.std.specs.Prelude.{◌≡◌, ℕ, zero, suc, ◌<◌, ◌≤◌, ◌⊎◌, List, [], ◌++◌}
 use Rattle.snes_defs.specs.declared.ports.Act.TheVariants.{Quiet}
 use Rattle.side_law.specs.Moves.{Moves}
-use Rattle.side_law.specs.Serial.{SerialState, got_of, incoming_after, outgoing_after}
+use Rattle.side_law.specs.Serial.{SerialState}
+use Rattle.side_law.specs.Sides.{SideState, side_step, side_bytes}
 use Rattle.side_law.specs.SerialRun.{IsUnderway}
 use Rattle.serial_console.specs.declared.serial.Serial.{Serial}
 use Rattle.serial_console.specs.Serial.{IsAt}
@@ -44,35 +45,18 @@ pub record IsLed {C S CState SState : Type 0} (console_moves : Moves CState) (so
   pub stands : IsAt console_stands sound_stands s at
   pub lead : IsLead console_moves sound_moves end from at video audio
 
--- one side's machine, and the bytes at its ports
-pub record SideState (State : Type 0) : Type 0 where
-  pub own : State
-  pub incoming : List ℕ
-  pub outgoing : List ℕ
-
 module _ {State : Type 0} (moves : Moves State) where
-  -- one step of the side, and the bytes that it emits
-  abbrev pub side_step : SideState State → SideState State
-  side_step p = record {
-    own = moves.next p.own (got_of (moves.act p.own) p.incoming);
-    incoming = incoming_after (moves.act p.own) p.incoming;
-    outgoing = outgoing_after (moves.act p.own) p.outgoing;
-  }
-
-  abbrev pub side_bytes : SideState State → List ℕ
-  side_bytes p = moves.bytes p.own (got_of (moves.act p.own) p.incoming)
-
   -- a step before the end, which is quiet, or made before the stamp up to which this side is the earlier one
   pub record MayStep (first end : ℕ) (p : SideState State) : Type 0 where
     pub before : moves.stamp p.own < end
     pub may : (moves.act p.own ≡ Quiet) ⊎ (moves.stamp p.own < first)
-    pub rises : moves.stamp p.own ≤ moves.stamp (side_step p).own
+    pub rises : moves.stamp p.own ≤ moves.stamp (side_step moves p).own
 
   -- so many such steps
   abbrev pub SideSteps : ℕ → ℕ → ℕ → SideState State → SideState State → List ℕ → Type 0
   SideSteps first end zero p q bytes = (p ≡ q) × (bytes ≡ [])
   SideSteps first end (suc n) p q bytes =
-      MayStep first end p × ((later : List ℕ) × (side_bytes p ++ later ≡ bytes) × SideSteps first end n (side_step p) q later)
+      MayStep first end p × ((later : List ℕ) × (side_bytes moves p ++ later ≡ bytes) × SideSteps first end n (side_step moves p) q later)
 
 -- from a state in which a machine stood it has made such steps to one in which it stands. The bytes at its ports
 -- are those after them, and what they emitted waits behind what waited

@@ -19,6 +19,37 @@ fn is_quiet(act: Act) -> bool {
     }
 }
 
+/// The lower of two stamps.
+#[inline(always)]
+fn lower(first: u64, end: u64) -> u64
+    ensures by_first { result ≤ first }
+    ensures by_end { result ≤ end }
+{
+    if first < end { first } else { end }
+}
+
+/// Makes steps before the stamp `first`, up to which this side is the earlier one, as many of those that emit nothing as the
+/// machine makes in one call. Answers the stamp of the step that is next.
+#[inline(always)]
+fn talk<M: Machine>(
+    machine: &mut M,
+    incoming: &[u8; 4],
+    outgoing: &mut [u8; 4],
+    first: u64,
+    end: u64,
+) -> u64
+    requires early { end ≤ 2 ^ 62 }
+    ensures made { (m : M.State) → M.stands machine.old m → HasLed M.moves first end (M.stands machine.new) (M.waiting machine.old) (M.waiting machine.new) incoming.now outgoing.new (record { own = m; incoming = incoming.now; outgoing = outgoing.old }) }
+    ensures stamp { result ≡ M.stamp_of machine.new }
+    ensures silent { M.waiting machine.new ≡ M.waiting machine.old }
+    ensures forward { M.stamp_of machine.old ≤ result }
+    ensures region { M.region_of machine.new ≡ M.region_of machine.old }
+{
+    let before = lower(first, end);
+    machine.talk(incoming, outgoing, before);
+    machine.stamp()
+}
+
 /// Makes the step that is next where it is at a port and begins before the stamp `first`, so that no quiet steps are
 /// looked for before it. Answers whether they may be now: not where a step at a port has to wait for the other side,
 /// and not where a step emitted bytes.
@@ -55,8 +86,9 @@ fn leave_port<M: Machine>(
 }
 
 /// Makes a side's steps before `end` one after another: any that begins before the stamp `first`, up to which it
-/// is the earlier side, and on from there those that are quiet, up to the first that emits a byte. Answers the stamp
-/// of that one, and where none did, of the step that is next.
+/// is the earlier side, those that come first in one call where the machine has one for them (`Machine::talk`), and on
+/// from there those that are quiet, up to the first that emits a byte. Answers the stamp of that one, and where none
+/// did, of the step that is next.
 #[inline(always)]
 fn lead<M: Machine>(
     machine: &mut M,
@@ -77,14 +109,18 @@ fn lead<M: Machine>(
     ensures begins { 0 < length (M.waiting machine.new) → M.stamp_of machine.old < M.stamp_of machine.new }
     ensures region { M.region_of machine.new ≡ M.region_of machine.old }
 {
-    let mut stamp = machine.stamp();
-    if stamp >= end {
-        return stamp;
+    let begun = machine.stamp();
+    if begun >= end {
+        return begun;
+    }
+    let talked = talk(machine, incoming, outgoing, first, end);
+    if talked >= end {
+        return talked;
     }
     if !leave_port(machine, incoming, outgoing, first, end) {
-        return stamp;
+        return talked;
     }
-    stamp = machine.stamp();
+    let mut stamp = machine.stamp();
     while stamp < end {
         let pause = machine.quiet(end);
         if machine.pending() > 0 {

@@ -2,5 +2,6 @@ pub mod Moves
 pub mod Quiet
 pub mod Serial
 pub mod SerialRun
+pub mod Sides
 pub mod Tape
 pub mod TapeLaws

@@ -3,6 +3,7 @@ ghost use Rattle.snes_defs.specs.declared.region.Region.{Region};
 ghost use Rattle.clock_ratio.specs.Stamp.{least_of, most_of};
 ghost use Rattle.side_law.specs.Moves.{Moves, IsLawful, IsAtPorts, taken};
 ghost use Rattle.side_law.specs.Quiet.{HasGoneQuietly};
+ghost use Rattle.side_law.specs.Sides.{HasTalked};
 
 use crate::pause::Pause;
 use snes_defs::{Act, Region};
@@ -158,6 +159,20 @@ pub trait Machine: Send {
         }
         let at = self.stamp();
         Pause { at, act }
+    }
+
+    /// Makes steps of any kind that emit nothing, each begun before the stamp `before`, up to which this side is the
+    /// earlier one: so the bytes that come in stand still meanwhile. How many it makes is left to the machine, none too,
+    /// and none of them clears a port. It saves a machine that talks a lot from being asked for each act.
+    #[inline(always)]
+    fn talk(&mut self, incoming: &[u8; 4], outgoing: &mut [u8; 4], before: u64)
+        requires early { before ≤ 2 ^ 62 }
+        ensures talked { (m : State) → stands self.old m → HasTalked moves before (stands self.new) incoming.now outgoing.new (record { own = m; incoming = incoming.now; outgoing = outgoing.old }) }
+        ensures silent { waiting self.new ≡ waiting self.old }
+        ensures forward { stamp_of self.old ≤ stamp_of self.new }
+        ensures same_region { region_of self.new ≡ region_of self.old }
+    {
+        let _before = before;
     }
 
     // The state of a value is valid in its region, and has its stamp.

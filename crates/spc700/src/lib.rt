@@ -8,7 +8,9 @@
 //! instruction begins with the registers that the results give. Memory is the caller's.
 #![tactic(auto)]
 
+pub mod known;
 pub mod processor;
 
 pub use processor::Spc;
+pub use spc_modes::Place;
 pub use spc_tables::{SpcAccess, SpcMode, SpcOp, SpcRegs, SpcRow};

@@ -9,7 +9,7 @@ use spc_tables::{SpcAccess, SpcMode, SpcOp, SpcRegs, SpcRow};
 /// An SPC700 between two accesses.
 #[derive(Clone, Copy, PartialEq, Eq, Debug)]
 pub struct Spc {
-    micro: Micro,
+    pub(crate) micro: Micro,
 }
 
 impl Spc {

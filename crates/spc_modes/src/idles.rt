@@ -1,4 +1,5 @@
 ghost use Rattle.std.specs.Prelude.{◌≡◌, IsTrue};
+ghost use Rattle.spc_modes.specs.declared.place.Place.TheVariants.{DataCycle, WriteCycle, Cycles, PullFirstCycle, PullCycle, CallCycle};
 
 use crate::micro::Micro;
 use crate::place::{Place, PointerKind};
@@ -6,6 +7,66 @@ use crate::place::{Place, PointerKind};
 impl Micro {
     ghost use Rattle.spc_modes.specs.Plan.{after, first_access, is_inner};
     ghost use Rattle.spc_modes.specs.Remaining.{ahead, remaining, start_of};
+
+    /// The cycle before the data at an address was made.
+    #[inline(always)]
+    pub fn passed_data_cycle(&mut self)
+        requires known { self.old.place ≡ DataCycle }
+        ensures left { remaining self.new ≡ after (ahead (remaining self.old)) 0 }
+        ensures start { self.new.start ≡ start_of self.old }
+    {
+        self.reach_data(self.base);
+    }
+
+    /// The cycle before the last write was made.
+    #[inline(always)]
+    pub fn passed_write_cycle(&mut self)
+        requires known { self.old.place ≡ WriteCycle }
+        ensures left { remaining self.new ≡ after (ahead (remaining self.old)) 0 }
+        ensures start { self.new.start ≡ start_of self.old }
+    {
+        self.place = Place::WriteLast;
+    }
+
+    /// One of the last cycles was made.
+    #[inline(always)]
+    pub fn passed_cycle(&mut self)
+        requires known { self.old.place ≡ Cycles }
+        ensures left { remaining self.new ≡ after (ahead (remaining self.old)) 0 }
+        ensures start { self.new.start ≡ start_of self.old }
+    {
+        self.end_after(self.byte);
+    }
+
+    /// The first cycle before a pull was made.
+    #[inline(always)]
+    pub fn passed_pull_first_cycle(&mut self)
+        requires known { self.old.place ≡ PullFirstCycle }
+        ensures left { remaining self.new ≡ after (ahead (remaining self.old)) 0 }
+        ensures start { self.new.start ≡ start_of self.old }
+    {
+        self.place = Place::PullCycle;
+    }
+
+    /// The second cycle before a pull was made.
+    #[inline(always)]
+    pub fn passed_pull_cycle(&mut self)
+        requires known { self.old.place ≡ PullCycle }
+        ensures left { remaining self.new ≡ after (ahead (remaining self.old)) 0 }
+        ensures start { self.new.start ≡ start_of self.old }
+    {
+        self.reach_pulls();
+    }
+
+    /// The cycle before the program counter is pushed was made.
+    #[inline(always)]
+    pub fn passed_call_cycle(&mut self)
+        requires known { self.old.place ≡ CallCycle }
+        ensures left { remaining self.new ≡ after (ahead (remaining self.old)) 0 }
+        ensures start { self.new.start ≡ start_of self.old }
+    {
+        self.place = Place::PushHigh;
+    }
 
     /// The next access, an internal cycle, was made.
     #[inline(always)]
@@ -15,22 +76,22 @@ impl Micro {
         ensures start { self.new.start ≡ start_of self.old }
     {
         match self.place {
-            Place::DataCycle => self.reach_data(self.base),
+            Place::DataCycle => self.passed_data_cycle(),
             Place::WordCycle => self.place = Place::WordHigh,
             Place::StoreWordCycle => self.place = Place::StoreWordLow,
             Place::PointerCycle => self.place = Place::PointerLow(PointerKind::Plain),
             Place::IncrementCycle => self.reach_increment(),
-            Place::WriteCycle => self.place = Place::WriteLast,
-            Place::Cycles => self.end_after(self.byte),
+            Place::WriteCycle => self.passed_write_cycle(),
+            Place::Cycles => self.passed_cycle(),
             Place::IndirectPairCycle => self.place = Place::IndirectPairSource,
             Place::BranchFirstCycle(is_taken) => self.place = Place::BranchCycle(is_taken),
             Place::BranchCycle(is_taken) => self.place = Place::BranchDistance(is_taken),
             Place::TestCycle => self.place = Place::TestRead,
             Place::PushCycle => self.place = Place::PushRegister,
-            Place::PullFirstCycle => self.place = Place::PullCycle,
-            Place::PullCycle => self.reach_pulls(),
+            Place::PullFirstCycle => self.passed_pull_first_cycle(),
+            Place::PullCycle => self.passed_pull_cycle(),
             Place::CallFirstCycle => self.place = Place::CallCycle,
-            Place::CallCycle => self.place = Place::PushHigh,
+            Place::CallCycle => self.passed_call_cycle(),
             Place::TargetCycle => self.place = Place::TargetLow,
             Place::Halted => {}
             Place::Between

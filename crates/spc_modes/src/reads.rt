@@ -1,4 +1,5 @@
 ghost use Rattle.std.specs.Prelude.{◌≡◌, IsTrue};
+ghost use Rattle.spc_modes.specs.declared.place.Place.TheVariants.{Between, FirstByte, OperandHigh, BranchDistance, Load, ChangeRead, ReturnLow, ReturnHigh};
 
 use crate::address::{direct_place, join_bytes, place_after, place_after_in_page};
 use crate::first::begins_with_byte;
@@ -10,6 +11,100 @@ impl Micro {
     ghost use Rattle.spc_modes.specs.Plan.{after, first_access, gets_byte};
     ghost use Rattle.spc_modes.specs.Remaining.{ahead, remaining, start_of};
 
+    /// An opcode was fetched.
+    #[inline(always)]
+    pub fn took_opcode(&mut self, got: u8)
+        requires known { self.old.place ≡ Between }
+        ensures left { remaining self.new ≡ after (ahead (remaining self.old)) got }
+        ensures start { self.new.start ≡ start_of self.old }
+    {
+        self.start = self.here;
+        self.pass_fetch();
+        self.row = row(got);
+        if begins_with_byte(got) {
+            self.place = Place::FirstByte;
+        } else {
+            self.enter();
+        }
+    }
+
+    /// The first byte after an opcode was fetched.
+    #[inline(always)]
+    pub fn took_first_byte(&mut self, got: u8)
+        requires known { self.old.place ≡ FirstByte }
+        ensures left { remaining self.new ≡ after (ahead (remaining self.old)) got }
+        ensures start { self.new.start ≡ start_of self.old }
+    {
+        self.pass_fetch();
+        self.pass_first(got);
+    }
+
+    /// The high byte of an operand was fetched.
+    #[inline(always)]
+    pub fn took_operand_high(&mut self, got: u8)
+        requires known { self.old.place ≡ OperandHigh }
+        ensures left { remaining self.new ≡ after (ahead (remaining self.old)) got }
+        ensures start { self.new.start ≡ start_of self.old }
+    {
+        self.pass_fetch();
+        self.pass_operand(join_bytes(self.byte, got));
+    }
+
+    /// A branch's distance was fetched.
+    #[inline(always)]
+    pub fn took_distance(&mut self, is_taken: bool, got: u8)
+        requires known { self.old.place ≡ BranchDistance is_taken }
+        ensures left { remaining self.new ≡ after (ahead (remaining self.old)) got }
+        ensures start { self.new.start ≡ start_of self.old }
+    {
+        self.pass_fetch();
+        self.pass_distance(is_taken, got);
+    }
+
+    /// A byte of data was read.
+    #[inline(always)]
+    pub fn took_data(&mut self, got: u8)
+        requires known { self.old.place ≡ Load }
+        ensures left { remaining self.new ≡ after (ahead (remaining self.old)) got }
+        ensures start { self.new.start ≡ start_of self.old }
+    {
+        self.pass_load(got);
+    }
+
+    /// A byte that is to be changed was read.
+    #[inline(always)]
+    pub fn took_data_to_change(&mut self, got: u8)
+        requires known { self.old.place ≡ ChangeRead }
+        ensures left { remaining self.new ≡ after (ahead (remaining self.old)) got }
+        ensures start { self.new.start ≡ start_of self.old }
+    {
+        self.pass_change(got);
+    }
+
+    /// The low byte of the address to return to was pulled.
+    #[inline(always)]
+    pub fn took_return_low(&mut self, got: u8)
+        requires known { self.old.place ≡ ReturnLow }
+        ensures left { remaining self.new ≡ after (ahead (remaining self.old)) got }
+        ensures start { self.new.start ≡ start_of self.old }
+    {
+        self.pass_pull();
+        self.byte = got;
+        self.place = Place::ReturnHigh;
+    }
+
+    /// Its high byte was pulled.
+    #[inline(always)]
+    pub fn took_return_high(&mut self, got: u8)
+        requires known { self.old.place ≡ ReturnHigh }
+        ensures left { remaining self.new ≡ after (ahead (remaining self.old)) got }
+        ensures start { self.new.start ≡ start_of self.old }
+    {
+        self.pass_pull();
+        self.here.pc = join_bytes(self.byte, got);
+        self.place = Place::Between;
+    }
+
     /// The next access, a fetch or a read, got a byte.
     #[inline(always)]
     pub fn took(&mut self, got: u8)
@@ -18,24 +113,9 @@ impl Micro {
         ensures start { self.new.start ≡ start_of self.old }
     {
         match self.place {
-            Place::Between => {
-                self.start = self.here;
-                self.pass_fetch();
-                self.row = row(got);
-                if begins_with_byte(got) {
-                    self.place = Place::FirstByte;
-                } else {
-                    self.enter();
-                }
-            }
-            Place::FirstByte => {
-                self.pass_fetch();
-                self.pass_first(got);
-            }
-            Place::OperandHigh => {
-                self.pass_fetch();
-                self.pass_operand(join_bytes(self.byte, got));
-            }
+            Place::Between => self.took_opcode(got),
+            Place::FirstByte => self.took_first_byte(got),
+            Place::OperandHigh => self.took_operand_high(got),
             Place::ImmediatePairOffset => {
                 self.pass_fetch();
                 let at = direct_place(&self.here, got as u16);
@@ -46,12 +126,9 @@ impl Micro {
                 let at = direct_place(&self.here, got as u16);
                 self.reach_direct_pair(at);
             }
-            Place::BranchDistance(is_taken) => {
-                self.pass_fetch();
-                self.pass_distance(is_taken, got);
-            }
-            Place::Load => self.pass_load(got),
-            Place::ChangeRead => self.pass_change(got),
+            Place::BranchDistance(is_taken) => self.took_distance(is_taken, got),
+            Place::Load => self.took_data(got),
+            Place::ChangeRead => self.took_data_to_change(got),
             Place::ChangeByARead => self.pass_change_by_a(got),
             Place::WordLow => {
                 self.base = place_after_in_page(self.base);
@@ -94,16 +171,8 @@ impl Micro {
                 self.here.psw = got;
                 self.place = Place::ReturnLow;
             }
-            Place::ReturnLow => {
-                self.pass_pull();
-                self.byte = got;
-                self.place = Place::ReturnHigh;
-            }
-            Place::ReturnHigh => {
-                self.pass_pull();
-                self.here.pc = join_bytes(self.byte, got);
-                self.place = Place::Between;
-            }
+            Place::ReturnLow => self.took_return_low(got),
+            Place::ReturnHigh => self.took_return_high(got),
             Place::TargetLow => {
                 self.base = place_after(self.base);
                 self.byte = got;

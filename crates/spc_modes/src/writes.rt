@@ -1,4 +1,5 @@
 ghost use Rattle.std.specs.Prelude.{◌≡◌, IsTrue};
+ghost use Rattle.spc_modes.specs.declared.place.Place.TheVariants.{WriteLast, PushHigh, PushLow};
 
 use crate::address::place_after_in_page;
 use crate::micro::Micro;
@@ -9,6 +10,38 @@ impl Micro {
     ghost use Rattle.spc_modes.specs.Plan.{after, first_access, is_write};
     ghost use Rattle.spc_modes.specs.Remaining.{ahead, remaining, start_of};
 
+    /// The last write was made.
+    #[inline(always)]
+    pub fn wrote_last(&mut self)
+        requires known { self.old.place ≡ WriteLast }
+        ensures left { remaining self.new ≡ after (ahead (remaining self.old)) 0 }
+        ensures start { self.new.start ≡ start_of self.old }
+    {
+        self.place = Place::Between;
+    }
+
+    /// The high byte of the program counter was pushed.
+    #[inline(always)]
+    pub fn wrote_counter_high(&mut self)
+        requires known { self.old.place ≡ PushHigh }
+        ensures left { remaining self.new ≡ after (ahead (remaining self.old)) 0 }
+        ensures start { self.new.start ≡ start_of self.old }
+    {
+        self.pass_push();
+        self.place = Place::PushLow;
+    }
+
+    /// Its low byte was pushed.
+    #[inline(always)]
+    pub fn wrote_counter_low(&mut self)
+        requires known { self.old.place ≡ PushLow }
+        ensures left { remaining self.new ≡ after (ahead (remaining self.old)) 0 }
+        ensures start { self.new.start ≡ start_of self.old }
+    {
+        self.pass_push();
+        self.pass_pushes();
+    }
+
     /// The next access, a write, was made.
     #[inline(always)]
     pub fn wrote(&mut self)
@@ -17,7 +50,7 @@ impl Micro {
         ensures start { self.new.start ≡ start_of self.old }
     {
         match self.place {
-            Place::WriteLast => self.place = Place::Between,
+            Place::WriteLast => self.wrote_last(),
             Place::StoreWordLow => {
                 self.base = place_after_in_page(self.base);
                 self.byte = self.here.y;
@@ -33,14 +66,8 @@ impl Micro {
                 self.byte = 0;
                 self.place = Place::Cycles;
             }
-            Place::PushHigh => {
-                self.pass_push();
-                self.place = Place::PushLow;
-            }
-            Place::PushLow => {
-                self.pass_push();
-                self.pass_pushes();
-            }
+            Place::PushHigh => self.wrote_counter_high(),
+            Place::PushLow => self.wrote_counter_low(),
             Place::BreakStatus => {
                 self.pass_push();
                 self.here = broken(self.here);

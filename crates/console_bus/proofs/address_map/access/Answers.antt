@@ -1,7 +1,9 @@
+use Rattle.std.proofs.Common.{ℕ, ◌+◌, ◌*◌, sym, subst, arith}
+use Rattle.console_bus.specs.Memory.{IsMemoryAt}
 use Rattle.console_bus.proofs.address_map.access.Goals as goal
 
-pub returns-then-fast : goal.returns-then-fast
-returns-then-fast c = λ board number page. rw c.if-fast.true ((page c.if-not-page.false).fast c.args.offset c.requires)
-
-pub returns-else-fast : goal.returns-else-fast
-returns-else-fast c = λ board number page. rw c.if-fast.false ((page c.if-not-page.false).slow c.args.offset c.requires)
+pub returns-clause-memory : goal.returns-clause-memory
+returns-clause-memory c = λ board number page.
+    let same = c.page_clocks-clocks.ensures in
+    let At : ℕ → Type 0 = λ n. IsMemoryAt board c.args.fast (8192 * number + c.args.offset) (c.args.page.at + c.args.offset) n in
+    subst At (sym same) (page c.args.fast (let limit = c.requires.limit in let below = c.if-clocks-limit.false in omega (arith, same, limit, below)) c.args.offset c.requires.offset)

@@ -20,12 +20,15 @@ steps-init c = record {
 pub steps-preserved : goal.steps-preserved
 steps-preserved c =
     let was = c.steps.invariant in
-    let all = follows_then c.args.cpu.now c.steps.cpu c.make_some-more.new.cpu c.args.bus.now c.steps.bus c.make_some-more.new.bus was.follows c.make_some-more.ensures in
+    let all = follows_then c.args.cpu.now c.steps.cpu c.make_some.new.cpu c.args.bus.now c.steps.bus c.make_some.new.bus was.follows c.make_some.ensures in
     record { fewer = all.left; follows = all }
 
-pub returns-then-not-more-clause-run : goal.returns-then-not-more-clause-run
-returns-then-not-more-clause-run c = λ w at line.
-    run_of c.args.cpu.now c.steps.cpu c.args.bus.now c.steps.bus w _ c.steps.invariant.follows (c.clocks_since.ensures ∙ ap (λ n. n - clocks_left c.steps.bus.beam) c.clocks_left-left.ensures.clocks) at line (c.if-not-is_calm.ensures refl) (c.if-not-is_wired.ensures refl)
+pub returns-then-not-make_some-clause-run : goal.returns-then-not-make_some-clause-run
+returns-then-not-make_some-clause-run c = λ w at line.
+    let cpu = c.make_some.new.cpu in
+    let bus = c.make_some.new.bus in
+    let all = follows_then c.args.cpu.now c.steps.cpu cpu c.args.bus.now c.steps.bus bus c.steps.invariant.follows c.make_some.ensures in
+    run_of c.args.cpu.now cpu c.args.bus.now bus w _ all (c.clocks_since.ensures ∙ ap (λ n. n - clocks_left bus.beam) c.clocks_left-left.ensures.clocks) at line (c.if-not-is_calm.ensures refl) (c.if-not-is_wired.ensures refl)
 
 pub returns-clause-run : goal.returns-clause-run
 returns-clause-run c = λ w at line.

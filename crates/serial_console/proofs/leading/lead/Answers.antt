@@ -1,7 +1,31 @@
 use Rattle.std.proofs.Common.{◌≡◌, length, rules, arith}
 use Rattle.std.proofs.lemmas.Grind.{common_steps}
-use Rattle.serial_console.proofs.SideRuns.{led_quietly, led_step}
+use Rattle.serial_console.proofs.SideRuns.{led_quietly, led_step, led_then}
 use Rattle.serial_console.proofs.leading.lead.Goals as goal
+
+pub returns-then-not-leave_port-clause-made : goal.returns-then-not-leave_port-clause-made
+returns-then-not-leave_port-clause-made g c = λ m stands.
+    let M = g.M.Machine in
+    let led = c.talk-talked.ensures.made m stands in
+    led_then M.moves c.args.first c.args.end (M.stands c.talk-talked.new.machine) (M.stands c.leave_port.new.machine)
+    (M.waiting c.args.machine.now) (M.waiting c.talk-talked.new.machine) (M.waiting c.leave_port.new.machine)
+    c.args.incoming.now c.talk-talked.new.outgoing c.leave_port.new.incoming c.leave_port.new.outgoing
+    (record { own = m; incoming = c.args.incoming.now; outgoing = c.args.outgoing.now }) led (c.leave_port.ensures.made led.to led.now_stands)
+
+pub loop-stamp-init : goal.loop-stamp-init
+loop-stamp-init g c = record {
+  made = λ m stands.
+      let M = g.M.Machine in
+      let led = c.talk-talked.ensures.made m stands in
+      led_then M.moves c.args.first c.args.end (M.stands c.talk-talked.new.machine) (M.stands c.leave_port.new.machine)
+      (M.waiting c.args.machine.now) (M.waiting c.talk-talked.new.machine) (M.waiting c.leave_port.new.machine)
+      c.args.incoming.now c.talk-talked.new.outgoing c.leave_port.new.incoming c.leave_port.new.outgoing
+      (record { own = m; incoming = c.args.incoming.now; outgoing = c.args.outgoing.now }) led (c.leave_port.ensures.made led.to led.now_stands);
+  next = search rules;
+  none = grind (arith, common_steps);
+  forward = grind (arith, common_steps);
+  region = search rules;
+}
 
 pub returns-then-pending-gt0-clause-made : goal.returns-then-pending-gt0-clause-made
 returns-then-pending-gt0-clause-made g c = λ m stands.

@@ -1,0 +1,10 @@
+use Rattle.spc_tables.specs.declared.access.SpcAccess.TheVariants.{Fetch}
+use Rattle.spc_modes.specs.declared.place.Place.{Place}
+use Rattle.audio_side.proofs.Follows.{access_at, follows_got}
+use Rattle.audio_side.proofs.instructions.first_byte.Goals as goal
+
+pub returns-in-Some : goal.returns-in-Some
+returns-in-Some c =
+    let read = c.in-Some.ensures in
+    follows_got c.args.spc.now c.took_first_byte.new.self c.args.hardware.now c.args.left.now c.program_byte.new.left c.in-Some.byte (Fetch (c.args.spc.now.micro.here.pc))
+    (access_at c.args.spc.now Place.FirstByte c.requires.known) read.gets read.made c.took_first_byte.ensures

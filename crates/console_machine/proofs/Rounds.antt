@@ -1,0 +1,311 @@
+-- Steps that only look do the same wherever the beam stands, as long as it passes nothing: so a round of them, which leads back to the
+-- processor and the byte on the data bus that it began with, can be gone again and again, after a refresh or the end of a line, too.
+use Rattle.std.proofs.Common.{◌≡◌, ℕ, zero, suc, ◌+◌, ◌-◌, ◌<◌, None, Bool, List, [], refl, sym, ap, subst, ◌∙◌, arith, add-zero, false, true, slice_index}
+use Rattle.cpu_tables.specs.declared.access.Access.{Access}
+use Rattle.cpu_tables.specs.declared.access.Access.TheVariants.{Fetch, Read, Write, Inner}
+use Rattle.cpu65816.specs.declared.processor.Cpu.{Cpu}
+use Rattle.cpu65816.specs.Instruction.{CpuState, next_of, moved_on}
+use Rattle.cpu65816.specs.Stands.{Stands, access_of}
+use Rattle.beam.specs.declared.events.Event.{Event}
+use Rattle.beam.specs.Events.{BeamValue, beam_after, passed}
+use Rattle.beam.specs.Places.{clocks_left}
+use Rattle.console_bus.specs.BusState.{BusState}
+use Rattle.console_bus.specs.Places.{place_at, on_bus}
+use Rattle.dma_hdma.specs.Channels.{due_of as transfer_of}
+use Rattle.console_steps.specs.ConsoleState.{ConsoleState, Due, Accesses, Refreshes, after_access, byte_of, with_interrupt_levels, due_of, effect, after_clocks, bytes_in, console_after, overscan_of}
+use Rattle.console_steps.specs.PlainPlaces.{IsMadePast, IsSameBefore}
+use Rattle.console_steps.proofs.PassSteps.{went_on}
+use Rattle.console_steps.specs.Stands.{IsAt}
+use Rattle.console_steps.specs.AtOnce.{gone_on, passed_in, IsMadeAtOnce}
+use Rattle.console_steps.specs.Plain.{IsWired, IsCalm, IsLook}
+use Rattle.console_steps.proofs.AtOnce.{reads}
+use Rattle.console_steps.proofs.Clocks.{drifted}
+use Rattle.console_steps.proofs.Wires.{wired_then, wired_on, levels_again}
+use Rattle.console_machine.specs.Runs.{HasRun, clocks_next, IsLookStep, LookSteps, LooksTo, rounds_of}
+use Rattle.console_machine.specs.Rounds.{IsElsewhere, HasGone, GoesOn, IsRound, IsRoundFrom}
+use Rattle.console_machine.proofs.AtOnce.{IsStepMade, due_access, is_step}
+use Rattle.console_machine.proofs.Runs.{no_run, run_on, run_then}
+use Rattle.console_machine.proofs.Looks.{beam_joined, passed_parts, no_clocks, gone_joined, at_beam, read_is, look_facts, look_effect, look_made, with_bus, looks_end, looks_joined, looks_run}
+
+-- ---- steps that only look, from another place of the beam
+
+look_byte_at : (r : BusState) (b : BeamValue) (a : Access) → IsLook r a → byte_of (record r { beam = b }) a 0 ≡ byte_of r a 0
+look_byte_at r b (Fetch addr) h = (reads (record r { beam = b }) (place_at r.board addr) h.0 h.1).byte ∙ sym (reads r (place_at r.board addr) h.0 h.1).byte
+look_byte_at r b (Read addr) h = (reads (record r { beam = b }) (place_at r.board addr) h.0 h.1).byte ∙ sym (reads r (place_at r.board addr) h.0 h.1).byte
+look_byte_at r b (Write addr v) h = absurd h
+look_byte_at r b Inner h = refl
+
+look_after_at : (r : BusState) (b : BeamValue) (a : Access) → IsLook r a → after_access (record r { beam = b }) a 0 ≡ record (after_access r a 0) { beam = b }
+look_after_at r b (Fetch addr) h = read_is (record r { beam = b }) (place_at r.board addr) h.0 h.1 ∙ ap {A = BusState} {B = BusState} (λ x. record x { beam = b }) (sym (read_is r (place_at r.board addr) h.0 h.1))
+look_after_at r b (Read addr) h = read_is (record r { beam = b }) (place_at r.board addr) h.0 h.1 ∙ ap {A = BusState} {B = BusState} (λ x. record x { beam = b }) (sym (read_is r (place_at r.board addr) h.0 h.1))
+look_after_at r b (Write addr v) h = absurd h
+look_after_at r b Inner h = refl
+
+look_at : (r : BusState) (b : BeamValue) (a : Access) → IsLook r a → IsLook (record r { beam = b }) a
+look_at r b (Fetch addr) h = h
+look_at r b (Read addr) h = h
+look_at r b (Write addr v) h = absurd h
+look_at r b Inner h = tt
+
+effect_at : (w : ConsoleState) (b : BeamValue) (clock : ℕ) → IsLook w.rest (next_of w.processor) → look_effect (at_beam w b clock) ≡ at_beam (look_effect w) b clock
+effect_at w b clock look =
+    let a = next_of w.processor in
+    let E : ℕ → BusState → ConsoleState = λ byte r. record { processor = with_interrupt_levels (moved_on w.processor byte) r; rest = r; clock = clock } in
+    ap (λ (byte : ℕ). E byte (after_access (record w.rest { beam = b }) a 0)) (look_byte_at w.rest b a look) ∙ ap (λ (r : BusState). E (byte_of w.rest a 0) r) (look_after_at w.rest b a look)
+
+look_step_at : (w : ConsoleState) (b : BeamValue) (clock : ℕ) → IsLookStep w → passed (overscan_of w) b (clocks_next w) ≡ [] → IsLookStep (at_beam w b clock)
+look_step_at w b clock s none = record {
+  calm = record { reset = s.calm.reset; refresh = s.calm.refresh; transfer = s.calm.transfer };
+  look = look_at w.rest b (next_of w.processor) s.look;
+  nothing = none;
+}
+
+step_at : (w : ConsoleState) (b : BeamValue) (clock : ℕ) → IsLookStep w → passed (overscan_of w) b (clocks_next w) ≡ []
+    → console_after (at_beam w b clock) (due_of (at_beam w b clock)) 0 ≡ at_beam (console_after w (due_of w) 0) (beam_after (overscan_of w) b (clocks_next w)) (clock + clocks_next w)
+step_at w b clock s none =
+    let c = clocks_next w in
+    let f = look_facts w.rest (next_of w.processor) s.look in
+    let o : overscan_of (look_effect w) ≡ overscan_of w = ap (λ (r : BusState). r.picture.registers.settings.overscan) f.after in
+    (look_made (at_beam w b clock) (look_step_at w b clock s none)).next
+    ∙ ap (λ (y : ConsoleState). drifted y c) (effect_at w b clock s.look)
+    ∙ ap (λ (x : Bool). at_beam (look_effect w) (beam_after x b c) (clock + c)) o
+    ∙ ap (λ (y : ConsoleState). at_beam y (beam_after (overscan_of w) b c) (clock + c)) (sym (look_made w s).next)
+
+steps_at : (n : ℕ) (w to : ConsoleState) (k : ℕ) (b : BeamValue) (clock : ℕ) → LookSteps n w to k → passed (overscan_of w) b k ≡ []
+    → LookSteps n (at_beam w b clock) (at_beam to (beam_after (overscan_of w) b k) (clock + k)) k
+steps_at zero w to k b clock h none =
+    let o = overscan_of w in
+    let B : ℕ → ConsoleState = λ n. at_beam w (beam_after o b n) (clock + n) in
+    let here : at_beam w b clock ≡ B 0 = ap (λ (x : BeamValue). at_beam w x clock) (sym (no_clocks o b).0) ∙ ap (λ (n : ℕ). at_beam w (beam_after o b 0) n) (sym (add-zero clock)) in
+    (here ∙ ap B (sym h.1) ∙ ap (λ (x : ConsoleState). at_beam x (beam_after o b k) (clock + k)) h.0, h.1)
+steps_at (suc n) w to k b clock h none =
+    let o = overscan_of w in
+    let j = h.before in
+    let c = clocks_next h.mid in
+    let parts = passed_parts o b j c (ap (passed o b) (sym h.sum) ∙ none) in
+    let end = looks_end n w h.mid j h.run in
+    let over : overscan_of h.mid ≡ o = ap (λ (r : BusState). r.picture.registers.settings.overscan) end.rest in
+    let there : passed (overscan_of h.mid) (beam_after o b j) c ≡ [] = ap (λ (x : Bool). passed x (beam_after o b j) c) over ∙ parts.1 in
+    let sum : clock + j + c ≡ clock + k = (let all = h.sum in omega (arith, all)) in
+    record {
+      mid = at_beam h.mid (beam_after o b j) (clock + j);
+      before = j;
+      run = steps_at n w h.mid j b clock h.run parts.0;
+      step = look_step_at h.mid (beam_after o b j) (clock + j) h.step there;
+      next = step_at h.mid (beam_after o b j) (clock + j) h.step there
+          ∙ ap (λ (x : ConsoleState). at_beam x (beam_after (overscan_of h.mid) (beam_after o b j) c) (clock + j + c)) h.next
+          ∙ ap (λ (x : Bool). at_beam to (beam_after x (beam_after o b j) c) (clock + j + c)) over
+          ∙ ap (λ (x : BeamValue). at_beam to x (clock + j + c)) (beam_joined o b j c ∙ ap (beam_after o b) (sym h.sum))
+          ∙ ap (λ (n : ℕ). at_beam to (beam_after o b k) n) sum;
+      sum = h.sum;
+    }
+
+-- ---- a round
+
+-- looks that led to a processor that does what the first does, and to the byte that they began with, are a round of that processor
+pub is_round : (first back : Cpu) (bus bus' : BusState) (k : ℕ) → ((w : ConsoleState) → IsAt first bus w → LooksTo back bus' w k)
+    → ((s : CpuState) → Stands back s → Stands first s) → bus'.last ≡ bus.last → IsRound back bus k
+is_round first back bus bus' k looks like last = λ b none w at.
+    let o = bus.picture.registers.settings.overscan in
+    let u : ConsoleState = record { processor = w.processor; rest = bus; clock = w.clock } in
+    let r = looks u (record { processor = like w.processor at.processor; rest = refl }) in
+    let e = looks_end r.steps u r.to k r.run in
+    let to_last : r.to.rest.last ≡ bus.last = ap (λ (x : BusState). x.last) (sym r.at.rest) ∙ last in
+    let ends : r.to.rest ≡ gone_on bus k = e.rest ∙ ap (λ (n : ℕ). with_bus bus n (beam_after o bus.beam k)) to_last in
+    let moved = steps_at r.steps u r.to k b w.clock r.run none in
+    let same : at_beam u b w.clock ≡ w = ap (λ (x : BusState). record { processor = w.processor; rest = x; clock = w.clock }) at.rest in
+    let P : ConsoleState → Type 0 = λ x. LookSteps r.steps x (at_beam r.to (beam_after o b k) (w.clock + k)) k in
+    record {
+      steps = r.steps;
+      to = at_beam r.to (beam_after o b k) (w.clock + k);
+      run = subst P same moved;
+      at = record { processor = r.at.processor; rest = sym (ap {A = BusState} {B = BusState} (λ x. record x { beam = beam_after o b k }) ends) };
+    }
+
+-- rounds one after another
+rounds_at : (cpu : Cpu) (bus : BusState) (k : ℕ) → IsRound cpu bus k → (n : ℕ) (b : BeamValue) → passed bus.picture.registers.settings.overscan b (rounds_of n k) ≡ []
+    → (w : ConsoleState) → IsAt cpu (record bus { beam = b }) w → LooksTo cpu (gone_on (record bus { beam = b }) (rounds_of n k)) w (rounds_of n k)
+rounds_at cpu bus k round zero b none w at =
+    let here : record bus { beam = b } ≡ gone_on (record bus { beam = b }) 0 = ap {A = BeamValue} {B = BusState} (λ x. record bus { beam = x }) (sym (no_clocks bus.picture.registers.settings.overscan b).0) in
+    record { steps = 0; to = w; run = (refl, refl); at = record { processor = at.processor; rest = sym here ∙ at.rest } }
+rounds_at cpu bus k round (suc n) b none w at =
+    let o = bus.picture.registers.settings.overscan in
+    let m = rounds_of n k in
+    let parts = passed_parts o b m k none in
+    let first = rounds_at cpu bus k round n b parts.0 w at in
+    let then = round (beam_after o b m) parts.1 first.to first.at in
+    let all = looks_joined first.steps then.steps w first.to then.to m k first.run then.run in
+    record {
+      steps = all.0;
+      to = then.to;
+      run = all.1;
+      at = record { processor = then.at.processor; rest = sym (gone_joined (record bus { beam = b }) m k) ∙ then.at.rest };
+    }
+
+-- ---- what goes on
+
+pub goes_none : (cpu : Cpu) (bus : BusState) → GoesOn cpu cpu bus bus 0
+goes_none cpu bus = λ w at line calm wired. record { run = no_run cpu bus w at line; wired = wired; calm = calm; same = refl }
+
+pub elsewhere_then : (a b c : BusState) → IsElsewhere a b → IsElsewhere b c → IsElsewhere a c
+elsewhere_then a b c f g = g ∙ ap {A = BusState} {B = BusState} (λ x. record x { last = c.last; beam = c.beam }) f
+
+-- what is known of the bus may be what the second part rests on
+pub goes_then_known : (a b c : Cpu) (x y z : BusState) (j k n : ℕ) → GoesOn a b x y j → (IsElsewhere x y → GoesOn b c y z k) → n ≡ j + k → GoesOn a c x z n
+goes_then_known a b c x y z j k n f g sum = λ w at line calm wired.
+    let p = f w at line calm wired in
+    let q = g p.same p.run.to p.run.at p.run.after.line p.calm p.wired in
+    record {
+      run = run_then b c y z w j k n p.run q.run sum;
+      wired = q.wired;
+      calm = q.calm;
+      same = elsewhere_then x y z p.same q.same;
+    }
+
+pub goes_then : (a b c : Cpu) (x y z : BusState) (j k n : ℕ) → GoesOn a b x y j → GoesOn b c y z k → n ≡ j + k → GoesOn a c x z n
+goes_then a b c x y z j k n f g sum = goes_then_known a b c x y z j k n f (λ same. g) sum
+
+-- nothing was made
+pub goes_same : (cpu cpu' : Cpu) (bus bus' : BusState) → cpu' ≡ cpu → bus' ≡ bus → GoesOn cpu cpu' bus bus' 0
+goes_same cpu cpu' bus bus' c b = rw (c, b) (goes_none cpu bus)
+
+-- an access that only looks
+pub goes_look : (cpu cpu' : Cpu) (bus bus' : BusState) (clocks : ℕ) → (IsWired cpu bus → IsMadeAtOnce cpu cpu' bus bus' (access_of cpu) clocks)
+    → IsLook bus (access_of cpu) → (IsCalm bus → IsCalm bus') → GoesOn cpu cpu' bus bus' clocks
+goes_look cpu cpu' bus bus' clocks made look calm = λ w at line is_calm wired.
+    let m = made wired in
+    let h = no_run cpu bus w at line in
+    let sum : clocks ≡ 0 + clocks = omega arith in
+    let f = look_facts bus (access_of cpu) look in
+    let there : bus' ≡ gone_on (on_bus bus (after_access bus (access_of cpu) 0).last) clocks = m.rest ∙ ap (λ (r : BusState). gone_on r clocks) f.after in
+    let P : BusState → Type 0 = λ r. IsElsewhere bus r in
+    record {
+      run = run_on cpu cpu' bus bus' w 0 clocks clocks h (is_step cpu cpu' bus bus' h.to clocks h.at m is_calm.reset is_calm.refresh is_calm.transfer) sum;
+      wired = wired_then cpu cpu' bus bus' (access_of cpu) clocks w.processor m at.processor;
+      calm = calm is_calm;
+      same = subst P (sym there) refl;
+    }
+
+-- a round of what stayed but for the beam and the byte last on it is one still
+pub round_elsewhere : (cpu : Cpu) (bus bus' : BusState) (byte k : ℕ) → IsElsewhere bus bus' → IsRoundFrom cpu bus byte k → IsRoundFrom cpu bus' byte k
+round_elsewhere cpu bus bus' byte k same round =
+    let P : BusState → Type 0 = λ r. IsRoundFrom cpu r byte k in
+    subst P (sym same) round
+
+-- rounds from a processor that does what that of the round does
+pub goes_rounds : (cpu back : Cpu) (bus bus' : BusState) (byte k n more : ℕ) → IsRoundFrom back bus byte k → ((s : CpuState) → Stands cpu s → Stands back s)
+    → bus.last ≡ byte → more ≡ rounds_of n k → bus' ≡ gone_on bus more → passed_in bus more ≡ [] → GoesOn cpu back bus bus' more
+goes_rounds cpu back bus bus' byte k n more round like last times on none = λ w at line calm wired.
+    let here : IsAt back bus w = record { processor = like w.processor at.processor; rest = at.rest } in
+    let R : ℕ → Type 0 = λ x. IsRoundFrom back bus x k in
+    let is : IsRound back bus k = subst R (sym last) round in
+    let N : ℕ → Type 0 = λ x. passed_in bus x ≡ [] in
+    let looks = rounds_at back bus k is n bus.beam (subst N times none) w here in
+    let E : BusState → Type 0 = λ r. HasRun back r w more in
+    let L : ℕ → Type 0 = λ x. LooksTo back (gone_on bus x) w x in
+    let run : HasRun back bus' w more = subst E (sym on) (looks_run back (gone_on bus more) w more line (subst L (sym times) looks)) in
+    let back_at = like w.processor at.processor in
+    let S : BusState → Type 0 = λ r. IsElsewhere bus r in
+    let W : BusState → Type 0 = λ r. IsWired back r in
+    let C : BusState → Type 0 = λ r. IsCalm r in
+    record {
+      run = run;
+      wired = subst W (sym on) (record {
+        nmi = back_at.nmi_level ∙ sym at.processor.nmi_level ∙ wired.nmi;
+        irq = back_at.irq_level ∙ sym at.processor.irq_level ∙ wired.irq;
+      });
+      calm = subst C (sym on) (record { reset = calm.reset; refresh = calm.refresh; transfer = calm.transfer });
+      same = subst S (sym on) refl;
+    }
+
+pub goes_then_rounds : (a b back : Cpu) (x y z : BusState) (byte k n j more all : ℕ) → GoesOn a b x y j → IsRoundFrom back x byte k → ((s : CpuState) → Stands b s → Stands back s)
+    → y.last ≡ byte → more ≡ rounds_of n k → z ≡ gone_on y more → passed_in y more ≡ [] → all ≡ j + more → GoesOn a back x z all
+goes_then_rounds a b back x y z byte k n j more all f round like last times on none sum =
+    goes_then_known a b back x y z j more all f (λ same. goes_rounds b back y z byte k n more (round_elsewhere back x y byte k same round) like last times on none) sum
+
+-- ---- past a place where nothing comes but a refresh or the next line
+
+told_past : (cpu cpu' : Cpu) (bus' : BusState) (w : ConsoleState) (a : Access) (clocks : ℕ) → Stands cpu w.processor → IsWired cpu w.rest → IsMadePast cpu cpu' w.rest bus' a clocks
+    → IsStepMade cpu' bus' w (Accesses a) clocks
+told_past cpu cpu' bus' w a clocks s wired m =
+    let byte = byte_of w.rest a 0 in
+    let now = m.processor w.processor s in
+    let same = wired_on cpu cpu' w.rest w.rest w.processor byte wired refl s now in
+    let there : IsAt cpu' (after_access w.rest a 0) (effect w (Accesses a) 0) =
+    record { processor = levels_again cpu' w.rest (after_access w.rest a 0) (moved_on w.processor byte) same m.stays now; rest = refl } in
+    let on = m.passes cpu' (effect w (Accesses a) 0) (wired_on cpu cpu' w.rest (after_access w.rest a 0) w.processor byte wired m.stays s now) there in
+    let At : ℕ → Type 0 = λ n. IsAt cpu' bus' (after_clocks (effect w (Accesses a) 0) n) in
+    let Emits : ℕ → Type 0 = λ n. bytes_in (effect w (Accesses a) 0) n ≡ [] in
+    record { quiet = m.quiet; at = subst At m.lasts on.0; none = subst Emits m.lasts on.1; lasts = m.lasts }
+
+is_step_past : (cpu cpu' : Cpu) (bus bus' : BusState) (w : ConsoleState) (clocks : ℕ) → IsAt cpu bus w → IsMadePast cpu cpu' bus bus' (access_of cpu) clocks → IsWired cpu bus → IsCalm bus
+    → IsStepMade cpu' bus' w (due_of w) clocks
+is_step_past cpu cpu' bus bus' w clocks at m wired calm =
+    let P : BusState → Type 0 = λ r. IsMadePast cpu cpu' r bus' (access_of cpu) clocks in
+    let W : BusState → Type 0 = λ r. IsWired cpu r in
+    let Q : Due → Type 0 = λ d. IsStepMade cpu' bus' w d clocks in
+    subst Q (sym (due_access cpu bus w at calm.reset calm.refresh calm.transfer))
+    (told_past cpu cpu' bus' w (access_of cpu) clocks at.processor (subst W at.rest wired) (subst P at.rest m))
+
+-- the refresh that is due then
+refresh_told : (cpu : Cpu) (bus' : BusState) (w : ConsoleState) → Stands cpu w.processor → IsWired cpu w.rest → w.rest.reset ≡ false → w.rest.refresh ≡ true
+    → passed_in (record w.rest { refresh = false }) 40 ≡ [] → bus' ≡ gone_on (record w.rest { refresh = false }) 40 → IsStepMade cpu bus' w (due_of w) 40
+refresh_told cpu bus' w s wired reset refresh none on =
+    let there : IsAt cpu (record w.rest { refresh = false }) (effect w Refreshes 0) =
+    record { processor = levels_again cpu w.rest (record w.rest { refresh = false }) w.processor wired refl s; rest = refl } in
+    let q = went_on cpu (record w.rest { refresh = false }) bus' (effect w Refreshes 0) 40 there none on in
+    let due : due_of w ≡ Refreshes = rw (reset, refresh) refl in
+    let Q : Due → Type 0 = λ d. IsStepMade cpu bus' w d 40 in
+    subst Q (sym due) (record { quiet = refl; at = q.0; none = q.1; lasts = refl })
+
+refresh_step : (cpu : Cpu) (bus bus' : BusState) (w : ConsoleState) → IsAt cpu bus w → IsWired cpu bus → bus.reset ≡ false → bus.refresh ≡ true
+    → passed_in (record bus { refresh = false }) 40 ≡ [] → bus' ≡ gone_on (record bus { refresh = false }) 40 → IsStepMade cpu bus' w (due_of w) 40
+refresh_step cpu bus bus' w at wired reset refresh none on =
+    let W : BusState → Type 0 = λ r. IsWired cpu r in
+    let A : BusState → Type 0 = λ r. r.reset ≡ false in
+    let B : BusState → Type 0 = λ r. r.refresh ≡ true in
+    let N : BusState → Type 0 = λ r. passed_in (record r { refresh = false }) 40 ≡ [] in
+    let O : BusState → Type 0 = λ r. bus' ≡ gone_on (record r { refresh = false }) 40 in
+    refresh_told cpu bus' w at.processor (subst W at.rest wired) (subst A at.rest reset) (subst B at.rest refresh) (subst N at.rest none) (subst O at.rest on)
+
+-- what it leaves of the bus
+past_io : (bus bus' : BusState) → IsSameBefore bus bus' → bus'.io ≡ bus.io
+past_io bus bus' same = ap (λ (r : BusState). r.io) same
+
+pub goes_past : (cpu cpu' : Cpu) (bus bus' : BusState) (clocks n : ℕ) → IsMadePast cpu cpu' bus bus' (access_of cpu) clocks → bus'.refresh ≡ false → n ≡ clocks → GoesOn cpu cpu' bus bus' n
+goes_past cpu cpu' bus bus' clocks n m none sum = λ w at line calm wired.
+    let h = no_run cpu bus w at line in
+    let same = m.same in
+    record {
+      run = run_on cpu cpu' bus bus' w 0 clocks n h (is_step_past cpu cpu' bus bus' h.to clocks h.at m wired calm) (omega (arith, sum));
+      wired = wired_on cpu cpu' bus bus' w.processor (byte_of bus (access_of cpu) 0) wired (past_io bus bus' same) at.processor (m.processor w.processor at.processor);
+      calm = record {
+        reset = ap (λ (r : BusState). r.reset) same ∙ calm.reset;
+        refresh = none;
+        transfer = ap (λ (r : BusState). transfer_of r.channels) same ∙ calm.transfer;
+      };
+      same = same ∙ ap {A = Bool} {B = BusState} (λ x. record bus { last = bus'.last; refresh = x; beam = bus'.beam }) (none ∙ sym calm.refresh);
+    }
+
+pub goes_past_refresh : (cpu cpu' : Cpu) (bus mid bus' : BusState) (clocks n : ℕ) → IsMadePast cpu cpu' bus mid (access_of cpu) clocks → mid.refresh ≡ true
+    → passed_in (record mid { refresh = false }) 40 ≡ [] → bus' ≡ gone_on (record mid { refresh = false }) 40 → n ≡ clocks + 40 → GoesOn cpu cpu' bus bus' n
+goes_past_refresh cpu cpu' bus mid bus' clocks n m due nothing on sum = λ w at line calm wired.
+    let h = no_run cpu bus w at line in
+    let same = m.same in
+    let first = run_on cpu cpu' bus mid w 0 clocks clocks h (is_step_past cpu cpu' bus mid h.to clocks h.at m wired calm) (omega arith) in
+    let there = wired_on cpu cpu' bus mid w.processor (byte_of bus (access_of cpu) 0) wired (past_io bus mid same) at.processor (m.processor w.processor at.processor) in
+    let reset : mid.reset ≡ false = ap (λ (r : BusState). r.reset) same ∙ calm.reset in
+    let transfer : transfer_of mid.channels ≡ None = ap (λ (r : BusState). transfer_of r.channels) same ∙ calm.transfer in
+    let beam = (gone_on (record mid { refresh = false }) 40).beam in
+    let W : BusState → Type 0 = λ r. IsWired cpu' r in
+    let C : BusState → Type 0 = λ r. IsCalm r in
+    let is : bus' ≡ record bus { last = mid.last; beam = beam } =
+    on ∙ ap {A = BusState} {B = BusState} (λ r. record r { refresh = false; beam = beam }) same
+    ∙ ap {A = Bool} {B = BusState} (λ x. record bus { last = mid.last; refresh = x; beam = beam }) (sym calm.refresh) in
+    let E : BusState → Type 0 = λ r. IsElsewhere bus r in
+    record {
+      run = run_on cpu' cpu' mid bus' w clocks 40 n first (refresh_step cpu' mid bus' first.to first.at there reset due nothing on) sum;
+      wired = subst W (sym on) (record { nmi = there.nmi; irq = there.irq });
+      calm = subst C (sym on) (record { reset = reset; refresh = refl; transfer = transfer });
+      same = subst E (sym is) refl;
+    }
