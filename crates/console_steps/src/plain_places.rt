@@ -53,14 +53,14 @@ fn reach_plainly(bus: &mut Bus)
 
 /// Lets so many clocks pass, which lead to such a place or past it.
 #[inline(always)]
-fn pass_plain_place(bus: &mut Bus, clocks: u16)
+fn pass_plain_place(bus: &mut Bus, clocks: u8)
     requires plain { IsPlainAhead bus.old.beam }
     requires enough { clocks_left bus.old.beam ≤ clocks }
     ensures passes { IsPassed bus.old bus.new clocks }
     ensures same { IsSameBefore bus.old bus.new }
     ensures far { 40 < clocks_left bus.new.beam }
 {
-    let more = clocks - bus.clocks_left();
+    let more = clocks as u16 - bus.clocks_left();
     reach_plainly(bus);
     bus.go_on(more);
 }
@@ -94,7 +94,7 @@ fn read_past(cpu: &mut Cpu, bus: &mut Bus, addr: u32) -> Option<u8>
         return None;
     }
     let byte = put_loaded(bus, access.at);
-    pass_plain_place(bus, access.clocks);
+    pass_plain_place(bus, access.clocks as u8);
     cpu.took(byte);
     Some(access.clocks as u8)
 }
