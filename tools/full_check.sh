@@ -85,7 +85,7 @@ note() {
     flock 9
     { grep -v " $part $2 " "$held"; echo "$line"; } | sort -k 2,3 >"$checked/held.new"
     cp "$checked/held.new" "$held"
-  ) 9>"$checked/lock"
+  ) 9<"$held"
 }
 
 # Whether an item is to be tried: all of a part are, where no word names one.
