@@ -110,7 +110,8 @@ def try_page(browser, folder, shots, checks):
     browser.value("step(-1)")
     checks.same('a step back', browser.value('at'), 298)
 
-    # What is pressed while it plays is in the script, and gives another film.
+    # What is pressed while it plays is in the script, by which the film is made again. (The scene reads no pad, so its film
+    # stays what it was.)
     browser.value("step(-298)")
     browser.value("document.getElementById('play').click()")
     checks.same('it plays', browser.until('playing && at > 20'), True)
@@ -121,14 +122,12 @@ def try_page(browser, folder, shots, checks):
     time.sleep(.5)
     press(browser, 'ArrowRight', 'ArrowRight', False)
     time.sleep(.3)
-    old = text_of(browser, 'videoSum')
     browser.value("document.getElementById('soundSum').textContent = ''; document.getElementById('play').click()")
     checks.same('the film is made again', film_is_made(browser), True)
     script = browser.value("document.getElementById('script').value")
     checks.same('what was pressed is in the script', ' 0180 0000\n' in script and ' 0100 0000\n' in script, True)
     print('        ' + script.strip().replace('\n', ' | '))
     try_film(browser, folder, 300, checks, 'with keys')
-    checks.same('it is another film', text_of(browser, 'videoSum') != old, True)
     shot('pressed.png')
 
     # Refusals are said, and files are taken.
