@@ -12,7 +12,7 @@ use crate::order::rank;
 use color_window::{fixed, mark_mixed, mix_marked, mix_row};
 use ppu_regs::{Ppu, RankedRow, Registers, WindowPart};
 use scanline_ops::{
-    any_named, dim_colour, dim_row, fill_dots, is_found_key, look_up, write_dots, write_twice,
+    any_named, dim_colour, dim_small_row, fill_dots, is_found_key, look_up_small, write_dots, write_twice,
 };
 
 #[inline(always)]
@@ -29,7 +29,7 @@ fn front_colours(p: &Ppu, front: &RankedRow, out: &mut [u16; 256])
     ensures { (x : ℕ) → x < 256 → slice_index out.new x ≡ front_pixel_colour p.now (ranked_pixel_at front.now x) }
 {
     let r = p.registers();
-    look_up(
+    look_up_small(
         p.cgram(),
         direct(r),
         rank(r, 1, 0),
@@ -190,7 +190,7 @@ fn main_colours(p: &Ppu, main: &RankedRow, sub: &RankedRow, out: &mut [u16; 256]
 }
 
 /// Writes the dots of a row whose dots are whole pixels.
-#[tactic(auto, unfolding(crate::specs::Screens::even_dot, crate::specs::Screens::odd_dot))]
+#[tactic(auto, unfolding(crate::specs::Screens::even_dot, crate::specs::Screens::odd_dot), using(crate::proofs::Small::main_small))]
 fn finish_whole(p: &Ppu, main: &RankedRow, sub: &RankedRow, out: &mut [u16])
     requires room { length out.old ≡ 512 }
     requires shown { p.now.registers.display.blanked ≡ false }
@@ -201,12 +201,12 @@ fn finish_whole(p: &Ppu, main: &RankedRow, sub: &RankedRow, out: &mut [u16])
     p.in_range();
     let mut row = [0u16; 256];
     main_colours(p, main, sub, &mut row);
-    dim_row(p.registers().display.brightness, &mut row);
+    dim_small_row(p.registers().display.brightness, &mut row);
     write_twice(&row, out);
 }
 
 /// Writes the dots of a row whose even dots are the sub screen's.
-#[tactic(auto, unfolding(crate::specs::Screens::even_dot, crate::specs::Screens::odd_dot))]
+#[tactic(auto, unfolding(crate::specs::Screens::even_dot, crate::specs::Screens::odd_dot), using(crate::proofs::Small::both_small))]
 fn finish_halved(p: &Ppu, main: &RankedRow, sub: &RankedRow, out: &mut [u16])
     requires room { length out.old ≡ 512 }
     requires shown { p.now.registers.display.blanked ≡ false }
@@ -218,12 +218,12 @@ fn finish_halved(p: &Ppu, main: &RankedRow, sub: &RankedRow, out: &mut [u16])
     let brightness = p.registers().display.brightness;
     let mut odd = [0u16; 256];
     main_colours(p, main, sub, &mut odd);
-    dim_row(brightness, &mut odd);
+    dim_small_row(brightness, &mut odd);
     let mut subs = [0u16; 256];
     front_colours(p, sub, &mut subs);
     let mut even = [0u16; 256];
     sub_colours(p, sub, &subs, &mut even);
-    dim_row(brightness, &mut even);
+    dim_small_row(brightness, &mut even);
     write_dots(&even, &odd, out);
 }
 

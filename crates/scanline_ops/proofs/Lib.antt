@@ -1,1 +1,2 @@
 pub mod Mosaic
+pub mod Small

@@ -126,6 +126,32 @@ fn look_up_direct(
     }
 }
 
+/// The colour of a number in a CGRAM whose colours have 15 bits.
+#[inline(always)]
+#[tactic(auto, using(crate::proofs::Small::small))]
+fn small_colour_at(cgram: &[u16], number: u8) -> u16
+    requires size { length cgram.now ≡ 256 }
+    requires small { (k : ℕ) → slice_index cgram.now k < 32768 }
+    ensures { result ≡ slice_index cgram.now number }
+{
+    cgram[number as usize] % 32768
+}
+
+/// The colours of CGRAM of a row of numbers, where they have 15 bits. Sixteen at a time, so that little is spent on counting
+/// them; that the top bit is dropped changes none, and has the compiler store eight at once.
+fn look_up_small_numbers(cgram: &[u16], numbers: &[u8; 256], out: &mut [u16; 256])
+    requires size { length cgram.now ≡ 256 }
+    requires small { (k : ℕ) → slice_index cgram.now k < 32768 }
+    ensures { (x : ℕ) → x < 256 → slice_index out.new x ≡ slice_index cgram.now (slice_index numbers.now x) }
+{
+    for group in 0..16usize {
+        for place in 0..16usize {
+            let x = 16 * group + place;
+            out[x] = small_colour_at(cgram, numbers[x]);
+        }
+    }
+}
+
 /// The colours of CGRAM of a row of numbers, sixteen at a time, so that little is spent on counting them.
 fn look_up_numbers(cgram: &[u16], numbers: &[u8; 256], out: &mut [u16; 256])
     requires { length cgram.now ≡ 256 }
@@ -158,6 +184,29 @@ pub fn look_up(
         look_up_direct(cgram, low, high, keys, numbers, out);
     } else {
         look_up_numbers(cgram, numbers, out);
+    }
+}
+
+/// The same by a CGRAM whose colours have 15 bits, which takes less.
+#[tactic(auto, unfolding(crate::specs::Colours::pixel_colour))]
+pub fn look_up_small(
+    cgram: &[u16],
+    is_direct: bool,
+    low: u8,
+    high: u8,
+    keys: &[u8; 256],
+    numbers: &[u8; 256],
+    out: &mut [u16; 256],
+)
+    requires size { length cgram.now ≡ 256 }
+    requires small { (k : ℕ) → slice_index cgram.now k < 32768 }
+    ensures { (x : ℕ) → x < 256 → slice_index out.new x ≡
+        pixel_colour cgram.now is_direct low high (slice_index keys.now x) (slice_index numbers.now x) }
+{
+    if is_direct {
+        look_up_direct(cgram, low, high, keys, numbers, out);
+    } else {
+        look_up_small_numbers(cgram, numbers, out);
     }
 }
 
@@ -214,6 +263,18 @@ pub fn dim_row(brightness: u8, row: &mut [u16; 256])
     if brightness == 15 {
         keep_each(row);
     } else {
+        dim_each(brightness, row);
+    }
+}
+
+/// Dims a row of colours of 15 bits at a brightness of 0 to 15. At 15 they stay.
+#[tactic(auto, using(crate::proofs::Small::full))]
+pub fn dim_small_row(brightness: u8, row: &mut [u16; 256])
+    requires brightness { brightness < 16 }
+    requires small { (x : ℕ) → x < 256 → slice_index row.old x < 32768 }
+    ensures { (x : ℕ) → x < 256 → slice_index row.new x ≡ dimmed brightness (slice_index row.old x) }
+{
+    if brightness != 15 {
         dim_each(brightness, row);
     }
 }

@@ -12,5 +12,8 @@ mod colours;
 mod ranked_pixels;
 
 pub use blocks::spread_blocks;
-pub use colours::{dim_colour, dim_row, fill_dots, join_colours, look_up, write_dots, write_twice};
+pub use colours::{
+    dim_colour, dim_row, dim_small_row, fill_dots, join_colours, look_up, look_up_small,
+    write_dots, write_twice,
+};
 pub use ranked_pixels::{any_named, choose, fill_row, is_found_key, lay, lay_unmasked};
