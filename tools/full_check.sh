@@ -11,7 +11,7 @@
 #     soak         SOAK jobs (1000) by two workers, 50 an item (soak.sh)
 #     rows         the rows of the console without a fault, and each planted fault (try_row_faults.sh)
 #     workers      the bodies that make a run by one worker (try_one_worker.sh)
-#     bodies       the wrong bodies of each crate (try_wrong_bodies.sh)
+#     bodies       the wrong bodies of each crate (try_wrong_bodies.sh), each refused where that counts (refused_at.py)
 #
 # It can be ended at any time and called again. What held is noted in tools/full_check.held (HELD names another file), a line
 # an item: a sum of all that the item rests on (sources, edits, scripts, built programs, the toolchain's logic), part, item,
@@ -88,6 +88,15 @@ note() {
   ) 9<"$held"
 }
 
+# Drops what is noted of an item.
+forget() {
+  (
+    flock 9
+    grep -v " $part $1 " "$held" >"$checked/held.new"
+    cp "$checked/held.new" "$held"
+  ) 9<"$held"
+}
+
 # Whether an item is to be tried: all of a part are, where no word names one.
 chosen() { [ -z "$only" ] || [ "$only" = "$1" ]; }
 
@@ -145,6 +154,8 @@ bodies() {
   for crate in "$top"/tools/wrong_bodies/*/; do
     crate=$(basename "$crate")
     chosen "$crate" || continue
+    # What held before it was kept where each is refused, or is no longer recorded so, is tried again.
+    "$top/tools/refused_at.py" counts "$crate" || forget "$crate"
     item "$crate" "$(sum_of "$(sources_of "$crate")" "$(committed "tools/wrong_bodies/$crate")")" \
       "$top/tools/try_wrong_bodies.sh" "$crate"
   done

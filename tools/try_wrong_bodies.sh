@@ -9,8 +9,10 @@
 #
 # The words are names of crates; without words all are tried, which takes some two hours of processor time and as
 # much for the proofs that stand below, where they are not made yet. Works on what is committed, in a folder of its own, or
-# in the clone TREE, whose proofs are taken and kept (its sources are made those of this commit). The status is that of
-# `rt must-fail`.
+# in the clone TREE, whose proofs are taken and kept (its sources are made those of this commit).
+#
+# What each was refused at is kept in tools/wrong_bodies/refused_at.tsv (by tools/refused_at.py, which says what counts). The
+# status is 1 where a mutant is not refused, or is refused only where that says little of the contract.
 top=$(cd "$(dirname "${BASH_SOURCE[0]}")/.." && pwd) || exit 1
 with_gate=no
 if [ "${1-}" = --with-gate ]; then
@@ -31,7 +33,8 @@ for crate in "${crates[@]}"; do
   mkdir -p "crates/$crate/must-fail"
   cp "tools/wrong_bodies/$crate"/*.edit "crates/$crate/must-fail/" || exit 2
 done
-rt must-fail "${crates[@]}"
-status=$?
+rt must-fail "${crates[@]}" 2>&1 | tee "$work/said"
+status=${PIPESTATUS[0]}
+"$top/tools/refused_at.py" keep "$tree" "$work/said" "${crates[@]}" || status=1
 git checkout -q --force HEAD && git clean -fdq crates
 exit $status
