@@ -7,7 +7,9 @@
 # stays below 100 minutes on two processors; these are the others. With --with-gate those of the gate are tried too: an
 # edit that can't be compiled fails here, and not every toolchain's gate tells of it.
 #
-# The words are names of crates; without words all are tried, which takes some two hours of processor time and as
+# Of a crate as many as change different functions are tried in one check (try_together.py), the others one by one.
+#
+# The words are names of crates; without words all are tried, which takes an hour and a half of processor time and as
 # much for the proofs that stand below, where they are not made yet. Works on what is committed, in a folder of its own, or
 # in the clone TREE, whose proofs are taken and kept (its sources are made those of this commit).
 #
@@ -33,8 +35,17 @@ for crate in "${crates[@]}"; do
   mkdir -p "crates/$crate/must-fail"
   cp "tools/wrong_bodies/$crate"/*.edit "crates/$crate/must-fail/" || exit 2
 done
-rt must-fail "${crates[@]}" 2>&1 | tee "$work/said"
-status=${PIPESTATUS[0]}
-"$top/tools/refused_at.py" keep "$tree" "$work/said" "${crates[@]}" || status=1
+status=0
+left=()
+for crate in "${crates[@]}"; do
+  # Many are refused in one check of several at once; the others are tried one by one.
+  "$top/tools/try_together.py" "$tree" "$crate" || status=1
+  [ -z "$(find "crates/$crate/must-fail" -name '*.edit' -print -quit)" ] || left+=("$crate")
+done
+if [ ${#left[@]} -gt 0 ]; then
+  rt must-fail "${left[@]}" 2>&1 | tee "$work/said"
+  [ "${PIPESTATUS[0]}" -eq 0 ] || status=1
+  "$top/tools/refused_at.py" keep "$tree" "$work/said" "${left[@]}" || status=1
+fi
 git checkout -q --force HEAD && git clean -fdq crates
 exit $status
