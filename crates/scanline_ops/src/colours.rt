@@ -152,42 +152,8 @@ fn look_up_small_numbers(cgram: &[u16], numbers: &[u8; 256], out: &mut [u16; 256
     }
 }
 
-/// The colours of CGRAM of a row of numbers, sixteen at a time, so that little is spent on counting them.
-fn look_up_numbers(cgram: &[u16], numbers: &[u8; 256], out: &mut [u16; 256])
-    requires { length cgram.now ≡ 256 }
-    ensures { (x : ℕ) → x < 256 → slice_index out.new x ≡ slice_index cgram.now (slice_index numbers.now x) }
-{
-    for g in 0..16usize {
-        for j in 0..16usize {
-            let x = 16 * g + j;
-            out[x] = cgram[numbers[x] as usize];
-        }
-    }
-}
-
-/// The colours of a row of ranked pixels. Where `is_direct`, those of the ranks `low` and `high` are direct colours.
-#[tactic(auto, unfolding(crate::specs::Colours::pixel_colour))]
-pub fn look_up(
-    cgram: &[u16],
-    is_direct: bool,
-    low: u8,
-    high: u8,
-    keys: &[u8; 256],
-    numbers: &[u8; 256],
-    out: &mut [u16; 256],
-)
-    requires { length cgram.now ≡ 256 }
-    ensures { (x : ℕ) → x < 256 → slice_index out.new x ≡
-        pixel_colour cgram.now is_direct low high (slice_index keys.now x) (slice_index numbers.now x) }
-{
-    if is_direct {
-        look_up_direct(cgram, low, high, keys, numbers, out);
-    } else {
-        look_up_numbers(cgram, numbers, out);
-    }
-}
-
-/// The same by a CGRAM whose colours have 15 bits, which takes less.
+/// The colours of a row of ranked pixels by a CGRAM whose colours have 15 bits. Where `is_direct`, those of the ranks `low` and
+/// `high` are direct colours.
 #[tactic(auto, unfolding(crate::specs::Colours::pixel_colour))]
 pub fn look_up_small(
     cgram: &[u16],
@@ -235,35 +201,6 @@ fn dim_each(brightness: u8, row: &mut [u16; 256])
 {
     for x in 0..256usize {
         row[x] = dim_colour(brightness, row[x]);
-    }
-}
-
-#[inline(always)]
-#[tactic(auto, unfolding(crate::specs::Colours::dimmed))]
-fn at_full(colour: u16) -> u16
-    ensures { result ≡ dimmed 15 colour }
-{
-    colour % 32768
-}
-
-/// A row at full brightness: each colour stays.
-fn keep_each(row: &mut [u16; 256])
-    ensures { (x : ℕ) → x < 256 → slice_index row.new x ≡ dimmed 15 (slice_index row.old x) }
-{
-    for x in 0..256usize {
-        row[x] = at_full(row[x]);
-    }
-}
-
-/// Dims a row at a brightness of 0 to 15.
-pub fn dim_row(brightness: u8, row: &mut [u16; 256])
-    requires { brightness < 16 }
-    ensures { (x : ℕ) → x < 256 → slice_index row.new x ≡ dimmed brightness (slice_index row.old x) }
-{
-    if brightness == 15 {
-        keep_each(row);
-    } else {
-        dim_each(brightness, row);
     }
 }
 
