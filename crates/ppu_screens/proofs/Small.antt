@@ -30,8 +30,12 @@ component_small subtracts halves one two = omega arith
 joined_small : (subtracts halves : Bool) (one two : ℕ) → colour_with subtracts halves one two < 32768
 unfolding colour_with
 joined_small subtracts halves one two =
-    omega (arith, component_small subtracts halves (one % 32) (two % 32), component_small subtracts halves (one / 32 % 32) (two / 32 % 32),
-    component_small subtracts halves (one / 1024 % 32) (two / 1024 % 32))
+    omega (
+      arith,
+      component_small subtracts halves (one % 32) (two % 32),
+      component_small subtracts halves (one / 32 % 32) (two / 32 % 32),
+      component_small subtracts halves (one / 1024 % 32) (two / 1024 % 32),
+    )
 
 mixed_small : (m : ColourMath) (inside : Bool) (main : ℕ) (named found : Bool) (sub : ℕ) → main < 32768 →
     mixed m inside main named found sub < 32768

@@ -12,7 +12,8 @@ use crate::order::rank;
 use color_window::{fixed, mark_mixed, mix_marked, mix_row};
 use ppu_regs::{Ppu, RankedRow, Registers, WindowPart};
 use scanline_ops::{
-    any_named, dim_colour, dim_small_row, fill_dots, is_found_key, look_up_small, write_dots, write_twice,
+    any_named, dim_colour, dim_small_row, fill_dots, is_found_key, look_up_small, write_dots,
+    write_twice,
 };
 
 #[inline(always)]
