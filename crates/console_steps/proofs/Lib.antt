@@ -1,5 +1,6 @@
 pub mod RowBytes
 pub mod AtOnce
+pub mod Got
 pub mod Beams
 pub mod EventLists
 pub mod Clocks
