@@ -23,7 +23,7 @@ not_created = record { is_open = false; given = None; unwritten = 0 }
 -- what is kept of an output with this file
 abbrev pub kept_of : {F : Type 0} → (F → Option (List ℕ)) → Option (Buffered F) → Kept
 kept_of contents None = not_created
-kept_of contents (Some file) = record { is_open = not file.failed; given = given_to contents file; unwritten = length file.gathered.items }
+kept_of contents (Some file) = record { is_open = not file.failed; given = given_to contents file; unwritten = length file.gathered }
 
 -- the faults of all loads, those of the writes of each output, and the outputs that have files
 pub record Edge : Type 0 where

@@ -5,7 +5,7 @@ use Rattle.file_shelf.specs.declared.buffered.Buffered.{Buffered}
 
 -- what the file holds, as far as that is known, and then the bytes that are not yet written
 abbrev pub given_to : {F : Type 0} → (F → Option (List ℕ)) → Buffered F → Option (List ℕ)
-given_to contents b = append_known (contents b.file) b.gathered.items
+given_to contents b = append_known (contents b.file) b.gathered
 
 -- How many bytes are not yet written after a put of some more: 16,384 are gathered. Where these don't fit beside
 -- those that are held back, those are written first, and these too where they are more than that.

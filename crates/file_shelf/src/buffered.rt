@@ -2,12 +2,9 @@ ghost use Rattle.std.specs.Prelude.{◌≡◌, ℕ, ◌<◌, ◌≤◌, [], true
 ghost use Rattle.std.specs.Io.KnownBytes.{Appends as AppendsKnown, Keeps};
 ghost use Rattle.file_shelf.specs.Given.{given_to, held_after};
 
+use crate::gathered::Gathered;
 use crate::shelves::Failed;
-use arrayvec::ArrayVec;
 use std::io::Write;
-
-/// How many bytes are gathered before they are written: 16 rows of a frame.
-const GATHERED: usize = 16_384;
 
 /// A file that is written, and the bytes that it was given and that are not yet written.
 ///
@@ -16,7 +13,7 @@ const GATHERED: usize = 16_384;
 /// not written stays gathered, as the measure of what the file lacks.
 pub(crate) struct Buffered<F: Write> {
     file: F,
-    gathered: ArrayVec<u8, GATHERED>,
+    gathered: Gathered,
     failed: bool,
 }
 
@@ -24,12 +21,12 @@ impl<F: Write + Drop> Buffered<F> {
     /// A file to which nothing was given yet.
     pub(crate) fn new(file: F) -> Buffered<F>
         ensures file { result.file ≡ file }
-        ensures empty { result.gathered.items ≡ [] }
+        ensures empty { result.gathered ≡ [] }
         ensures open { result.failed ≡ false }
     {
         Buffered {
             file,
-            gathered: ArrayVec::new(),
+            gathered: Gathered::new(),
             failed: false,
         }
     }
@@ -40,9 +37,9 @@ impl<F: Write + Drop> Buffered<F> {
         ensures kept { Keeps (given_to F.contents self.old) (given_to F.contents self.new) }
         ensures open { OnOk result (self.old.failed ≡ false) }
         ensures open_still { OnOk result (self.new.failed ≡ false) }
-        ensures empty { OnOk result (self.new.gathered.items ≡ []) }
+        ensures empty { OnOk result (self.new.gathered ≡ []) }
         ensures closed { OnErr result (self.new.failed ≡ true) }
-        ensures less { length self.new.gathered.items ≤ length self.old.gathered.items }
+        ensures less { length self.new.gathered ≤ length self.old.gathered }
     {
         if self.failed {
             return Err(Failed);
@@ -53,7 +50,7 @@ impl<F: Write + Drop> Buffered<F> {
                 Ok(())
             }
             Err(count) => {
-                self.gathered.drain(..count);
+                self.gathered.forget_first(count);
                 self.failed = true;
                 Err(Failed)
             }
@@ -68,17 +65,17 @@ impl<F: Write + Drop> Buffered<F> {
         ensures open { OnOk result (self.old.failed ≡ false) }
         ensures open_still { OnOk result (self.new.failed ≡ false) }
         ensures closed { OnErr result (self.new.failed ≡ true) }
-        ensures unwritten { OnOk result (length self.new.gathered.items ≡ held_after (length self.old.gathered.items) (length bytes.now)) }
-        ensures less { OnErr result (length self.new.gathered.items ≤ length self.old.gathered.items) }
+        ensures unwritten { OnOk result (length self.new.gathered ≡ held_after (length self.old.gathered) (length bytes.now)) }
+        ensures less { OnErr result (length self.new.gathered ≤ length self.old.gathered) }
     {
         if self.failed {
             return Err(Failed);
         }
-        let Err(_) = self.gathered.try_extend_from_slice(bytes) else {
+        let Err(_) = self.gathered.add(bytes) else {
             return Ok(());
         };
         self.flush()?;
-        let Err(_) = self.gathered.try_extend_from_slice(bytes) else {
+        let Err(_) = self.gathered.add(bytes) else {
             return Ok(());
         };
         let Ok(()) = write_whole(&mut self.file, bytes) else {

@@ -11,6 +11,7 @@
 mod buffered;
 mod counts;
 mod disk;
+mod gathered;
 mod mem;
 mod plan;
 mod shelves;
