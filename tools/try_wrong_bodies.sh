@@ -3,7 +3,7 @@
 #
 #     tools/try_wrong_bodies.sh [--with-gate] [CRATE ..]
 #
-# They are of the same form as those in crates/CRATE/must-fail, which the gate tries: it has three or so of each crate, so that it
+# They are of the same form as those in crates/CRATE/must-fail, which the gate tries: it has one of a crate at the most, so that it
 # stays below 100 minutes on two processors; these are the others. With --with-gate those of the gate are tried too: an
 # edit that can't be compiled fails here, and not every toolchain's gate tells of it.
 #

@@ -14,7 +14,7 @@
 //! What is printed are the number, and in a step's loop the stamp (118,125 a step) and how many ticks (one each sixteen
 //! steps) came. Each loop is a function
 //! of its own that isn't built into `main`. The 65C816 in a loop with the shape of a step is a program of its own,
-//! `cpu_step_speed`: a second loop over that processor here would have two callers of its `idle` and `wrote`, which
+//! `step_speed`: a second loop over that processor here would have two callers of its `idle` and `wrote`, which
 //! are built into a loop only where it is their one caller.
 #![tactic(auto)]
 

@@ -1,6 +1,0 @@
-use Rattle.std.proofs.Common.{◌*◌}
-use Rattle.port_speed.specs.Clocks.{AreClocksBelow}
-use Rattle.port_speed.proofs.quiet.Given as goal
-
-abbrev pub invariant-loop-k : goal.invariant-loop-k
-invariant-loop-k l = AreClocksBelow l.log (200000 * l.k)

@@ -1,6 +1,0 @@
-use Rattle.std.proofs.Common.{◌≤◌, arith}
-use Rattle.std.proofs.lemmas.List.Elements.{All-replicate}
-use Rattle.sound_speed.proofs.empty_table.Goals as goal
-
-pub of-requires : goal.of-requires
-of-requires c = All-replicate (λ n. n ≤ 2047) 512 0 (omega arith)

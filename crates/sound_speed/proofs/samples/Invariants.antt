@@ -1,5 +1,0 @@
-use Rattle.std.proofs.Common.{◌≡◌, length}
-use Rattle.sound_speed.proofs.samples.Given as goal
-
-abbrev pub invariant-samples : goal.invariant-samples
-invariant-samples l = length l.ram ≡ 65536
