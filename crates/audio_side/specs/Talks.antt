@@ -8,8 +8,8 @@ use Rattle.spc700.specs.declared.processor.Spc.{Spc}
 use Rattle.audio_side.specs.Effect.{act_of, effect, given}
 use Rattle.audio_side.specs.HardwareState.{HardwareState}
 
--- so many accesses, of which none clears a port, lead from a processor, its hardware and the bytes that go out to others, and
--- leave timer 2 as it is
+-- so many accesses lead from a processor, its hardware and the bytes that go out to others, and each leaves timer 2 and the bytes
+-- that come in as they are
 abbrev pub TalkAccesses : List ℕ → ℕ → SpcState → HardwareState → List ℕ → SpcState → HardwareState → List ℕ → Type 0
 TalkAccesses incoming zero s b out to b' out' = (s ≡ to) × (b ≡ b') × (out ≡ out')
 TalkAccesses incoming (suc n) s b out to b' out' =

@@ -9,3 +9,4 @@ pub mod Playing
 pub mod Runs
 pub mod Follows
 pub mod Rounds
+pub mod Ports

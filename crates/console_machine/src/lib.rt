@@ -12,6 +12,7 @@ mod instructions;
 mod many_steps;
 mod parts;
 mod patience;
+mod port_steps;
 mod side;
 mod step;
 

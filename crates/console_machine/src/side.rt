@@ -130,7 +130,8 @@ impl Machine for ConsoleSide {
 
     #[inline(always)]
     fn step(&mut self, got: u8) {
-        self.parts.step(got);
+        // Quiet steps are mostly made by other calls, so this one is likely to be at a port.
+        self.parts.step_at_port(got);
     }
 
     #[inline(always)]

@@ -13,6 +13,7 @@ ghost use Rattle.console_steps.specs.Stands.{IsAt};
 ghost use Rattle.cart_map.specs.Clocks.{clocks_of};
 ghost use Rattle.console_machine.specs.Dues.{due_from};
 
+use crate::port_steps::{PORT_CLOCKS, try_port};
 use cart_map::clocks;
 use circular_buffer::HeapCircularBuffer;
 use console_bus::Bus;
@@ -199,4 +200,27 @@ pub(crate) fn make_step(
     let clocks = make_effect(cpu, bus, got);
     pass(cpu, bus, waiting, clocks as u16);
     clocks
+}
+
+/// The same, for a step that is likely to be an access of a port: that is looked for first, and made at once.
+#[inline(always)]
+pub(crate) fn make_likely_port_step(
+    cpu: &mut Cpu,
+    bus: &mut Bus,
+    waiting: &mut HeapCircularBuffer<u8>,
+    got: u8,
+) -> u8
+    requires room { length waiting.old.items + 1024 ≤ waiting.old.capacity }
+    ensures at { (w : ConsoleState) → IsAt cpu.old bus.old w → IsAt cpu.new bus.new (console_after w (due_of w) got) }
+    ensures bytes { (w : ConsoleState) → IsAt cpu.old bus.old w → waiting.new.items ≡ waiting.old.items ++ bytes_after w (due_of w) got }
+    ensures clocks { (w : ConsoleState) → IsAt cpu.old bus.old w → result ≡ due_clocks (due_of w) w.rest.io.fast }
+    ensures least { 6 ≤ result }
+    ensures few { result ≤ 40 }
+    ensures size { length waiting.new.items ≤ length waiting.old.items + 1024 }
+    ensures capacity { waiting.new.capacity ≡ waiting.old.capacity }
+{
+    if try_port(cpu, bus, got) {
+        return PORT_CLOCKS;
+    }
+    make_step(cpu, bus, waiting, got)
 }

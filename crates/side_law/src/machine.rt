@@ -162,8 +162,8 @@ pub trait Machine: Send {
     }
 
     /// Makes steps of any kind that emit nothing, each begun before the stamp `before`, up to which this side is the
-    /// earlier one: so the bytes that come in stand still meanwhile. How many it makes is left to the machine, none too,
-    /// and none of them clears a port. It saves a machine that talks a lot from being asked for each act.
+    /// earlier one: so the bytes that come in stand still meanwhile, and are after these steps what they were. How many it
+    /// makes is left to the machine, none too. It saves a machine that talks a lot from being asked for each act.
     #[inline(always)]
     fn talk(&mut self, incoming: &[u8; 4], outgoing: &mut [u8; 4], before: u64)
         requires early { before ≤ 2 ^ 62 }

@@ -1,0 +1,120 @@
+// The access of a port to the sound side as the processor's next step, where nothing else happens in its clocks.
+ghost use Rattle.std.specs.Prelude.{◌≡◌, ◌<◌, [], false, IsTrue};
+ghost use Rattle.cpu_tables.specs.declared.access.Access.TheVariants.{Read, Write};
+ghost use Rattle.cpu_modes.specs.Plan.{gets_byte, is_write};
+ghost use Rattle.cpu65816.specs.Instruction.{CpuState, moved_on};
+ghost use Rattle.cpu65816.specs.Stands.{Stands, access_of};
+ghost use Rattle.beam.specs.Places.{clocks_left};
+ghost use Rattle.console_bus.specs.Places.{is_port, on_bus};
+ghost use Rattle.console_steps.specs.ConsoleState.{with_interrupt_levels};
+ghost use Rattle.console_steps.specs.AtOnce.{gone_on, passed_in};
+ghost use Rattle.console_steps.specs.Plain.{IsCalm};
+ghost use Rattle.console_machine.specs.Ports.{IsPortMade};
+
+use console_bus::Bus;
+use console_steps::{bus_register, give_interrupt_levels, is_calm};
+use cpu_tables::Access;
+use cpu65816::Cpu;
+
+/// Master clocks of an access of a port.
+pub(crate) const PORT_CLOCKS: u8 = 6;
+
+/// Whether a register of the B bus, 2100 plus this, is a port to the sound side.
+#[inline(always)]
+fn is_port(register: u8) -> bool
+    ensures { result ≡ is_port register }
+{
+    0x40 <= register && register < 0x80
+}
+
+/// The processor takes the byte that came in at a port, and the beam goes on.
+#[inline(always)]
+fn take_port(cpu: &mut Cpu, bus: &mut Bus, got: u8)
+    requires gets { IsTrue (gets_byte (access_of cpu.old)) }
+    requires few { 6 < clocks_left bus.old.beam }
+    ensures rest { bus.new ≡ gone_on (on_bus bus.old got) 6 }
+    ensures nothing { passed_in (on_bus bus.old got) 6 ≡ [] }
+    ensures processor { (s : CpuState) → Stands cpu.old s → Stands cpu.new (with_interrupt_levels (moved_on s got) (on_bus bus.old got)) }
+{
+    bus.put(got);
+    cpu.took(got);
+    give_interrupt_levels(cpu, bus);
+    bus.go_on(PORT_CLOCKS as u16);
+}
+
+/// The processor has written a port, and the beam goes on.
+#[inline(always)]
+fn give_port(cpu: &mut Cpu, bus: &mut Bus, v: u8)
+    requires writes { IsTrue (is_write (access_of cpu.old)) }
+    requires few { 6 < clocks_left bus.old.beam }
+    ensures rest { bus.new ≡ gone_on (on_bus bus.old v) 6 }
+    ensures nothing { passed_in (on_bus bus.old v) 6 ≡ [] }
+    ensures processor { (s : CpuState) → Stands cpu.old s → Stands cpu.new (with_interrupt_levels (moved_on s 0) (on_bus bus.old v)) }
+{
+    bus.put(v);
+    cpu.wrote();
+    give_interrupt_levels(cpu, bus);
+    bus.go_on(PORT_CLOCKS as u16);
+}
+
+/// The processor reads a port, where one lies at the address. Answers whether it did.
+#[inline(always)]
+fn read_port(cpu: &mut Cpu, bus: &mut Bus, addr: u32, got: u8) -> bool
+    requires gets { IsTrue (gets_byte (access_of cpu.old)) }
+    requires few { 6 < clocks_left bus.old.beam }
+    ensures made { IsTrue result → IsPortMade cpu.old cpu.new bus.old bus.new (Read addr) got }
+    ensures bus_stays { result ≡ false → bus.new ≡ bus.old }
+    ensures cpu_stays { result ≡ false → cpu.new ≡ cpu.old }
+{
+    let Some(register) = bus_register(addr) else {
+        return false;
+    };
+    if !is_port(register) {
+        return false;
+    }
+    take_port(cpu, bus, got);
+    true
+}
+
+/// The same of a write.
+#[inline(always)]
+fn write_port(cpu: &mut Cpu, bus: &mut Bus, addr: u32, v: u8, got: u8) -> bool
+    requires writes { IsTrue (is_write (access_of cpu.old)) }
+    requires few { 6 < clocks_left bus.old.beam }
+    ensures made { IsTrue result → IsPortMade cpu.old cpu.new bus.old bus.new (Write addr v) got }
+    ensures bus_stays { result ≡ false → bus.new ≡ bus.old }
+    ensures cpu_stays { result ≡ false → cpu.new ≡ cpu.old }
+{
+    let _got = got;
+    let Some(register) = bus_register(addr) else {
+        return false;
+    };
+    if !is_port(register) {
+        return false;
+    }
+    give_port(cpu, bus, v);
+    true
+}
+
+/// Makes the step that is due where it is the processor's access of a port, 6 clocks long, and nothing else happens in them,
+/// and answers whether it did. Otherwise nothing has changed. `got` is the incoming byte of that port.
+#[inline(always)]
+pub(crate) fn try_port(cpu: &mut Cpu, bus: &mut Bus, got: u8) -> bool
+    ensures made { IsTrue result → IsPortMade cpu.old cpu.new bus.old bus.new (access_of cpu.old) got }
+    ensures calm { IsTrue result → IsCalm bus.old }
+    ensures bus_stays { result ≡ false → bus.new ≡ bus.old }
+    ensures cpu_stays { result ≡ false → cpu.new ≡ cpu.old }
+{
+    if !is_calm(bus) {
+        return false;
+    }
+    if bus.clocks_left() <= PORT_CLOCKS as u16 {
+        return false;
+    }
+    match cpu.next() {
+        Access::Fetch(_) => false,
+        Access::Read(addr) => read_port(cpu, bus, addr, got),
+        Access::Write(addr, v) => write_port(cpu, bus, addr, v, got),
+        Access::Inner => false,
+    }
+}
