@@ -1,5 +1,21 @@
-use crate::files::{Programs, shelf};
+//! Two workers under the whole program: `run`, `lockless` and `demo` are called as a user calls them, over a shelf in memory,
+//! with a gate that watches their workers. What a line says of the workers is missing where one of these commands
+//! makes its run by one worker: `tools/try_one_worker.sh` tries such bodies.
+//!
+//! A worker passes the gate as it sets out on a turn (`docs/TWO-WORKERS.md`). The gate has each look whether the
+//! other has set out on the same turn, in the first 100 turns and up to 1,000,000 times in each. Both see each
+//! other in one turn only where neither had ended it before the other set out: so both were under way at once,
+//! which no run by one worker can show. It also keeps the numbers of the turns.
+//!
+//! The rows are worked by hand: sixty frames of a cartridge that shows red and touches no port take fewer than
+//! 100,000 turns; two frames of two processors that read each other's ports for ever take no more than the bound
+//! that is proved of every run, 76,602 a frame and 2, by `run` and by `lockless`; and sixty frames of a made cartridge too. No number that the
+//! gate is told reaches these.
+
+mod files;
+
 use file_shelf::Out;
+use files::{Programs, shelf};
 use job_player::Console;
 use run_drive::{Host, Watch};
 use run_io::Argv;
@@ -12,7 +28,7 @@ use std::{io, str};
 /// A command line with one space between two words, the programs that its files hold, and the number that none of
 /// its turns reaches.
 #[derive(Drop)]
-pub struct Row {
+struct Row {
     words: &'static str,
     programs: Programs,
     limit: u64,
@@ -34,7 +50,7 @@ fn red_programs() -> Programs {
 }
 
 /// Sixty red frames.
-pub fn red() -> Row {
+fn red() -> Row {
     Row {
         words: "run --cart cart --boot boot --table table --script script --video video --audio audio --frames 60",
         programs: red_programs(),
@@ -43,7 +59,7 @@ pub fn red() -> Row {
 }
 
 /// Two frames in which each processor reads the first port of the other for ever.
-pub fn polling() -> Row {
+fn polling() -> Row {
     Row {
         words: "run --cart cart --boot boot --table table --script script --video video --audio audio --frames 2",
         programs: Programs {
@@ -55,7 +71,7 @@ pub fn polling() -> Row {
 }
 
 /// The same over words without a lock.
-pub fn lockless() -> Row {
+fn lockless() -> Row {
     Row {
         words: "lockless --cart cart --boot boot --table table --script script --video video --audio audio --frames 2",
         ..polling()
@@ -63,7 +79,7 @@ pub fn lockless() -> Row {
 }
 
 /// Sixty frames of a cartridge that the program makes.
-pub fn demo() -> Row {
+fn demo() -> Row {
     Row {
         words: "demo 7 --frames 60",
         programs: red_programs(),
@@ -106,9 +122,17 @@ fn run<R: AllocGlobal + Threads + Clock + Print>(rt: &R, row: &Row) -> Option<io
 }
 
 /// Runs a row through the program, and prints its answer and what was seen of its workers.
-pub fn show<R: AllocGlobal + Threads + Clock + Print>(rt: &R, row: &Row) -> io::Result<()> {
+fn show<R: AllocGlobal + Threads + Clock + Print>(rt: &R, row: &Row) -> io::Result<()> {
     match run(rt, row) {
         Some(printed) => printed,
         None => println!(rt; "no memory"),
     }
+}
+
+/// Runs all rows.
+pub fn show_all<R: AllocGlobal + Threads + Clock + Print>(rt: &R) -> io::Result<()> {
+    show(rt, &red())?;
+    show(rt, &polling())?;
+    show(rt, &lockless())?;
+    show(rt, &demo())
 }

@@ -3,7 +3,6 @@
 //! It plays plans over a cartridge that passes bytes between both sides all the time, and prints through how many frames
 //! the machines were stepped: those of the goes alone, and not those of a path before them again. The clauses of the
 //! rewinder say so (`steps` of `Rewind::play`); here the count of a run is looked at.
-#![tactic(auto)]
 
 ghost use Rattle.std.specs.Prelude.{◌≡◌, []};
 ghost use Rattle.snes_defs.specs.declared.region.Region.TheVariants.{Ntsc};
@@ -60,13 +59,14 @@ fn tell<R: Print>(rt: &R, name: &str, frames: Option<u64>) -> io::Result<()> {
     }
 }
 
-fn main(rt: HostRuntime) -> io::Result<()> {
+/// Plays all plans.
+pub fn show_all<R: AllocGlobal + Print>(rt: &R) -> io::Result<()> {
     let alloc = rt.alloc();
     tell(
-        &rt,
+        rt,
         "3 frames, and 3 times 1 behind them",
         count_frames(alloc, TRIES),
     )?;
-    tell(&rt, "6 frames on", count_frames(alloc, STRAIGHT))?;
-    tell(&rt, "4 frames, and 4 returns", count_frames(alloc, RETURNS))
+    tell(rt, "6 frames on", count_frames(alloc, STRAIGHT))?;
+    tell(rt, "4 frames, and 4 returns", count_frames(alloc, RETURNS))
 }
