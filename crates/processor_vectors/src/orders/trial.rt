@@ -1,5 +1,5 @@
-use crate::cycle::{Kind, State, kinds_of};
-use crate::row::Row;
+use super::cycle::{Kind, State, kinds_of};
+use super::row::Row;
 use case_text::hexadecimal;
 
 /// What an instruction begins with.

@@ -1,4 +1,4 @@
-use crate::row::Width;
+use super::row::Width;
 
 /// What a cycle does on the bus.
 #[derive(Clone, Copy, PartialEq, Eq)]

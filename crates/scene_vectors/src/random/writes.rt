@@ -1,6 +1,6 @@
 //! Writes at random.
 
-use crate::screen::Screen;
+use super::screen::Screen;
 use case_text::Generator;
 
 /// The registers that are written, 2100 to 2133.

@@ -1,6 +1,6 @@
-use crate::cycle::{Kind, State};
-use crate::row::Width;
-use crate::trial::{Begin, Processor};
+use super::cycle::{Kind, State};
+use super::row::Width;
+use super::trial::{Begin, Processor};
 use spc_tables::{SpcAccess, SpcRegs};
 use spc700::Spc;
 

@@ -1,21 +1,20 @@
-//! Runs the scenes of the files that it is given, as `data/picture.txt`, through the picture unit.
+//! The scenes of the picture, through the picture unit.
 //!
-//! The scenes come from outside: two other programs agreed on every read and every dot. Each row is drawn
-//! twice, by `ppu_line` and slowly by `picture_slow`, and both have to be so. The program prints the scene of
-//! each line that differs, or is none of a scene, counted from 1 in its file, and last how many there were. The scenes of
-//! `data/differing.txt` are wrong in one thing each, and have to be named.
-#![tactic(auto)]
+//! The two programs that agreed on a scene agreed on every read and every dot. Each row is drawn twice, by `ppu_line` and slowly
+//! by `picture_slow`, and both have to be so. The scene of each line that differs, or is none of a scene, is printed,
+//! counted from 1 in its file, and last how many rows and reads there were.
 
 use picture_scenes::{acts, read_holds, renew, row_holds, row_number};
 use picture_slow::draw_slowly;
 use ppu_line::draw;
 use ppu_regs::Ppu;
-use std::{env, fs, io};
+use std::alloc::Global;
+use std::io;
 use tile_cache::TileCache;
 
 /// How many answers were compared, and how many differ.
 #[derive(Clone, Copy)]
-struct Tally {
+pub struct Tally {
     rows: u64,
     rows_differing: u64,
     reads: u64,
@@ -23,8 +22,8 @@ struct Tally {
 }
 
 /// A new unit and a cache.
-fn new_unit(rt: &HostRuntime) -> Option<(Ppu, TileCache)> {
-    match (Ppu::new(rt.alloc()), TileCache::new(rt.alloc())) {
+fn new_unit(alloc: Global) -> Option<(Ppu, TileCache)> {
+    match (Ppu::new(alloc), TileCache::new(alloc)) {
         (Ok(ppu), Ok(tiles)) => Some((ppu, tiles)),
         _ => None,
     }
@@ -67,31 +66,44 @@ fn does(ppu: &mut Ppu, tiles: &mut TileCache, tally: &mut Tally, line: &str) -> 
     }
 }
 
-fn main(rt: HostRuntime) -> io::Result<()> {
-    let mut tally = Tally {
-        rows: 0,
-        rows_differing: 0,
-        reads: 0,
-        reads_differing: 0,
-    };
-    for name in env::args(&rt)?.skip(1) {
-        let text = fs::read_to_string(&rt, name.as_str())?;
-        let mut unit = new_unit(&rt);
+impl Tally {
+    /// Of no answer.
+    pub fn new() -> Tally {
+        Tally {
+            rows: 0,
+            rows_differing: 0,
+            reads: 0,
+            reads_differing: 0,
+        }
+    }
+
+    /// Runs the scenes of a text.
+    pub fn follow<R: Print + AllocGlobal>(&mut self, rt: &R, text: &str) -> io::Result<()> {
+        let mut unit = new_unit(rt.alloc());
         let mut scene = 0u64;
         for line in text.lines() {
             if line.starts_with("scene ") {
                 scene = scene.saturating_add(1);
-                unit = new_unit(&rt);
+                unit = new_unit(rt.alloc());
             } else if let Some((ppu, tiles)) = &mut unit {
-                if !does(ppu, tiles, &mut tally, line) {
+                if !does(ppu, tiles, self, line) {
                     println!(rt; "differs: scene {scene}")?;
                 }
             }
         }
+        Ok(())
     }
-    let rows = tally.rows;
-    let rows_differing = tally.rows_differing;
-    let reads = tally.reads;
-    let reads_differing = tally.reads_differing;
-    println!(rt; "{rows} rows, {rows_differing} differ; {reads} reads, {reads_differing} differ")
+
+    /// Prints all numbers.
+    pub fn tell<R: Print>(&self, rt: &R) -> io::Result<()> {
+        let Tally {
+            rows,
+            rows_differing,
+            reads,
+            reads_differing,
+        } = *self;
+        println!(rt;
+            "{rows} rows, {rows_differing} differ; {reads} reads, {reads_differing} differ"
+        )
+    }
 }

@@ -9,17 +9,16 @@
 //! sees nothing would find no difference. Each register is written so in turn. Those that change no picture are
 //! 2115 to 2117 and 2121, which only say where the next byte of VRAM or CGRAM goes; every other one has to be told.
 //!
-//! The program prints how many rows were compared, how many differ, and the registers of which no row was told.
-#![tactic(auto)]
+//! It prints how many rows were compared, how many differ, and the registers of which no row was told.
 
-mod random;
 mod screen;
+mod writes;
 
 use case_text::Generator;
-use random::{REGISTERS, begin, change, make_wrong};
 use screen::Screen;
 use std::alloc::Global;
 use std::io;
+use writes::{REGISTERS, begin, change, make_wrong};
 
 /// The screens of each mode.
 const SCREENS: u32 = 16;
@@ -74,7 +73,8 @@ fn compare_screen(alloc: Global, mode: u8, seed: u32, tally: &mut Tally) -> Opti
     Some(())
 }
 
-fn main(rt: HostRuntime) -> io::Result<()> {
+/// Compares all rows, and prints what came of them.
+pub fn compare<R: Print + AllocGlobal>(rt: &R) -> io::Result<()> {
     let mut tally = Tally {
         rows: 0,
         differing: 0,
