@@ -145,7 +145,7 @@ rows() {
 }
 
 workers() {
-  item all "$(sum_of "$(sources_of worker_rows)" "$(committed crates/worker_rows)" "$(committed tools/one_worker)" \
+  item all "$(sum_of "$(sources_of console_rows)" "$(committed crates/console_rows)" "$(committed tools/one_worker)" \
     "$(committed tools/try_one_worker.sh)")" "$top/tools/try_one_worker.sh"
 }
 

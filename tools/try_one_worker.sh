@@ -1,7 +1,7 @@
 #!/usr/bin/env bash
 # Tries the bodies of tools/one_worker/*.edit, one at a time: each has `run` or `demo` make its run by one worker, which is the
-# serial run. Their bytes are the same, so these bodies meet every contract, and the program `worker_rows` has to tell them: its
-# output has to differ from crates/worker_rows/stdout. With none of them it has to be that.
+# serial run. Their bytes are the same, so these bodies meet every contract, and the program `console_rows` has to tell them: its
+# output has to differ from crates/console_rows/stdout. With none of them it has to be that.
 #
 # Each is proved before it is run, since only a proved program is built (`rt run`). An edit is as in crates/*/must-fail, but
 # that its file is named from the top. The words are names of bodies; without words all are tried, some minutes each. Works
@@ -14,7 +14,7 @@ trap 'rm -rf "$work"' EXIT
 tree=${TREE:-$work/snes}
 [ -n "${TREE:-}" ] || git clone -q "$top" "$tree" || exit 2
 cd "$tree" && git diff --quiet -- crates || exit 2
-rows=$tree/crates/worker_rows
+rows=$tree/crates/console_rows
 
 # What the program prints; nothing where it isn't proved or doesn't end well.
 shown() { (cd "$rows" && rt run) >"$work/rows" 2>"$work/errors"; }

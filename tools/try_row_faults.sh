@@ -1,6 +1,6 @@
 #!/usr/bin/env bash
 # Plants each fault of tools/row_faults/*.edit in the code, one at a time, and runs the rows of crates/console_rows, which have to tell
-# it: their output has to differ from crates/console_rows/stdout. With no fault planted it has to be that.
+# it: their output has to differ from that in crates/console_rows/stdout. With no fault planted it has to be that.
 #
 # Nothing is proved here: `rt try` runs a program as it stands, so that a fault is met by the rows alone and not by a contract.
 # An edit is as in crates/*/must-fail, but that its file is named from the top. The words are names of faults, or `none` for the rows
@@ -12,6 +12,8 @@ work=$(mktemp -d) || exit 2
 trap 'rm -rf "$work"' EXIT
 git clone -q "$top" "$work/snes" && cd "$work/snes" || exit 2
 rows=$work/snes/crates/console_rows
+# What the rows have to print: the stored output without that of the words `workers` and `plans`, which begins with a quoted line.
+sed '/^"frames /,$d' "$rows/stdout" >"$work/wanted" || exit 2
 
 # What the rows print, without the lines that `rt try` adds; nothing where the program didn't end well.
 shown() {
@@ -45,9 +47,9 @@ as_they_stand() {
     echo "none: the rows don't run"
     tail -n 4 "$work/said" "$work/errors"
     return 1
-  elif ! cmp -s "$work/rows" "$rows/stdout"; then
+  elif ! cmp -s "$work/rows" "$work/wanted"; then
     echo "none: the rows are not as they should be"
-    diff "$work/rows" "$rows/stdout" | head -n 4
+    diff "$work/rows" "$work/wanted" | head -n 4
     return 1
   fi
   echo "none: the rows are as they should be"
@@ -63,12 +65,12 @@ told() {
     echo "$1: doesn't run"
     tail -n 2 "$work/errors"
     return 1
-  elif cmp -s "$work/rows" "$rows/stdout"; then
+  elif cmp -s "$work/rows" "$work/wanted"; then
     echo "$1: NOT TOLD"
     return 1
   fi
-  line=$(cmp "$work/rows" "$rows/stdout" | sed 's/.*line //')
-  row=$(head -n "$line" "$rows/stdout" | grep -v '^bytes:\|^rows \|^frame \|^after ' | tail -n 1)
+  line=$(cmp "$work/rows" "$work/wanted" | sed 's/.*line //')
+  row=$(head -n "$line" "$work/wanted" | grep -v '^bytes:\|^rows \|^frame \|^after ' | tail -n 1)
   echo "$1: told by '$row'"
 }
 

@@ -16,26 +16,42 @@
 //! - `bytes TO` prints the bytes that are written to the ports, up to a clock.
 //! - `picture FRAME` prints a frame from 0 on, equal rows in one line, each by runs of equal dots.
 //!
+//! A word `workers` or `plans` in a file's place runs rows of what a run does beside its output, which no clause and no byte
+//! tells: that its two workers are under way at once, and through how many frames a rewinder steps its machines.
+//!
 //! A read of a port gets 0, but in rows with `torn`: port 0 gets 1 after clock 540, and port 1 gets 2 after clock 546.
 #![tactic(auto)]
 
 mod cartridge;
 mod picture;
+mod plans;
 mod row;
 mod run;
+mod workers;
 
 use row::Row;
+use std::rt::Files;
 use std::{env, fs, io};
+
+/// Follows the lines of a file.
+fn follow<R: Files + Print + AllocGlobal>(rt: &R, row: &mut Row, name: &str) -> io::Result<()> {
+    let text = fs::read_to_string(rt, name)?;
+    for line in text.lines() {
+        if line.is_empty() || line.starts_with("#") {
+            continue;
+        }
+        row.follow(rt, rt.alloc(), line)?;
+    }
+    Ok(())
+}
 
 fn main(rt: HostRuntime) -> io::Result<()> {
     let mut row = Row::new(rt.alloc());
-    for name in env::args(&rt)?.skip(1) {
-        let text = fs::read_to_string(&rt, name.as_str())?;
-        for line in text.lines() {
-            if line.is_empty() || line.starts_with("#") {
-                continue;
-            }
-            row.follow(&rt, rt.alloc(), line)?;
+    for word in env::args(&rt)?.skip(1) {
+        match word.as_str() {
+            "workers" => workers::show_all(&rt)?,
+            "plans" => plans::show_all(&rt)?,
+            name => follow(&rt, &mut row, name)?,
         }
     }
     Ok(())

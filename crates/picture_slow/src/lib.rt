@@ -4,7 +4,7 @@
 //! objects, mode 7, windows, the order of the layers and the arithmetic of colours are all worked out here, in words
 //! of their own, straight from VRAM, OAM and CGRAM, and nothing is kept from dot to dot but what the objects of a
 //! row show. It is proved safe and total; that it shows the same rows as `ppu_line` is tested, by the cases of
-//! `picture_vectors` and by the rows at random of `picture_compare`.
+//! `scene_vectors`, of scenes and of rows at random.
 #![tactic(auto)]
 
 mod background;

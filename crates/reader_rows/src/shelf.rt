@@ -1,5 +1,5 @@
 // What an outside reader expects of real files, and the lines as they are printed. Planned failures, a shelf that never
-// fails and a full device stand in the rows of the whole program, `program_rows` and `worker_rows`.
+// fails and a full device stand in the rows of the whole program, `program_rows` and `console_rows`.
 use run_io::{
     Failed, FileShelf, Input, Line, LoadEnd, Out, Shelf, cannot_read_line, cannot_write_line,
     frames_line, no_memory_line, usage_line,

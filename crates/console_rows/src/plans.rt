@@ -1,0 +1,72 @@
+//! Counts how far a rewinder steps its machines.
+//!
+//! It plays plans over a cartridge that passes bytes between both sides all the time, and prints through how many frames
+//! the machines were stepped: those of the goes alone, and not those of a path before them again. The clauses of the
+//! rewinder say so (`steps` of `Rewind::play`); here the count of a run is looked at.
+
+ghost use Rattle.std.specs.Prelude.{◌≡◌, []};
+ghost use Rattle.snes_defs.specs.declared.region.Region.TheVariants.{Ntsc};
+ghost use Rattle.plan_drive.specs.Paths.{path_script};
+
+mod jobs;
+mod nowhere;
+
+use clock_ratio::FRAME_STAMPS;
+use input_files::{Plan, read_plan};
+use jobs::talking_job;
+use nowhere::Nowhere;
+use snapshot::Rewind;
+use snes_defs::{Job, NoMemory};
+use std::alloc::Global;
+use std::io;
+
+/// Three frames, and then one frame three times: twice with the same pads, and once with others in between.
+const TRIES: &[u8] =
+    b"go 3 0500 0000\nkeep 0\ngo 1 0300 0000\nback 0\ngo 1 0000 0000\nback 0\ngo 1 0300 0000\n";
+
+/// As many frames without a return.
+const STRAIGHT: &[u8] = b"go 6 0500 0000\n";
+
+/// Four frames, and returns to their end.
+const RETURNS: &[u8] = b"go 4 0500 0000\nkeep 0\nback 0\nback 0\nkeep 1\nback 1\nback 0\n";
+
+/// Plays a plan from the start of a job, and answers by how many stamps the machines were stepped.
+fn play_job(alloc: Global, job: &Job, plan: &Plan) -> Result<Option<u64>, NoMemory>
+    requires script { job.now.script ≡ path_script 0 [] }
+    requires region { job.now.region ≡ Ntsc }
+{
+    let mut rewind = Rewind::new(alloc, job, plan)?;
+    let mut buffer = [0u8; 1024];
+    match rewind.play(plan, &mut buffer, &mut Nowhere) {
+        Ok(()) => Ok(Some(rewind.stepped())),
+        Err(_) => Ok(None),
+    }
+}
+
+/// Through how many frames a plan steps both sides, to the nearest.
+fn count_frames(alloc: Global, plan: &[u8]) -> Option<u64> {
+    let job = talking_job(alloc)?;
+    let plan = read_plan(alloc, plan).ok()?;
+    let stamps = play_job(alloc, &job, &plan).ok()??;
+    Some(stamps.saturating_add(FRAME_STAMPS) / (2 * FRAME_STAMPS))
+}
+
+/// Prints a plan's count.
+fn tell<R: Print>(rt: &R, name: &str, frames: Option<u64>) -> io::Result<()> {
+    match frames {
+        Some(frames) => println!(rt; "{name}: {frames} frames"),
+        None => println!(rt; "{name}: no memory, or no end"),
+    }
+}
+
+/// Plays all plans.
+pub fn show_all<R: AllocGlobal + Print>(rt: &R) -> io::Result<()> {
+    let alloc = rt.alloc();
+    tell(
+        rt,
+        "3 frames, and 3 times 1 behind them",
+        count_frames(alloc, TRIES),
+    )?;
+    tell(rt, "6 frames on", count_frames(alloc, STRAIGHT))?;
+    tell(rt, "4 frames, and 4 returns", count_frames(alloc, RETURNS))
+}

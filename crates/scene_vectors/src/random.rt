@@ -1,0 +1,100 @@
+//! Compares rows of `ppu_line` with those of `picture_slow`, which stands on nothing but registers and memories.
+//!
+//! Each screen begins with all memories and registers at random, in one of the eight modes, and registers, VRAM, objects
+//! and colours are written at random between its rows, so the decoded tiles of `ppu_line` are those that writes
+//! have kept in step.
+//!
+//! After each row three things are made wrong, one at a time, by a write at random (of the registers that take a
+//! memory's bytes, many writes), and the row worked out then is compared with the one drawn before: a comparison that
+//! sees nothing would find no difference. Each register is written so in turn. Those that change no picture are
+//! 2115 to 2117 and 2121, which only say where the next byte of VRAM or CGRAM goes; every other one has to be told.
+//!
+//! It prints how many rows were compared, how many differ, and the registers of which no row was told.
+
+mod screen;
+mod writes;
+
+use case_text::Generator;
+use screen::Screen;
+use std::alloc::Global;
+use std::io;
+use writes::{REGISTERS, begin, change, make_wrong};
+
+/// The screens of each mode.
+const SCREENS: u32 = 16;
+
+/// The rows of each screen, every tenth.
+const ROWS: u16 = 24;
+
+/// The things made wrong after each row.
+const WRONGS: u32 = 3;
+
+/// What came of the rows.
+#[derive(Clone, Copy)]
+struct Tally {
+    rows: u64,
+    differing: u64,
+    /// For each register, whether a row was told from the right one after it was written.
+    told: [bool; 64],
+    /// The register that is made wrong next.
+    register: u8,
+}
+
+/// One row: both ways, and then with one thing wrong after another.
+fn compare_row(screen: &mut Screen, generator: &mut Generator, row: u16, tally: &mut Tally) {
+    if row >= 239 {
+        return;
+    }
+    let drawn = screen.drawn(row);
+    tally.rows = tally.rows.saturating_add(1);
+    if !drawn.is(&screen.worked_out(row)) {
+        tally.differing = tally.differing.saturating_add(1);
+    }
+    for _ in 0..WRONGS {
+        let before = screen.drawn(row);
+        let register = tally.register % REGISTERS;
+        make_wrong(screen, generator, register);
+        if !before.is(&screen.worked_out(row)) {
+            tally.told[register as usize] = true;
+        }
+        tally.register = (register + 1) % REGISTERS;
+    }
+}
+
+/// The rows of one screen.
+fn compare_screen(alloc: Global, mode: u8, seed: u32, tally: &mut Tally) -> Option<()> {
+    let mut screen = Screen::new(alloc)?;
+    let mut generator = Generator::new(seed);
+    begin(&mut screen, &mut generator, mode);
+    for k in 0..ROWS {
+        compare_row(&mut screen, &mut generator, 10 * k, tally);
+        change(&mut screen, &mut generator);
+    }
+    Some(())
+}
+
+/// Compares all rows, and prints what came of them.
+pub fn compare<R: Print + AllocGlobal>(rt: &R) -> io::Result<()> {
+    let mut tally = Tally {
+        rows: 0,
+        differing: 0,
+        told: [false; 64],
+        register: 0,
+    };
+    for mode in 0..8u8 {
+        for screen in 0..SCREENS {
+            let seed = screen.wrapping_mul(977).wrapping_add(mode as u32);
+            if compare_screen(rt.alloc(), mode, seed, &mut tally).is_none() {
+                return println!(rt; "no memory");
+            }
+        }
+    }
+    println!(rt; "{} rows, {} differ", tally.rows, tally.differing)?;
+    print!(rt; "told after a write of every register but")?;
+    for register in 0..REGISTERS {
+        if !tally.told[register as usize] {
+            print!(rt; " 21{register:02X}")?;
+        }
+    }
+    println!(rt; "")
+}
