@@ -1,13 +1,11 @@
 -- What both screens show are colours of 15 bits.
-use Rattle.std.proofs.Common.{◌≡◌, ℕ, ◌+◌, ◌-◌, ◌*◌, ◌/◌, ◌%◌, ◌<◌, ◌≤◌, ◌==◌, Bool, true, false, not, ◌&&◌, ◌||◌, List, slice_index, min, if◌then◌else◌, arith}
+use Rattle.std.proofs.Common.{ℕ, ◌/◌, ◌%◌, ◌<◌, Bool, true, false, List, slice_index, if◌then◌else◌, arith}
 use Rattle.ppu_regs.specs.declared.registers.ColourMath.{ColourMath}
 use Rattle.ppu_regs.specs.Picture.{Picture, IsInRange}
 use Rattle.color_window.specs.Mixing.{fixed_colour, mixed}
-use Rattle.color_window.specs.Windows.{is_inside}
-use Rattle.scanline_ops.specs.RankedPixels.{RankedPixel, is_named, is_found}
-use Rattle.scanline_ops.specs.Colours.{colour_of, colour_with, component_with, direct_colour, pixel_colour}
-use Rattle.ppu_screens.specs.Order.{layer_rank}
-use Rattle.ppu_screens.specs.Screens.{has_direct, front_pixel_colour, main_colour, sub_colour}
+use Rattle.scanline_ops.specs.RankedPixels.{RankedPixel}
+use Rattle.scanline_ops.specs.Colours.{colour_with, component_with, direct_colour, pixel_colour}
+use Rattle.ppu_screens.specs.Screens.{front_pixel_colour, main_colour, sub_colour}
 
 -- one of two small colours
 either_small : (b : Bool) (one two : ℕ) → one < 32768 → two < 32768 → (if b then one else two) < 32768
