@@ -90,7 +90,8 @@ def complaint(line, folder):
     """Kind and place of one line of a check's output; None where it is no complaint."""
     left = re.match(r"note: `([\w.-]+)` of (proofs/\S+) must prove", line)
     if left:
-        return kind_of_goal(left[1]), f"{left[2]} {left[1]}"
+        # The file is only where an answer would stand.
+        return kind_of_goal(left[1]), f"{os.path.dirname(left[2]).removeprefix('proofs/')} {left[1]}"
     at = re.match(r"(?:note: )?(?:\./)?((?:src|specs|proofs)/\S+?):(\d+):\d+: (.*)", line)
     if not at:
         return None
