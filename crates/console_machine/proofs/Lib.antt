@@ -7,3 +7,4 @@ pub mod Runs
 pub mod Looks
 pub mod Follows
 pub mod Rounds
+pub mod Over
