@@ -1,5 +1,5 @@
 -- Accesses that follow one another: none, one, and some after others.
-use Rattle.std.proofs.Common.{◌≡◌, ℕ, ◌+◌, ◌-◌, ◌<◌, ◌≤◌, sym, subst, arith}
+use Rattle.std.proofs.Common.{◌≡◌, ℕ, ◌+◌, ◌-◌, ◌<◌, sym, subst, arith}
 use Rattle.cpu65816.specs.declared.processor.Cpu.{Cpu}
 use Rattle.cpu65816.specs.Instruction.{CpuState, moved_on}
 use Rattle.cpu65816.specs.Stands.{Stands, access_of}
@@ -12,7 +12,7 @@ use Rattle.console_steps.specs.Plain.{IsWired, IsCalm}
 use Rattle.console_steps.specs.Got.{HasGot}
 use Rattle.console_steps.proofs.Wires.{wired_then}
 use Rattle.console_machine.specs.Runs.{HasRun}
-use Rattle.console_machine.specs.Follows.{HasCome, Follows}
+use Rattle.console_machine.specs.Follows.{Follows}
 use Rattle.console_machine.proofs.AtOnce.{is_step}
 use Rattle.console_machine.proofs.Runs.{no_run, run_on, run_then}
 

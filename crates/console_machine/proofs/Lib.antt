@@ -1,10 +1,11 @@
-mod Copies
 pub mod AtOnce
+mod Copies
 pub mod Few
-pub mod Quiets
-pub mod Steps
-pub mod Runs
-pub mod Looks
 pub mod Follows
-pub mod Rounds
+pub mod Looks
+pub mod Over
 pub mod Ports
+pub mod Quiets
+pub mod Rounds
+pub mod Runs
+pub mod Steps

@@ -5,15 +5,15 @@ use Rattle.cart_map.specs.declared.places.Place.{Place}
 use Rattle.cpu_tables.specs.declared.access.Access.{Access}
 use Rattle.cpu_tables.specs.declared.access.Access.TheVariants.{Fetch, Read, Write, Inner}
 use Rattle.cpu65816.specs.declared.processor.Cpu.{Cpu}
-use Rattle.cpu65816.specs.Instruction.{CpuState, next_of, moved_on}
-use Rattle.cpu65816.specs.Stands.{Stands, access_of}
+use Rattle.cpu65816.specs.Instruction.{next_of}
+use Rattle.cpu65816.specs.Stands.{access_of}
 use Rattle.std.proofs.Math.Nat.{suc-mul, div-mul-le_self}
 use Rattle.beam.specs.declared.events.Event.{Event}
 use Rattle.beam.specs.Events.{BeamValue, events_of, happens_next, beam_next, beam_after, passed}
 use Rattle.console_bus.specs.BusState.{BusState}
 use Rattle.console_bus.specs.Places.{place_at, place_byte, place_read, on_bus}
 use Rattle.console_bus.specs.Memory.{index_of}
-use Rattle.console_steps.specs.ConsoleState.{ConsoleState, Due, Accesses, access_act, access_clocks, act_of, due_of, due_clocks, after_access, byte_of, with_interrupt_levels, effect, console_after, bytes_after, overscan_of}
+use Rattle.console_steps.specs.ConsoleState.{ConsoleState, Due, Accesses, access_act, access_clocks, act_of, due_of, due_clocks, after_access, effect, console_after, bytes_after, overscan_of}
 use Rattle.console_steps.specs.Stands.{IsAt}
 use Rattle.console_steps.specs.AtOnce.{gone_on, passed_in, IsMadeAtOnce}
 use Rattle.console_steps.specs.Plain.{IsCalm, IsLook}
@@ -105,7 +105,7 @@ look_facts r Inner h = record { quiet = refl; after = refl }
 abbrev pub look_effect : ConsoleState → ConsoleState
 look_effect w = effect w (Accesses (next_of w.processor)) 0
 
-look_due : (w : ConsoleState) → IsCalm w.rest → due_of w ≡ Accesses (next_of w.processor)
+pub look_due : (w : ConsoleState) → IsCalm w.rest → due_of w ≡ Accesses (next_of w.processor)
 look_due w calm = rw (calm.reset, calm.refresh, calm.transfer) refl
 
 pub record LookMade (w : ConsoleState) : Type 0 where
@@ -185,7 +185,7 @@ looks_joined n (suc m) w mid to j k h then =
 
 -- ---- told as a run
 
-looks_silent : (n : ℕ) (w to : ConsoleState) (k : ℕ) → w.rest.beam.h < 1364 → LookSteps n w to k → (q : ℕ) × (SilentWorlds q w to × IsAfter w to k)
+pub looks_silent : (n : ℕ) (w to : ConsoleState) (k : ℕ) → w.rest.beam.h < 1364 → LookSteps n w to k → (q : ℕ) × (SilentWorlds q w to × IsAfter w to k)
 looks_silent zero w to k line h =
     let here : IsAfter w w 0 = record { region = refl; line = line; clock = sym (add-zero w.clock) } in
     let P : ConsoleState → Type 0 = λ x. IsAfter w x k in

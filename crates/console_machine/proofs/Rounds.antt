@@ -1,14 +1,12 @@
 -- Steps that only look do the same wherever the beam stands, as long as it passes nothing: so a round of them, which leads back to the
 -- processor and the byte on the data bus that it began with, can be gone again and again, after a refresh or the end of a line, too.
-use Rattle.std.proofs.Common.{◌≡◌, ℕ, zero, suc, ◌+◌, ◌-◌, ◌<◌, None, Bool, List, [], refl, sym, ap, subst, ◌∙◌, arith, add-zero, false, true, slice_index}
+use Rattle.std.proofs.Common.{◌≡◌, ℕ, zero, suc, ◌+◌, None, Bool, [], refl, sym, ap, subst, ◌∙◌, arith, add-zero, false, true}
 use Rattle.cpu_tables.specs.declared.access.Access.{Access}
 use Rattle.cpu_tables.specs.declared.access.Access.TheVariants.{Fetch, Read, Write, Inner}
 use Rattle.cpu65816.specs.declared.processor.Cpu.{Cpu}
 use Rattle.cpu65816.specs.Instruction.{CpuState, next_of, moved_on}
 use Rattle.cpu65816.specs.Stands.{Stands, access_of}
-use Rattle.beam.specs.declared.events.Event.{Event}
 use Rattle.beam.specs.Events.{BeamValue, beam_after, passed}
-use Rattle.beam.specs.Places.{clocks_left}
 use Rattle.console_bus.specs.BusState.{BusState}
 use Rattle.console_bus.specs.Places.{place_at, on_bus}
 use Rattle.dma_hdma.specs.Channels.{due_of as transfer_of}
@@ -22,7 +20,7 @@ use Rattle.console_steps.proofs.AtOnce.{reads}
 use Rattle.console_steps.proofs.Clocks.{drifted}
 use Rattle.console_steps.proofs.Wires.{wired_then, wired_on, levels_again}
 use Rattle.console_machine.specs.Runs.{HasRun, clocks_next, IsLookStep, LookSteps, LooksTo, rounds_of}
-use Rattle.console_machine.specs.Rounds.{IsElsewhere, HasGone, GoesOn, IsRound, IsRoundFrom}
+use Rattle.console_machine.specs.Rounds.{IsElsewhere, GoesOn, IsRound, IsRoundFrom}
 use Rattle.console_machine.proofs.AtOnce.{IsStepMade, due_access, is_step}
 use Rattle.console_machine.proofs.Runs.{no_run, run_on, run_then}
 use Rattle.console_machine.proofs.Looks.{beam_joined, passed_parts, no_clocks, gone_joined, at_beam, read_is, look_facts, look_effect, look_made, with_bus, looks_end, looks_joined, looks_run}
@@ -41,26 +39,26 @@ look_after_at r b (Read addr) h = read_is (record r { beam = b }) (place_at r.bo
 look_after_at r b (Write addr v) h = absurd h
 look_after_at r b Inner h = refl
 
-look_at : (r : BusState) (b : BeamValue) (a : Access) → IsLook r a → IsLook (record r { beam = b }) a
+pub look_at : (r : BusState) (b : BeamValue) (a : Access) → IsLook r a → IsLook (record r { beam = b }) a
 look_at r b (Fetch addr) h = h
 look_at r b (Read addr) h = h
 look_at r b (Write addr v) h = absurd h
 look_at r b Inner h = tt
 
-effect_at : (w : ConsoleState) (b : BeamValue) (clock : ℕ) → IsLook w.rest (next_of w.processor) → look_effect (at_beam w b clock) ≡ at_beam (look_effect w) b clock
+pub effect_at : (w : ConsoleState) (b : BeamValue) (clock : ℕ) → IsLook w.rest (next_of w.processor) → look_effect (at_beam w b clock) ≡ at_beam (look_effect w) b clock
 effect_at w b clock look =
     let a = next_of w.processor in
     let E : ℕ → BusState → ConsoleState = λ byte r. record { processor = with_interrupt_levels (moved_on w.processor byte) r; rest = r; clock = clock } in
     ap (λ (byte : ℕ). E byte (after_access (record w.rest { beam = b }) a 0)) (look_byte_at w.rest b a look) ∙ ap (λ (r : BusState). E (byte_of w.rest a 0) r) (look_after_at w.rest b a look)
 
-look_step_at : (w : ConsoleState) (b : BeamValue) (clock : ℕ) → IsLookStep w → passed (overscan_of w) b (clocks_next w) ≡ [] → IsLookStep (at_beam w b clock)
+pub look_step_at : (w : ConsoleState) (b : BeamValue) (clock : ℕ) → IsLookStep w → passed (overscan_of w) b (clocks_next w) ≡ [] → IsLookStep (at_beam w b clock)
 look_step_at w b clock s none = record {
   calm = record { reset = s.calm.reset; refresh = s.calm.refresh; transfer = s.calm.transfer };
   look = look_at w.rest b (next_of w.processor) s.look;
   nothing = none;
 }
 
-step_at : (w : ConsoleState) (b : BeamValue) (clock : ℕ) → IsLookStep w → passed (overscan_of w) b (clocks_next w) ≡ []
+pub step_at : (w : ConsoleState) (b : BeamValue) (clock : ℕ) → IsLookStep w → passed (overscan_of w) b (clocks_next w) ≡ []
     → console_after (at_beam w b clock) (due_of (at_beam w b clock)) 0 ≡ at_beam (console_after w (due_of w) 0) (beam_after (overscan_of w) b (clocks_next w)) (clock + clocks_next w)
 step_at w b clock s none =
     let c = clocks_next w in
@@ -71,7 +69,7 @@ step_at w b clock s none =
     ∙ ap (λ (x : Bool). at_beam (look_effect w) (beam_after x b c) (clock + c)) o
     ∙ ap (λ (y : ConsoleState). at_beam y (beam_after (overscan_of w) b c) (clock + c)) (sym (look_made w s).next)
 
-steps_at : (n : ℕ) (w to : ConsoleState) (k : ℕ) (b : BeamValue) (clock : ℕ) → LookSteps n w to k → passed (overscan_of w) b k ≡ []
+pub steps_at : (n : ℕ) (w to : ConsoleState) (k : ℕ) (b : BeamValue) (clock : ℕ) → LookSteps n w to k → passed (overscan_of w) b k ≡ []
     → LookSteps n (at_beam w b clock) (at_beam to (beam_after (overscan_of w) b k) (clock + k)) k
 steps_at zero w to k b clock h none =
     let o = overscan_of w in

@@ -26,7 +26,7 @@ silent_more zero w to same quiet none =
 silent_more (suc n) w to (first, nothing, rest) quiet none = (first, nothing, silent_more n (console_after w (due_of w) 0) to rest quiet none)
 
 -- silent steps after silent steps
-silent_append : (n m : ℕ) (w mid to : ConsoleState) → SilentWorlds n w mid → SilentWorlds m mid to → (q : ℕ) × SilentWorlds q w to
+pub silent_append : (n m : ℕ) (w mid to : ConsoleState) → SilentWorlds n w mid → SilentWorlds m mid to → (q : ℕ) × SilentWorlds q w to
 silent_append zero m w mid to same then =
     let P : ConsoleState → Type 0 = λ x. SilentWorlds m x to in
     (m, subst P (sym same) then)

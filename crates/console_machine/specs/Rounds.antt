@@ -1,6 +1,6 @@
 -- Rounds that go on over places of the beam where nothing comes but a refresh or the next line: what stays of the bus, and what a
 -- round is wherever the beam stands.
-use Rattle.std.specs.Prelude.{◌≡◌, ℕ, ◌<◌, []}
+use Rattle.std.specs.Prelude.{◌≡◌, ℕ, ◌<◌, Bool, [], if◌then◌else◌}
 use Rattle.cpu65816.specs.declared.processor.Cpu.{Cpu}
 use Rattle.beam.specs.Events.{BeamValue, passed}
 use Rattle.console_bus.specs.BusState.{BusState}
@@ -33,3 +33,11 @@ IsRound cpu bus clocks = (b : BeamValue) → passed bus.picture.registers.settin
 -- .. where they begin and end with this byte last on the bus
 abbrev pub IsRoundFrom : Cpu → BusState → ℕ → ℕ → Type 0
 IsRoundFrom cpu bus byte clocks = IsRound cpu (record bus { last = byte }) clocks
+
+-- so many clocks lead every processor that begins such a round there back to itself
+abbrev pub GoesOver : BusState → BusState → ℕ → ℕ → Type 0
+GoesOver old new round clocks = (cpu : Cpu) (byte : ℕ) → IsRoundFrom cpu old byte round → old.last ≡ byte → GoesOn cpu cpu old new clocks
+
+-- the clocks of a refresh that is due or not
+abbrev pub refresh_clocks : Bool → ℕ
+refresh_clocks due = if due then 40 else 0

@@ -9,17 +9,16 @@ ghost use Rattle.console_steps.specs.ConsoleState.{ConsoleState};
 ghost use Rattle.console_steps.specs.Stands.{IsAt};
 ghost use Rattle.console_steps.specs.AtOnce.{gone_on, passed_in, IsMadeAtOnce};
 ghost use Rattle.console_steps.specs.Plain.{IsWired, IsCalm, IsLook};
+ghost use Rattle.console_steps.specs.PlainPlaces.{IsPlainAhead};
 ghost use Rattle.console_machine.specs.Follows.{Follows};
 ghost use Rattle.console_machine.specs.Runs.{HasRun, IsRounds};
-ghost use Rattle.console_machine.specs.Rounds.{GoesOn, IsRoundFrom};
+ghost use Rattle.console_machine.specs.Rounds.{GoesOver, refresh_clocks};
 
 use crate::instructions::instruction;
 use crate::patience::Patience;
 use cart_map::Place as BusPlace;
 use console_bus::Bus;
-use console_steps::{
-    is_calm, is_plain_ahead, is_wired, look_past, make_refresh, try_look, try_plain,
-};
+use console_steps::{is_calm, is_plain_ahead, is_wired, reach_plain_place, try_look, try_plain};
 use cpu_modes::Place;
 use cpu65816::Cpu;
 
@@ -41,8 +40,8 @@ const LINE: u16 = 1364;
 /// How many places at most a round goes past.
 const MOST_PLACES: u8 = 4;
 
-/// More clocks than an access that lasts past a place has, with a refresh.
-const MOST_PAST: u16 = 295;
+/// The master clocks of the longest round that goes past a place: the next one is farther than these and a refresh.
+const LONGEST_ROUND: u16 = 400;
 
 /// Master clocks of a refresh of work RAM.
 const REFRESH_CLOCKS: u16 = 40;
@@ -202,97 +201,60 @@ fn go_rounds(bus: &mut Bus, round: u16) -> u16
     more
 }
 
-/// Makes accesses that only look, as long as they end before the next place, and answers how many clocks they last.
-fn look_to_place(cpu: &mut Cpu, bus: &mut Bus) -> u16
-    ensures goes { GoesOn cpu.old cpu.new bus.old bus.new result }
-    ensures left { result + clocks_left bus.new.beam ≡ clocks_left bus.old.beam }
+/// The clocks of a refresh that is due or not.
+#[inline(always)]
+fn refresh_clocks(due: bool) -> u16
+    ensures clocks { result ≡ refresh_clocks due }
+    ensures few { result ≤ 40 }
 {
-    let _left = bus.clocks_left();
-    let mut gone: u16 = 0;
-    'looks: for _ in 0..MOST_OF_ROUND {
-        match look_once(cpu, bus) {
-            Some(clocks) => gone += clocks as u16,
-            None => return gone,
-        }
-    }
-    gone
+    if due { REFRESH_CLOCKS } else { 0 }
 }
 
-/// Makes the access that lasts to the next place or past it, where it only looks and nothing comes there but a refresh or the
-/// next line, and the refresh. Answers how many clocks they last.
-#[inline(never)]
-fn pass_plainly(cpu: &mut Cpu, bus: &mut Bus) -> Option<u16>
-    ensures goes { IfSome result (λ clocks. GoesOn cpu.old cpu.new bus.old bus.new clocks) }
-    ensures few { IfSome result (λ clocks. clocks ≤ 295) }
-    ensures bus_stays { result ≡ None → bus.new ≡ bus.old }
-    ensures cpu_stays { result ≡ None → cpu.new ≡ cpu.old }
+/// The beam goes on by a round that is known and lasts to the next place or past it, where nothing comes but a refresh or the
+/// next line, and by the refresh. Answers how many clocks they last.
+#[inline(always)]
+fn go_over(bus: &mut Bus, round: u16) -> u16
+    requires plain { IsPlainAhead bus.old.beam }
+    requires enough { clocks_left bus.old.beam ≤ round }
+    requires short { round ≤ 400 }
+    ensures goes { GoesOver bus.old bus.new round result }
+    ensures last { bus.new.last ≡ bus.old.last }
+    ensures few { result ≤ round + 40 }
 {
-    if !is_plain_ahead(bus) {
-        return None;
-    }
-    let clocks = look_past(cpu, bus)?;
-    if bus.refreshes() {
-        make_refresh(bus);
-        return Some(clocks as u16 + REFRESH_CLOCKS);
-    }
-    Some(clocks as u16)
-}
-
-/// Makes accesses that only look up to such a place, and past it.
-fn go_past(cpu: &mut Cpu, bus: &mut Bus) -> u16
-    ensures goes { GoesOn cpu.old cpu.new bus.old bus.new result }
-    ensures few { result ≤ clocks_left bus.old.beam + 295 }
-{
-    let _left = bus.clocks_left();
-    let before = look_to_place(cpu, bus);
-    match pass_plainly(cpu, bus) {
-        Some(past) => before + past,
-        None => before,
-    }
-}
-
-/// Makes accesses that only look up to the beginning of a round that is known, and passes the rounds that fit before the next place.
-fn go_round_again(cpu: &mut Cpu, bus: &mut Bus, back: &Cpu, byte: u8, round: u16) -> u16
-    ensures goes { IsRoundFrom back.now bus.old byte round → GoesOn cpu.old cpu.new bus.old bus.new result }
-    ensures left { result + clocks_left bus.new.beam ≡ clocks_left bus.old.beam }
-{
-    let _left = bus.clocks_left();
-    let mut gone: u16 = 0;
-    'looks: for _ in 0..MOST_OF_ROUND {
-        if is_back(cpu, bus, back, byte) {
-            *cpu = *back;
-            let more = go_rounds(bus, round);
-            return gone + more;
-        }
-        match look_once(cpu, bus) {
-            Some(clocks) => gone += clocks as u16,
-            None => return gone,
-        }
-    }
-    gone
+    let left = bus.clocks_left();
+    let due = reach_plain_place(bus);
+    let more = refresh_clocks(due);
+    bus.go_on(round - left + more);
+    round + more
 }
 
 /// Goes on with a round that is known past places where nothing comes but a refresh or the next line, for a line's clocks
-/// at most, of which some are gone before. Answers how many clocks it lasts.
+/// at most, of which some are gone before: whole rounds, of which one lasts past each place. Answers how many clocks they last.
 #[inline(never)]
-fn go_beyond(cpu: &mut Cpu, bus: &mut Bus, back: &Cpu, byte: u8, round: u16, before: u16) -> u16
+fn go_beyond(bus: &mut Bus, round: u16, before: u16) -> u16
     requires few { before ≤ 1364 }
-    ensures goes { IsRoundFrom back.now bus.old byte round → GoesOn cpu.old cpu.new bus.old bus.new result }
+    ensures goes { GoesOver bus.old bus.new round result }
     ensures few { before + result ≤ 1364 }
 {
+    if round > LONGEST_ROUND {
+        return 0;
+    }
     let mut gone: u16 = 0;
     'places: for _ in 0..MOST_PLACES {
         if !is_plain_ahead(bus) {
             return gone;
         }
-        if before + gone + bus.clocks_left() > LINE - MOST_PAST {
+        if bus.clocks_left() > round {
             return gone;
         }
-        gone += go_past(cpu, bus);
+        if before + gone + round + REFRESH_CLOCKS > LINE {
+            return gone;
+        }
+        gone += go_over(bus, round);
         if before + gone + bus.clocks_left() > LINE {
             return gone;
         }
-        gone += go_round_again(cpu, bus, back, byte, round);
+        gone += go_rounds(bus, round);
     }
     gone
 }
@@ -325,9 +287,8 @@ fn make_rounds(cpu: &mut Cpu, bus: &mut Bus, patience: &mut Patience, before: u1
         if is_back(cpu, bus, &first, byte) {
             patience.found();
             let more = go_rounds(bus, gone);
-            let back = *cpu;
             let all = gone + more;
-            return all + go_beyond(cpu, bus, &back, byte, gone, before + all);
+            return all + go_beyond(bus, gone, before + all);
         }
     }
     gone

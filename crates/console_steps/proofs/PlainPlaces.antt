@@ -22,7 +22,7 @@ use Rattle.console_bus.specs.Happenings.{happened, emitted_at}
 use Rattle.console_steps.specs.ConsoleState.{ConsoleState, after_access, after_event, after_events, bytes_of_events, after_clocks, bytes_in, with_interrupt_levels}
 use Rattle.console_steps.specs.Stands.{IsAt}
 use Rattle.console_steps.specs.Plain.{IsWired}
-use Rattle.console_steps.specs.PlainPlaces.{IsPlainAhead, IsPassed, IsSameBefore, ComesAlone, IsMadePast, reached_there, happens_in}
+use Rattle.console_steps.specs.PlainPlaces.{IsPlainAhead, IsPassed, IsSameBefore, ComesAlone, IsMadePast, IsPlainlyThere, reached_there, happens_in}
 use Rattle.console_steps.proofs.AtOnce.{reads}
 use Rattle.console_steps.proofs.Clocks.{arrived, arrival}
 use Rattle.console_steps.proofs.PassSteps.{overscan, went_on, arrives, happens_there, passes_place}
@@ -180,6 +180,44 @@ refreshed_there old new happens plain some last done told = refreshed_by old new
 pub lined_there : (old new : BusState) (happens : Happens) → IsPlainAhead old.beam → 0 < clocks_left old.beam → happens ≡ happens_in old
     → new ≡ reached_there old → happens.refresh ≡ false → ComesAlone (reached_there old) new happens
 lined_there old new happens plain some last done told = lined_by old new happens (there (overscan old) old.beam plain some) last done told
+
+-- ---- the bus that has come there
+
+there_told : (old new : BusState) (happens : Happens) → There (overscan old) old.beam (clocks_left old.beam) → 0 < clocks_left old.beam
+    → passed (overscan old) old.beam (clocks_left old.beam - 1) ≡ [] → happens ≡ happens_in old → new ≡ reached_there old → IsPlainlyThere old new happens.refresh
+there_told old new happens (inl h) some before last on =
+    let told : happens.refresh ≡ true = ap (λ (x : Happens). x.refresh) last ∙ h.told in
+    let Far : BusState → Type 0 = λ r. 536 ≤ clocks_left r.beam in
+    record {
+      event = Refresh;
+      alone = h.alone;
+      is = λ r at channels was. ap {A = Bool} {B = BusState} (λ x. record r { refresh = x }) (sym told);
+      none = λ r. refl;
+      some = some;
+      before = before;
+      on = on;
+      far = subst Far (sym on) h.far;
+    }
+there_told old new happens (inr h) some before last on =
+    let told : happens.refresh ≡ false = ap (λ (x : Happens). x.refresh) last ∙ h.told in
+    let Far : BusState → Type 0 = λ r. 536 ≤ clocks_left r.beam in
+    record {
+      event = Line;
+      alone = h.alone;
+      is = λ r at channels was. (
+          let line : (r.beam.v == 0) ≡ false = ap (λ (b : BeamValue). b.v == 0) (at ∙ ap (λ (x : BusState). x.beam) on) ∙ h.line in
+          let same : r ≡ record r { refresh = happens.refresh } = ap {A = Bool} {B = BusState} (λ x. record r { refresh = x }) (was ∙ sym told) in
+          rw line same);
+      none = λ r. refl;
+      some = some;
+      before = before;
+      on = on;
+      far = subst Far (sym on) h.far;
+    }
+
+pub plainly_there : (old new : BusState) (happens : Happens) → IsPlainAhead old.beam → 0 < clocks_left old.beam
+    → passed (overscan old) old.beam (clocks_left old.beam - 1) ≡ [] → happens ≡ happens_in old → new ≡ reached_there old → IsPlainlyThere old new happens.refresh
+plainly_there old new happens plain some before last on = there_told old new happens (there (overscan old) old.beam plain some) some before last on
 
 -- ---- the clocks up to it and those after it
 

@@ -1,5 +1,5 @@
 -- Places of the beam where nothing comes but a refresh or the next line, and an access that lasts to such a place or past it.
-use Rattle.std.specs.Prelude.{◌≡◌, ℕ, ◌+◌, ◌==◌, ◌&&◌, ◌||◌, ◌-◌, ◌≤◌, Bool, nat_le, IsTrue, List, [], ◌∷◌}
+use Rattle.std.specs.Prelude.{◌≡◌, ℕ, ◌+◌, ◌==◌, ◌&&◌, ◌||◌, ◌-◌, ◌<◌, ◌≤◌, Bool, false, nat_le, IsTrue, List, [], ◌∷◌}
 use Rattle.snes_defs.specs.declared.ports.Act.TheVariants.{Quiet}
 use Rattle.cpu_tables.specs.declared.access.Access.{Access}
 use Rattle.cpu65816.specs.declared.processor.Cpu.{Cpu}
@@ -7,7 +7,7 @@ use Rattle.cpu65816.specs.Instruction.{CpuState, moved_on}
 use Rattle.cpu65816.specs.Stands.{Stands}
 use Rattle.beam.specs.declared.events.Event.{Event}
 use Rattle.beam.specs.declared.events.Happens.{Happens}
-use Rattle.beam.specs.Events.{BeamValue, events_of, happens_next, beam_next, beam_after}
+use Rattle.beam.specs.Events.{BeamValue, events_of, happens_next, beam_next, beam_after, passed}
 use Rattle.beam.specs.Places.{clocks_left}
 use Rattle.console_bus.specs.BusState.{BusState}
 use Rattle.console_bus.specs.Happenings.{happened, emitted_at}
@@ -46,6 +46,18 @@ pub record ComesAlone (reached done : BusState) (happens : Happens) : Type 0 whe
   pub none : (r : BusState) → emitted_at r event ≡ []
   pub same : done ≡ record reached { refresh = done.refresh }
   pub far : 536 ≤ clocks_left done.beam
+
+-- the bus has come to such a place: one event is due there, which emits nothing, and of any bus there with these channels changes
+-- at most whether a refresh is due. The next place is far then
+pub record IsPlainlyThere (old new : BusState) (refresh : Bool) : Type 0 where
+  pub event : Event
+  pub alone : events_of (happens_in old) ≡ event ∷ []
+  pub is : (r : BusState) → r.beam ≡ new.beam → r.channels ≡ old.channels → r.refresh ≡ false → happened r event ≡ record r { refresh = refresh }
+  pub none : (r : BusState) → emitted_at r event ≡ []
+  pub some : 0 < clocks_left old.beam
+  pub before : passed (overscan_in old) old.beam (clocks_left old.beam - 1) ≡ []
+  pub on : new ≡ reached_there old
+  pub far : 536 ≤ clocks_left new.beam
 
 -- what an access makes of the processor and the bus that lasts to such a place or past it
 pub record IsMadePast (cpu cpu' : Cpu) (bus bus' : BusState) (access : Access) (clocks : ℕ) : Type 0 where

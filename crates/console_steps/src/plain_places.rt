@@ -7,7 +7,7 @@ ghost use Rattle.cpu65816.specs.Stands.{access_of};
 ghost use Rattle.beam.specs.Events.{passed};
 ghost use Rattle.beam.specs.Places.{clocks_left};
 ghost use Rattle.console_steps.specs.AtOnce.{gone_on, passed_in};
-ghost use Rattle.console_steps.specs.PlainPlaces.{IsPlainAhead, IsPassed, IsSameBefore, ComesAlone, IsMadePast, reached_there, happens_in, overscan_in};
+ghost use Rattle.console_steps.specs.PlainPlaces.{IsPlainAhead, IsPassed, IsSameBefore, ComesAlone, IsMadePast, IsPlainlyThere, reached_there, happens_in, overscan_in};
 
 use console_bus::Bus;
 use cpu_tables::Access;
@@ -49,6 +49,18 @@ fn reach_plainly(bus: &mut Bus)
     if happens.refresh {
         bus.begin_refresh();
     }
+}
+
+/// The beam goes on to such a place, and it is answered whether a refresh is due there.
+#[inline(always)]
+pub fn reach_plain_place(bus: &mut Bus) -> bool
+    requires plain { IsPlainAhead bus.old.beam }
+    ensures there { IsPlainlyThere bus.old bus.new result }
+    ensures far { 536 ≤ clocks_left bus.new.beam }
+{
+    let _left = bus.clocks_left();
+    let happens = bus.reach();
+    happens.refresh
 }
 
 /// Lets so many clocks pass, which lead to such a place or past it.

@@ -1,6 +1,5 @@
-use Rattle.std.proofs.Common.{◌≡◌, ℕ, ◌-◌, refl, sym, ap, subst, ◌∙◌, arith}
+use Rattle.std.proofs.Common.{◌-◌, refl, ap, ◌∙◌, arith}
 use Rattle.beam.specs.Places.{clocks_left}
-use Rattle.console_machine.specs.Runs.{HasRun}
 use Rattle.console_machine.proofs.Runs.{no_run}
 use Rattle.console_machine.proofs.Follows.{follows_none, follows_then, run_of}
 use Rattle.console_machine.proofs.many_steps.make_accesses.Goals as goal

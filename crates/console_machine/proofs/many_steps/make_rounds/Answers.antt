@@ -73,8 +73,9 @@ returns-then-is_back-clause-run c = λ w at line.
     let rounds : GoesOn first cpu bus more.new.bus (k + more.result) =
     goes_then_rounds first cpu cpu bus c.is_back.new.bus more.new.bus c.last_byte-byte.result k more.ensures.times.number k more.result (k + more.result) looked from (λ s h. h)
     last more.ensures.times.times more.ensures.on more.ensures.nothing refl in
-    let all = goes_then_known first cpu beyond.new.cpu bus more.new.bus beyond.new.bus (k + more.result) beyond.result _ rounds
-    (λ there. beyond.ensures.goes (round_elsewhere cpu bus more.new.bus c.last_byte-byte.result k there from)) refl in
+    let same_last : more.new.bus.last ≡ c.last_byte-byte.result = ap (λ (r : BusState). r.last) more.ensures.on ∙ last in
+    let all = goes_then_known first cpu cpu bus more.new.bus beyond.new.bus (k + more.result) beyond.result _ rounds
+    (λ there. beyond.ensures.goes cpu c.last_byte-byte.result (round_elsewhere cpu bus more.new.bus c.last_byte-byte.result k there from) same_last) refl in
     (all w at line (c.if-not-is_calm.ensures refl) (c.if-not-is_wired.ensures refl)).run
 
 pub returns-clause-run : goal.returns-clause-run
