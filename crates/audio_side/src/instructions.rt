@@ -575,8 +575,9 @@ fn make_some(spc: &mut Spc, hardware: &mut Hardware, left: &mut u8) -> bool
     }
 }
 
-/// Makes accesses as long as any are left and are at none of the registers F0 to FF.
-#[inline(always)]
+/// Makes accesses as long as any are left and are at none of the registers F0 to FF. It has two callers, and stands once:
+/// what follows an opcode is built into one place alone.
+#[inline(never)]
 pub fn make_all(spc: &mut Spc, hardware: &mut Hardware, left: &mut u8)
     ensures { Follows spc.old spc.new hardware.old hardware.new left.old left.new }
 {
