@@ -12,7 +12,7 @@ ghost use Rattle.console_machine.specs.Side.{IsSome, StandsAt};
 use crate::acts::due_act;
 use crate::many_steps::make_plain_steps;
 use crate::patience::Patience;
-use crate::step::{make_likely_port_step, try_make, try_other};
+use crate::step::{make_likely_port_step, make_step, try_make, try_other};
 use circular_buffer::HeapCircularBuffer;
 use clock_ratio::{CONSOLE_RATE, PAL_CONSOLE_RATE};
 use console_bus::Bus;
@@ -92,8 +92,26 @@ impl Parts {
         due_act(&self.cpu, &self.bus)
     }
 
-    /// Makes a step, which is likely to be an access of a port: that is looked for first. `got` is the incoming byte, where the
-    /// step is a read of a port.
+    /// A step.
+    #[inline(always)]
+    pub fn step(&mut self, got: u8)
+        requires room { length self.old.waiting.items + 1024 ≤ self.old.waiting.capacity }
+        requires early { self.old.stamp ≤ 2 ^ 62 }
+        ensures next { (w : ConsoleState) → StandsAt (value_of self.old) w
+            → StandsAt (value_of self.new) (console_after w (due_of w) (taken (act_of w.rest (due_of w)) got)) }
+        ensures emits { (w : ConsoleState) → StandsAt (value_of self.old) w
+            → self.new.waiting.items ≡ self.old.waiting.items ++ bytes_after w (due_of w) (taken (act_of w.rest (due_of w)) got) }
+        ensures rises { self.old.stamp + least_of self.old.region ≤ self.new.stamp }
+        ensures rises_at_most { self.new.stamp ≤ self.old.stamp + most_of self.old.region }
+        ensures region { self.new.region ≡ self.old.region }
+        ensures capacity { self.new.waiting.capacity ≡ self.old.waiting.capacity }
+        ensures few { length self.new.waiting.items ≤ length self.old.waiting.items + 1024 }
+    {
+        let clocks = make_step(&mut self.cpu, &mut self.bus, &mut self.waiting, got);
+        self.stamp += stamps(self.region, clocks);
+    }
+
+    /// The same, for a step that is likely to be an access of a port.
     #[inline(always)]
     pub fn step_at_port(&mut self, got: u8)
         requires room { length self.old.waiting.items + 1024 ≤ self.old.waiting.capacity }
