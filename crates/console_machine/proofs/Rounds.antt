@@ -1,6 +1,6 @@
 -- Steps that only look do the same wherever the beam stands, as long as it passes nothing: so a round of them, which leads back to the
 -- processor and the byte on the data bus that it began with, can be gone again and again, after a refresh or the end of a line, too.
-use Rattle.std.proofs.Common.{◌≡◌, ℕ, zero, suc, ◌+◌, None, Bool, [], refl, sym, ap, subst, ◌∙◌, arith, add-zero, false, true}
+use Rattle.std.proofs.Common.{◌≡◌, ℕ, zero, suc, ◌+◌, Bool, [], refl, sym, ap, subst, ◌∙◌, arith, add-zero}
 use Rattle.cpu_tables.specs.declared.access.Access.{Access}
 use Rattle.cpu_tables.specs.declared.access.Access.TheVariants.{Fetch, Read, Write, Inner}
 use Rattle.cpu65816.specs.declared.processor.Cpu.{Cpu}
@@ -9,19 +9,16 @@ use Rattle.cpu65816.specs.Stands.{Stands, access_of}
 use Rattle.beam.specs.Events.{BeamValue, beam_after, passed}
 use Rattle.console_bus.specs.BusState.{BusState}
 use Rattle.console_bus.specs.Places.{place_at, on_bus}
-use Rattle.dma_hdma.specs.Channels.{due_of as transfer_of}
-use Rattle.console_steps.specs.ConsoleState.{ConsoleState, Due, Accesses, Refreshes, after_access, byte_of, with_interrupt_levels, due_of, effect, after_clocks, bytes_in, console_after, overscan_of}
-use Rattle.console_steps.specs.PlainPlaces.{IsMadePast, IsSameBefore}
-use Rattle.console_steps.proofs.PassSteps.{went_on}
+use Rattle.console_steps.specs.ConsoleState.{ConsoleState, after_access, byte_of, with_interrupt_levels, due_of, console_after, overscan_of}
 use Rattle.console_steps.specs.Stands.{IsAt}
 use Rattle.console_steps.specs.AtOnce.{gone_on, passed_in, IsMadeAtOnce}
 use Rattle.console_steps.specs.Plain.{IsWired, IsCalm, IsLook}
 use Rattle.console_steps.proofs.AtOnce.{reads}
 use Rattle.console_steps.proofs.Clocks.{drifted}
-use Rattle.console_steps.proofs.Wires.{wired_then, wired_on, levels_again}
+use Rattle.console_steps.proofs.Wires.{wired_then}
 use Rattle.console_machine.specs.Runs.{HasRun, clocks_next, IsLookStep, LookSteps, LooksTo, rounds_of}
 use Rattle.console_machine.specs.Rounds.{IsElsewhere, GoesOn, IsRound, IsRoundFrom}
-use Rattle.console_machine.proofs.AtOnce.{IsStepMade, due_access, is_step}
+use Rattle.console_machine.proofs.AtOnce.{is_step}
 use Rattle.console_machine.proofs.Runs.{no_run, run_on, run_then}
 use Rattle.console_machine.proofs.Looks.{beam_joined, passed_parts, no_clocks, gone_joined, at_beam, read_is, look_facts, look_effect, look_made, with_bus, looks_end, looks_joined, looks_run}
 
@@ -220,90 +217,3 @@ pub goes_then_rounds : (a b back : Cpu) (x y z : BusState) (byte k n j more all 
     → y.last ≡ byte → more ≡ rounds_of n k → z ≡ gone_on y more → passed_in y more ≡ [] → all ≡ j + more → GoesOn a back x z all
 goes_then_rounds a b back x y z byte k n j more all f round like last times on none sum =
     goes_then_known a b back x y z j more all f (λ same. goes_rounds b back y z byte k n more (round_elsewhere back x y byte k same round) like last times on none) sum
-
--- ---- past a place where nothing comes but a refresh or the next line
-
-told_past : (cpu cpu' : Cpu) (bus' : BusState) (w : ConsoleState) (a : Access) (clocks : ℕ) → Stands cpu w.processor → IsWired cpu w.rest → IsMadePast cpu cpu' w.rest bus' a clocks
-    → IsStepMade cpu' bus' w (Accesses a) clocks
-told_past cpu cpu' bus' w a clocks s wired m =
-    let byte = byte_of w.rest a 0 in
-    let now = m.processor w.processor s in
-    let same = wired_on cpu cpu' w.rest w.rest w.processor byte wired refl s now in
-    let there : IsAt cpu' (after_access w.rest a 0) (effect w (Accesses a) 0) =
-    record { processor = levels_again cpu' w.rest (after_access w.rest a 0) (moved_on w.processor byte) same m.stays now; rest = refl } in
-    let on = m.passes cpu' (effect w (Accesses a) 0) (wired_on cpu cpu' w.rest (after_access w.rest a 0) w.processor byte wired m.stays s now) there in
-    let At : ℕ → Type 0 = λ n. IsAt cpu' bus' (after_clocks (effect w (Accesses a) 0) n) in
-    let Emits : ℕ → Type 0 = λ n. bytes_in (effect w (Accesses a) 0) n ≡ [] in
-    record { quiet = m.quiet; at = subst At m.lasts on.0; none = subst Emits m.lasts on.1; lasts = m.lasts }
-
-is_step_past : (cpu cpu' : Cpu) (bus bus' : BusState) (w : ConsoleState) (clocks : ℕ) → IsAt cpu bus w → IsMadePast cpu cpu' bus bus' (access_of cpu) clocks → IsWired cpu bus → IsCalm bus
-    → IsStepMade cpu' bus' w (due_of w) clocks
-is_step_past cpu cpu' bus bus' w clocks at m wired calm =
-    let P : BusState → Type 0 = λ r. IsMadePast cpu cpu' r bus' (access_of cpu) clocks in
-    let W : BusState → Type 0 = λ r. IsWired cpu r in
-    let Q : Due → Type 0 = λ d. IsStepMade cpu' bus' w d clocks in
-    subst Q (sym (due_access cpu bus w at calm.reset calm.refresh calm.transfer))
-    (told_past cpu cpu' bus' w (access_of cpu) clocks at.processor (subst W at.rest wired) (subst P at.rest m))
-
--- the refresh that is due then
-refresh_told : (cpu : Cpu) (bus' : BusState) (w : ConsoleState) → Stands cpu w.processor → IsWired cpu w.rest → w.rest.reset ≡ false → w.rest.refresh ≡ true
-    → passed_in (record w.rest { refresh = false }) 40 ≡ [] → bus' ≡ gone_on (record w.rest { refresh = false }) 40 → IsStepMade cpu bus' w (due_of w) 40
-refresh_told cpu bus' w s wired reset refresh none on =
-    let there : IsAt cpu (record w.rest { refresh = false }) (effect w Refreshes 0) =
-    record { processor = levels_again cpu w.rest (record w.rest { refresh = false }) w.processor wired refl s; rest = refl } in
-    let q = went_on cpu (record w.rest { refresh = false }) bus' (effect w Refreshes 0) 40 there none on in
-    let due : due_of w ≡ Refreshes = rw (reset, refresh) refl in
-    let Q : Due → Type 0 = λ d. IsStepMade cpu bus' w d 40 in
-    subst Q (sym due) (record { quiet = refl; at = q.0; none = q.1; lasts = refl })
-
-refresh_step : (cpu : Cpu) (bus bus' : BusState) (w : ConsoleState) → IsAt cpu bus w → IsWired cpu bus → bus.reset ≡ false → bus.refresh ≡ true
-    → passed_in (record bus { refresh = false }) 40 ≡ [] → bus' ≡ gone_on (record bus { refresh = false }) 40 → IsStepMade cpu bus' w (due_of w) 40
-refresh_step cpu bus bus' w at wired reset refresh none on =
-    let W : BusState → Type 0 = λ r. IsWired cpu r in
-    let A : BusState → Type 0 = λ r. r.reset ≡ false in
-    let B : BusState → Type 0 = λ r. r.refresh ≡ true in
-    let N : BusState → Type 0 = λ r. passed_in (record r { refresh = false }) 40 ≡ [] in
-    let O : BusState → Type 0 = λ r. bus' ≡ gone_on (record r { refresh = false }) 40 in
-    refresh_told cpu bus' w at.processor (subst W at.rest wired) (subst A at.rest reset) (subst B at.rest refresh) (subst N at.rest none) (subst O at.rest on)
-
--- what it leaves of the bus
-past_io : (bus bus' : BusState) → IsSameBefore bus bus' → bus'.io ≡ bus.io
-past_io bus bus' same = ap (λ (r : BusState). r.io) same
-
-pub goes_past : (cpu cpu' : Cpu) (bus bus' : BusState) (clocks n : ℕ) → IsMadePast cpu cpu' bus bus' (access_of cpu) clocks → bus'.refresh ≡ false → n ≡ clocks → GoesOn cpu cpu' bus bus' n
-goes_past cpu cpu' bus bus' clocks n m none sum = λ w at line calm wired.
-    let h = no_run cpu bus w at line in
-    let same = m.same in
-    record {
-      run = run_on cpu cpu' bus bus' w 0 clocks n h (is_step_past cpu cpu' bus bus' h.to clocks h.at m wired calm) (omega (arith, sum));
-      wired = wired_on cpu cpu' bus bus' w.processor (byte_of bus (access_of cpu) 0) wired (past_io bus bus' same) at.processor (m.processor w.processor at.processor);
-      calm = record {
-        reset = ap (λ (r : BusState). r.reset) same ∙ calm.reset;
-        refresh = none;
-        transfer = ap (λ (r : BusState). transfer_of r.channels) same ∙ calm.transfer;
-      };
-      same = same ∙ ap {A = Bool} {B = BusState} (λ x. record bus { last = bus'.last; refresh = x; beam = bus'.beam }) (none ∙ sym calm.refresh);
-    }
-
-pub goes_past_refresh : (cpu cpu' : Cpu) (bus mid bus' : BusState) (clocks n : ℕ) → IsMadePast cpu cpu' bus mid (access_of cpu) clocks → mid.refresh ≡ true
-    → passed_in (record mid { refresh = false }) 40 ≡ [] → bus' ≡ gone_on (record mid { refresh = false }) 40 → n ≡ clocks + 40 → GoesOn cpu cpu' bus bus' n
-goes_past_refresh cpu cpu' bus mid bus' clocks n m due nothing on sum = λ w at line calm wired.
-    let h = no_run cpu bus w at line in
-    let same = m.same in
-    let first = run_on cpu cpu' bus mid w 0 clocks clocks h (is_step_past cpu cpu' bus mid h.to clocks h.at m wired calm) (omega arith) in
-    let there = wired_on cpu cpu' bus mid w.processor (byte_of bus (access_of cpu) 0) wired (past_io bus mid same) at.processor (m.processor w.processor at.processor) in
-    let reset : mid.reset ≡ false = ap (λ (r : BusState). r.reset) same ∙ calm.reset in
-    let transfer : transfer_of mid.channels ≡ None = ap (λ (r : BusState). transfer_of r.channels) same ∙ calm.transfer in
-    let beam = (gone_on (record mid { refresh = false }) 40).beam in
-    let W : BusState → Type 0 = λ r. IsWired cpu' r in
-    let C : BusState → Type 0 = λ r. IsCalm r in
-    let is : bus' ≡ record bus { last = mid.last; beam = beam } =
-    on ∙ ap {A = BusState} {B = BusState} (λ r. record r { refresh = false; beam = beam }) same
-    ∙ ap {A = Bool} {B = BusState} (λ x. record bus { last = mid.last; refresh = x; beam = beam }) (sym calm.refresh) in
-    let E : BusState → Type 0 = λ r. IsElsewhere bus r in
-    record {
-      run = run_on cpu' cpu' mid bus' w clocks 40 n first (refresh_step cpu' mid bus' first.to first.at there reset due nothing on) sum;
-      wired = subst W (sym on) (record { nmi = there.nmi; irq = there.irq });
-      calm = subst C (sym on) (record { reset = reset; refresh = refl; transfer = transfer });
-      same = subst E (sym is) refl;
-    }

@@ -28,6 +28,6 @@ pub use known::{try_byte, try_idle_at, try_read_at, try_write_at};
 pub use other_steps::{try_move, try_register};
 pub use passing::pass;
 pub use plain::{is_calm, is_wired, try_look, try_plain};
-pub use plain_places::{is_plain_ahead, look_past, make_refresh, reach_plain_place};
+pub use plain_places::{is_plain_ahead, reach_plain_place};
 pub use registers::{bus_register, place_of};
 pub use tried::Tried;

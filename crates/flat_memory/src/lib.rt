@@ -14,8 +14,6 @@ ghost use Rattle.flat_memory.specs.Flat.{Flat, run};
 
 mod cpu;
 mod spc;
-#[cfg(test)]
-mod tests;
 
 /// A processor that makes its accesses one by one, each at a memory of one size.
 pub trait Processor {

@@ -1,6 +1,6 @@
 ghost use Rattle.std.specs.Prelude.{◌+◌, ◌≤◌, length};
 
-use crate::run;
+use flat_memory::run;
 use spc700::{Spc, SpcAccess, SpcRegs};
 use std::test::Fail;
 
