@@ -1,15 +1,13 @@
 -- Accesses that follow one another: none, one, and some after others.
 use Rattle.std.proofs.Common.{◌≡◌, ℕ, ◌+◌, ◌-◌, ◌<◌, sym, subst, arith}
 use Rattle.cpu65816.specs.declared.processor.Cpu.{Cpu}
-use Rattle.cpu65816.specs.Instruction.{CpuState, moved_on}
-use Rattle.cpu65816.specs.Stands.{Stands, access_of}
+use Rattle.cpu65816.specs.Stands.{access_of}
 use Rattle.beam.specs.Places.{clocks_left}
 use Rattle.console_bus.specs.BusState.{BusState}
 use Rattle.console_steps.specs.ConsoleState.{ConsoleState}
 use Rattle.console_steps.specs.Stands.{IsAt}
 use Rattle.console_steps.specs.AtOnce.{IsMadeAtOnce}
 use Rattle.console_steps.specs.Plain.{IsWired, IsCalm}
-use Rattle.console_steps.specs.Got.{HasGot}
 use Rattle.console_steps.proofs.Wires.{wired_then}
 use Rattle.console_machine.specs.Runs.{HasRun}
 use Rattle.console_machine.specs.Follows.{Follows}
@@ -44,10 +42,6 @@ follows_one cpu cpu' bus bus' clocks made within left calm = record {
         wired = wired_then cpu cpu' bus bus' (access_of cpu) clocks w.processor m at.processor;
       });
 }
-
--- a byte that an access got, and that the processor has taken
-pub follows_got : (cpu cpu' : Cpu) (bus bus' : BusState) (byte : ℕ) → HasGot cpu bus bus' byte → ((s : CpuState) → Stands cpu s → Stands cpu' (moved_on s byte)) → Follows cpu cpu' bus bus'
-follows_got cpu cpu' bus bus' byte g moves = follows_one cpu cpu' bus bus' g.clocks (λ wired. g.made cpu' wired moves) g.within g.left g.calm
 
 pub follows_then : (a b c : Cpu) (x y z : BusState) → Follows a b x y → Follows b c y z → Follows a c x z
 follows_then a b c x y z f g = record {

@@ -1,12 +1,12 @@
 // Accesses of an instruction one after another, where the one before says which comes next: its fetches, its data. Each
 // function makes as many as the memory and the clocks to the next place of the beam allow, and answers whether it
 // came to its end. The place in the instruction's order is given along with each access.
-ghost use Rattle.std.specs.Prelude.{◌≡◌, IsTrue};
-ghost use Rattle.cpu_modes.specs.declared.place.Place.TheVariants.{OperandLow, OperandHigh, ImmediateLow, ImmediateHigh, LoadLow, LoadHigh, StoreLow, ChangeReadLow, PushHigh, PullLow, PullHigh, PullFirstCycle, ReturnFirstCycle, ReturnLow, DirectOffset, Ended};
+ghost use Rattle.std.specs.Prelude.{◌≡◌};
+ghost use Rattle.cpu_modes.specs.declared.place.Place.TheVariants.{OperandLow, ImmediateLow, LoadLow, StoreLow, ChangeReadLow, PushHigh, PullLow, PullFirstCycle, ReturnFirstCycle, ReturnLow, DirectOffset, Ended};
 ghost use Rattle.console_machine.specs.Follows.{Follows};
 
 use console_bus::Bus;
-use console_steps::{try_byte, try_idle_at, try_read_at, try_write_at};
+use console_steps::{try_idle_at, try_read_at, try_write_at};
 use cpu_modes::{DirectKind, OperandKind, Place, Reach, ReturnKind};
 use cpu65816::Cpu;
 
@@ -47,6 +47,30 @@ fn idle_at(cpu: &mut Cpu, bus: &mut Bus, place: Place) -> bool
         Some(_) => true,
         None => false,
     }
+}
+
+/// The high byte of an operand.
+#[tactic(auto, using(crate::proofs::Follows::follows_none))]
+#[inline(always)]
+fn operand_high(cpu: &mut Cpu, bus: &mut Bus) -> bool
+    ensures { Follows cpu.old cpu.new bus.old bus.new }
+{
+    if let Place::OperandHigh(kind) = cpu.place() {
+        return read_at(cpu, bus, Place::OperandHigh(kind));
+    }
+    false
+}
+
+/// The high byte of an immediate operand.
+#[tactic(auto, using(crate::proofs::Follows::follows_none))]
+#[inline(always)]
+fn immediate_high(cpu: &mut Cpu, bus: &mut Bus) -> bool
+    ensures { Follows cpu.old cpu.new bus.old bus.new }
+{
+    if let Place::ImmediateHigh = cpu.place() {
+        return read_at(cpu, bus, Place::ImmediateHigh);
+    }
+    false
 }
 
 /// The cycle before the data, where there is one.
@@ -117,6 +141,18 @@ fn return_high(cpu: &mut Cpu, bus: &mut Bus) -> bool
 {
     if let Place::ReturnHigh(ReturnKind::Near) = cpu.place() {
         return read_at(cpu, bus, Place::ReturnHigh(ReturnKind::Near));
+    }
+    false
+}
+
+/// The high byte of data that is read.
+#[tactic(auto, using(crate::proofs::Follows::follows_none))]
+#[inline(always)]
+fn load_high(cpu: &mut Cpu, bus: &mut Bus) -> bool
+    ensures { Follows cpu.old cpu.new bus.old bus.new }
+{
+    if let Place::LoadHigh = cpu.place() {
+        return read_at(cpu, bus, Place::LoadHigh);
     }
     false
 }
@@ -193,256 +229,40 @@ fn push_low(cpu: &mut Cpu, bus: &mut Bus) -> bool
     false
 }
 
-/// The low byte of an operand.
-#[tactic(auto, using(crate::proofs::Follows::follows_same))]
-#[inline(always)]
-fn operand_low(cpu: &mut Cpu, bus: &mut Bus, kind: OperandKind) -> bool
-    requires known { cpu.old.micro.place ≡ OperandLow kind }
-    ensures follows { Follows cpu.old cpu.new bus.old bus.new }
-    ensures place { IsTrue result → cpu.new.micro.place ≡ OperandHigh kind }
-{
-    match try_byte(cpu, bus) {
-        Some(byte) => {
-            cpu.took_operand_low(kind, byte);
-            true
-        }
-        None => false,
-    }
-}
-
-/// Its high byte, of a jump or a call.
-#[tactic(auto, using(crate::proofs::Follows::follows_same))]
-#[inline(always)]
-fn operand_high(cpu: &mut Cpu, bus: &mut Bus, kind: OperandKind) -> bool
-    requires known { cpu.old.micro.place ≡ OperandHigh kind }
-    ensures { Follows cpu.old cpu.new bus.old bus.new }
-{
-    match try_byte(cpu, bus) {
-        Some(byte) => {
-            cpu.took_operand_high(kind, byte);
-            true
-        }
-        None => false,
-    }
-}
-
-/// The high byte of an address of data.
-#[tactic(auto, using(crate::proofs::Follows::follows_same))]
-#[inline(always)]
-fn address_high(cpu: &mut Cpu, bus: &mut Bus) -> bool
-    requires known { cpu.old.micro.place ≡ OperandHigh OperandKind.Plain }
-    ensures { Follows cpu.old cpu.new bus.old bus.new }
-{
-    match try_byte(cpu, bus) {
-        Some(byte) => {
-            cpu.took_address_high(byte);
-            true
-        }
-        None => false,
-    }
-}
-
-/// The high byte of an address that X is added to.
-#[tactic(auto, using(crate::proofs::Follows::follows_same))]
-#[inline(always)]
-fn x_address_high(cpu: &mut Cpu, bus: &mut Bus) -> bool
-    requires known { cpu.old.micro.place ≡ OperandHigh OperandKind.X }
-    ensures { Follows cpu.old cpu.new bus.old bus.new }
-{
-    match try_byte(cpu, bus) {
-        Some(byte) => {
-            cpu.took_x_address_high(byte);
-            true
-        }
-        None => false,
-    }
-}
-
-/// The high byte of an address that Y is added to.
-#[tactic(auto, using(crate::proofs::Follows::follows_same))]
-#[inline(always)]
-fn y_address_high(cpu: &mut Cpu, bus: &mut Bus) -> bool
-    requires known { cpu.old.micro.place ≡ OperandHigh OperandKind.Y }
-    ensures { Follows cpu.old cpu.new bus.old bus.new }
-{
-    match try_byte(cpu, bus) {
-        Some(byte) => {
-            cpu.took_y_address_high(byte);
-            true
-        }
-        None => false,
-    }
-}
-
-/// The low byte of an immediate operand of 16 bits.
-#[tactic(auto, using(crate::proofs::Follows::follows_same))]
-#[inline(always)]
-fn immediate_low(cpu: &mut Cpu, bus: &mut Bus) -> bool
-    requires known { cpu.old.micro.place ≡ ImmediateLow }
-    ensures follows { Follows cpu.old cpu.new bus.old bus.new }
-    ensures place { IsTrue result → cpu.new.micro.place ≡ ImmediateHigh }
-{
-    match try_byte(cpu, bus) {
-        Some(byte) => {
-            cpu.took_immediate_low(byte);
-            true
-        }
-        None => false,
-    }
-}
-
-/// Its high byte.
-#[tactic(auto, using(crate::proofs::Follows::follows_same))]
-#[inline(always)]
-fn immediate_high(cpu: &mut Cpu, bus: &mut Bus) -> bool
-    requires known { cpu.old.micro.place ≡ ImmediateHigh }
-    ensures { Follows cpu.old cpu.new bus.old bus.new }
-{
-    match try_byte(cpu, bus) {
-        Some(byte) => {
-            cpu.took_immediate_high(byte);
-            true
-        }
-        None => false,
-    }
-}
-
-/// The low byte of data of 16 bits that is read.
-#[tactic(auto, using(crate::proofs::Follows::follows_same))]
-#[inline(always)]
-fn load_low(cpu: &mut Cpu, bus: &mut Bus, reach: Reach) -> bool
-    requires known { cpu.old.micro.place ≡ LoadLow reach }
-    ensures follows { Follows cpu.old cpu.new bus.old bus.new }
-    ensures place { IsTrue result → cpu.new.micro.place ≡ LoadHigh }
-{
-    match try_byte(cpu, bus) {
-        Some(byte) => {
-            cpu.took_load_low(reach, byte);
-            true
-        }
-        None => false,
-    }
-}
-
-/// Its high byte.
-#[tactic(auto, using(crate::proofs::Follows::follows_same))]
-#[inline(always)]
-fn load_high(cpu: &mut Cpu, bus: &mut Bus) -> bool
-    requires known { cpu.old.micro.place ≡ LoadHigh }
-    ensures { Follows cpu.old cpu.new bus.old bus.new }
-{
-    match try_byte(cpu, bus) {
-        Some(byte) => {
-            cpu.took_load_high(byte);
-            true
-        }
-        None => false,
-    }
-}
-
-/// The low byte of a word that is pulled.
-#[tactic(auto, using(crate::proofs::Follows::follows_same))]
-#[inline(always)]
-fn pull_low(cpu: &mut Cpu, bus: &mut Bus) -> bool
-    requires known { cpu.old.micro.place ≡ PullLow }
-    ensures follows { Follows cpu.old cpu.new bus.old bus.new }
-    ensures place { IsTrue result → cpu.new.micro.place ≡ PullHigh }
-{
-    match try_byte(cpu, bus) {
-        Some(byte) => {
-            cpu.took_pull_low(byte);
-            true
-        }
-        None => false,
-    }
-}
-
-/// Its high byte.
-#[tactic(auto, using(crate::proofs::Follows::follows_same))]
+/// The high byte of a word that is pulled.
+#[tactic(auto, using(crate::proofs::Follows::follows_none))]
 #[inline(always)]
 fn pull_high(cpu: &mut Cpu, bus: &mut Bus) -> bool
-    requires known { cpu.old.micro.place ≡ PullHigh }
     ensures { Follows cpu.old cpu.new bus.old bus.new }
 {
-    match try_byte(cpu, bus) {
-        Some(byte) => {
-            cpu.took_pull_high(byte);
-            true
-        }
-        None => false,
+    if let Place::PullHigh = cpu.place() {
+        return read_at(cpu, bus, Place::PullHigh);
     }
+    false
 }
 
-/// The two bytes of an address of data.
+/// The two bytes of an operand.
 #[inline(always)]
-fn address(cpu: &mut Cpu, bus: &mut Bus) -> bool
-    requires known { cpu.old.micro.place ≡ OperandLow OperandKind.Plain }
-    ensures { Follows cpu.old cpu.new bus.old bus.new }
-{
-    if !operand_low(cpu, bus, OperandKind::Plain) {
-        return false;
-    }
-    address_high(cpu, bus)
-}
-
-/// The two bytes of an address that X is added to.
-#[inline(always)]
-fn x_operand(cpu: &mut Cpu, bus: &mut Bus) -> bool
-    requires known { cpu.old.micro.place ≡ OperandLow OperandKind.X }
-    ensures { Follows cpu.old cpu.new bus.old bus.new }
-{
-    if !operand_low(cpu, bus, OperandKind::X) {
-        return false;
-    }
-    x_address_high(cpu, bus)
-}
-
-/// The two bytes of an address that Y is added to.
-#[inline(always)]
-fn y_operand(cpu: &mut Cpu, bus: &mut Bus) -> bool
-    requires known { cpu.old.micro.place ≡ OperandLow OperandKind.Y }
-    ensures { Follows cpu.old cpu.new bus.old bus.new }
-{
-    if !operand_low(cpu, bus, OperandKind::Y) {
-        return false;
-    }
-    y_address_high(cpu, bus)
-}
-
-/// The two bytes of an address that X is added to, and the cycle that this may take.
-#[inline(always)]
-fn x_address(cpu: &mut Cpu, bus: &mut Bus) -> bool
-    requires known { cpu.old.micro.place ≡ OperandLow OperandKind.X }
-    ensures { Follows cpu.old cpu.new bus.old bus.new }
-{
-    if !x_operand(cpu, bus) {
-        return false;
-    }
-    data_cycle(cpu, bus)
-}
-
-/// The two bytes of an address that Y is added to, and the cycle that this may take.
-#[inline(always)]
-fn y_address(cpu: &mut Cpu, bus: &mut Bus) -> bool
-    requires known { cpu.old.micro.place ≡ OperandLow OperandKind.Y }
-    ensures { Follows cpu.old cpu.new bus.old bus.new }
-{
-    if !y_operand(cpu, bus) {
-        return false;
-    }
-    data_cycle(cpu, bus)
-}
-
-/// The two bytes of the target of a jump or a call.
-#[inline(always)]
-fn target(cpu: &mut Cpu, bus: &mut Bus, kind: OperandKind) -> bool
+fn operand(cpu: &mut Cpu, bus: &mut Bus, kind: OperandKind) -> bool
     requires known { cpu.old.micro.place ≡ OperandLow kind }
     ensures { Follows cpu.old cpu.new bus.old bus.new }
 {
-    if !operand_low(cpu, bus, kind) {
+    if !read_at(cpu, bus, Place::OperandLow(kind)) {
         return false;
     }
-    operand_high(cpu, bus, kind)
+    operand_high(cpu, bus)
+}
+
+/// The two bytes of an address that an index is added to, and the cycle that this may take.
+#[inline(always)]
+fn indexed_operand(cpu: &mut Cpu, bus: &mut Bus, kind: OperandKind) -> bool
+    requires known { cpu.old.micro.place ≡ OperandLow kind }
+    ensures { Follows cpu.old cpu.new bus.old bus.new }
+{
+    if !operand(cpu, bus, kind) {
+        return false;
+    }
+    data_cycle(cpu, bus)
 }
 
 /// The two bytes of a call's target, and the cycle before it pushes.
@@ -451,7 +271,7 @@ fn call(cpu: &mut Cpu, bus: &mut Bus) -> bool
     requires known { cpu.old.micro.place ≡ OperandLow OperandKind.Call }
     ensures { Follows cpu.old cpu.new bus.old bus.new }
 {
-    if !target(cpu, bus, OperandKind::Call) {
+    if !operand(cpu, bus, OperandKind::Call) {
         return false;
     }
     push_cycle(cpu, bus)
@@ -463,34 +283,10 @@ fn immediate(cpu: &mut Cpu, bus: &mut Bus) -> bool
     requires known { cpu.old.micro.place ≡ ImmediateLow }
     ensures { Follows cpu.old cpu.new bus.old bus.new }
 {
-    if !immediate_low(cpu, bus) {
+    if !read_at(cpu, bus, Place::ImmediateLow) {
         return false;
     }
     immediate_high(cpu, bus)
-}
-
-/// Data of 16 bits is read.
-#[inline(always)]
-fn load(cpu: &mut Cpu, bus: &mut Bus, reach: Reach) -> bool
-    requires known { cpu.old.micro.place ≡ LoadLow reach }
-    ensures { Follows cpu.old cpu.new bus.old bus.new }
-{
-    if !load_low(cpu, bus, reach) {
-        return false;
-    }
-    load_high(cpu, bus)
-}
-
-/// A word is pulled.
-#[inline(always)]
-fn pull_word(cpu: &mut Cpu, bus: &mut Bus) -> bool
-    requires known { cpu.old.micro.place ≡ PullLow }
-    ensures { Follows cpu.old cpu.new bus.old bus.new }
-{
-    if !pull_low(cpu, bus) {
-        return false;
-    }
-    pull_high(cpu, bus)
 }
 
 /// The two cycles of a pull.
@@ -538,6 +334,18 @@ fn return_pulls(cpu: &mut Cpu, bus: &mut Bus) -> bool
         return false;
     }
     return_address(cpu, bus)
+}
+
+/// Data of 16 bits is read.
+#[inline(always)]
+fn load(cpu: &mut Cpu, bus: &mut Bus, reach: Reach) -> bool
+    requires known { cpu.old.micro.place ≡ LoadLow reach }
+    ensures { Follows cpu.old cpu.new bus.old bus.new }
+{
+    if !read_at(cpu, bus, Place::LoadLow(reach)) {
+        return false;
+    }
+    load_high(cpu, bus)
 }
 
 /// Data is written.
@@ -610,6 +418,18 @@ fn push_word(cpu: &mut Cpu, bus: &mut Bus) -> bool
     push_low(cpu, bus)
 }
 
+/// A word is pulled.
+#[inline(always)]
+fn pull_word(cpu: &mut Cpu, bus: &mut Bus) -> bool
+    requires known { cpu.old.micro.place ≡ PullLow }
+    ensures { Follows cpu.old cpu.new bus.old bus.new }
+{
+    if !read_at(cpu, bus, Place::PullLow) {
+        return false;
+    }
+    pull_high(cpu, bus)
+}
+
 /// What comes between the opcode and the data of the commonest modes.
 #[tactic(auto, using(crate::proofs::Follows::follows_none))]
 #[inline(always)]
@@ -622,10 +442,10 @@ fn approach(cpu: &mut Cpu, bus: &mut Bus) -> bool
         Place::DirectOffset(DirectKind::Plain) => {
             read_at(cpu, bus, Place::DirectOffset(DirectKind::Plain))
         }
-        Place::OperandLow(OperandKind::Plain) => address(cpu, bus),
-        Place::OperandLow(OperandKind::X) => x_address(cpu, bus),
-        Place::OperandLow(OperandKind::Y) => y_address(cpu, bus),
-        Place::OperandLow(OperandKind::Jump) => target(cpu, bus, OperandKind::Jump),
+        Place::OperandLow(OperandKind::Plain) => operand(cpu, bus, OperandKind::Plain),
+        Place::OperandLow(OperandKind::X) => indexed_operand(cpu, bus, OperandKind::X),
+        Place::OperandLow(OperandKind::Y) => indexed_operand(cpu, bus, OperandKind::Y),
+        Place::OperandLow(OperandKind::Jump) => operand(cpu, bus, OperandKind::Jump),
         Place::OperandLow(OperandKind::Call) => call(cpu, bus),
         Place::BranchOffset => read_at(cpu, bus, Place::BranchOffset),
         Place::PushCycle => idle_at(cpu, bus, Place::PushCycle),

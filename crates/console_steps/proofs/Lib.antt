@@ -1,6 +1,5 @@
 pub mod RowBytes
 pub mod AtOnce
-pub mod Got
 pub mod Beams
 pub mod EventLists
 pub mod Clocks

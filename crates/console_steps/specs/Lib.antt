@@ -4,6 +4,5 @@ pub mod Parts
 pub mod Draws
 pub mod AtOnce
 pub mod Plain
-pub mod Got
 pub mod PlainPlaces
 pub mod Tried

@@ -5,9 +5,8 @@ ghost use Rattle.cpu65816.specs.Stands.{access_of};
 ghost use Rattle.beam.specs.Places.{clocks_left};
 ghost use Rattle.console_steps.specs.AtOnce.{IsMadeAtOnce};
 ghost use Rattle.console_steps.specs.Plain.{IsWired, IsCalm};
-ghost use Rattle.console_steps.specs.Got.{HasGot};
 
-use crate::plain::{idle_plainly, pass_byte, read_plainly, write_plainly};
+use crate::plain::{idle_plainly, read_plainly, write_plainly};
 use console_bus::Bus;
 use cpu_modes::Place;
 use cpu65816::Cpu;
@@ -28,17 +27,6 @@ pub fn try_read_at(cpu: &mut Cpu, bus: &mut Bus, place: Place) -> Option<u8>
         Some(addr) => read_plainly(cpu, bus, place, addr),
         None => None,
     }
-}
-
-/// The byte of a fetch or a read alone: the clocks pass, and the caller has the processor take it.
-#[inline(always)]
-pub fn try_byte(cpu: &Cpu, bus: &mut Bus) -> Option<u8>
-    ensures got { IfSome result (λ byte. HasGot cpu.now bus.old bus.new byte) }
-    ensures bus_stays { result ≡ None → bus.new ≡ bus.old }
-{
-    let addr = cpu.reads_at()?;
-    let access = bus.memory_within(addr)?;
-    Some(pass_byte(bus, access.at, access.clocks))
 }
 
 /// A write.

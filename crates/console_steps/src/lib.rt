@@ -24,7 +24,7 @@ pub use at_once::try_access;
 pub use effects::{
     give_interrupt_levels, make_inner, make_move, make_read, make_reset, make_write,
 };
-pub use known::{try_byte, try_idle_at, try_read_at, try_write_at};
+pub use known::{try_idle_at, try_read_at, try_write_at};
 pub use other_steps::{try_move, try_register};
 pub use passing::pass;
 pub use plain::{is_calm, is_wired, try_look, try_plain};

@@ -41,22 +41,6 @@ pub fn is_calm(bus: &Bus) -> bool
     !bus.is_busy()
 }
 
-/// A byte of the memory goes over the data bus, and the beam goes on.
-#[inline(always)]
-pub(crate) fn pass_byte(bus: &mut Bus, at: usize, clocks: u16) -> u8
-    requires at { at < 131072 + bus.old.board.ram + bus.old.board.rom }
-    requires few { clocks < clocks_left bus.old.beam }
-    ensures byte { result ≡ slice_index bus.old.memory at }
-    ensures rest { bus.new ≡ record bus.old { last = slice_index bus.old.memory at; beam = beam_after bus.old.picture.registers.settings.overscan bus.old.beam clocks } }
-    ensures nothing { passed bus.old.picture.registers.settings.overscan bus.old.beam clocks ≡ [] }
-    ensures left { clocks_left bus.new.beam ≡ clocks_left bus.old.beam - clocks }
-{
-    let byte = bus.load(at);
-    bus.put(byte);
-    bus.go_on(clocks);
-    byte
-}
-
 /// The processor takes a byte of the memory, and the beam goes on.
 #[inline(always)]
 fn take_plainly(cpu: &mut Cpu, bus: &mut Bus, place: Place, at: usize, clocks: u16)
@@ -69,7 +53,9 @@ fn take_plainly(cpu: &mut Cpu, bus: &mut Bus, place: Place, at: usize, clocks: u
     ensures left { clocks_left bus.new.beam ≡ clocks_left bus.old.beam - clocks }
     ensures processor { (s : CpuState) → Stands cpu.old s → Stands cpu.new (moved_on s (slice_index bus.old.memory at)) }
 {
-    let byte = pass_byte(bus, at, clocks);
+    let byte = bus.load(at);
+    bus.put(byte);
+    bus.go_on(clocks);
     cpu.took_at(place, byte);
 }
 

@@ -5,9 +5,7 @@ use Rattle.cpu_tables.specs.declared.access.Access.TheVariants.{Fetch, Read, Wri
 use Rattle.cpu_tables.specs.declared.flags.TheConstants.{IRQ_DISABLE}
 use Rattle.cpu_tables.specs.declared.regs.Regs.{Regs}
 use Rattle.cpu_modes.specs.Plan.{Plan, fetches, reads, writes, idles, waits, stops, ends, after, comes, finished, first_access, plan_after, gets_byte, is_inner, is_write}
-use Rattle.cpu_modes.specs.Remaining.{onward, remaining, remaining_at}
-use Rattle.cpu_modes.specs.declared.micro.Micro.{Micro}
-use Rattle.cpu_modes.specs.declared.place.Place.{Place}
+use Rattle.cpu_modes.specs.Remaining.{onward, remaining}
 use Rattle.cpu_modes.specs.Uses.{use_of}
 use Rattle.cpu65816.specs.Instruction.{Beginning, opcode, irq, CpuState, plan_of, left_by, left_of, end_of, ahead, ahead_by, registers_by, moved_by, moved_on, chosen, kept_after}
 use Rattle.cpu65816.specs.Stands.{Stands, TakesUp, access_of, kept_by}
@@ -147,25 +145,6 @@ goes_on-taken_up cpu e = record {
   nmi_level = refl;
   irq_level = refl;
 }
-
--- AT A PLACE IN THE MIDDLE OF AN INSTRUCTION, whatever the access there is
-
-pub unfinished_at : (m : Micro) (p : Place) → m.place ≡ p → finished true (remaining_at p m.traffic m.row m.here m.base m.word) ≡ None → finished true (remaining m) ≡ None
-unfinished_at m p e h = subst (λ (q : Place). finished true (remaining_at q m.traffic m.row m.here m.base m.word) ≡ None) (sym e) h
-
-unfinished_end : (kept irq_level : Bool) (p : Plan) → finished true p ≡ None → end_of kept irq_level p ≡ None
-unfinished_end kept irq_level (fetches at more) h = refl
-unfinished_end kept irq_level (reads at more) h = refl
-unfinished_end kept irq_level (writes at byte more) h = refl
-unfinished_end kept irq_level (idles more) h = refl
-unfinished_end kept irq_level (waits r) h = absurd (cc)
-unfinished_end kept irq_level stops h = refl
-unfinished_end kept irq_level (ends r) h = absurd (cc)
-
-pub Stands-in_hand : (old new : Cpu) (s : CpuState) (byte : ℕ) → finished true (remaining old.micro) ≡ None → remaining new.micro ≡ after (remaining old.micro) byte → new.micro.start ≡ old.micro.start → new.kept ≡ old.kept → new.nmi_level ≡ old.nmi_level → new.irq_level ≡ old.irq_level → Stands old s → Stands new (moved_on s byte)
-Stands-in_hand old new s byte n left start kept nmi_level irq_level h =
-    let a : TakesUp old old = goes_on-taken_up old (unfinished_end old.kept old.irq_level (remaining old.micro) n) in
-    Stands-by_end old new s byte h (left ∙ ap (λ p. after p byte) a.left) (start ∙ a.start) (kept ∙ a.kept) nmi_level irq_level
 
 -- THE NEXT ACCESS IS KEPT
 

@@ -11,7 +11,6 @@
 //! and `idle` that fits it; lines may be given between any two accesses.
 #![tactic(auto)]
 
-mod known;
 mod likeness;
 mod processor;
 mod settling;

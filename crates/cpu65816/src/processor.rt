@@ -11,10 +11,10 @@ use cpu_tables::{Access, Mode, Op, Regs, Row};
 /// A 65C816 between two accesses.
 #[derive(Clone, Copy, PartialEq, Eq, Debug)]
 pub struct Cpu {
-    pub(crate) micro: Micro,
-    pub(crate) kept: bool,
+    micro: Micro,
+    kept: bool,
     nmi_level: bool,
-    pub(crate) irq_level: bool,
+    irq_level: bool,
     ghost ready: { micro.access ≡ first_access (ahead kept irq_level (remaining micro)) },
     ghost within: { address_of micro.access < 16777216 },
 }

@@ -40,7 +40,6 @@ pub(crate) fn settle(micro: &mut Micro, has_ended: bool, kept: bool, irq_level: 
     ensures left { remaining micro.new ≡ remaining micro.old }
     ensures start { micro.new.start ≡ micro.old.start }
     ensures here { micro.new.here ≡ micro.old.here }
-    ensures place { micro.new.place ≡ micro.old.place }
 {
     if has_ended {
         micro.access = following(micro, kept, irq_level);

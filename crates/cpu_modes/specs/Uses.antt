@@ -101,10 +101,3 @@ use_of Xce = Use.Internal
 use_of Nmi = Use.Hardware Cause.Nmi
 use_of Irq = Use.Hardware Cause.Irq
 use_of Reset = Use.Reset
-
--- an operation without data of its own
-abbrev pub HasNoData : Use → Type 0
-HasNoData (Use.Load width) = ⊥
-HasNoData (Use.Store width) = ⊥
-HasNoData (Use.Change width) = ⊥
-HasNoData _ = Unit {0}

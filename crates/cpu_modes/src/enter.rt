@@ -1,4 +1,4 @@
-ghost use Rattle.std.specs.Prelude.{◌≡◌, ◌<◌, IsTrue, false};
+ghost use Rattle.std.specs.Prelude.{◌≡◌, ◌<◌, false};
 ghost use Rattle.cpu_modes.specs.Orders.{vector};
 
 use crate::address::is_wide;
@@ -22,9 +22,8 @@ fn vector(cause: Cause, e: bool) -> u32
 }
 
 impl Micro {
-    ghost use Rattle.cpu_modes.specs.Orders.{by_mode, call_order, data_of, jump_kind, operand, order, order_by};
+    ghost use Rattle.cpu_modes.specs.Orders.{by_mode, call_order, data_of, jump_kind, operand, order};
     ghost use Rattle.cpu_modes.specs.Remaining.{Keeps, remaining};
-    ghost use Rattle.cpu_modes.specs.Uses.{HasNoData};
 
     /// An operation with data begins.
     #[inline(always)]
@@ -104,58 +103,10 @@ impl Micro {
         self.traffic = Traffic { direction, wide };
     }
 
-    /// Sets the direction and the width of an operation's data, where it has any, and answers whether it has.
+    /// The row's accesses after the opcode begin.
     #[inline(always)]
-    fn set_data(&mut self, used: Use) -> bool
-        ensures data { IsTrue result → order_by used self.old.row self.old.here ≡ by_mode self.old.row.mode self.new.traffic self.old.row self.old.here }
-        ensures none { result ≡ false → HasNoData used }
-        ensures set { self.new ≡ record self.old { traffic = self.new.traffic } }
-        ensures stays { result ≡ false → self.new ≡ self.old }
-    {
-        match used {
-            Use::Load(width) => {
-                self.with_data(Direction::Load, width);
-                true
-            }
-            Use::Store(width) => {
-                self.with_data(Direction::Store, width);
-                true
-            }
-            Use::Change(width) => {
-                self.with_data(Direction::Change, width);
-                true
-            }
-            Use::Internal
-            | Use::Exchange
-            | Use::Status
-            | Use::Reserved
-            | Use::Push(_)
-            | Use::Pull(_)
-            | Use::PushOperand
-            | Use::PushDirect
-            | Use::PushRelative
-            | Use::Jump
-            | Use::Call
-            | Use::CallLong
-            | Use::Return
-            | Use::ReturnLong
-            | Use::ReturnInterrupt
-            | Use::Branch
-            | Use::BranchLong
-            | Use::Software(_)
-            | Use::Hardware(_)
-            | Use::BlockMove
-            | Use::Wait
-            | Use::Stop
-            | Use::Reset => false,
-        }
-    }
-
-    /// An operation without data begins.
-    #[inline(always)]
-    fn enter_without_data(&mut self, used: Use)
-        requires none { HasNoData used }
-        ensures left { remaining self.new ≡ order_by used self.old.row self.old.here }
+    pub fn enter(&mut self)
+        ensures left { remaining self.new ≡ order self.old.row self.old.here }
         ensures keeps { Keeps false self.new }
         ensures start { self.new.start ≡ self.old.start }
     {
@@ -163,8 +114,19 @@ impl Micro {
             direction: Direction::Load,
             wide: false,
         };
-        match used {
-            Use::Load(_) | Use::Store(_) | Use::Change(_) => unreachable!(),
+        match use_of(self.row.op) {
+            Use::Load(width) => {
+                self.with_data(Direction::Load, width);
+                self.enter_mode();
+            }
+            Use::Store(width) => {
+                self.with_data(Direction::Store, width);
+                self.enter_mode();
+            }
+            Use::Change(width) => {
+                self.with_data(Direction::Change, width);
+                self.enter_mode();
+            }
             Use::Internal => {
                 self.word = 0;
                 self.to_idle(Place::LastCycle);
@@ -213,22 +175,6 @@ impl Micro {
                 self.base = 0xFFFC;
                 self.to_read(Place::TargetLow(TargetKind::Near));
             }
-        }
-    }
-
-    /// The row's accesses after the opcode begin. The choice of the mode stands in it once, so that it is small enough to
-    /// be built into the fetch of the opcode.
-    #[inline(always)]
-    pub fn enter(&mut self)
-        ensures left { remaining self.new ≡ order self.old.row self.old.here }
-        ensures keeps { Keeps false self.new }
-        ensures start { self.new.start ≡ self.old.start }
-    {
-        let used = use_of(self.row.op);
-        if self.set_data(used) {
-            self.enter_mode();
-        } else {
-            self.enter_without_data(used);
         }
     }
 }

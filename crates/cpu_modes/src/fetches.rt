@@ -53,12 +53,11 @@ impl Micro {
 
     /// The low byte of an immediate operand was fetched.
     #[inline(always)]
-    pub fn took_immediate_low(&mut self, got: u8)
+    pub(crate) fn took_immediate_low(&mut self, got: u8)
         requires { self.old.place ≡ ImmediateLow }
         ensures left { remaining self.new ≡ after (remaining self.old) got }
         ensures keeps { Keeps false self.new }
         ensures start { self.new.start ≡ self.old.start }
-        ensures place { self.new.place ≡ ImmediateHigh }
     {
         self.pass_fetch();
         self.word = got as u16;
@@ -67,7 +66,7 @@ impl Micro {
 
     /// Its high byte was fetched: the instruction has ended.
     #[inline(always)]
-    pub fn took_immediate_high(&mut self, got: u8) -> bool
+    pub(crate) fn took_immediate_high(&mut self, got: u8) -> bool
         requires { self.old.place ≡ ImmediateHigh }
         ensures left { remaining self.new ≡ after (remaining self.old) got }
         ensures keeps { Keeps result self.new }
@@ -148,12 +147,11 @@ impl Micro {
 
     /// The low byte of an operand was fetched.
     #[inline(always)]
-    pub fn took_operand_low(&mut self, kind: OperandKind, got: u8)
+    pub(crate) fn took_operand_low(&mut self, kind: OperandKind, got: u8)
         requires { self.old.place ≡ OperandLow kind }
         ensures left { remaining self.new ≡ after (remaining self.old) got }
         ensures keeps { Keeps false self.new }
         ensures start { self.new.start ≡ self.old.start }
-        ensures place { self.new.place ≡ OperandHigh kind }
     {
         self.pass_fetch();
         self.word = got as u16;
@@ -162,7 +160,7 @@ impl Micro {
 
     /// Its high byte was fetched. Answers whether the instruction has ended.
     #[inline]
-    pub fn took_operand_high(&mut self, kind: OperandKind, got: u8) -> bool
+    pub(crate) fn took_operand_high(&mut self, kind: OperandKind, got: u8) -> bool
         requires { self.old.place ≡ OperandHigh kind }
         ensures left { remaining self.new ≡ after (remaining self.old) got }
         ensures keeps { Keeps result self.new }
@@ -174,7 +172,7 @@ impl Micro {
 
     /// The high byte of an address of data was fetched.
     #[inline(always)]
-    pub fn took_address_high(&mut self, got: u8)
+    pub(crate) fn took_address_high(&mut self, got: u8)
         requires { self.old.place ≡ OperandHigh OperandKind.Plain }
         ensures left { remaining self.new ≡ after (remaining self.old) got }
         ensures keeps { Keeps false self.new }
@@ -186,7 +184,7 @@ impl Micro {
 
     /// The high byte of an address that X is added to was fetched.
     #[inline(always)]
-    pub fn took_x_address_high(&mut self, got: u8)
+    pub(crate) fn took_x_address_high(&mut self, got: u8)
         requires { self.old.place ≡ OperandHigh OperandKind.X }
         ensures left { remaining self.new ≡ after (remaining self.old) got }
         ensures keeps { Keeps false self.new }
@@ -198,7 +196,7 @@ impl Micro {
 
     /// The high byte of an address that Y is added to was fetched.
     #[inline(always)]
-    pub fn took_y_address_high(&mut self, got: u8)
+    pub(crate) fn took_y_address_high(&mut self, got: u8)
         requires { self.old.place ≡ OperandHigh OperandKind.Y }
         ensures left { remaining self.new ≡ after (remaining self.old) got }
         ensures keeps { Keeps false self.new }

@@ -73,12 +73,11 @@ impl Micro {
 
     /// The low byte of data of 16 bits was read.
     #[inline(always)]
-    pub fn took_load_low(&mut self, reach: Reach, got: u8)
+    pub(crate) fn took_load_low(&mut self, reach: Reach, got: u8)
         requires { self.old.place ≡ LoadLow reach }
         ensures left { remaining self.new ≡ after (remaining self.old) got }
         ensures keeps { Keeps false self.new }
         ensures start { self.new.start ≡ self.old.start }
-        ensures place { self.new.place ≡ LoadHigh }
     {
         self.base = second_address(reach, self.base);
         self.word = got as u16;
@@ -87,7 +86,7 @@ impl Micro {
 
     /// Its high byte was read: the instruction has ended.
     #[inline(always)]
-    pub fn took_load_high(&mut self, got: u8) -> bool
+    pub(crate) fn took_load_high(&mut self, got: u8) -> bool
         requires { self.old.place ≡ LoadHigh }
         ensures left { remaining self.new ≡ after (remaining self.old) got }
         ensures keeps { Keeps result self.new }

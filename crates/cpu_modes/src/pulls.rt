@@ -25,12 +25,11 @@ impl Micro {
 
     /// The low byte was pulled.
     #[inline(always)]
-    pub fn took_pull_low(&mut self, got: u8)
+    pub(crate) fn took_pull_low(&mut self, got: u8)
         requires { self.old.place ≡ PullLow }
         ensures left { remaining self.new ≡ after (remaining self.old) got }
         ensures keeps { Keeps false self.new }
         ensures start { self.new.start ≡ self.old.start }
-        ensures place { self.new.place ≡ PullHigh }
     {
         self.pass_pull();
         self.word = got as u16;
@@ -39,7 +38,7 @@ impl Micro {
 
     /// The high byte was pulled: the instruction has ended.
     #[inline(always)]
-    pub fn took_pull_high(&mut self, got: u8) -> bool
+    pub(crate) fn took_pull_high(&mut self, got: u8) -> bool
         requires { self.old.place ≡ PullHigh }
         ensures left { remaining self.new ≡ after (remaining self.old) got }
         ensures keeps { Keeps result self.new }

@@ -1,5 +1,0 @@
-use Rattle.console_machine.proofs.Follows.{follows_then}
-use Rattle.console_machine.proofs.instructions.address.Goals as goal
-
-pub returns : goal.returns
-returns c = follows_then c.args.cpu.now c.operand_low.new.cpu c.address_high.new.cpu c.args.bus.now c.operand_low.new.bus c.address_high.new.bus c.operand_low.ensures.follows c.address_high.ensures

@@ -1,5 +1,0 @@
-use Rattle.console_machine.proofs.Follows.{follows_got}
-use Rattle.console_machine.proofs.instructions.operand_high.Goals as goal
-
-pub returns-in-Some : goal.returns-in-Some
-returns-in-Some c = follows_got c.args.cpu.now c.took_operand_high.new.self c.args.bus.now c.try_byte.new.bus c.in-Some.byte c.in-Some.ensures.got c.took_operand_high.ensures

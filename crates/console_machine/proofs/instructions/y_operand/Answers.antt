@@ -1,5 +1,0 @@
-use Rattle.console_machine.proofs.Follows.{follows_then}
-use Rattle.console_machine.proofs.instructions.y_operand.Goals as goal
-
-pub returns : goal.returns
-returns c = follows_then c.args.cpu.now c.operand_low.new.cpu c.y_address_high.new.cpu c.args.bus.now c.operand_low.new.bus c.y_address_high.new.bus c.operand_low.ensures.follows c.y_address_high.ensures
