@@ -25,8 +25,9 @@ and kinds that say little of the contract, as the fault may not have been looked
     unknown         none of these
 
 A complaint within the written answer of a goal counts as one of that goal. The record has a line for each mutant: crate,
-mutant, kind, and file and goal. A mutant whose kind says little counts where tools/wrong_bodies/says_little.txt names it with a
-reason. The status is 1 where one doesn't; `counts` tells it of what the record has of the crate's mutants beside the gate.
+mutant, kind, and file and goal. A mutant whose kind says little counts where tools/wrong_bodies/says_little.txt names it, or its
+crate and the place of the refusal, with a reason. The status is 1 where one doesn't; `counts` tells it of what the record has
+of the crate's mutants beside the gate.
 """
 import fcntl
 import os
@@ -142,11 +143,15 @@ def all_said(folder, edit):
 
 
 def excuses():
-    """The mutants that count though their kind says little."""
+    """What says_little.txt has before the colon of each line: CRATE/NAME of a mutant, or CRATE and the place of a refusal."""
     if not os.path.isfile(EXCUSED):
         return set()
     lines = open(EXCUSED, encoding="utf-8").read().split("\n")
-    return {tuple(line.split(":")[0].split("/")) for line in lines if line and not line.startswith("#")}
+    return {line.partition(": ")[0] for line in lines if line and not line.startswith("#")}
+
+
+def is_excused(row, excused):
+    return f"{row[0]}/{row[1]}" in excused or f"{row[0]} {row[3]}" in excused
 
 
 def recorded(text):
@@ -188,23 +193,24 @@ def keep(tree, output, crates):
             continue
         crate, name, best = told
         folder = f"{tree}/crates/{crate}"
-        if best[0] not in COUNTS:
+        if best[0] not in COUNTS and not is_excused((crate, name, *best), excused):
             best = strongest([*complaints(all_said(folder, f"{folder}/must-fail/{name}.edit"), folder), best])
         rows.append((crate, name, *best))
         if best[0] not in COUNTS:
-            is_excused = (crate, name) in excused
-            little += not is_excused
-            print(f"{crate}/{name}: refused only at a {best[0]} ({best[1]}){', as says_little.txt has it' if is_excused else ''}")
+            counts_so = is_excused(rows[-1], excused)
+            little += not counts_so
+            print(f"{crate}/{name}: refused only at a {best[0]} ({best[1]}){', as says_little.txt has it' if counts_so else ''}")
     merge(rows)
     print(f"{len(rows)} refused, {little} of them where that says little of the contract")
     return little > 0
 
 
 def counts(crate):
+    excused = excuses()
     with open(RECORD, encoding="utf-8") as record:
-        known = {(it[0], it[1]) for it in recorded(record.read()) if it[2] in COUNTS} | excuses()
+        known = {it[1] for it in recorded(record.read()) if it[0] == crate and (it[2] in COUNTS or is_excused(it, excused))}
     names = [it.removesuffix(".edit") for it in os.listdir(f"{TOP}/tools/wrong_bodies/{crate}")]
-    return all((crate, it) in known for it in names)
+    return all(it in known for it in names)
 
 
 if __name__ == "__main__":
