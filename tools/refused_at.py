@@ -59,8 +59,9 @@ WORDS = [
     ("type", "the `invariant` of the struct|the `invariant` holds of the struct|the struct's ghost fields"),
     ("safety", "is below the array's length|at most the length|ends within|fits its type|fits the type|does not go below 0|divisor is not 0|the loop ends"),
 ]
-# A name that an edit took away: it says nothing of the contract.
-GONE = re.compile(r"has no field|is not in scope|has no `|was not admitted|is no name")
+# A name that an edit took away: it says nothing of the contract. `rt must-fail` cuts its lines, so one that begins with the module
+# or the record that lacks a name is taken for such a one.
+GONE = re.compile(r"has no |is not in scope|was not admitted|is no name|error: (`[^`]*`: )*(module|record) `")
 LIMIT = re.compile(r"only by a limit of the prover|ran out of (stack|the )|(outgrew the memory limit|stopped at the step limit)")
 
 
@@ -181,6 +182,9 @@ def said_of(line, folder):
         return None
     if LIMIT.search(at[3]):
         return at[1], at[2], ("limit", "")
+    names = re.match(r"\(only because a proof file names[^)]*\): (?:\./)?([^:]*)", at[3])
+    if names:
+        return at[1], at[2], ("proof", names[1])
     return at[1], at[2], complaint(at[3], f"{folder}/{at[1]}") or ("unknown", "")
 
 
