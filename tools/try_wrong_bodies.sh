@@ -3,14 +3,14 @@
 #
 #     tools/try_wrong_bodies.sh [--with-gate] [CRATE ..]
 #
-# They are of the same form as those in crates/CRATE/must-fail, which the gate tries: it has one of a crate at the most, so that it
-# stays below 100 minutes on two processors; these are the others. With --with-gate those of the gate are tried too: an
+# They are of the same form as those in crates/CRATE/must-fail, which the gate tries: it has three of a crate at the most, for
+# its time; these are the others. With --with-gate those of the gate are tried too: an
 # edit that can't be compiled fails here, and not every toolchain's gate tells of it.
 #
 # Of a crate as many as change different functions are tried in one check (try_together.py), the others one by one.
 #
-# The words are names of crates; without words all are tried, which takes an hour and a half of processor time and as
-# much for the proofs that stand below, where they are not made yet. Works on what is committed, in a folder of its own, or
+# The words are names of crates; without words all are tried, which takes hours of a processor, as do
+# the proofs that stand below, where they are not made yet. Works on what is committed, in a folder of its own, or
 # in the clone TREE, whose proofs are taken and kept (its sources are made those of this commit).
 #
 # What each was refused at is kept in tools/wrong_bodies/refused_at.tsv (by tools/refused_at.py, which says what counts). The
