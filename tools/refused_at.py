@@ -3,6 +3,7 @@
 
     tools/refused_at.py keep TREE OUTPUT CRATE ..
     tools/refused_at.py counts CRATE
+    tools/refused_at.py held CRATE
 
 OUTPUT has what `rt must-fail CRATE ..` said in TREE, a clone with the edits in crates/CRATE/must-fail: of each mutant the first
 thing that the check complains of. Where that says little of the contract, the crate is checked once more with the edit,
@@ -25,11 +26,14 @@ and kinds that say little of the contract, as the fault may not have been looked
     unknown         none of these
 
 A complaint within the written answer of a goal counts as one of that goal. The record has a line for each mutant: crate,
-mutant, kind, and file and goal. A mutant whose kind says little counts where tools/wrong_bodies/says_little.txt names it, or its
+mutant, kind, file and goal, and a sum of all that the refusal rests on (the committed sources of the crate and of all below it,
+the edit, the toolchain's logic). A mutant whose kind says little counts where tools/wrong_bodies/says_little.txt names it, or its
 crate and the place of the refusal, with a reason. The status is 1 where one doesn't; `counts` tells it of what the record has
-of the crate's mutants beside the gate.
+of the crate's mutants beside the gate. `held` names those that count and whose sum is that of now: they need not be tried again.
 """
 import fcntl
+import functools
+import hashlib
 import os
 import re
 import subprocess
@@ -164,8 +168,31 @@ def stands(crate, name):
     return any(os.path.isfile(f"{TOP}/{it}/{name}.edit") for it in (f"tools/wrong_bodies/{crate}", f"crates/{crate}/must-fail"))
 
 
+def said_by(*words):
+    return subprocess.run(words, cwd=TOP, stdout=subprocess.PIPE, check=True, text=True).stdout
+
+
+@functools.cache
+def sources_of(crate):
+    """What the check of a crate rests on: the committed sources of it and of all below, and the toolchain's logic."""
+    below = [re.split("[ :]", it)[0] for it in said_by("tools/lines_below.sh", crate).split("\n") if it]
+    folders = [f"crates/{it}/{part}" for it in below for part in ("src", "specs", "proofs")]
+    return said_by("rt", "version").split()[-1] + said_by("git", "ls-tree", "HEAD", *folders)
+
+
+def sum_of(crate, name):
+    """A sum of all that the refusal of a mutant rests on; nothing where there is no such mutant."""
+    for folder in (f"tools/wrong_bodies/{crate}", f"crates/{crate}/must-fail"):
+        path = f"{TOP}/{folder}/{name}.edit"
+        if os.path.isfile(path):
+            with open(path, encoding="utf-8") as edit:
+                return hashlib.sha256((sources_of(crate) + edit.read()).encode()).hexdigest()[:20]
+    return ""
+
+
 def merge(rows):
     """Puts the rows into the record, in place of what it had of these mutants, and drops what it has of those that are gone."""
+    rows = [[*it, sum_of(it[0], it[1])] for it in rows]
     new = {(it[0], it[1]) for it in rows}
     with open(RECORD, "a+", encoding="utf-8") as record:
         fcntl.flock(record, fcntl.LOCK_EX)
@@ -209,10 +236,20 @@ def keep(tree, output, crates):
     return little > 0
 
 
-def counts(crate):
+def counting(crate):
+    """What the record has of the crate's mutants that counts."""
     excused = excuses()
     with open(RECORD, encoding="utf-8") as record:
-        known = {it[1] for it in recorded(record.read()) if it[0] == crate and (it[2] in COUNTS or is_excused(it, excused))}
+        return [it for it in recorded(record.read()) if it[0] == crate and (it[2] in COUNTS or is_excused(it, excused))]
+
+
+def held(crate):
+    """The names of mutants whose refusal counts and rests on what there is now."""
+    return [it[1] for it in counting(crate) if it[4:] == [sum_of(crate, it[1])]]
+
+
+def counts(crate):
+    known = {it[1] for it in counting(crate)}
     names = [it.removesuffix(".edit") for it in os.listdir(f"{TOP}/tools/wrong_bodies/{crate}")]
     return all(it in known for it in names)
 
@@ -222,4 +259,7 @@ if __name__ == "__main__":
         sys.exit(keep(*sys.argv[2:4], sys.argv[4:]))
     if len(sys.argv) == 3 and sys.argv[1] == "counts":
         sys.exit(not counts(sys.argv[2]))
+    if len(sys.argv) == 3 and sys.argv[1] == "held":
+        print(*held(sys.argv[2]), sep="\n")
+        sys.exit(0)
     sys.exit(__doc__)
