@@ -260,6 +260,6 @@ if __name__ == "__main__":
     if len(sys.argv) == 3 and sys.argv[1] == "counts":
         sys.exit(not counts(sys.argv[2]))
     if len(sys.argv) == 3 and sys.argv[1] == "held":
-        print(*held(sys.argv[2]), sep="\n")
+        print("".join(f"{it}\n" for it in held(sys.argv[2])), end="")
         sys.exit(0)
     sys.exit(__doc__)
