@@ -45,9 +45,10 @@ done
 status=0
 left=()
 for crate in "${crates[@]}"; do
-  [ -n "$(find "crates/$crate/must-fail" -name '*.edit' -print -quit)" ] || continue
+  count=$(find "crates/$crate/must-fail" -name '*.edit' | wc -l)
+  [ "$count" -gt 0 ] || continue
   # Many are refused in one check of several at once; the others are tried one by one.
-  "$top/tools/try_together.py" "$tree" "$crate" || status=1
+  [ "$count" = 1 ] || "$top/tools/try_together.py" "$tree" "$crate" || status=1
   [ -z "$(find "crates/$crate/must-fail" -name '*.edit' -print -quit)" ] || left+=("$crate")
 done
 if [ ${#left[@]} -gt 0 ]; then
