@@ -145,8 +145,12 @@ rows() {
 }
 
 workers() {
-  item all "$(sum_of "$(sources_of console_rows)" "$(committed crates/console_rows)" "$(committed tools/one_worker)" \
-    "$(committed tools/try_one_worker.sh)")" "$top/tools/try_one_worker.sh"
+  local body below
+  below=$(sum_of "$(sources_of console_rows)" "$(committed crates/console_rows)" "$(committed tools/try_one_worker.sh)")
+  for body in "$top"/tools/one_worker/*.edit; do
+    body=$(basename "$body" .edit)
+    item "$body" "$(sum_of "$below" "$(committed "tools/one_worker/$body.edit")")" "$top/tools/try_one_worker.sh" "$body"
+  done
 }
 
 bodies() {
