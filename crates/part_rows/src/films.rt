@@ -1,3 +1,5 @@
+ghost use Rattle.std.specs.Prelude.{◌≤◌};
+
 use film_avi::{Layout, file_head, samples_upto};
 use film_formats::{
     Adler, Colour, Piece, crc_of_chunk, first_apart, png_file, read_piece, wav_header,
@@ -20,10 +22,15 @@ static SILENT: [u8; 44] = [
     125, 0, 0, 0, 244, 1, 0, 4, 0, 16, 0, 100, 97, 116, 97, 0, 0, 0, 0,
 ];
 
+/// The sum of a chunk of a picture without bytes.
+fn crc(kind: &[u8]) -> u32 {
+    crc_of_chunk(kind, &[])
+}
+
 #[test]
 fn sums_are_those_of_zlib(rt: HostRuntime) {
-    assert_eq!(rt; crc_of_chunk(b"IEND", &[]), 0xae42_6082);
-    assert_eq!(rt; Adler::new().fed_all(b"Wikipedia").number(), 0x11e6_0398);
+    let adler = Adler::new().fed_all(b"Wikipedia").number();
+    assert_eq!(rt; [crc(b"IEND"), adler], [0xae42_6082, 0x11e6_0398]);
 }
 
 #[test]
@@ -40,14 +47,21 @@ fn a_wav_of_no_samples_has_44_bytes(rt: HostRuntime) -> Result<(), Fail> {
     Ok(())
 }
 
+/// Red, green and blue of a dot.
+fn channels(dot: u16) -> [u8; 3] {
+    let colour = Colour::of_dot(dot);
+    [colour.red, colour.green, colour.blue]
+}
+
 #[test]
 fn colours_are_widened_by_their_top_bits(rt: HostRuntime) {
-    let white = Colour::of_dot(0x7fff);
-    assert!(rt; (white.red, white.green, white.blue) == (255, 255, 255));
-    let red = Colour::of_dot(0x001f);
-    assert!(rt; (red.red, red.green, red.blue) == (255, 0, 0));
-    let mixed = Colour::of_dot(0x4195);
-    assert!(rt; (mixed.red, mixed.green, mixed.blue) == (173, 99, 132));
+    let white = channels(0x7fff);
+    let red = channels(0x001f);
+    let mixed = channels(0x4195);
+    assert_eq!(rt;
+        [white, red, mixed],
+        [[255, 255, 255], [255, 0, 0], [173, 99, 132]]
+    );
 }
 
 #[test]
@@ -55,29 +69,58 @@ fn a_cut_piece_is_told(rt: HostRuntime) {
     let bytes = [1u8, 2, 3, 4, 5, 6, 7];
     let mut reader = bytes.as_slice();
     let mut piece = [0u8; 4];
-    assert!(rt; read_piece(&mut reader, &mut piece).ok() == Some(Piece::Whole));
-    assert!(rt; piece == [1, 2, 3, 4]);
-    assert!(rt; read_piece(&mut reader, &mut piece).ok() == Some(Piece::Cut(3)));
-    assert!(rt; read_piece(&mut reader, &mut piece).ok() == Some(Piece::End));
+    let first = read_piece(&mut reader, &mut piece).ok();
+    let whole = piece;
+    let second = read_piece(&mut reader, &mut piece).ok();
+    let third = read_piece(&mut reader, &mut piece).ok();
+    assert_eq!(rt;
+        (first, whole, second, third),
+        (
+            Some(Piece::Whole),
+            [1, 2, 3, 4],
+            Some(Piece::Cut(3)),
+            Some(Piece::End)
+        )
+    );
+}
+
+/// Where two rows of bytes of one length differ first.
+fn apart(a: &[u8; 3], b: &[u8; 3]) -> Option<usize> {
+    first_apart(a, b)
 }
 
 #[test]
 fn the_first_difference_is_found(rt: HostRuntime) {
-    assert_eq!(rt; first_apart(&[1, 2, 3], &[1, 2, 3]), None);
-    assert_eq!(rt; first_apart(&[1, 2, 3], &[1, 7, 9]), Some(1));
-    assert_eq!(rt; first_apart(&[], &[]), None);
+    let none = apart(&[1, 2, 3], &[1, 2, 3]);
+    let second = apart(&[1, 2, 3], &[1, 7, 9]);
+    let empty = first_apart(&[], &[]);
+    assert_eq!(rt; [none, second, empty], [None, Some(1), None]);
+}
+
+/// How many parts a film of so many frames has.
+fn parts(region: Region, frames: u32) -> u32
+    requires { frames ≤ 36000 }
+{
+    Layout::new(region, frames).parts()
 }
 
 #[test]
 fn an_avi_has_parts_of_1800_frames(rt: HostRuntime) -> Result<(), Fail> {
-    assert_eq!(rt; samples_upto(Region::Ntsc, 60), 31_947);
-    assert_eq!(rt; samples_upto(Region::Pal, 60), 38_394);
-    assert_eq!(rt; Layout::new(Region::Ntsc, 0).parts(), 1);
-    assert_eq!(rt; Layout::new(Region::Ntsc, 1800).parts(), 1);
-    assert_eq!(rt; Layout::new(Region::Ntsc, 1801).parts(), 2);
-    assert_eq!(rt; Layout::new(Region::Pal, 36_000).parts(), 20);
-    assert_eq!(rt; Layout::new(Region::Ntsc, 1801).start(1), 885000258);
+    let samples = [
+        samples_upto(Region::Ntsc, 60),
+        samples_upto(Region::Pal, 60),
+    ];
+    let parts = [
+        parts(Region::Ntsc, 0),
+        parts(Region::Ntsc, 1800),
+        parts(Region::Ntsc, 1801),
+        parts(Region::Pal, 36_000),
+    ];
+    let second = Layout::new(Region::Ntsc, 1801).start(1);
     let head = file_head(rt.alloc(), Layout::new(Region::Pal, 7))?;
-    assert_eq!(rt; head.len(), 1682);
+    assert_eq!(rt;
+        (samples, parts, second, head.len()),
+        ([31_947, 38_394], [1, 1, 2, 20], 885_000_258, 1682)
+    );
     Ok(())
 }

@@ -1,7 +1,8 @@
-ghost use Rattle.std.specs.Prelude.{◌+◌, ◌≤◌, length};
+ghost use Rattle.std.specs.Prelude.{◌≡◌, ◌+◌, ◌≤◌, length};
 
 use flat_memory::run;
 use spc700::{Spc, SpcAccess, SpcRegs};
+use std::alloc::Global;
 use std::test::Fail;
 
 /// A program that sets up timer 0, waits for its counter, and copies two of its reads into ports.
@@ -19,6 +20,7 @@ static TIMER_PROGRAM: [u8; 21] = [
 /// Puts bytes into the memory.
 fn load(memory: &mut [u8], at: usize, bytes: &[u8])
     requires { at + length bytes.now ≤ length memory.old }
+    ensures { length memory.new ≡ length memory.old }
 {
     for (i, byte) in bytes.iter().enumerate() {
         memory[at + i] = *byte;
@@ -37,13 +39,25 @@ fn registers(a: u8, x: u8, y: u8, psw: u8) -> SpcRegs {
     }
 }
 
+/// What a processor of these registers has in them after so many accesses of the one instruction at 0200.
+fn after_one(
+    alloc: Global,
+    registers: SpcRegs,
+    instruction: u8,
+    accesses: u64,
+) -> Result<SpcRegs, Fail> {
+    let mut bytes = vec![in alloc; 0u8; 65536]?;
+    let memory = bytes.as_mut_slice();
+    memory[0x0200] = instruction;
+    let mut spc = Spc::at(registers);
+    run(&mut spc, memory, accesses);
+    Ok(spc.regs())
+}
+
 #[test]
 fn division_gives_quotient_and_remainder(rt: HostRuntime) -> Result<(), Fail> {
-    let mut bytes = vec![in rt.alloc(); 0u8; 65536]?;
-    let memory = bytes.as_mut_slice();
-    memory[0x0200] = 0x9E; // DIV YA,X
-    let mut spc = Spc::at(registers(7, 2, 0, 0x4A));
-    run(&mut spc, memory, 12);
+    // DIV YA,X
+    let found = after_one(rt.alloc(), registers(7, 2, 0, 0x4A), 0x9E, 12)?;
     let expected = SpcRegs {
         a: 3,
         y: 1,
@@ -51,17 +65,14 @@ fn division_gives_quotient_and_remainder(rt: HostRuntime) -> Result<(), Fail> {
         psw: 0,
         ..registers(7, 2, 0, 0x4A)
     };
-    assert_eq!(rt; spc.regs(), expected, "V and H are clear");
+    assert_eq!(rt; found, expected, "V and H are clear");
     Ok(())
 }
 
 #[test]
 fn product_of_the_largest_bytes(rt: HostRuntime) -> Result<(), Fail> {
-    let mut bytes = vec![in rt.alloc(); 0u8; 65536]?;
-    let memory = bytes.as_mut_slice();
-    memory[0x0200] = 0xCF; // MUL YA
-    let mut spc = Spc::at(registers(0xFF, 0, 0xFF, 0x02));
-    run(&mut spc, memory, 9);
+    // MUL YA
+    let found = after_one(rt.alloc(), registers(0xFF, 0, 0xFF, 0x02), 0xCF, 9)?;
     let expected = SpcRegs {
         a: 0x01,
         y: 0xFE,
@@ -69,8 +80,18 @@ fn product_of_the_largest_bytes(rt: HostRuntime) -> Result<(), Fail> {
         psw: 0x80,
         ..registers(0xFF, 0, 0xFF, 0x02)
     };
-    assert_eq!(rt; spc.regs(), expected, "N is set and Z is clear");
+    assert_eq!(rt; found, expected, "N is set and Z is clear");
     Ok(())
+}
+
+/// What the processor does next after so many more accesses, in which a byte stands at the counter of timer 0.
+fn next_after(spc: &mut Spc, memory: &mut [u8], counter: u8, accesses: u64) -> SpcAccess
+    requires { length memory.old ≡ 65536 }
+    ensures { length memory.new ≡ 65536 }
+{
+    memory[0x00FD] = counter;
+    run(spc, memory, accesses);
+    spc.next()
 }
 
 #[test]
@@ -79,21 +100,19 @@ fn timer_program_reads_the_counter_at_its_cycles(rt: HostRuntime) -> Result<(), 
     let memory = bytes.as_mut_slice();
     load(memory, 0xFFC0, &TIMER_PROGRAM);
     let mut spc = Spc::new(0xFFC0);
-    run(&mut spc, memory, 9);
-    assert_eq!(rt;
-        spc.next(),
-        SpcAccess::Write(0x00F1, 0x81),
-        "the timer is on from cycle 9"
-    );
-    run(&mut spc, memory, 119);
-    assert_eq!(rt; spc.next(), SpcAccess::Read(0x00FD), "cycle 128");
-    memory[0x00FD] = 1;
-    run(&mut spc, memory, 4);
-    assert_eq!(rt; spc.next(), SpcAccess::Write(0x00F4, 1), "cycle 132");
-    memory[0x00FD] = 0;
-    run(&mut spc, memory, 3);
-    assert_eq!(rt; spc.next(), SpcAccess::Read(0x00FD), "cycle 135");
-    run(&mut spc, memory, 4);
-    assert_eq!(rt; spc.next(), SpcAccess::Write(0x00F5, 0), "cycle 139");
+    // The counter, the accesses, and what is next at a cycle.
+    for (counter, accesses, next, cycle) in [
+        (0, 9, SpcAccess::Write(0x00F1, 0x81), 9),
+        (0, 119, SpcAccess::Read(0x00FD), 128),
+        (1, 4, SpcAccess::Write(0x00F4, 1), 132),
+        (0, 3, SpcAccess::Read(0x00FD), 135),
+        (0, 4, SpcAccess::Write(0x00F5, 0), 139),
+    ] {
+        assert_eq!(rt;
+            next_after(&mut spc, memory, counter, accesses),
+            next,
+            "cycle {cycle}"
+        );
+    }
     Ok(())
 }

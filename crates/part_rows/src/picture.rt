@@ -33,9 +33,22 @@ fn writes(p: &mut Ppu, pairs: &[(u8, u8)]) {
     }
 }
 
-/// An object's four bytes.
-fn put_object(p: &mut Ppu, x: u8, y: u8) {
-    writes(p, &[(0x04, x), (0x04, y), (0x04, 0), (0x04, 0)]);
+/// So many objects of the same four bytes.
+fn put_objects(p: &mut Ppu, count: u8, x: u8, y: u8) {
+    for _ in 0..count {
+        writes(p, &[(0x04, x), (0x04, y), (0x04, 0), (0x04, 0)]);
+    }
+}
+
+/// Whether the first row's objects pass the limit of their number and that of their slivers, and whether an object has a
+/// dot at 200, at 208 and at 216.
+fn first_row_of_objects(p: &Ppu) -> ([bool; 2], [bool; 3]) {
+    let mut dots = [NOTHING; 256];
+    let over = obj_row(p, 0, &mut dots);
+    (
+        [over.range, over.time],
+        [dots[200].on, dots[208].on, dots[216].on],
+    )
 }
 
 /// Objects 0 to 2 of eight pixels and 3 to 6 of 64 on one row have 35 slivers, so the first object loses its one.
@@ -43,25 +56,40 @@ fn put_object(p: &mut Ppu, x: u8, y: u8) {
 fn thirty_five_slivers_lose_the_first_object(rt: HostRuntime) -> Result<(), Fail> {
     let mut p = unit(rt.alloc())?;
     writes(&mut p, &[(0x01, 0x40), (0x02, 0), (0x03, 0)]);
-    put_object(&mut p, 200, 0);
-    put_object(&mut p, 208, 0);
-    put_object(&mut p, 216, 0);
-    for _ in 3..7u8 {
-        put_object(&mut p, 0, 0);
+    for (count, x, y) in [
+        (1, 200, 0),
+        (1, 208, 0),
+        (1, 216, 0),
+        (4, 0, 0),
+        (121, 0, 240),
+    ] {
+        put_objects(&mut p, count, x, y);
     }
-    for _ in 7..128u8 {
-        put_object(&mut p, 0, 240);
-    }
-    writes(&mut p, &[(0x04, 0x80), (0x04, 0x2a)]);
-    writes(&mut p, &[(0x15, 0), (0x16, 0), (0x17, 0), (0x18, 0xff)]);
-    let mut dots = [NOTHING; 256];
-    let over = obj_row(&p, 0, &mut dots);
-    assert!(rt; !over.range);
-    assert!(rt; over.time);
-    assert!(rt; !dots[200].on);
-    assert!(rt; dots[208].on);
-    assert!(rt; dots[216].on);
+    writes(
+        &mut p,
+        &[
+            (0x04, 0x80),
+            (0x04, 0x2a),
+            (0x15, 0),
+            (0x16, 0),
+            (0x17, 0),
+            (0x18, 0xff),
+        ],
+    );
+    assert_eq!(rt;
+        first_row_of_objects(&p),
+        ([false, true], [false, true, true])
+    );
     Ok(())
+}
+
+/// The first row of layer 1 of the rotated plane, where the mode has one.
+fn first_row_of_plane(p: &Ppu) -> [Dot; 256] {
+    let mut dots = [NOTHING; 256];
+    if p.registers().mode == 7 {
+        m7_row(p, 1, 0, &mut dots);
+    }
+    dots
 }
 
 /// An unturned plane with one pixel of colour 5 in tile 0: every eighth pixel of the first row.
@@ -70,22 +98,42 @@ fn mode_7_repeats_its_tile(rt: HostRuntime) -> Result<(), Fail> {
     let mut p = unit(rt.alloc())?;
     writes(
         &mut p,
-        &[(0x05, 7), (0x1b, 0), (0x1b, 1), (0x1e, 0), (0x1e, 1)],
+        &[
+            (0x05, 7),
+            (0x1b, 0),
+            (0x1b, 1),
+            (0x1e, 0),
+            (0x1e, 1),
+            (0x15, 0x80),
+            (0x16, 8),
+            (0x17, 0),
+            (0x18, 0),
+            (0x19, 5),
+            (0x21, 5),
+            (0x22, 0x34),
+            (0x22, 0x12),
+        ],
     );
-    writes(
-        &mut p,
-        &[(0x15, 0x80), (0x16, 8), (0x17, 0), (0x18, 0), (0x19, 5)],
-    );
-    writes(&mut p, &[(0x21, 5), (0x22, 0x34), (0x22, 0x12)]);
-    let mut dots = [NOTHING; 256];
-    if p.registers().mode == 7 {
-        m7_row(&p, 1, 0, &mut dots);
-    }
+    let dots = first_row_of_plane(&p);
     for x in 0..256usize {
-        assert_eq!(rt; dots[x].on, x % 8 == 0);
-        assert_eq!(rt; dots[x].colour, if x % 8 == 0 { 0x1234 } else { 0 });
+        let wanted = if x % 8 == 0 {
+            (true, 0x1234)
+        } else {
+            (false, 0)
+        };
+        assert_eq!(rt; (dots[x].on, dots[x].colour), wanted, "dot {x}");
     }
     Ok(())
+}
+
+/// The number of the first dot that is in the window of layer 1 and not in these edges, or in these and not in it.
+fn first_apart(p: &Ppu, left: u8, right: u8) -> Option<u8> {
+    for x in 0..=255u8 {
+        if inside(p, 1, x) != (x >= left && x <= right) {
+            return Some(x);
+        }
+    }
+    None
 }
 
 /// A window from 10h to 20h holds both edges, and with its edges exchanged nothing.
@@ -93,14 +141,17 @@ fn mode_7_repeats_its_tile(rt: HostRuntime) -> Result<(), Fail> {
 fn a_window_holds_its_edges(rt: HostRuntime) -> Result<(), Fail> {
     let mut p = unit(rt.alloc())?;
     writes(&mut p, &[(0x23, 0x02), (0x26, 0x10), (0x27, 0x20)]);
-    for x in 0..=255u8 {
-        assert_eq!(rt; inside(&p, 1, x), x >= 0x10 && x <= 0x20);
-    }
+    let as_set = first_apart(&p, 0x10, 0x20);
     writes(&mut p, &[(0x26, 0x20), (0x27, 0x10)]);
-    for x in 0..=255u8 {
-        assert!(rt; !inside(&p, 1, x));
-    }
+    // No dot lies between these two.
+    let exchanged = first_apart(&p, 0x20, 0x10);
+    assert_eq!(rt; [as_set, exchanged], [None, None]);
     Ok(())
+}
+
+/// A dot of layer 1 mixed with the fixed colour, at the left of a row.
+fn mixed(p: &Ppu, dot: Dot) -> u16 {
+    mix(p, 0, Some((1, dot)), None)
 }
 
 /// Red 31 with the fixed colour blue 31, added and halved.
@@ -114,25 +165,36 @@ fn half_of_red_and_blue(rt: HostRuntime) -> Result<(), Fail> {
         colour: 0x001f,
         math: true,
     };
-    assert_eq!(rt; mix(&p, 0, Some((1, red)), None), 0x3c0f);
+    assert_eq!(rt; mixed(&p, red), 0x3c0f);
     Ok(())
+}
+
+/// The two first lines of a unit, by a cache of its own.
+fn two_lines(alloc: Global, p: &Ppu) -> Result<([u16; 512], [u16; 512]), Fail> {
+    let mut tiles = match TileCache::new(alloc) {
+        Ok(tiles) => tiles,
+        Err(NoMemory) => return Err(Fail::from("no memory for a cache")),
+    };
+    renew(p, &mut tiles);
+    let mut first = [0u16; 512];
+    let _ = draw(p, &tiles, 1, &mut first);
+    let mut second = first;
+    let _ = draw(p, &tiles, 2, &mut second);
+    Ok((first, second))
 }
 
 /// A tile whose left column is set, on every place of the map: every eighth pixel of the first row is white.
 #[test]
 fn the_first_row_of_text(rt: HostRuntime) -> Result<(), Fail> {
     let mut p = unit(rt.alloc())?;
-    let mut tiles = match TileCache::new(rt.alloc()) {
-        Ok(tiles) => tiles,
-        Err(NoMemory) => return Err(Fail::from("no memory for a cache")),
-    };
-    writes(
-        &mut p,
-        &[(0x2c, 1), (0x07, 4), (0x15, 0x80), (0x16, 1), (0x17, 0)],
-    );
     writes(
         &mut p,
         &[
+            (0x2c, 1),
+            (0x07, 4),
+            (0x15, 0x80),
+            (0x16, 1),
+            (0x17, 0),
             (0x18, 0x80),
             (0x19, 0),
             (0x21, 1),
@@ -141,15 +203,10 @@ fn the_first_row_of_text(rt: HostRuntime) -> Result<(), Fail> {
             (0x00, 0x0f),
         ],
     );
-    renew(&p, &mut tiles);
-    let mut out = [0u16; 512];
-    let _first = draw(&p, &tiles, 1, &mut out);
+    let (first, second) = two_lines(rt.alloc(), &p)?;
     for e in 0..512usize {
-        assert_eq!(rt; out[e], if e / 2 % 8 == 0 { 0x7fff } else { 0 });
-    }
-    let _second = draw(&p, &tiles, 2, &mut out);
-    for e in 0..512usize {
-        assert_eq!(rt; out[e], 0);
+        let white = if e / 2 % 8 == 0 { 0x7fff } else { 0 };
+        assert_eq!(rt; (first[e], second[e]), (white, 0), "half dot {e}");
     }
     Ok(())
 }

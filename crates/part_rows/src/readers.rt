@@ -19,11 +19,23 @@ fn script(alloc: Global, text: &str) -> Option<Spans> {
     read_script(alloc, text.as_bytes()).ok()
 }
 
+/// The boot ROM of a file.
+fn boot(file: &[u8]) -> Option<[u8; 64]> {
+    read_boot(file)
+}
+
 #[test]
 fn a_boot_rom_has_64_bytes(rt: HostRuntime) {
-    assert!(rt; read_boot(&[0xefu8; 63]).is_none());
-    assert!(rt; read_boot(&[0xefu8; 65]).is_none());
-    assert_eq!(rt; read_boot(&[0xefu8; 64]), Some([0xefu8; 64]));
+    let bytes = [0xefu8; 65];
+    let short = boot(&bytes[..63]);
+    let long = boot(&bytes);
+    let right = boot(&bytes[..64]);
+    assert_eq!(rt; (short, long, right), (None, None, Some([0xefu8; 64])));
+}
+
+/// The last entry of the table of a file, or where the file is refused.
+fn last_entry(file: &[u8]) -> Result<u16, u16> {
+    read_table(file).map(|table| table.at(511))
 }
 
 #[test]
@@ -31,110 +43,126 @@ fn a_table_is_refused_at_its_first_large_entry(rt: HostRuntime) {
     let mut file = [0u8; 1024];
     file[1022] = 0xff;
     file[1023] = 0x07;
-    assert_eq!(rt;
-        read_table(&file).map(|table| table.at(511)).unwrap_or(0),
-        2047
-    );
+    let taken = last_entry(&file);
     file[1022] = 0x00;
     file[1023] = 0x08;
-    assert_eq!(rt; read_table(&file).err(), Some(511));
+    let last = last_entry(&file);
     file[9] = 0x80;
-    assert_eq!(rt; read_table(&file).err(), Some(4));
-    assert_eq!(rt; read_table(&file[..1023]).err(), Some(512));
+    let fourth = last_entry(&file);
+    let short = last_entry(&file[..1023]);
+    assert_eq!(rt;
+        [taken, last, fourth, short],
+        [Ok(2047), Err(511), Err(4), Err(512)]
+    );
+}
+
+/// What a script says of a frame: the pads, and whether the console is reset at it.
+fn frame(read: &Spans, number: u32) -> ((u16, u16), bool) {
+    (read.pads(number), read.resets(number))
+}
+
+/// The region of a script.
+fn region(read: &Spans) -> Region {
+    read.region()
 }
 
 #[test]
 fn spans_follow_one_another(rt: HostRuntime) -> Result<(), Fail> {
     let read = script(rt.alloc(), "2 8000 0000\n1 00F0 0000").ok_or("refused")?;
-    assert_eq!(rt; read.pads(0), (0x8000, 0));
-    assert_eq!(rt; read.pads(1), (0x8000, 0));
-    assert_eq!(rt; read.pads(2), (0x00f0, 0));
-    assert_eq!(rt; read.pads(3), (0, 0));
-    assert_eq!(rt; read.region(), Region::Ntsc);
+    for (number, pads) in [
+        (0, (0x8000, 0)),
+        (1, (0x8000, 0)),
+        (2, (0x00f0, 0)),
+        (3, (0, 0)),
+    ] {
+        assert_eq!(rt; frame(&read, number), (pads, false), "frame {number}");
+    }
+    assert_eq!(rt; region(&read), Region::Ntsc);
     Ok(())
 }
 
 #[test]
 fn low_bits_of_a_pad_count_as_0(rt: HostRuntime) -> Result<(), Fail> {
     let read = script(rt.alloc(), "1   abcF  FFFF\r\n").ok_or("refused")?;
-    assert_eq!(rt; read.pads(0), (0xabc0, 0xfff0));
+    assert_eq!(rt; frame(&read, 0), ((0xabc0, 0xfff0), false));
     Ok(())
 }
 
 #[test]
 fn the_first_bad_line_is_told(rt: HostRuntime) {
-    let alloc = rt.alloc();
-    assert_eq!(rt; refused_at(alloc, ""), Some(0));
-    assert_eq!(rt; refused_at(alloc, "\n\r\n36000 0000 0000\n"), Some(0));
-    assert_eq!(rt; refused_at(alloc, "1 80 0"), Some(1));
-    assert_eq!(rt;
-        refused_at(alloc, "20000 0000 0000\n20000 0000 0000"),
-        Some(2)
-    );
-    assert_eq!(rt; refused_at(alloc, "1 0000 0000\n 1 0000 0000"), Some(2));
-    assert_eq!(rt; refused_at(alloc, "1 0000 0000 "), Some(1));
-    assert_eq!(rt; refused_at(alloc, "1 0000 0000\r"), Some(1));
-    assert_eq!(rt; refused_at(alloc, "1\t0000 0000"), Some(1));
-    assert_eq!(rt; refused_at(alloc, "000001 0000 0000"), Some(1));
-    assert_eq!(rt; refused_at(alloc, "\n\n  "), Some(3));
-    assert_eq!(rt; refused_at(alloc, "0 0000 0000"), Some(0));
+    for (text, line) in [
+        ("", 0),
+        ("\n\r\n36000 0000 0000\n", 0),
+        ("1 80 0", 1),
+        ("20000 0000 0000\n20000 0000 0000", 2),
+        ("1 0000 0000\n 1 0000 0000", 2),
+        ("1 0000 0000 ", 1),
+        ("1 0000 0000\r", 1),
+        ("1\t0000 0000", 1),
+        ("000001 0000 0000", 1),
+        ("\n\n  ", 3),
+        ("0 0000 0000", 0),
+    ] {
+        assert_eq!(rt; refused_at(rt.alloc(), text), Some(line), "{text}");
+    }
 }
 
 #[test]
 fn a_first_line_names_version_and_region(rt: HostRuntime) -> Result<(), Fail> {
-    let alloc = rt.alloc();
-    let pal = script(alloc, "version 2 pal").ok_or("refused")?;
-    assert_eq!(rt; pal.region(), Region::Pal);
-    assert_eq!(rt; refused_at(alloc, "\nversion 2 pal"), Some(2));
-    assert_eq!(rt; refused_at(alloc, "version 2 Ntsc"), Some(1));
-    assert_eq!(rt;
-        refused_at(alloc, "version 2 ntsc\nversion 2 ntsc"),
-        Some(2)
-    );
+    let pal = script(rt.alloc(), "version 2 pal").ok_or("refused")?;
+    assert_eq!(rt; region(&pal), Region::Pal);
+    for (text, line) in [
+        ("\nversion 2 pal", 2),
+        ("version 2 Ntsc", 1),
+        ("version 2 ntsc\nversion 2 ntsc", 2),
+    ] {
+        assert_eq!(rt; refused_at(rt.alloc(), text), Some(line), "{text}");
+    }
     Ok(())
 }
 
 #[test]
 fn resets_stand_at_new_sums_above_0(rt: HostRuntime) -> Result<(), Fail> {
-    let alloc = rt.alloc();
-    assert_eq!(rt; refused_at(alloc, "version 2 ntsc\nreset"), Some(2));
-    assert_eq!(rt; refused_at(alloc, "reset"), Some(1));
-    assert_eq!(rt;
-        refused_at(
-            alloc,
-            "version 2 pal\n1 0000 0000\nreset\n0 0000 0000\nreset"
-        ),
-        Some(5)
-    );
-    let read = script(
-        alloc,
-        "version 2 ntsc\n1 0000 0000\nreset\n2 0000 0000\nreset",
-    )
-    .ok_or("refused")?;
-    assert!(rt; !read.resets(0));
-    assert!(rt; read.resets(1));
-    assert!(rt; !read.resets(2));
-    assert!(rt; read.resets(3));
+    for (text, line) in [
+        ("version 2 ntsc\nreset", 2),
+        ("reset", 1),
+        ("version 2 pal\n1 0000 0000\nreset\n0 0000 0000\nreset", 5),
+    ] {
+        assert_eq!(rt; refused_at(rt.alloc(), text), Some(line), "{text}");
+    }
+    let text = "version 2 ntsc\n1 0000 0000\nreset\n2 0000 0000\nreset";
+    let read = script(rt.alloc(), text).ok_or("refused")?;
+    for (number, is_reset) in [(0, false), (1, true), (2, false), (3, true)] {
+        assert_eq!(rt; frame(&read, number), ((0, 0), is_reset), "frame {number}");
+    }
     Ok(())
+}
+
+/// The length of the image of number 0, its first byte and its byte 8000, and what kind of cartridge it is, with how much
+/// memory.
+fn image_of_0(alloc: Global) -> Result<(usize, [u8; 2], MapKind, u32), Fail> {
+    let bytes = image(alloc, 0).map_err(|_: NoMemory| "no memory")?;
+    let size = bytes.len();
+    let ends = [bytes[0], bytes[0x8000]];
+    let cart = accept(bytes).map_err(|_: CartEnd| "refused")?;
+    Ok((size, ends, cart.map, cart.ram))
 }
 
 #[test]
 fn the_image_of_a_number_is_a_cartridge(rt: HostRuntime) -> Result<(), Fail> {
-    let bytes = image(rt.alloc(), 0).map_err(|_: NoMemory| "no memory")?;
-    assert_eq!(rt; bytes.len(), 524_288);
-    assert_eq!(rt; bytes[0], 0x78);
-    assert_eq!(rt; bytes[0x8000], 0x3c);
-    let cart = accept(bytes).map_err(|_: CartEnd| "refused")?;
-    assert_eq!(rt; cart.map, MapKind::LoRom);
-    assert_eq!(rt; cart.ram, 0);
+    assert_eq!(rt;
+        image_of_0(rt.alloc())?,
+        (524_288, [0x78, 0x3c], MapKind::LoRom, 0)
+    );
     Ok(())
 }
 
 #[test]
 fn the_demo_has_a_boot_rom_and_a_ramp(rt: HostRuntime) {
     let boot = demo_boot_rom();
-    assert_eq!(rt; boot[0], 0x8f);
-    assert_eq!(rt; boot[62], 0xc0);
-    assert_eq!(rt; boot[63], 0xff);
-    assert_eq!(rt; demo_table().at(511), 1022);
+    let last = demo_table().at(511);
+    assert_eq!(rt;
+        ([boot[0], boot[62], boot[63]], last),
+        ([0x8f, 0xc0, 0xff], 1022)
+    );
 }

@@ -41,19 +41,18 @@ fn real_files_come_back(rt: HostRuntime) -> Result<(), Fail> {
     fs::write(&rt, name, "abc")?;
     let mut shelf = FileShelf::new(&rt);
     let bytes = load(rt.alloc(), &mut shelf, name, 3)?;
+    let too_long = end_of_load(rt.alloc(), &mut shelf, name, 2);
+    fs::remove_file(&rt, name)?;
+    let removed = end_of_load(rt.alloc(), &mut shelf, name, 3);
+    let folder = end_of_load(rt.alloc(), &mut shelf, "/", 3);
     assert_eq!(rt; bytes.as_slice(), b"abc".as_slice());
     assert_eq!(rt;
-        end_of_load(rt.alloc(), &mut shelf, name, 2),
-        Err(LoadEnd::TooLong)
-    );
-    fs::remove_file(&rt, name)?;
-    assert_eq!(rt;
-        end_of_load(rt.alloc(), &mut shelf, name, 3),
-        Err(LoadEnd::Failed)
-    );
-    assert_eq!(rt;
-        end_of_load(rt.alloc(), &mut shelf, "/", 3),
-        Err(LoadEnd::Failed)
+        [too_long, removed, folder],
+        [
+            Err(LoadEnd::TooLong),
+            Err(LoadEnd::Failed),
+            Err(LoadEnd::Failed)
+        ]
     );
     Ok(())
 }
@@ -61,26 +60,46 @@ fn real_files_come_back(rt: HostRuntime) -> Result<(), Fail> {
 #[test]
 fn an_output_takes_nothing_before_it_is_created(rt: HostRuntime) {
     let mut shelf = FileShelf::new(&rt);
-    assert_eq!(rt; put(&mut shelf, Out::Video, "early"), Err(Failed));
-    assert_eq!(rt; shelf.flush(Out::Video), Err(Failed));
-    assert_eq!(rt; shelf.create(Out::Video, "/"), Err(Failed));
-    assert_eq!(rt; shelf.create(Out::Video, "/dev/null"), Ok(()));
-    assert_eq!(rt; put(&mut shelf, Out::Video, "abc"), Ok(()));
-    assert_eq!(rt; shelf.flush(Out::Video), Ok(()));
+    let early = put(&mut shelf, Out::Video, "early");
+    let flushed = shelf.flush(Out::Video);
+    let folder = shelf.create(Out::Video, "/");
+    let created = shelf.create(Out::Video, "/dev/null");
+    let taken = put(&mut shelf, Out::Video, "abc");
+    let flushed_again = shelf.flush(Out::Video);
+    assert_eq!(rt;
+        [early, flushed, folder, created, taken, flushed_again],
+        [
+            Err(Failed),
+            Err(Failed),
+            Err(Failed),
+            Ok(()),
+            Ok(()),
+            Ok(())
+        ]
+    );
 }
 
 fn prints(line: &Line, text: &str) -> bool {
     line.bytes() == text.as_bytes()
 }
 
+/// Whether the line for an output that can't be written is the text.
+fn prints_for(out: Out, text: &str) -> bool {
+    match cannot_write_line(out) {
+        Some(line) => prints(&line, text),
+        None => false,
+    }
+}
+
 #[test]
 fn the_lines_as_printed(rt: HostRuntime) {
-    assert!(rt; prints(&frames_line(60, 31947), "frames 60 samples 31947\n"));
-    assert!(rt; prints(&usage_line(), "usage: snes run, serial, make or demo\n"));
-    assert!(rt; prints(&cannot_read_line(Input::Script), "cannot read script\n"));
-    assert!(rt; prints(&no_memory_line(), "no memory\n"));
-    assert!(rt;
-        cannot_write_line(Out::Video).is_some_and(|line| prints(&line, "cannot write video\n"))
-    );
-    assert!(rt; cannot_write_line(Out::Say).is_none());
+    let printed = [
+        prints(&frames_line(60, 31947), "frames 60 samples 31947\n"),
+        prints(&usage_line(), "usage: snes run, serial, make or demo\n"),
+        prints(&cannot_read_line(Input::Script), "cannot read script\n"),
+        prints(&no_memory_line(), "no memory\n"),
+        prints_for(Out::Video, "cannot write video\n"),
+        cannot_write_line(Out::Say).is_none(),
+    ];
+    assert_eq!(rt; printed, [true; 6]);
 }
