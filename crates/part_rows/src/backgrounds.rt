@@ -130,9 +130,12 @@ fn has_dots(p: &Ppu, tiles: &TileCache, row: u16, wanted: &[(usize, Dot)]) -> bo
         return false;
     }
     bg_row(p, tiles, 1, row, &mut dots);
-    wanted
-        .iter()
-        .all(|(place, dot)| dots.get(*place) == Some(dot))
+    for (place, dot) in wanted {
+        if dots.get(*place) != Some(dot) {
+            return false;
+        }
+    }
+    true
 }
 
 #[test]

@@ -5,6 +5,7 @@ use film_formats::{
     Adler, Colour, Piece, crc_of_chunk, first_apart, png_file, read_piece, wav_header,
 };
 use snes_defs::Region;
+use std::io::Read;
 use std::test::Fail;
 
 /// What zlib makes of two dots, red and a dark blue, in a stored block of its own.
@@ -64,15 +65,20 @@ fn colours_are_widened_by_their_top_bits(rt: HostRuntime) {
     );
 }
 
+/// The read of a piece of four bytes, or nothing where it fails.
+fn next<R: Read>(reader: &mut R, piece: &mut [u8; 4]) -> Option<Piece> {
+    read_piece(reader, piece).ok()
+}
+
 #[test]
 fn a_cut_piece_is_told(rt: HostRuntime) {
     let bytes = [1u8, 2, 3, 4, 5, 6, 7];
     let mut reader = bytes.as_slice();
     let mut piece = [0u8; 4];
-    let first = read_piece(&mut reader, &mut piece).ok();
+    let first = next(&mut reader, &mut piece);
     let whole = piece;
-    let second = read_piece(&mut reader, &mut piece).ok();
-    let third = read_piece(&mut reader, &mut piece).ok();
+    let second = next(&mut reader, &mut piece);
+    let third = next(&mut reader, &mut piece);
     assert_eq!(rt;
         (first, whole, second, third),
         (

@@ -1,9 +1,8 @@
-use cart_map::{CartEnd, accept};
+use cart_map::accept;
 use demo_files::{demo_boot_rom, demo_table, image};
 use input_files::{ScriptEnd, read_boot, read_script, read_table};
-use snes_defs::{MapKind, NoMemory, Region, Spans};
+use snes_defs::{MapKind, Region};
 use std::alloc::Global;
-use std::test::Fail;
 
 /// The line at which a script is refused, or 0 where it is taken.
 fn refused_at(alloc: Global, text: &str) -> Option<u32> {
@@ -14,9 +13,16 @@ fn refused_at(alloc: Global, text: &str) -> Option<u32> {
     }
 }
 
-/// The script of a text that is taken.
-fn script(alloc: Global, text: &str) -> Option<Spans> {
-    read_script(alloc, text.as_bytes()).ok()
+/// What the script of a text says of a frame, where the text is taken: the pads, and whether the console is reset at it.
+fn frame(alloc: Global, text: &str, number: u32) -> Option<((u16, u16), bool)> {
+    let read = read_script(alloc, text.as_bytes()).ok()?;
+    Some((read.pads(number), read.resets(number)))
+}
+
+/// The region of the script of a text that is taken.
+fn region(alloc: Global, text: &str) -> Option<Region> {
+    let read = read_script(alloc, text.as_bytes()).ok()?;
+    Some(read.region())
 }
 
 /// The boot ROM of a file.
@@ -35,7 +41,10 @@ fn a_boot_rom_has_64_bytes(rt: HostRuntime) {
 
 /// The last entry of the table of a file, or where the file is refused.
 fn last_entry(file: &[u8]) -> Result<u16, u16> {
-    read_table(file).map(|table| table.at(511))
+    match read_table(file) {
+        Ok(table) => Ok(table.at(511)),
+        Err(place) => Err(place),
+    }
 }
 
 #[test]
@@ -56,36 +65,28 @@ fn a_table_is_refused_at_its_first_large_entry(rt: HostRuntime) {
     );
 }
 
-/// What a script says of a frame: the pads, and whether the console is reset at it.
-fn frame(read: &Spans, number: u32) -> ((u16, u16), bool) {
-    (read.pads(number), read.resets(number))
-}
-
-/// The region of a script.
-fn region(read: &Spans) -> Region {
-    read.region()
-}
-
 #[test]
-fn spans_follow_one_another(rt: HostRuntime) -> Result<(), Fail> {
-    let read = script(rt.alloc(), "2 8000 0000\n1 00F0 0000").ok_or("refused")?;
+fn spans_follow_one_another(rt: HostRuntime) {
+    let text = "2 8000 0000\n1 00F0 0000";
     for (number, pads) in [
         (0, (0x8000, 0)),
         (1, (0x8000, 0)),
         (2, (0x00f0, 0)),
         (3, (0, 0)),
     ] {
-        assert_eq!(rt; frame(&read, number), (pads, false), "frame {number}");
+        assert_eq!(rt;
+            frame(rt.alloc(), text, number),
+            Some((pads, false)),
+            "frame {number}"
+        );
     }
-    assert_eq!(rt; region(&read), Region::Ntsc);
-    Ok(())
+    assert_eq!(rt; region(rt.alloc(), text), Some(Region::Ntsc));
 }
 
 #[test]
-fn low_bits_of_a_pad_count_as_0(rt: HostRuntime) -> Result<(), Fail> {
-    let read = script(rt.alloc(), "1   abcF  FFFF\r\n").ok_or("refused")?;
-    assert_eq!(rt; frame(&read, 0), ((0xabc0, 0xfff0), false));
-    Ok(())
+fn low_bits_of_a_pad_count_as_0(rt: HostRuntime) {
+    let found = frame(rt.alloc(), "1   abcF  FFFF\r\n", 0);
+    assert_eq!(rt; found, Some(((0xabc0, 0xfff0), false)));
 }
 
 #[test]
@@ -108,9 +109,8 @@ fn the_first_bad_line_is_told(rt: HostRuntime) {
 }
 
 #[test]
-fn a_first_line_names_version_and_region(rt: HostRuntime) -> Result<(), Fail> {
-    let pal = script(rt.alloc(), "version 2 pal").ok_or("refused")?;
-    assert_eq!(rt; region(&pal), Region::Pal);
+fn a_first_line_names_version_and_region(rt: HostRuntime) {
+    assert_eq!(rt; region(rt.alloc(), "version 2 pal"), Some(Region::Pal));
     for (text, line) in [
         ("\nversion 2 pal", 2),
         ("version 2 Ntsc", 1),
@@ -118,11 +118,10 @@ fn a_first_line_names_version_and_region(rt: HostRuntime) -> Result<(), Fail> {
     ] {
         assert_eq!(rt; refused_at(rt.alloc(), text), Some(line), "{text}");
     }
-    Ok(())
 }
 
 #[test]
-fn resets_stand_at_new_sums_above_0(rt: HostRuntime) -> Result<(), Fail> {
+fn resets_stand_at_new_sums_above_0(rt: HostRuntime) {
     for (text, line) in [
         ("version 2 ntsc\nreset", 2),
         ("reset", 1),
@@ -131,30 +130,31 @@ fn resets_stand_at_new_sums_above_0(rt: HostRuntime) -> Result<(), Fail> {
         assert_eq!(rt; refused_at(rt.alloc(), text), Some(line), "{text}");
     }
     let text = "version 2 ntsc\n1 0000 0000\nreset\n2 0000 0000\nreset";
-    let read = script(rt.alloc(), text).ok_or("refused")?;
     for (number, is_reset) in [(0, false), (1, true), (2, false), (3, true)] {
-        assert_eq!(rt; frame(&read, number), ((0, 0), is_reset), "frame {number}");
+        assert_eq!(rt;
+            frame(rt.alloc(), text, number),
+            Some(((0, 0), is_reset)),
+            "frame {number}"
+        );
     }
-    Ok(())
 }
 
 /// The length of the image of number 0, its first byte and its byte 8000, and what kind of cartridge it is, with how much
 /// memory.
-fn image_of_0(alloc: Global) -> Result<(usize, [u8; 2], MapKind, u32), Fail> {
-    let bytes = image(alloc, 0).map_err(|_: NoMemory| "no memory")?;
+fn image_of_0(alloc: Global) -> Option<(usize, [u8; 2], MapKind, u32)> {
+    let bytes = image(alloc, 0).ok()?;
     let size = bytes.len();
     let ends = [bytes[0], bytes[0x8000]];
-    let cart = accept(bytes).map_err(|_: CartEnd| "refused")?;
-    Ok((size, ends, cart.map, cart.ram))
+    let cart = accept(bytes).ok()?;
+    Some((size, ends, cart.map, cart.ram))
 }
 
 #[test]
-fn the_image_of_a_number_is_a_cartridge(rt: HostRuntime) -> Result<(), Fail> {
+fn the_image_of_a_number_is_a_cartridge(rt: HostRuntime) {
     assert_eq!(rt;
-        image_of_0(rt.alloc())?,
-        (524_288, [0x78, 0x3c], MapKind::LoRom, 0)
+        image_of_0(rt.alloc()),
+        Some((524_288, [0x78, 0x3c], MapKind::LoRom, 0))
     );
-    Ok(())
 }
 
 #[test]
