@@ -18,7 +18,7 @@ fn tape(alloc: Global, region: Region, rise: u64, act: Act) -> Result<Tape, Fail
 }
 
 /// What two turns of a console's tape and a sound side's leave.
-#[derive(Debug, PartialEq)]
+#[derive(Clone, Copy, Debug, PartialEq, Eq)]
 struct Left {
     /// Whose turns the two were.
     turns: [Side; 2],
