@@ -144,13 +144,29 @@ rows() {
   done
 }
 
+# All that are to be tried are tried by one call, which runs the program once as it stands; each is noted as it is told.
 workers() {
-  local body below
+  local body below line left=()
+  local -A sums
   below=$(sum_of "$(sources_of console_rows)" "$(committed crates/console_rows)" "$(committed tools/try_one_worker.sh)")
   for body in "$top"/tools/one_worker/*.edit; do
     body=$(basename "$body" .edit)
-    item "$body" "$(sum_of "$below" "$(committed "tools/one_worker/$body.edit")")" "$top/tools/try_one_worker.sh" "$body"
+    chosen "$body" || continue
+    items=$((items + 1))
+    sums[$body]=$(sum_of "$below" "$(committed "tools/one_worker/$body.edit")")
+    if grep -q "^${sums[$body]} $part $body " "$held"; then noted=$((noted + 1)); else left+=("$body"); fi
   done
+  [ ${#left[@]} -gt 0 ] || return
+  bad=${#left[@]}
+  while IFS= read -r line; do
+    echo "$line"
+    body=${line%%: *}
+    if [[ -n ${sums[$body]-} && $line == "$body: told by "* ]]; then
+      note "${sums[$body]}" "$body"
+      bad=$((bad - 1))
+    fi
+  done < <("$top/tools/try_one_worker.sh" "${left[@]}" 2>&1) >"$checked/workers"
+  [ $bad = 0 ] || echo "workers: $(tail -n 1 "$checked/workers")"
 }
 
 bodies() {
