@@ -52,7 +52,8 @@ for edit in edits:
             if not os.path.isfile(name):
                 complain(edit, f"no file {name}")
                 break
-            if "/src/" not in name:
+            # A body by one worker has to be proved, so its proof may change with it.
+            if "/src/" not in name and not (parts[1] == "one_worker" and texts and "/proofs/" in name):
                 complain(edit, "changes no code")
             texts.setdefault(name, open(name, encoding="utf-8").read())
         elif line.startswith("old: "):
