@@ -18,7 +18,7 @@
 # date, commit, kit. An item whose sum stands there is not tried again, at this commit or a later one, here or on another
 # machine: so the file is committed after a run. Of the toolchain the sum has what `rt version` says behind `logic`, a sum
 # of the libraries that the prover takes; two kits that differ by name alone count as one, and the line names the one that was used.
-# The output of each item goes to CHECKED/PART-ITEM (CHECKED: /tmp/snes-full-check).
+# The output of each item goes to CHECKED/PART-ITEM, of all of `workers` to CHECKED/workers (CHECKED: /tmp/snes-full-check).
 #
 # It wants the built programs (./snes demo 7 --frames 0; in crates/wild_jobs `rt run`, or ONLY_BUILD=1 tools/run_built.sh
 # jobs wild_jobs), a C compiler, and some three hours of four processors, of which the wrong bodies take nearly all.

@@ -13,7 +13,8 @@
 # the proofs that stand below, where they are not made yet. Works on what is committed, in a folder of its own, or
 # in the clone TREE, whose proofs are taken and kept (its sources are made those of this commit).
 #
-# What each was refused at is kept in tools/wrong_bodies/refused_at.tsv (by tools/refused_at.py, which says what counts). The
+# What each was refused at is kept in tools/wrong_bodies/refused_at.tsv (by tools/refused_at.py, which says what counts), and a
+# mutant that was refused on these very sources before is not tried again, unless its line is taken out there. The
 # status is 1 where a mutant is not refused, or is refused only where that says little of the contract.
 top=$(cd "$(dirname "${BASH_SOURCE[0]}")/.." && pwd) || exit 1
 with_gate=no

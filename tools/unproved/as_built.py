@@ -124,4 +124,5 @@ def main():
         text.write("\n".join(Module(module, hints_of(repository)).written()) + "\n")
 
 
-main()
+if __name__ == "__main__":
+    main()
