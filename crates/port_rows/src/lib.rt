@@ -6,11 +6,15 @@
 #![tactic(auto)]
 
 #[cfg(test)]
+mod cases;
+#[cfg(test)]
 mod clocks;
 #[cfg(test)]
 mod lock;
 #[cfg(test)]
 mod log;
+#[cfg(test)]
+mod passes;
 #[cfg(test)]
 mod threads;
 #[cfg(test)]

@@ -116,28 +116,33 @@ fn race<R: Threads, W: Wire>(
     )
 }
 
+/// The race over the passes of new ports, and then a read by the sound side over the whole at the last write's stamp: how
+/// many writes were refused, how many reads were wrong, and how many of that one.
+fn raced<R: Threads, W: Wire>(rt: &R, wire: &W, whole: W::Whole) -> [u32; 3]
+where
+    W::Whole: Drop,
+    requires of { W.is_whole_of wire.now whole }
+    requires region { W.region_of wire.now ≡ Ntsc }
+    requires console { (W.both whole).console.at ≡ 0 }
+    requires sound { (W.both whole).sound.at ≡ 0 }
+{
+    let (mut console, mut sound) = wire.part(whole);
+    let (refused, wrong) = race(rt, wire, &mut console, &mut sound);
+    let mut whole = wire.reunite(console, sound);
+    let last = wire.read_whole(&mut whole, Side::Sound, 33_758_208, 0);
+    [refused, wrong, if last == Ok(231) { 0 } else { 1 }]
+}
+
 #[test]
 fn two_threads_hear_each_write_at_its_stamp(rt: HostRuntime) -> Result<(), Fail> {
     let (ports, whole) = Ports::open(rt.alloc(), Region::Ntsc)?;
-    let (mut console, mut sound) = ports.part(whole);
-    assert_eq!(rt; race(&rt, &ports, &mut console, &mut sound), (0, 0));
-    let mut whole = ports.reunite(console, sound);
-    assert_eq!(rt;
-        ports.read_whole(&mut whole, Side::Sound, 33_758_208, 0),
-        Ok(231)
-    );
+    assert_eq!(rt; raced(&rt, &ports, whole), [0, 0, 0]);
     Ok(())
 }
 
 #[test]
 fn two_threads_hear_each_write_without_a_lock(rt: HostRuntime) -> Result<(), Fail> {
     let (words, whole) = Words::open(rt.alloc(), Region::Ntsc)?;
-    let (mut console, mut sound) = words.part(whole);
-    assert_eq!(rt; race(&rt, &words, &mut console, &mut sound), (0, 0));
-    let mut whole = words.reunite(console, sound);
-    assert_eq!(rt;
-        words.read_whole(&mut whole, Side::Sound, 33_758_208, 0),
-        Ok(231)
-    );
+    assert_eq!(rt; raced(&rt, &words, whole), [0, 0, 0]);
     Ok(())
 }
