@@ -61,6 +61,20 @@ fn compare<R: AllocGlobal + Files + Print>(
     }
 }
 
+/// Prints the exit status, and where that is 0 whether the outputs are those in memory.
+fn compare_all<R: AllocGlobal + Files + Print>(
+    rt: &R,
+    status: Status,
+    row: &Outcome,
+) -> io::Result<()> {
+    println!(rt; "  exit {}", status.exit())?;
+    if status != Status::Ok {
+        return Ok(());
+    }
+    compare(rt, "video", Out::Video, row)?;
+    compare(rt, "sound", Out::Sound, row)
+}
+
 /// Answers the words over real files, and prints what is said, the exit status, and whether the outputs are those in
 /// memory. They are read while their shelf still stands, so that nothing is held back that was not flushed.
 fn answer_on_disk<R: AllocGlobal + Threads + Clock + Print + Files>(
@@ -70,12 +84,20 @@ fn answer_on_disk<R: AllocGlobal + Threads + Clock + Print + Files>(
 ) -> io::Result<()> {
     let mut shelf = FileShelf::new(rt);
     let status = answer(rt, argv, &mut shelf);
-    println!(rt; "  exit {}", status.exit())?;
-    if status != Status::Ok {
-        return Ok(());
-    }
-    compare(rt, "video", Out::Video, row)?;
-    compare(rt, "sound", Out::Sound, row)
+    compare_all(rt, status, row)
+}
+
+/// Writes the files, answers, and removes them and the outputs.
+fn answer_between<R: AllocGlobal + Threads + Clock + Print + Files>(
+    rt: &R,
+    rows: &Rows,
+    words: &str,
+    argv: &Argv,
+    row: &Outcome,
+) -> io::Result<()> {
+    lay(rt, rows, words)?;
+    answer_on_disk(rt, argv, row)?;
+    clear(rt, rows, words, row)
 }
 
 /// `disk WORDS`: a row over real files in the folder where the program runs, which holds none of them before and
@@ -89,10 +111,8 @@ pub fn disk<R: AllocGlobal + Threads + Clock + Print + Files>(
     let Some(row) = performed(rt, rows, words, None) else {
         return println!(rt; "  no memory, or no row");
     };
-    let Some(argv) = words_of(rt.alloc(), words) else {
-        return println!(rt; "  no memory, or no row");
-    };
-    lay(rt, rows, words)?;
-    answer_on_disk(rt, &argv, &row)?;
-    clear(rt, rows, words, &row)
+    match words_of(rt.alloc(), words) {
+        Some(argv) => answer_between(rt, rows, words, &argv, &row),
+        None => println!(rt; "  no memory, or no row"),
+    }
 }

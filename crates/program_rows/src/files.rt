@@ -52,32 +52,18 @@ impl Files {
         }
         if let Some(name) = line.strip_prefix("copy ") {
             let bytes = self.find(name)?.to_vec(self.alloc).ok()?;
-            return extend(&mut self.latest()?.bytes, bytes.as_slice());
+            return self.append(bytes.as_slice());
         }
         if let Some(digits) = line.strip_prefix("hex ") {
             let bytes = hex::decode(self.alloc, digits).ok()?;
-            return extend(&mut self.latest()?.bytes, bytes.as_slice());
+            return self.append(bytes.as_slice());
         }
-        let bytes = &mut self.latest()?.bytes;
-        if let Some(text) = line.strip_prefix("text ") {
-            return extend(bytes, text.as_bytes());
-        }
-        if let Some(text) = line.strip_prefix("line ") {
-            extend(bytes, text.as_bytes())?;
-            return bytes.push(b'\n').ok();
-        }
-        let mut words = line.split_whitespace();
-        match words.next()?.as_bytes() {
-            b"fill" => fill(bytes, words),
-            b"put" => put(
-                bytes.as_mut_slice(),
-                hexadecimal(words.next()?)?,
-                words.next()?,
-            ),
-            b"ramp" => ramp(bytes, words),
-            b"noise" => noise(bytes, words),
-            _ => None,
-        }
+        say_more(&mut self.latest()?.bytes, line)
+    }
+
+    /// Adds bytes to the latest file.
+    fn append(&mut self, more: &[u8]) -> Option<()> {
+        extend(&mut self.latest()?.bytes, more)
     }
 
     fn latest(&mut self) -> Option<&mut NamedFile> {
@@ -87,6 +73,29 @@ impl Files {
 
 fn extend(bytes: &mut Vec<u8>, more: &[u8]) -> Option<()> {
     bytes.extend_from_slice(more).ok()
+}
+
+/// A line that says more of a file by itself.
+fn say_more(bytes: &mut Vec<u8>, line: &str) -> Option<()> {
+    if let Some(text) = line.strip_prefix("text ") {
+        return extend(bytes, text.as_bytes());
+    }
+    if let Some(text) = line.strip_prefix("line ") {
+        extend(bytes, text.as_bytes())?;
+        return bytes.push(b'\n').ok();
+    }
+    let mut words = line.split_whitespace();
+    match words.next()?.as_bytes() {
+        b"fill" => fill(bytes, words),
+        b"put" => put(
+            bytes.as_mut_slice(),
+            hexadecimal(words.next()?)?,
+            words.next()?,
+        ),
+        b"ramp" => ramp(bytes, words),
+        b"noise" => noise(bytes, words),
+        _ => None,
+    }
 }
 
 /// `fill COUNT BYTE`: so many times that byte.

@@ -31,12 +31,16 @@ fn row<R: AllocGlobal + Threads + Clock + Print>(
     rows: &mut Rows,
     words: &str,
 ) -> io::Result<()> {
-    let Some(outcome) = performed(rt, rows, words, None) else {
-        return println!(rt; "{NO_ROW}");
-    };
-    show_answer(rt, &outcome)?;
-    show_outputs(rt, &outcome, Detail::Bytes)?;
-    match keep(rows, &outcome) {
+    match performed(rt, rows, words, None) {
+        Some(outcome) => show_row(rt, rows, &outcome),
+        None => println!(rt; "{NO_ROW}"),
+    }
+}
+
+fn show_row<R: Print>(rt: &R, rows: &mut Rows, outcome: &Outcome) -> io::Result<()> {
+    show_answer(rt, outcome)?;
+    show_outputs(rt, outcome, Detail::Bytes)?;
+    match keep(rows, outcome) {
         Some(()) => Ok(()),
         None => println!(rt; "{NO_ROW}"),
     }
@@ -48,9 +52,13 @@ fn opening<R: AllocGlobal + Threads + Clock + Print>(
     rows: &Rows,
     words: &str,
 ) -> io::Result<()> {
-    let Some(outcome) = performed(rt, rows, words, None) else {
-        return println!(rt; "{NO_ROW}");
-    };
+    match performed(rt, rows, words, None) {
+        Some(outcome) => show_opening(rt, &outcome),
+        None => println!(rt; "{NO_ROW}"),
+    }
+}
+
+fn show_opening<R: Print>(rt: &R, outcome: &Outcome) -> io::Result<()> {
     let exit = outcome.status.exit();
     let said = str::from_utf8(outcome.shelf.written(Out::Say)).unwrap_or("");
     match said.split_once(" video ") {
@@ -97,13 +105,23 @@ fn both<R: AllocGlobal + Threads + Clock + Print>(
     words: &str,
     detail: Detail,
 ) -> io::Result<()> {
-    let Some(outcome) = by_turns(rt, rows, words) else {
-        return println!(rt; "{NO_ROW}");
-    };
-    show_answer(rt, &outcome)?;
-    show_outputs(rt, &outcome, detail)?;
-    let serially = leaves_the_same(rt, rows, "serial", words, &outcome);
-    let lockless = leaves_the_same(rt, rows, "lockless", words, &outcome);
+    match by_turns(rt, rows, words) {
+        Some(outcome) => show_both(rt, rows, words, detail, &outcome),
+        None => println!(rt; "{NO_ROW}"),
+    }
+}
+
+fn show_both<R: AllocGlobal + Threads + Clock + Print>(
+    rt: &R,
+    rows: &Rows,
+    words: &str,
+    detail: Detail,
+    outcome: &Outcome,
+) -> io::Result<()> {
+    show_answer(rt, outcome)?;
+    show_outputs(rt, outcome, detail)?;
+    let serially = leaves_the_same(rt, rows, "serial", words, outcome);
+    let lockless = leaves_the_same(rt, rows, "lockless", words, outcome);
     show_alike(rt, serially, lockless)
 }
 
@@ -140,6 +158,22 @@ fn tell<R: Print>(rt: &R, nth: u32, part: &Outcome, whole: &Outcome) -> io::Resu
     Ok(())
 }
 
+/// Tells of a row whose nth put was to fail, and counts its answer. It answers whether it was one of a put that failed.
+fn count<R: Print>(
+    rt: &R,
+    nth: u32,
+    part: &Outcome,
+    whole: &Outcome,
+    puts: &mut Puts,
+) -> io::Result<bool> {
+    tell(rt, nth, part, whole)?;
+    if puts.count(part.status) {
+        return Ok(true);
+    }
+    show_answer(rt, part)?;
+    Ok(false)
+}
+
 /// Lets the nth put of a row fail, and counts the answer. It answers whether it was one of a put that failed.
 fn fail_put<R: AllocGlobal + Threads + Clock + Print>(
     rt: &R,
@@ -153,16 +187,13 @@ fn fail_put<R: AllocGlobal + Threads + Clock + Print>(
         call: ShelfCall::Put(None),
         nth,
     };
-    let Some(part) = performed(rt, rows, words, Some(here)) else {
-        println!(rt; "{NO_ROW}")?;
-        return Ok(false);
-    };
-    tell(rt, nth, &part, whole)?;
-    if puts.count(part.status) {
-        return Ok(true);
+    match performed(rt, rows, words, Some(here)) {
+        Some(part) => count(rt, nth, &part, whole, puts),
+        None => {
+            println!(rt; "{NO_ROW}")?;
+            Ok(false)
+        }
     }
-    show_answer(rt, &part)?;
-    Ok(false)
 }
 
 /// Lets each put of a row fail in turn, until none is left to fail, and prints how many did, by output.
@@ -207,12 +238,23 @@ fn part<R: AllocGlobal + Threads + Clock + Print>(
     rows: &mut Rows,
     words: &str,
 ) -> io::Result<()> {
-    let Some(part) = performed(rt, rows, words, None) else {
-        return println!(rt; "{NO_ROW}");
-    };
+    let part = performed(rt, rows, words, None);
     rows.mend();
+    match part {
+        Some(part) => beside(rt, rows, words, &part),
+        None => println!(rt; "{NO_ROW}"),
+    }
+}
+
+/// Prints what a row that some put failed left beside what it leaves without a failure.
+fn beside<R: AllocGlobal + Threads + Clock + Print>(
+    rt: &R,
+    rows: &Rows,
+    words: &str,
+    part: &Outcome,
+) -> io::Result<()> {
     match performed(rt, rows, words, None) {
-        Some(whole) => show_part(rt, &part, &whole),
+        Some(whole) => show_part(rt, part, &whole),
         None => println!(rt; "{NO_ROW}"),
     }
 }

@@ -24,7 +24,8 @@ pub struct Rows {
     failures: Vec<Failure>,
 }
 
-/// What the program answered, and the shelf that it left.
+/// What the program answered, and the shelf that it left. A function that owns one ends in one place and lends it to
+/// others, since a proof reads all that is dropped anew at each end.
 #[derive(Drop)]
 pub struct Outcome {
     pub status: Status,
@@ -57,9 +58,8 @@ impl Rows {
         self.failures.clear();
     }
 
-    /// A shelf that fails where it is planned, and here. It holds the files that the words name.
-    fn shelf(&self, alloc: Global, words: &str, here: Option<Failure>) -> Option<MemShelf> {
-        let mut shelf = MemShelf::new(alloc, self.room).ok()?;
+    /// Gives a shelf the files that the words name, and the failures that are planned, with one more here.
+    fn fill(&self, shelf: &mut MemShelf, words: &str, here: Option<Failure>) -> Option<()> {
         for word in words.split(' ') {
             if let Some(bytes) = self.files.find(word) {
                 shelf.hold(word, bytes).ok()?;
@@ -71,6 +71,13 @@ impl Rows {
         if let Some(failure) = here {
             shelf.fail(failure.call, failure.nth).ok()?;
         }
+        Some(())
+    }
+
+    /// A shelf that fails where it is planned, and here. It holds the files that the words name.
+    fn shelf(&self, alloc: Global, words: &str, here: Option<Failure>) -> Option<MemShelf> {
+        let mut shelf = MemShelf::new(alloc, self.room).ok()?;
+        self.fill(&mut shelf, words, here)?;
         Some(shelf)
     }
 }
