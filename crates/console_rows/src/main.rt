@@ -30,7 +30,11 @@ mod run;
 mod workers;
 
 use row::Row;
+use std::alloc::Global;
+use std::env::Args;
 use std::rt::Files;
+use std::thread::Threads;
+use std::time::Clock;
 use std::{env, fs, io};
 
 /// Follows the lines of a file.
@@ -45,14 +49,24 @@ fn follow<R: Files + Print + AllocGlobal>(rt: &R, row: &mut Row, name: &str) -> 
     Ok(())
 }
 
-fn main(rt: HostRuntime) -> io::Result<()> {
-    let mut row = Row::new(rt.alloc());
-    for word in env::args(&rt)?.skip(1) {
+/// Does what the program's words say.
+fn follow_words<R: Files + Print + AllocGlobal + Threads + Clock>(
+    rt: &R,
+    row: &mut Row,
+    words: Args<Global>,
+) -> io::Result<()> {
+    for word in words.skip(1) {
         match word.as_str() {
-            "workers" => workers::show_all(&rt)?,
-            "plans" => plans::show_all(&rt)?,
-            name => follow(&rt, &mut row, name)?,
+            "workers" => workers::show_all(rt)?,
+            "plans" => plans::show_all(rt)?,
+            name => follow(rt, row, name)?,
         }
     }
     Ok(())
+}
+
+fn main(rt: HostRuntime) -> io::Result<()> {
+    let words = env::args(&rt)?;
+    let mut row = Row::new(rt.alloc());
+    follow_words(&rt, &mut row, words)
 }

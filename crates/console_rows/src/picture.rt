@@ -73,11 +73,8 @@ fn show_rows(rt: &impl Print, row: &Dots, from: u64, to: u64) -> io::Result<()> 
     show_row(rt, row)
 }
 
-/// Prints a frame of a job.
-pub fn show_picture(rt: &impl Print, alloc: Global, job: &Job, frame: u64) -> io::Result<()> {
-    let Ok(mut side) = ConsoleSide::new(alloc, job) else {
-        return println!(rt; "no memory");
-    };
+/// Prints the frame of a console.
+fn show_frame(rt: &impl Print, side: &mut ConsoleSide, frame: u64) -> io::Result<()> {
     let mut last = [0u8; ROW];
     let mut from = 0u64;
     let mut rows = 0u64;
@@ -96,9 +93,17 @@ pub fn show_picture(rt: &impl Print, alloc: Global, job: &Job, frame: u64) -> io
                 return show_rows(rt, &last, from, ROWS - 1);
             }
         }
-        if !make(&mut side, 0, &mut row) {
+        if !make(side, 0, &mut row) {
             return println!(rt; "no room");
         }
     }
     println!(rt; "too few rows")
+}
+
+/// Prints a frame of a job.
+pub fn show_picture(rt: &impl Print, alloc: Global, job: &Job, frame: u64) -> io::Result<()> {
+    match ConsoleSide::new(alloc, job) {
+        Ok(mut side) => show_frame(rt, &mut side, frame),
+        Err(_) => println!(rt; "no memory"),
+    }
 }

@@ -46,6 +46,11 @@ fn frame_of(line: &str) -> Option<u64> {
     line.strip_prefix("picture ")?.parse().ok()
 }
 
+/// Names a line that says nothing.
+fn name_line(rt: &impl Print, line: &str) -> io::Result<()> {
+    println!(rt; "no line of a row: {line}")
+}
+
 impl Row {
     pub fn new(alloc: Global) -> Row {
         Row {
@@ -83,17 +88,15 @@ impl Row {
         }
     }
 
-    /// Runs the row as a line asks for, or nothing where the line doesn't.
-    fn run(&self, rt: &impl Print, job: &Job, alloc: Global, line: &str) -> io::Result<bool> {
+    /// Runs the row as a line asks for.
+    fn run(&self, rt: &impl Print, job: &Job, alloc: Global, line: &str) -> io::Result<()> {
         if let Some((show, from, to)) = shown(line) {
-            Run::new(show, from, to, self.is_torn).acts(rt, alloc, job)?;
-            return Ok(true);
+            return Run::new(show, from, to, self.is_torn).acts(rt, alloc, job);
         }
-        if let Some(frame) = frame_of(line) {
-            show_picture(rt, alloc, job, frame)?;
-            return Ok(true);
+        match frame_of(line) {
+            Some(frame) => show_picture(rt, alloc, job, frame),
+            None => name_line(rt, line),
         }
-        Ok(false)
     }
 
     /// Does what a line says. A line that says nothing is named.
@@ -108,11 +111,9 @@ impl Row {
         if self.prepare(alloc, line).is_some() {
             return Ok(());
         }
-        if let Some(job) = self.cartridge.job(alloc) {
-            if self.run(rt, &job, alloc, line)? {
-                return Ok(());
-            }
+        match self.cartridge.job(alloc) {
+            Some(job) => self.run(rt, &job, alloc, line),
+            None => name_line(rt, line),
         }
-        println!(rt; "no line of a row: {line}")
     }
 }

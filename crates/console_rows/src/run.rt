@@ -129,17 +129,19 @@ impl Run {
         }
     }
 
-    /// Makes the steps of a job and prints its acts.
-    pub fn acts(&mut self, rt: &impl Print, alloc: Global, job: &Job) -> io::Result<()> {
-        let Ok(mut side) = ConsoleSide::new(alloc, job) else {
-            return println!(rt; "no memory");
-        };
+    /// Makes the steps of a console of a job's region and prints its acts.
+    fn show_acts(
+        &mut self,
+        rt: &impl Print,
+        side: &mut ConsoleSide,
+        region: Region,
+    ) -> io::Result<()> {
         let mut bytes = [0u8; 1024];
         if self.show == Show::Bytes {
             print!(rt; "bytes:")?;
         }
         for _ in 0..MOST_STEPS {
-            let clock = clock_of(&side, job.region);
+            let clock = clock_of(side, region);
             if clock >= self.to {
                 break;
             }
@@ -149,9 +151,9 @@ impl Run {
                 _ => 0,
             };
             if act != Act::Quiet && clock >= self.from {
-                self.show_act(rt, job.region, act, clock)?;
+                self.show_act(rt, region, act, clock)?;
             }
-            if !make(&mut side, got, &mut bytes) {
+            if !make(side, got, &mut bytes) {
                 return println!(rt; "no room");
             }
         }
@@ -159,5 +161,13 @@ impl Run {
             println!(rt; "")?;
         }
         Ok(())
+    }
+
+    /// Makes the steps of a job and prints its acts.
+    pub fn acts(&mut self, rt: &impl Print, alloc: Global, job: &Job) -> io::Result<()> {
+        match ConsoleSide::new(alloc, job) {
+            Ok(mut side) => self.show_acts(rt, &mut side, job.region),
+            Err(_) => println!(rt; "no memory"),
+        }
     }
 }

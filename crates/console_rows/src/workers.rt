@@ -14,7 +14,7 @@
 
 mod files;
 
-use file_shelf::Out;
+use file_shelf::{Out, SureShelf};
 use files::{Programs, shelf};
 use job_player::Console;
 use run_drive::{Host, Watch};
@@ -104,28 +104,35 @@ fn is_numbered(turns: Option<u64>, limit: u64) -> bool {
     }
 }
 
-/// Runs a row, or gives nothing where there is no memory for it.
-fn run<R: AllocGlobal + Threads + Clock + Print>(rt: &R, row: &Row) -> Option<io::Result<()>> {
-    let words = words_of(rt.alloc(), row)?;
-    let mut shelf = shelf(rt.alloc(), &row.programs)?;
+/// Prints the answer of a row whose words and files stand ready, and what was seen of its workers.
+fn show_run<R: AllocGlobal + Threads + Clock + Print>(
+    rt: &R,
+    words: &Argv,
+    shelf: &mut SureShelf,
+    limit: u64,
+) -> io::Result<()> {
     let watch = Watch::new();
-    let status = snes::<Console, _, _>(&Host::watched(rt, &watch), &words, &mut shelf);
-    let said = str::from_utf8(shelf.written(Out::Say)).ok()?;
+    let status = snes::<Console, _, _>(&Host::watched(rt, &watch), words, shelf);
     let ends = if status == Status::Ok { "Ok" } else { "no end" };
     let meets = if watch.met() { "met" } else { "did not meet" };
-    let counts = if is_numbered(watch.turns(), row.limit) {
+    let counts = if is_numbered(watch.turns(), limit) {
         "as they should be"
     } else {
         "wrong"
     };
-    Some(println!(rt; "{said:?}, {ends}: the workers {meets}, their turns are {counts}"))
+    match str::from_utf8(shelf.written(Out::Say)) {
+        Ok(said) => {
+            println!(rt; "{said:?}, {ends}: the workers {meets}, their turns are {counts}")
+        }
+        Err(_) => println!(rt; "no text"),
+    }
 }
 
 /// Runs a row through the program, and prints its answer and what was seen of its workers.
 fn show<R: AllocGlobal + Threads + Clock + Print>(rt: &R, row: &Row) -> io::Result<()> {
-    match run(rt, row) {
-        Some(printed) => printed,
-        None => println!(rt; "no memory"),
+    match (words_of(rt.alloc(), row), shelf(rt.alloc(), &row.programs)) {
+        (Some(words), Some(mut shelf)) => show_run(rt, &words, &mut shelf, row.limit),
+        _ => println!(rt; "no memory"),
     }
 }
 

@@ -38,15 +38,30 @@ mod show;
 
 use follow::follow;
 use rows::Rows;
+use std::alloc::Global;
+use std::env::Args;
+use std::rt::Files;
+use std::thread::Threads;
+use std::time::Clock;
 use std::{env, fs, io};
 
-fn main(rt: HostRuntime) -> io::Result<()> {
-    let mut rows = Rows::new(rt.alloc());
-    for name in env::args(&rt)?.skip(1) {
-        let text = fs::read_to_string(&rt, name.as_str())?;
+/// Follows the lines of the files of these names.
+fn follow_files<R: Files + Print + AllocGlobal + Threads + Clock>(
+    rt: &R,
+    rows: &mut Rows,
+    words: Args<Global>,
+) -> io::Result<()> {
+    for name in words.skip(1) {
+        let text = fs::read_to_string(rt, name.as_str())?;
         for line in text.lines() {
-            follow(&rt, &mut rows, line)?;
+            follow(rt, rows, line)?;
         }
     }
     Ok(())
+}
+
+fn main(rt: HostRuntime) -> io::Result<()> {
+    let words = env::args(&rt)?;
+    let mut rows = Rows::new(rt.alloc());
+    follow_files(&rt, &mut rows, words)
 }
