@@ -31,7 +31,7 @@ mkdir -p "$checked" && touch "$held" || exit 2
 export snes=${SNES:-$top/crates/snes_run/out/snes_run}
 jobs=${WILD_JOBS:-$top/crates/wild_jobs/out/wild_jobs}
 commit=$(git -C "$top" rev-parse --short HEAD) || exit 2
-read -r kit logic < <(rt version) || exit 2
+read -r kit _ < <(rt version) || exit 2
 parts=("$@")
 [ $# -gt 0 ] || parts=(edits device allocations soak rows workers bodies)
 
@@ -69,10 +69,7 @@ sum_of() {
 }
 
 # What the check of a crate rests on: the committed sources of it and of all below, and the toolchain's logic.
-sources_of() {
-  echo "$logic"
-  "$top/tools/lines_below.sh" "$1" | sed 's,[ :].*,,; s,.*,crates/&/src crates/&/specs crates/&/proofs,' | xargs git -C "$top" ls-tree HEAD
-}
+sources_of() { "$top/tools/proof_sources.py" "$1"; }
 
 # What is committed in a file or folder.
 committed() { git -C "$top" rev-parse "HEAD:$1"; }

@@ -26,18 +26,19 @@ and kinds that say little of the contract, as the fault may not have been looked
     unknown         none of these
 
 A complaint within the written answer of a goal counts as one of that goal. The record has a line for each mutant: crate,
-mutant, kind, file and goal, and a sum of all that the refusal rests on (the committed sources of the crate and of all below it,
-the edit, the toolchain's logic). A mutant whose kind says little counts where tools/wrong_bodies/says_little.txt names it, or its
-crate and the place of the refusal, with a reason. The status is 1 where one doesn't; `counts` tells it of what the record has
-of the crate's mutants beside the gate. `held` names those that count and whose sum is that of now: they need not be tried again.
+mutant, kind, file and goal, and a sum of all that the refusal rests on (what proof_sources.py prints of the crate, and the edit).
+A mutant whose kind says little counts where tools/wrong_bodies/says_little.txt names it, or its crate and the place of the
+refusal, with a reason. The status is 1 where one doesn't; `counts` tells it of what the record has of the crate's mutants
+beside the gate. `held` names those that count and whose sum is that of now: they need not be tried again.
 """
 import fcntl
-import functools
 import hashlib
 import os
 import re
 import subprocess
 import sys
+
+from proof_sources import sources_of
 
 TOP = os.path.dirname(os.path.dirname(os.path.realpath(__file__)))
 RECORD = f"{TOP}/tools/wrong_bodies/refused_at.tsv"
@@ -166,18 +167,6 @@ def recorded(text):
 def stands(crate, name):
     """Whether there is a mutant of this name, in the gate or beside it."""
     return any(os.path.isfile(f"{TOP}/{it}/{name}.edit") for it in (f"tools/wrong_bodies/{crate}", f"crates/{crate}/must-fail"))
-
-
-def said_by(*words):
-    return subprocess.run(words, cwd=TOP, stdout=subprocess.PIPE, check=True, text=True).stdout
-
-
-@functools.cache
-def sources_of(crate):
-    """What the check of a crate rests on: the committed sources of it and of all below, and the toolchain's logic."""
-    below = [re.split("[ :]", it)[0] for it in said_by("tools/lines_below.sh", crate).split("\n") if it]
-    folders = [f"crates/{it}/{part}" for it in below for part in ("src", "specs", "proofs")]
-    return said_by("rt", "version").split()[-1] + said_by("git", "ls-tree", "HEAD", *folders)
 
 
 def sum_of(crate, name):
