@@ -305,7 +305,6 @@ impl Hardware {
 
     /// Sample `s`, and its bytes.
     #[tactic(auto, unfolding(crate::specs::Effect::sampled, crate::specs::Effect::sample_bytes))]
-    #[inline(never)]
     pub fn sample(&mut self, s: u64) -> [u8; 4]
         ensures hardware { self.new ≡ sampled s self.old }
         ensures bytes { result ≡ sample_bytes s self.old }

@@ -122,7 +122,7 @@ impl Parts {
 
     /// Makes accesses of the memory and the ports and internal cycles, each ended by a stamp until which the other side
     /// stands still, at most up to the next cycle at whose end something may come.
-    #[inline(never)]
+    #[inline(always)]
     fn talk_on(&mut self, incoming: &[u8; 4], outgoing: &mut [u8; 4], before: u64)
         requires early { before ≤ 2 ^ 62 }
         ensures talked { (m : SoundState) → StandsAt (value_of self.old) m → HasTalked sound_moves before (StandsAt (value_of self.new)) incoming.now outgoing.new (record { own = m; incoming = incoming.now; outgoing = outgoing.old }) }

@@ -97,7 +97,7 @@ fn make_port(
 
 /// Makes the processor's accesses one after another, at most so many, as long as they are internal cycles or of the
 /// memory or the ports, and answers how many it made.
-#[inline(never)]
+#[inline(always)]
 pub fn talk_accesses(
     spc: &mut Spc,
     hardware: &mut Hardware,

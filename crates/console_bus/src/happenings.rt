@@ -43,6 +43,7 @@ impl Bus {
     }
 
     /// The byte of a transfer that was due has been moved.
+    #[inline(always)]
     pub fn transferred(&mut self, byte: u8)
         requires { IsSome (due_of self.old.channels) }
         ensures { self.new ≡ record self.old { channels = after_byte self.old.channels byte } }

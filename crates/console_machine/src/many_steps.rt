@@ -80,7 +80,6 @@ fn clocks_since(left: u16, bus: &Bus) -> u16
 
 /// Makes the processor's accesses one after another, as long as they are of the memory or internal cycles and nothing
 /// else happens in their clocks, and answers how many clocks they last together.
-#[inline(never)]
 fn make_accesses(cpu: &mut Cpu, bus: &mut Bus) -> u16
     ensures run { (w : ConsoleState) → IsAt cpu.old bus.old w → w.rest.beam.h < 1364 → HasRun cpu.new bus.new w result }
     ensures left { result + clocks_left bus.new.beam ≡ clocks_left bus.old.beam }
@@ -230,7 +229,7 @@ fn go_over(bus: &mut Bus, round: u16) -> u16
 
 /// Goes on with a round that is known past places where nothing comes but a refresh or the next line, for a line's clocks
 /// at most, of which some are gone before: whole rounds, of which one lasts past each place. Answers how many clocks they last.
-#[inline(never)]
+#[inline(always)]
 fn go_beyond(bus: &mut Bus, round: u16, before: u16) -> u16
     requires few { before ≤ 1364 }
     ensures goes { GoesOver bus.old bus.new round result }
@@ -262,7 +261,7 @@ fn go_beyond(bus: &mut Bus, round: u16, before: u16) -> u16
 /// Makes accesses that only look, and where they come back to the processor and the byte on the data bus that they
 /// began with, passes the rounds that fit before the next place, and goes on with them past places where little comes, for a
 /// line's clocks at most, of which some are gone before. Answers how many clocks all of them last.
-#[inline(never)]
+#[inline(always)]
 fn make_rounds(cpu: &mut Cpu, bus: &mut Bus, patience: &mut Patience, before: u16) -> u16
     requires few { before + clocks_left bus.old.beam ≤ 1364 }
     ensures run { (w : ConsoleState) → IsAt cpu.old bus.old w → w.rest.beam.h < 1364 → HasRun cpu.new bus.new w result }

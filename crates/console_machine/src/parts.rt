@@ -215,7 +215,7 @@ impl Parts {
 
     /// The same: all at once, or near the stamp one by one. Out of line: with two copies of it in one function the
     /// processor's transitions would not be built into the loop.
-    #[inline(never)]
+    #[inline(always)]
     fn hurry(&mut self, before: u64)
         requires early { before ≤ 2 ^ 62 }
         ensures gone { (w : ConsoleState) → StandsAt (value_of self.old) w → IsSilent console_moves before (StandsAt (value_of self.new)) self.old.waiting.items w self.new.waiting.items }
@@ -249,7 +249,7 @@ impl Parts {
 
     /// The same with bytes of transfers and accesses of the registers of the B bus between them. Where it came to an
     /// access of a port, its act is answered.
-    #[inline(always)]
+    #[inline(never)]
     fn hasten(&mut self, before: u64) -> Option<Act>
         requires early { before ≤ 2 ^ 62 }
         ensures gone { (w : ConsoleState) → StandsAt (value_of self.old) w → IsSilent console_moves before (StandsAt (value_of self.new)) self.old.waiting.items w self.new.waiting.items }

@@ -98,7 +98,6 @@ fn write_port(cpu: &mut Cpu, bus: &mut Bus, addr: u32, v: u8, got: u8) -> bool
 
 /// Makes the step that is due where it is the processor's access of a port, 6 clocks long, and nothing else happens in them,
 /// and answers whether it did. Otherwise nothing has changed. `got` is the incoming byte of that port.
-#[inline(always)]
 pub(crate) fn try_port(cpu: &mut Cpu, bus: &mut Bus, got: u8) -> bool
     ensures made { IsTrue result → IsPortMade cpu.old cpu.new bus.old bus.new (access_of cpu.old) got }
     ensures calm { IsTrue result → IsCalm bus.old }

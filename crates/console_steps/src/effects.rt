@@ -127,6 +127,7 @@ fn taken(bus: &Bus, addr: u32) -> u8
 }
 
 /// A byte of a transfer goes from the A side to a register of the B bus.
+#[inline(always)]
 fn move_to_b(bus: &mut Bus, from: u32, port: u8)
     requires { IsSome (transfer_of bus.old.channels) }
     ensures { (got : ℕ) → bus.new ≡ after_move bus.old (Move.ToB from port) got }

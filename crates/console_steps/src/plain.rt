@@ -220,7 +220,7 @@ pub(crate) fn idle_plainly(cpu: &mut Cpu, bus: &mut Bus, place: Place) -> Option
 /// Makes the processor's next access, and lets its clocks pass, where it is one of the memory or an internal
 /// cycle and nothing else happens in these clocks, and answers how many these are. Otherwise nothing has
 /// changed.
-#[inline(always)]
+#[inline(never)]
 pub fn try_plain(cpu: &mut Cpu, bus: &mut Bus) -> Option<u8>
     ensures made { IsWired cpu.old bus.old → IfSome result (λ clocks. IsMadeAtOnce cpu.old cpu.new bus.old bus.new (access_of cpu.old) clocks) }
     ensures within { IfSome result (λ clocks. clocks < clocks_left bus.old.beam) }

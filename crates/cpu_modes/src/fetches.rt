@@ -260,7 +260,7 @@ impl Micro {
     }
 
     /// A branch's distance was fetched. Answers whether the instruction has ended.
-    #[inline]
+    #[inline(always)]
     pub(crate) fn took_branch_offset(&mut self, got: u8) -> bool
         requires { self.old.place ≡ BranchOffset }
         ensures left { remaining self.new ≡ after (remaining self.old) got }

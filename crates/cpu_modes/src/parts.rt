@@ -158,7 +158,7 @@ impl Micro {
     }
 
     /// An operand's two bytes were fetched.
-    #[inline(always)]
+    #[inline(never)]
     pub(crate) fn pass_operand(&mut self, kind: OperandKind, word: u16) -> bool
         ensures left { remaining self.new ≡ after_operand kind self.old.traffic self.old.row self.old.here word }
         ensures keeps { Keeps result self.new }

@@ -11,7 +11,7 @@ impl Micro {
     ghost use Rattle.cpu_modes.specs.Remaining.{Keeps, onward, remaining};
 
     /// The low byte of data was written, or its only one. Answers whether the instruction has ended.
-    #[inline]
+    #[inline(always)]
     fn wrote_store_low(&mut self, reach: Reach) -> bool
         requires { self.old.place ≡ StoreLow reach }
         ensures left { remaining self.new ≡ after (remaining self.old) 0 }

@@ -8,6 +8,7 @@ use crate::whose::Turn;
 
 /// Whose byte is next, and which.
 #[tactic(auto, unfolding(crate::specs::Channels::turn_of))]
+#[inline(always)]
 pub(crate) fn decided(channels: &[Channel; 8]) -> (Turn, Option<Move>)
     ensures turn { result.0 ≡ turn_of channels.now }
     ensures due { result.1 ≡ move_in channels.now result.0 }

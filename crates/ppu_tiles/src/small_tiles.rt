@@ -132,7 +132,6 @@ fn attribute(mode: u8, layer: u8, bits: u8, entry: u16) -> u8
 }
 
 /// The attributes of map entries, a byte each: the number from which an entry's values are counted, and its priority as bit 7.
-#[inline(never)]
 fn take_attributes(mode: u8, layer: u8, bits: u8, entries: &[u16; 33], attributes: &mut [u8; 33])
     requires first { 1 ≤ layer }
     requires last { layer ≤ 4 }
@@ -144,7 +143,6 @@ fn take_attributes(mode: u8, layer: u8, bits: u8, entries: &[u16; 33], attribute
 }
 
 /// The words of VRAM at which the lines of map entries begin, at row `py` of the map.
-#[inline(never)]
 fn take_words(b: &Background, bits: u8, py: u16, entries: &[u16; 33], words: &mut [u16; 33])
     requires depth { bits ≤ 8 }
     ensures words { (c : ℕ) → c < 33 → slice_index words.new c ≡ half_word b.now bits (slice_index entries.now c) 0 py }

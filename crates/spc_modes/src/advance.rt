@@ -94,7 +94,7 @@ impl Micro {
     }
 
     /// What happens inside the processor, before its cycles.
-    #[inline(never)]
+    #[inline(always)]
     pub(crate) fn pass_inside(&mut self, cycles: u8)
         ensures left { remaining self.new ≡ idles_for cycles (ends (internal self.old.row.op self.old.row.mode self.old.here)) }
         ensures start { self.new.start ≡ self.old.start }
