@@ -3,7 +3,7 @@
 
     tools/unproved/as_built.py REPOSITORY MODULE.ll OUT.ll
 
-SIZE (6000): above how many instructions, with those of what is built into it, a function loses `inline(always)`. The functions
+SIZE (5000): above how many instructions, with those of what is built into it, a function loses `inline(always)`. The functions
 that lose it are named on standard output with VERBOSE=1.
 """
 import collections
@@ -12,7 +12,7 @@ import os
 import re
 import sys
 
-SIZE = int(os.environ.get("SIZE", "6000"))
+SIZE = int(os.environ.get("SIZE", "5000"))
 CHECKS = "rattle-llvm-checks::"
 NAME = re.compile(r'@(?:"([^"]*)"|([\w.$]+))\(')
 ATTRIBUTES = {"always": "alwaysinline", "never": "noinline", "hint": "inlinehint"}
