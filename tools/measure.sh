@@ -11,7 +11,8 @@
 # figure has the writing of files in it. An OTHER is a program with the same words, which is measured beside.
 #
 # The program has to be built: ./snes demo 7 --frames 0. SNES=PROGRAM measures another build, JOBS="red" only some jobs;
-# SCENE=FOLDER takes the files that ./scene has written there before.
+# SCENE=FOLDER takes the files that ./scene has written there before. FILES=FOLDER leaves the jobs' files there, a folder
+# each, for tools/profile.py and tools/unproved/try_hints.py; with RUNS=0 nothing is measured.
 top=$(cd "$(dirname "${BASH_SOURCE[0]}")/.." && pwd) || exit 2
 snes=${SNES:-$top/crates/snes_run/out/snes_run}
 [ -x "$snes" ] || { echo "no program: $snes (./snes demo 7 --frames 0 builds it)" >&2; exit 2; }
@@ -79,6 +80,8 @@ printf '%-8s %-28s %14s %16s %13s %16s %18s %21s\n' job program 'M instr/frame' 
   'run, by clock/s' 'lockless, proc/s' 'lockless, by clock/s'
 for job in ${JOBS:-scene seven red}; do
   files_of "$job" || exit 2
+  [ -z "${FILES:-}" ] || { mkdir -p "$FILES" && cp -r "$work/$job" "$FILES/"; } || exit 2
+  [ "$runs" != 0 ] || continue
   declare -A best=()
   for _ in $(seq "$runs"); do
     for program in "${programs[@]}"; do

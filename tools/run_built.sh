@@ -4,7 +4,7 @@
 #   tools/run_built.sh TOOL CRATE [WORD..]
 #
 # TOOL is the name under which messages are printed, CRATE the crate of the program, the words are the program's.
-# File names are those of the folder in which it is called. `./snes`, `./scene` and `./look` are calls of it.
+# File names are those of the folder in which it is called. `./snes`, `./scene`, `./look` and `./trace` are calls of it.
 #
 # The program is built where it is missing or a source of the crates that it stands on is newer. That is the gate,
 # `rt ci`, over a copy of those crates without the edits that have to fail. It takes minutes, says on standard error how

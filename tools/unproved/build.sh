@@ -5,6 +5,7 @@
 #   tools/unproved/build.sh OUT [CRATE WORD..]
 #
 # CRATE is snes_run where none is named. Its words are what `rt try` runs on the way, to no other end: a short run.
+# MODULE names a file for the LLVM module as `rt try` has it, for try_hints.py.
 #
 # `rt try` compiles a program with a check at each operation. Its LLVM module is kept on the way; as_built.py takes the
 # checks out, which a proved program doesn't have, and puts in what the sources say of inlining; the toolchain's compiler and
@@ -46,10 +47,7 @@ chmod +x "$work/kit/toolchain/bin/clang"
 (cd "$here/../../crates/$crate" && "$work/kit/bin/rt" try --seconds 600 -- "$@") >"$work/said" 2>&1
 [ -f "$work/module.bc" ] || { tail -n 9 "$work/said" >&2; exit 1; }
 
-clang=$kit/toolchain/bin/clang
-target=(--no-default-config -no-canonical-prefixes --target=x86_64-unknown-linux-gnu -march=x86-64-v2 -Wno-override-module)
-"$clang" "${target[@]}" -O0 -S -emit-llvm -x ir "$work/module.bc" -o "$work/module.ll" &&
+"$kit/toolchain/bin/clang" --no-default-config -Wno-override-module -O0 -S -emit-llvm -x ir "$work/module.bc" -o "$work/module.ll" &&
+  { [ -z "${MODULE-}" ] || cp "$work/module.ll" "$MODULE"; } &&
   "$here/as_built.py" "$here/../.." "$work/module.ll" "$work/program.ll" &&
-  "$clang" "${target[@]}" "--sysroot=$kit/toolchain" -ffunction-sections -fdata-sections -fPIE -O3 -c -x ir "$work/program.ll" -o "$work/program.o" &&
-  "$kit/bin/rattle-link" --target x86_64-unknown-linux-gnu --toolchain "$kit/toolchain" -o "$out" "$work/program.o" \
-    "$kit/c/libos_c.a" "$kit/c/liblibc_c.a" >/dev/null
+  "$here/compile.sh" "$work/program.ll" "$out"
