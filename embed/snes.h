@@ -58,7 +58,8 @@ struct snes_answer {
  *
  * Inputs: the bytes of the files that `snes serial` takes, each a pointer and its size in bytes. Outputs: a pointer and
  * the room behind it in bytes. At SNES_OK both hold the whole output in front, and behind it what they held before. At
- * SNES_TOO_SHORT both hold first bytes of it, and the named one is full. At every other status they are as they were.
+ * SNES_TOO_SHORT both hold first bytes of it (how many is not told), and the named one is too short for all of it. At every
+ * other status they are as they were.
  *
  * While it plays it takes by malloc a few megabytes, and as much as the cartridge and both rooms have; all is given back.
  *
