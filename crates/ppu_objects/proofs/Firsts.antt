@@ -1,5 +1,5 @@
 -- The first so many elements of a list that grows at its end.
-use Rattle.std.proofs.Common.{◌≡◌, ℕ, suc, ◌+◌, ◌-◌, ◌<◌, ◌≤◌, Bool, true, false, nat_lt, List, [], ◌∷◌, ◌++◌, length, take, drop, get_or, refl, sym, ap, ◌∙◌, append_assoc, add-one, arith}
+use Rattle.std.proofs.Common.{◌≡◌, ℕ, zero, suc, ◌+◌, ◌-◌, ◌<◌, ◌≤◌, Bool, true, false, nat_lt, List, [], ◌∷◌, ◌++◌, length, take, drop, get_or, refl, sym, ap, ◌∙◌, append_assoc, add-one, arith}
 use Rattle.std.proofs.lemmas.List.{take-append-le, length-take, length-append}
 use Rattle.std.proofs.lemmas.Bool.{le-ltb, lt-ltb}
 use Rattle.std.proofs.lemmas.Grind.{common_steps}
@@ -54,6 +54,33 @@ pub on_row_more : (p : Picture) (row k : ℕ) → on_row p row (k + 1) ≡
     grown (stands_on p.registers.object_tiles.size (object_in_turn p k) row) (object_in_turn p k) (on_row p row k)
 unfolding on_row
 on_row_more p row k = rw add-one refl
+
+-- more than so many on the row stay so, and the first ones stay
+grown_long : {A : Type 0} (does : Bool) (x : A) (xs : List A) (m : ℕ) → m < length xs → m < length (grown does x xs)
+unfolding grown
+grown_long true x xs m h = simp length-append (omega arith)
+grown_long false x xs m h = h
+
+grown_first : {A : Type 0} (does : Bool) (x : A) (xs : List A) (m : ℕ) → m < length xs → take m (grown does x xs) ≡ take m xs
+unfolding grown
+grown_first true x xs m h = take-append-le m xs (x ∷ []) (omega arith)
+grown_first false x xs m h = refl
+
+pub on_row_long : (p : Picture) (row k n m : ℕ) → m < length (on_row p row k) → m < length (on_row p row (k + n))
+on_row_long p row k zero m h =
+    let here : k + 0 ≡ k = omega arith in
+    rw here h
+on_row_long p row k (suc n) m h =
+    let next : k + suc n ≡ k + n + 1 = omega arith in
+    rw next (rw (on_row_more p row (k + n)) (grown_long _ _ (on_row p row (k + n)) m (on_row_long p row k n m h)))
+
+pub on_row_first : (p : Picture) (row k n m : ℕ) → m < length (on_row p row k) → take m (on_row p row (k + n)) ≡ take m (on_row p row k)
+on_row_first p row k zero m h =
+    let here : k + 0 ≡ k = omega arith in
+    ap (λ n. take m (on_row p row n)) here
+on_row_first p row k (suc n) m h =
+    let next : k + suc n ≡ k + n + 1 = omega arith in
+    rw next (rw (on_row_more p row (k + n)) (grown_first _ _ (on_row p row (k + n)) m (on_row_long p row k n m h) ∙ on_row_first p row k n m h))
 
 pub slivers_more : (o : Object) (k : ℕ) (xs : List Sliver) → xs ++ first_slivers o (k + 1) ≡
     grown (is_on_screen (sliver_left o k)) (record { object = o; column = k }) (xs ++ first_slivers o k)

@@ -261,6 +261,37 @@ fn note_group(
     more
 }
 
+/// Looks at eight objects in turn, from `8 * group` on, unless none of them may stand on the row, or more than 32 do already.
+#[inline(always)]
+fn note_some(
+    p: &Ppu,
+    sizes: &Sizes,
+    row: u16,
+    tall: u8,
+    first: u8,
+    group: usize,
+    near: &[u8; 256],
+    list: &mut ArrayVec<Object, 32>,
+    over: bool,
+) -> bool
+    requires sizes { sizes.now ≡ p.now.registers.object_tiles.size }
+    requires row { row < 239 }
+    requires tall { (large : Bool) → height_of p.now.registers.object_tiles.size large ≤ tall }
+    requires first { first ≡ first_object p.now }
+    requires small { first < 128 }
+    requires group { group < 16 }
+    requires near { (n : ℕ) → n < 256 → slice_index near.now n ≡ near_mark tall row (slice_index p.now.oam (4 * (n % 128) + 1)) }
+    requires items { list.old.items ≡ take 32 (on_row p.now row (8 * group)) }
+    requires more { over ≡ nat_lt 32 (length (on_row p.now row (8 * group))) }
+    ensures items { list.new.items ≡ take 32 (on_row p.now row (8 * group + 8)) }
+    ensures more { result ≡ nat_lt 32 (length (on_row p.now row (8 * group + 8))) }
+{
+    if over || !is_any(near, first as usize + 8 * group) {
+        return over;
+    }
+    note_group(p, sizes, row, tall, first, group, near, list, over)
+}
+
 /// Whether any object may stand on the row.
 fn is_any_near(near: &[u8; 256]) -> bool
     ensures { (n : ℕ) → n < 256 → result ≡ false → slice_index near.now n ≡ 0 }
@@ -294,9 +325,7 @@ fn note_near(
 {
     let mut more = false;
     for g in 0..16usize {
-        if is_any(near, first as usize + 8 * g) {
-            more = note_group(p, sizes, row, tall, first, g, near, list, more);
-        }
+        more = note_some(p, sizes, row, tall, first, g, near, list, more);
     }
     more
 }

@@ -134,7 +134,7 @@ fn small_colour_at(cgram: &[u16], number: u8) -> u16
     requires small { (k : ℕ) → slice_index cgram.now k < 32768 }
     ensures { result ≡ slice_index cgram.now number }
 {
-    cgram[number as usize] % 32768
+    cgram[number as usize]
 }
 
 /// The colours of CGRAM of a row of numbers, where they have 15 bits. Sixteen at a time, so that little is spent on counting
