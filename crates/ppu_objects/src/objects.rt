@@ -160,12 +160,12 @@ fn mark(tall: u8, row: u8, y: u8) -> u8
 }
 
 /// Marks the objects that may stand on a row, twice side by side, so that from any first object on they stand in turn.
-fn look(oam: &[u8; 544], tall: u8, row: u8, near: &mut [u8; 256])
+fn look(tops: &[u8; 128], tall: u8, row: u8, near: &mut [u8; 256])
     requires { row < 239 }
-    ensures { (n : ℕ) → n < 256 → slice_index near.new n ≡ near_mark tall row (slice_index oam.now (4 * (n % 128) + 1)) }
+    ensures { (n : ℕ) → n < 256 → slice_index near.new n ≡ near_mark tall row (slice_index tops.now (n % 128)) }
 {
     for n in 0..128usize {
-        let mark = mark(tall, row, oam[4 * n + 1]);
+        let mark = mark(tall, row, tops[n]);
         near[n] = mark;
         near[n + 128] = mark;
     }
@@ -343,7 +343,7 @@ pub fn gather(p: &Ppu, row: u16, list: &mut ArrayVec<Object, 32>) -> bool
     let tall = tallest(&sizes);
     let first = first(p);
     let mut near = [0u8; 256];
-    look(p.oam(), tall, row as u8, &mut near);
+    look(p.tops(), tall, row as u8, &mut near);
     if is_any_near(&near) {
         note_near(p, &sizes, row, tall, first, &near, list)
     } else {

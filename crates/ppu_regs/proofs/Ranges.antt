@@ -1,10 +1,9 @@
 -- Every write of a register keeps the ranges of the registers.
-use Rattle.std.proofs.Common.{◌≡◌, ℕ, ◌<◌, ◌+◌, ◌*◌, ◌/◌, ◌%◌, ◌==◌, Bool, true, false, if◌then◌else◌, arith}
+use Rattle.std.proofs.Common.{ℕ, ◌<◌, ◌%◌, ◌==◌, Bool, true, false, if◌then◌else◌, arith}
 use Rattle.ppu_regs.specs.declared.registers.Registers.{Registers}
 use Rattle.ppu_regs.specs.declared.registers.Background.{Background}
 use Rattle.ppu_regs.specs.declared.registers.Rotation.{Rotation}
 use Rattle.ppu_regs.specs.declared.registers.Window.{Window}
-use Rattle.ppu_regs.specs.Bits.{is_set}
 use Rattle.ppu_regs.specs.Picture.{AreInRange}
 use Rattle.ppu_regs.specs.Pages.{display_written, object_tiles_written, oam_low_written, oam_high_written, mode_written, mosaic_written, tiles_low_written, tiles_high_written, vram_step_written, cgram_index_written, windows_low_written, windows_high_written, windows_others_written, combines_written, combines_others_written, main_written, sub_written, main_masks_written, sub_masks_written, arithmetic_written, settings_written, colour_selected, fixed_colour_written}
 use Rattle.ppu_regs.specs.Writes.{registers_written}

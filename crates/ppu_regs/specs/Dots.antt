@@ -1,5 +1,5 @@
 -- What a layer has at a dot: a layer dot, its colour, and its bytes in the two planes of a row.
-use Rattle.std.specs.Prelude.{ℕ, Bool, true, false, ◌+◌, ◌*◌, ◌/◌, ◌%◌, List, slice_index, if◌then◌else◌}
+use Rattle.std.specs.Prelude.{ℕ, true, false, ◌+◌, ◌*◌, ◌/◌, ◌%◌, List, slice_index, if◌then◌else◌}
 use Rattle.ppu_regs.specs.declared.dots.Dot.{Dot}
 use Rattle.ppu_regs.specs.declared.dots.LayerDot.{LayerDot}
 

@@ -4,4 +4,5 @@ pub mod Pages
 pub mod Picture
 pub mod Ports
 pub mod Reads
+pub mod Tops
 pub mod Writes

@@ -1,7 +1,7 @@
 -- The pages of the registers that are written and touch no memory: 2100 to 2133 but 2104, 2118, 2119 and
 -- 2122, after the Super Nintendo Development Manual and nocash fullsnes. Each says what a byte v makes of
 -- the registers.
-use Rattle.std.specs.Prelude.{ℕ, Bool, true, false, ◌+◌, ◌*◌, ◌/◌, ◌%◌, ◌==◌, ◌||◌, if◌then◌else◌}
+use Rattle.std.specs.Prelude.{ℕ, Bool, false, ◌+◌, ◌*◌, ◌/◌, ◌%◌, ◌==◌, if◌then◌else◌}
 use Rattle.ppu_regs.specs.Bits.{is_set}
 use Rattle.ppu_regs.specs.declared.registers.Registers.{Registers}
 use Rattle.ppu_regs.specs.declared.registers.Background.{Background}
@@ -13,7 +13,6 @@ use Rattle.ppu_regs.specs.declared.registers.Combine.{Combine}
 use Rattle.ppu_regs.specs.declared.registers.Combine.TheVariants.{Or, And, Xor, Xnor}
 use Rattle.ppu_regs.specs.declared.registers.WindowPart.{WindowPart}
 use Rattle.ppu_regs.specs.declared.registers.WindowPart.TheVariants.{Never, Outside as OutsideWindow, Inside, Always}
-use Rattle.ppu_regs.specs.declared.registers.Outside.{Outside}
 use Rattle.ppu_regs.specs.declared.registers.Outside.TheVariants.{Wrap, Nothing, TileZero}
 
 -- 2100 INIDISP: 7 forced blank, 3-0 brightness

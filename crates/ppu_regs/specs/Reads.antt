@@ -1,6 +1,6 @@
 -- What a read of 2100 to 213F gives, and what it makes of the picture unit: a table by register, after
 -- nocash fullsnes. The bits of 213E and 213F but for the flags are this project's own profile.
-use Rattle.std.specs.Prelude.{ℕ, Bool, true, false, ◌+◌, ◌-◌, ◌*◌, ◌/◌, ◌%◌, ◌==◌, ltb, not, List, slice_index, if◌then◌else◌}
+use Rattle.std.specs.Prelude.{ℕ, Bool, true, false, ◌+◌, ◌*◌, ◌/◌, ◌%◌, ◌==◌, ltb, not, slice_index, if◌then◌else◌}
 use Rattle.snes_defs.specs.declared.spot.Spot.{Spot}
 use Rattle.ppu_regs.specs.declared.registers.Registers.{Registers}
 use Rattle.ppu_regs.specs.declared.registers.Rotation.{Rotation}

@@ -1,5 +1,5 @@
 -- What a write of 2100 to 213F makes of the picture unit: a table by register.
-use Rattle.std.specs.Prelude.{ℕ, Bool, true, false, ◌+◌, ◌*◌, ◌==◌, ◌||◌, List, Option, None, Some, if◌then◌else◌}
+use Rattle.std.specs.Prelude.{ℕ, true, false, ◌*◌, ◌==◌, ◌||◌, Option, None, Some, if◌then◌else◌}
 use Rattle.ppu_regs.specs.declared.registers.Registers.{Registers}
 use Rattle.ppu_regs.specs.declared.registers.Over.{Over}
 use Rattle.ppu_regs.specs.Picture.{Picture}

@@ -1,7 +1,93 @@
-ghost use Rattle.std.specs.Prelude.{◌≡◌, ◌<◌, length};
+ghost use Rattle.std.specs.Prelude.{◌≡◌, ◌<◌, ◌+◌, ◌*◌, ℕ, length, slice_index};
+ghost use Rattle.ppu_regs.specs.Picture.{zeros};
 ghost use Rattle.ppu_regs.specs.Ports.{oam_place, oam_stepped, oam_bytes_written, oam_port_written};
 
 use crate::registers::OamPort;
+use std::marker::Model;
+
+/// OAM: 544 bytes, seen in contracts as their list. The Y of all objects stand once more side by side, so that a row is compared
+/// with many of them at once.
+#[derive(Drop)]
+pub struct Oam {
+    bytes: [u8; 544],
+    tops: [u8; 128],
+}
+
+impl Model for Oam {
+    ghost use Rattle.std.specs.Prelude.{ℕ, List};
+    ghost use Rattle.ppu_regs.specs.Tops.{AreTops};
+
+    ghost Value = { List ℕ };
+
+    ghost view = { λ o. o.bytes };
+
+    ghost invariant = { λ o. AreTops o.tops o.bytes };
+}
+
+impl Oam {
+    /// 544 zeros.
+    pub fn new() -> Oam
+        ensures { result ≡ zeros 544 }
+    {
+        Oam {
+            bytes: no_bytes(),
+            tops: no_tops(),
+        }
+    }
+
+    /// Makes the other one the same.
+    pub fn copy_into(&self, into: &mut Oam)
+        ensures { into.new ≡ self.now }
+    {
+        into.bytes = self.bytes;
+        into.tops = self.tops;
+    }
+
+    /// All bytes.
+    #[inline(always)]
+    pub fn bytes(&self) -> &[u8; 544]
+        ensures { result.now ≡ self.now }
+    {
+        &self.bytes
+    }
+
+    /// The Y of each object.
+    #[inline(always)]
+    pub fn tops(&self) -> &[u8; 128]
+        ensures { (n : ℕ) → n < 128 → slice_index result.now n ≡ slice_index self.now (4 * n + 1) }
+    {
+        &self.tops
+    }
+
+    /// A byte that 2104 OAMDATA takes.
+    #[inline(always)]
+    pub fn put(&mut self, port: &mut OamPort, v: u8)
+        requires { port.old.address < 1024 }
+        ensures bytes { self.new ≡ oam_bytes_written self.old port.old v }
+        ensures port { port.new ≡ oam_port_written port.old v }
+        ensures size { length self.new ≡ length self.old }
+        ensures address { port.new.address < 1024 }
+        ensures word { port.new.word ≡ port.old.word }
+    {
+        let object = (port.address / 4 % 128) as usize;
+        put_bytes(&mut self.bytes, port, v);
+        self.tops[object] = self.bytes[4 * object + 1];
+    }
+}
+
+#[tactic(auto, unfolding(crate::specs::Picture::zeros))]
+fn no_tops() -> [u8; 128]
+    ensures { result ≡ zeros 128 }
+{
+    [0; 128]
+}
+
+#[tactic(auto, unfolding(crate::specs::Picture::zeros))]
+fn no_bytes() -> [u8; 544]
+    ensures { result ≡ zeros 544 }
+{
+    [0; 544]
+}
 
 /// The place in OAM of a byte address: 512 bytes, then 32 over and over.
 #[inline(always)]
@@ -26,10 +112,10 @@ pub fn step(port: &mut OamPort)
     port.address = (port.address + 1) % 1024;
 }
 
-/// A byte that 2104 OAMDATA takes.
+/// A byte that 2104 OAMDATA takes, among the bytes.
 #[inline(always)]
 #[tactic(auto, unfolding(crate::specs::Ports::oam_bytes_written, crate::specs::Ports::oam_port_written))]
-pub fn put(oam: &mut [u8; 544], port: &mut OamPort, v: u8)
+fn put_bytes(oam: &mut [u8; 544], port: &mut OamPort, v: u8)
     requires { port.old.address < 1024 }
     ensures bytes { oam.new ≡ oam_bytes_written oam.old port.old v }
     ensures port { port.new ≡ oam_port_written port.old v }

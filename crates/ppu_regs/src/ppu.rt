@@ -1,12 +1,13 @@
-ghost use Rattle.std.specs.Prelude.{◌≡◌, ℕ, ◌<◌, ◌≤◌, length, slice_index, All, IfOk, IfSome, not, true, false};
+ghost use Rattle.std.specs.Prelude.{◌≡◌, ℕ, ◌<◌, ◌≤◌, ◌+◌, ◌*◌, length, slice_index, All, IfOk, IfSome, not, true, false};
 ghost use Rattle.ppu_regs.specs.Picture.{IsInRange, picture_start, vram_words, zeros};
 ghost use Rattle.ppu_regs.specs.Writes.{registers_written, oam_written, vram_low_set, vram_high_set, vram_low_put, vram_high_put, colour_put, after_write, word_written, after_over, after_frame, after_blank};
 ghost use Rattle.ppu_regs.specs.Reads.{byte_read, after_read, counters_latched, count_byte, status_two};
 ghost use Rattle.ppu_regs.specs.Ports.{vram_place, oam_place, oam_stepped, vram_port_read, cgram_byte, cgram_port_read};
 
+use crate::oam::{self, Oam};
 use crate::reads::part_of_count;
 use crate::registers::{Over, Registers};
-use crate::{cgram, oam, vram};
+use crate::{cgram, vram};
 use snes_defs::{NoMemory, Spot};
 use std::alloc::Global;
 use std::marker::Model;
@@ -22,7 +23,7 @@ pub struct Ppu {
     registers: Registers,
     vram: Vec<u16>,
     cgram: [u16; 256],
-    oam: [u8; 544],
+    oam: Oam,
 }
 
 impl Model for Ppu {
@@ -46,7 +47,7 @@ impl Ppu {
             registers: Registers::start(),
             vram,
             cgram: no_colours(),
-            oam: no_bytes(),
+            oam: Oam::new(),
         })
     }
 
@@ -81,7 +82,15 @@ impl Ppu {
     pub fn oam(&self) -> &[u8; 544]
         ensures { result.now ≡ self.now.oam }
     {
-        &self.oam
+        self.oam.bytes()
+    }
+
+    /// The Y of each object in OAM.
+    #[inline(always)]
+    pub fn tops(&self) -> &[u8; 128]
+        ensures { (n : ℕ) → n < 128 → slice_index result.now n ≡ slice_index self.now.oam (4 * n + 1) }
+    {
+        self.oam.tops()
     }
 
     /// What the ranges of the registers are.
@@ -202,7 +211,7 @@ impl Ppu {
     fn write_oam(&mut self, v: u8)
         ensures { self.new ≡ oam_written self.old v }
     {
-        oam::put(&mut self.oam, &mut self.registers.oam, v);
+        self.oam.put(&mut self.registers.oam, v);
     }
 
     /// 2116 VMADDL.
@@ -268,7 +277,7 @@ impl Ppu {
         ensures byte { result ≡ slice_index self.old.oam (oam_place self.old.registers.oam.address) }
         ensures after { self.new ≡ (record self.old { registers = record self.old.registers { oam = oam_stepped self.old.registers.oam } }) }
     {
-        let byte = self.oam[oam::place(self.registers.oam.address)];
+        let byte = self.oam.bytes()[oam::place(self.registers.oam.address)];
         oam::step(&mut self.registers.oam);
         byte
     }
@@ -351,11 +360,4 @@ fn no_colours() -> [u16; 256]
     ensures { result ≡ zeros 256 }
 {
     [0; 256]
-}
-
-#[tactic(auto, unfolding(crate::specs::Picture::zeros))]
-fn no_bytes() -> [u8; 544]
-    ensures { result ≡ zeros 544 }
-{
-    [0; 544]
 }

@@ -13,6 +13,6 @@ impl Ppu {
             .as_mut_slice()
             .copy_from_slice(self.vram.as_slice());
         into.cgram = self.cgram;
-        into.oam = self.oam;
+        self.oam.copy_into(&mut into.oam);
     }
 }

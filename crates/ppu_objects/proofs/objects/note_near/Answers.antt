@@ -1,5 +1,5 @@
 -- Eight more objects are looked at, or need not be.
-use Rattle.std.proofs.Common.{◌≡◌, ℕ, ◌+◌, ◌*◌, List, take, length, nat_lt, refl, ap, ◌∙◌, arith}
+use Rattle.std.proofs.Common.{◌≡◌, ℕ, ◌+◌, ◌*◌, take, length, nat_lt, refl, ap, ◌∙◌, arith}
 use Rattle.ppu_objects.specs.Objects.{on_row}
 use Rattle.ppu_objects.proofs.objects.note_near.Goals as goal
 

@@ -1,5 +1,5 @@
 -- None of eight may stand on the row, or more than 32 do already: what was found stays.
-use Rattle.std.proofs.Common.{◌≡◌, ℕ, ◌+◌, ◌*◌, ◌<◌, List, take, length, nat_lt, ap, sym, ◌∙◌, arith}
+use Rattle.std.proofs.Common.{ℕ, ◌*◌, ◌<◌, List, take, length, nat_lt, ap, sym, ◌∙◌, arith}
 use Rattle.std.proofs.lemmas.Bool.{lt-ltb, ltb-true}
 use Rattle.ppu_objects.specs.declared.objects.Object.{Object}
 use Rattle.ppu_objects.specs.Objects.{on_row}

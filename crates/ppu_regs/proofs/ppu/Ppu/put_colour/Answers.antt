@@ -1,5 +1,5 @@
 -- The unit stays in range.
-use Rattle.std.proofs.Common.{◌∙◌, arith}
+use Rattle.std.proofs.Common.{◌∙◌}
 use Rattle.ppu_regs.proofs.ppu.Ppu.put_colour.Goals as goal
 
 pub invariant_of-self : goal.invariant_of-self
