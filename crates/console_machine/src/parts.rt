@@ -21,8 +21,8 @@ use cpu65816::Cpu;
 use side_law::Pause;
 use snes_defs::{Act, Region};
 
-/// The stamps of a line in the region where they are more.
-const LONGEST_LINE: u64 = 1364 * PAL_CONSOLE_RATE;
+/// The master clocks of a line.
+const LINE: u16 = 1364;
 
 /// The parts of a console side.
 #[derive(Drop)]
@@ -59,7 +59,8 @@ fn stamps(region: Region, clocks: u8) -> u64
 fn line_stamps(region: Region, clocks: u16) -> u64
     requires { clocks ≤ 1364 }
     ensures value { result ≡ rate_of region Console * clocks }
-    ensures most { result ≤ 139673600 }
+    ensures most { result ≤ rate_of region Console * 1364 }
+    ensures small { result ≤ 139673600 }
 {
     match region {
         Region::Ntsc => CONSOLE_RATE * clocks as u64,
@@ -201,7 +202,7 @@ impl Parts {
     /// The same steps up to the next place of the beam, which comes before that stamp, all at once.
     #[inline(never)]
     fn rush(&mut self, before: u64)
-        requires far { self.old.stamp + 139673600 ≤ before }
+        requires far { self.old.stamp + rate_of self.old.region Console * 1364 ≤ before }
         requires early { before ≤ 2 ^ 62 }
         ensures gone { (w : ConsoleState) → StandsAt (value_of self.old) w → IsSilent console_moves before (StandsAt (value_of self.new)) self.old.waiting.items w self.new.waiting.items }
         ensures keeps { IsSome (value_of self.old) → IsSome (value_of self.new) }
@@ -224,7 +225,7 @@ impl Parts {
         ensures region { self.new.region ≡ self.old.region }
         ensures waiting { self.new.waiting ≡ self.old.waiting }
     {
-        if before < self.stamp.saturating_add(LONGEST_LINE) {
+        if before < self.stamp.saturating_add(line_stamps(self.region, LINE)) {
             self.creep(before);
             return;
         }
