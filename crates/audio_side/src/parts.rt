@@ -157,7 +157,7 @@ impl Parts {
 
     /// Makes quiet steps, each begun before a stamp, up to the first that emits bytes, and answers where it stands
     /// then.
-    #[inline(never)]
+    #[inline(always)]
     pub fn quiet(&mut self, before: u64) -> Pause
         requires room { length self.old.waiting.items + 4 ≤ self.old.waiting.capacity }
         requires early { before ≤ 2 ^ 62 }

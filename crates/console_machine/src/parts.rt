@@ -250,7 +250,7 @@ impl Parts {
 
     /// The same with bytes of transfers and accesses of the registers of the B bus between them. Where it came to an
     /// access of a port, its act is answered.
-    #[inline(never)]
+    #[inline(always)]
     fn hasten(&mut self, before: u64) -> Option<Act>
         requires early { before ≤ 2 ^ 62 }
         ensures gone { (w : ConsoleState) → StandsAt (value_of self.old) w → IsSilent console_moves before (StandsAt (value_of self.new)) self.old.waiting.items w self.new.waiting.items }
@@ -275,7 +275,7 @@ impl Parts {
 
     /// Makes quiet steps, each begun before a stamp, up to the first that emits bytes, and answers where it stands
     /// then.
-    #[inline(never)]
+    #[inline(always)]
     pub fn quiet(&mut self, before: u64) -> Pause
         requires room { length self.old.waiting.items + 1024 ≤ self.old.waiting.capacity }
         requires early { before ≤ 2 ^ 62 }

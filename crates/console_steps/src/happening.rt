@@ -38,7 +38,7 @@ fn happen_on_bus(bus: &mut Bus, event: Event)
 }
 
 /// An event has happened, and the processor is given the levels again.
-#[inline(never)]
+#[inline(always)]
 pub fn happen(cpu: &mut Cpu, bus: &mut Bus, event: Event)
     requires { event ≢ events.Draw }
     ensures rest { bus.new ≡ happened bus.old event }

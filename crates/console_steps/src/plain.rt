@@ -127,9 +127,8 @@ fn give_register_plainly(cpu: &mut Cpu, bus: &mut Bus, place: Place, register: u
     cpu.wrote_at(place);
 }
 
-/// The processor writes a register of the B bus that is no port; else nothing has changed. Out of line: most writes
-/// are of the memory.
-#[inline(never)]
+/// The processor writes a register of the B bus that is no port; else nothing has changed.
+#[inline(always)]
 fn write_register_plainly(
     cpu: &mut Cpu,
     bus: &mut Bus,

@@ -72,9 +72,8 @@ fn exchange(act: Act, incoming: &mut [u8; 4], outgoing: &mut [u8; 4])
     }
 }
 
-/// One step of a machine against the bytes that come in to it and go out from it, by its act. Out of line, so
-/// that what makes quiet steps stays small.
-#[inline(never)]
+/// One step of a machine against the bytes that come in to it and go out from it, by its act.
+#[inline(always)]
 #[tactic(auto, using(crate::proofs::Taken::taken_got))]
 pub(crate) fn step_by<M: Machine>(
     act: Act,
