@@ -199,7 +199,8 @@ impl Parts {
         }
     }
 
-    /// The same steps up to the next place of the beam, which comes before that stamp, all at once.
+    /// The same steps up to the next place of the beam, which comes before that stamp, all at once. Out of line: with
+    /// two copies of it in one function the processor's transitions would not be built into the loop.
     #[inline(never)]
     fn rush(&mut self, before: u64)
         requires far { self.old.stamp + rate_of self.old.region Console * 1364 ≤ before }
@@ -214,8 +215,7 @@ impl Parts {
         self.stamp += line_stamps(self.region, clocks);
     }
 
-    /// The same: all at once, or near the stamp one by one. Out of line: with two copies of it in one function the
-    /// processor's transitions would not be built into the loop.
+    /// The same: all at once, or near the stamp one by one.
     #[inline(always)]
     fn hurry(&mut self, before: u64)
         requires early { before ≤ 2 ^ 62 }
