@@ -12,8 +12,7 @@ use crate::order::rank;
 use color_window::{fixed, mark_mixed, mix_marked, mix_row};
 use ppu_regs::{Ppu, RankedRow, Registers, WindowPart};
 use scanline_ops::{
-    any_named, dim_colour, dim_small_row, fill_dots, is_found_key, look_up_small, write_dots,
-    write_twice,
+    any_named, dim_colour, dim_small_row, fill_dots, is_found_key, look_up, write_dots, write_twice,
 };
 
 #[inline(always)]
@@ -30,7 +29,7 @@ fn front_colours(p: &Ppu, front: &RankedRow, out: &mut [u16; 256])
     ensures { (x : ℕ) → x < 256 → slice_index out.new x ≡ front_pixel_colour p.now (ranked_pixel_at front.now x) }
 {
     let r = p.registers();
-    look_up_small(
+    look_up(
         p.cgram(),
         direct(r),
         rank(r, 1, 0),

@@ -126,36 +126,23 @@ fn look_up_direct(
     }
 }
 
-/// The colour of a number in a CGRAM whose colours have 15 bits.
-#[inline(always)]
-#[tactic(auto, using(crate::proofs::Small::small))]
-fn small_colour_at(cgram: &[u16], number: u8) -> u16
-    requires size { length cgram.now ≡ 256 }
-    requires small { (k : ℕ) → slice_index cgram.now k < 32768 }
-    ensures { result ≡ slice_index cgram.now number }
-{
-    cgram[number as usize]
-}
-
-/// The colours of CGRAM of a row of numbers, where they have 15 bits. Sixteen at a time, so that little is spent on counting
-/// them; that the top bit is dropped changes none, and has the compiler store eight at once.
-fn look_up_small_numbers(cgram: &[u16], numbers: &[u8; 256], out: &mut [u16; 256])
-    requires size { length cgram.now ≡ 256 }
-    requires small { (k : ℕ) → slice_index cgram.now k < 32768 }
+/// The colours of a row of numbers. Sixteen at a time, so that little is spent on counting them.
+fn look_up_numbers(cgram: &[u16], numbers: &[u8; 256], out: &mut [u16; 256])
+    requires { length cgram.now ≡ 256 }
     ensures { (x : ℕ) → x < 256 → slice_index out.new x ≡ slice_index cgram.now (slice_index numbers.now x) }
 {
     for group in 0..16usize {
         for place in 0..16usize {
             let x = 16 * group + place;
-            out[x] = small_colour_at(cgram, numbers[x]);
+            out[x] = cgram[numbers[x] as usize];
         }
     }
 }
 
-/// The colours of a row of ranked pixels by a CGRAM whose colours have 15 bits. Where `is_direct`, those of the ranks `low` and
+/// The colours of a row of ranked pixels by CGRAM. Where `is_direct`, those of the ranks `low` and
 /// `high` are direct colours.
 #[tactic(auto, unfolding(crate::specs::Colours::pixel_colour))]
-pub fn look_up_small(
+pub fn look_up(
     cgram: &[u16],
     is_direct: bool,
     low: u8,
@@ -164,15 +151,14 @@ pub fn look_up_small(
     numbers: &[u8; 256],
     out: &mut [u16; 256],
 )
-    requires size { length cgram.now ≡ 256 }
-    requires small { (k : ℕ) → slice_index cgram.now k < 32768 }
+    requires { length cgram.now ≡ 256 }
     ensures { (x : ℕ) → x < 256 → slice_index out.new x ≡
         pixel_colour cgram.now is_direct low high (slice_index keys.now x) (slice_index numbers.now x) }
 {
     if is_direct {
         look_up_direct(cgram, low, high, keys, numbers, out);
     } else {
-        look_up_small_numbers(cgram, numbers, out);
+        look_up_numbers(cgram, numbers, out);
     }
 }
 

@@ -1,6 +1,6 @@
 -- Each pixel before the loops' has its colour.
 use Rattle.std.proofs.Common.{◌≡◌, ℕ, ◌+◌, ◌*◌, ◌<◌, get_or}
-use Rattle.scanline_ops.proofs.colours.look_up_small_numbers.Given as goal
+use Rattle.scanline_ops.proofs.colours.look_up_numbers.Given as goal
 
 abbrev pub invariant-loop-group : goal.invariant-loop-group
 invariant-loop-group l = (k : ℕ) → k < 16 * l.group → get_or l.out k 0 ≡ get_or l.cgram (get_or l.numbers k 0) 0
