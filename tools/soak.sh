@@ -2,7 +2,7 @@
 # Runs jobs at random by `serial` and by two workers over either wire, and compares every byte, the line that is said and the exit status.
 #
 # `tools/soak.sh COUNT [FIRST]`: the jobs of the numbers FIRST (0, where it isn't given) to FIRST + COUNT - 1, made by the program of
-# crates/wild_jobs. Each is run by `serial` once, by `run` on all processors, and by `run` on one processor, while as many
+# crates/wild_jobs. Each is run by `serial` once, by `run` and `lockless` on all processors, and by `run` on one, while as many
 # other processes as there are processors keep these busy (none with LOAD=0). Four jobs are under way at once (JOBS=N).
 #
 # It is no part of the gate. It needs the two programs: ./snes demo 7 --frames 0, and in crates/wild_jobs `rt run`. It

@@ -1,5 +1,5 @@
 #!/usr/bin/env bash
-# Tries the bodies of tools/one_worker/*.edit, one at a time: each has `run` or `demo` make its run by one worker, which is the
+# Tries the bodies of tools/one_worker/*.edit, one at a time: each has `run`, `lockless` or `demo` make its run by one worker, which is the
 # serial run. Their bytes are the same, so these bodies meet every contract, and the program `console_rows` has to tell them: its
 # output has to differ from crates/console_rows/stdout. With none of them it has to be that.
 #

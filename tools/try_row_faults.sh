@@ -4,7 +4,7 @@
 #
 # Nothing is proved here: `rt try` runs a program as it stands, so that a fault is met by the rows alone and not by a contract.
 # An edit is as in crates/*/must-fail, but that its file is named from the top. The words are names of faults, or `none` for the rows
-# with no fault planted; without words `none` and all faults are tried, three minutes or so each. Works on what is committed, in a
+# with no fault planted; without words `none` and all faults are tried, a minute or two each. Works on what is committed, in a
 # folder of its own. It names the first row that tells each fault. The status is 1 where a fault is not told, can't be
 # planted, or doesn't run, or where the rows are not as they should be without one.
 top=$(cd "$(dirname "${BASH_SOURCE[0]}")/.." && pwd) || exit 2
