@@ -74,7 +74,7 @@ def main():
     if len(sys.argv) < 3:
         sys.exit(__doc__)
     jobs = sys.argv[2:]
-    profiles = [profile(sys.argv[1], it) for it in jobs]
+    profiles = [profile(os.path.abspath(sys.argv[1]), it) for it in jobs]
     print(f"{'million instructions a frame':38}" + "".join(f"{os.path.basename(it):>9}" for it in jobs))
     for part, _ in PARTS:
         print(f"{part:38}" + "".join(f"{sum(own for name, (own, _) in it.items() if part_of(name) == part) / 1e6:9.3f}" for it in profiles))
