@@ -3,8 +3,9 @@
 
     tools/unproved/as_built.py REPOSITORY MODULE.ll OUT.ll
 
-SIZE (5000): above how many instructions, with those of what is built into it, a function loses `inline(always)`. The functions
-that lose it are named on standard output with VERBOSE=1.
+SIZE (7350): above how many instructions, with those of what is built into it, a function loses `inline(always)`, as does one that
+calls itself. The functions that lose it are named on standard output with VERBOSE=1. By this size the functions that are left in
+the module of a proved build, which has built in the others, are those that lose it here, but for one of 31.
 """
 import collections
 import glob
@@ -12,7 +13,7 @@ import os
 import re
 import sys
 
-SIZE = int(os.environ.get("SIZE", "5000"))
+SIZE = int(os.environ.get("SIZE", "7350"))
 CHECKS = "rattle-llvm-checks::"
 NAME = re.compile(r'@(?:"([^"]*)"|([\w.$]+))\(')
 ATTRIBUTES = {"always": "alwaysinline", "never": "noinline", "hint": "inlinehint"}
@@ -93,7 +94,7 @@ class Module:
 
     def size(self, function, above=()):
         """The instructions of a function with those of what is built into it always."""
-        if function in above:
+        if function in above or function in self.calls[function]:
             return SIZE + 1
         if function not in self.whole:
             below = (*above, function)
@@ -107,8 +108,8 @@ class Module:
             if line.startswith("define"):
                 function = next(it for it in NAME.search(line).groups() if it)
                 hint = self.hints.get(function)
-                if hint == "always" and self.size(function) > SIZE:
-                    hint = "hint"
+                if hint == "always" and (self.size(function) > SIZE or function in self.calls[function]):
+                    hint = None
                     if "VERBOSE" in os.environ:
                         print(self.size(function), function)
                 if hint:

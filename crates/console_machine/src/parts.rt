@@ -250,7 +250,7 @@ impl Parts {
 
     /// The same with bytes of transfers and accesses of the registers of the B bus between them. Where it came to an
     /// access of a port, its act is answered.
-    #[inline(always)]
+    #[inline(never)]
     fn hasten(&mut self, before: u64) -> Option<Act>
         requires early { before ≤ 2 ^ 62 }
         ensures gone { (w : ConsoleState) → StandsAt (value_of self.old) w → IsSilent console_moves before (StandsAt (value_of self.new)) self.old.waiting.items w self.new.waiting.items }

@@ -83,7 +83,7 @@ fn pass_place(cpu: &mut Cpu, bus: &mut Bus, waiting: &mut HeapCircularBuffer<u8>
 }
 
 /// Lets so many clocks pass, place by place.
-#[inline(always)]
+#[inline(never)]
 fn pass_places(cpu: &mut Cpu, bus: &mut Bus, waiting: &mut HeapCircularBuffer<u8>, clocks: u16)
     requires step { clocks ≤ 40 }
     requires room { length waiting.old.items + room_for bus.old.beam.h clocks ≤ waiting.old.capacity }

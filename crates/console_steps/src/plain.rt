@@ -128,7 +128,6 @@ fn give_register_plainly(cpu: &mut Cpu, bus: &mut Bus, place: Place, register: u
 }
 
 /// The processor writes a register of the B bus that is no port; else nothing has changed.
-#[inline(always)]
 fn write_register_plainly(
     cpu: &mut Cpu,
     bus: &mut Bus,
