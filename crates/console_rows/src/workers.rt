@@ -5,7 +5,8 @@
 //! A worker passes the gate as it sets out on a turn (`docs/TWO-WORKERS.md`). The gate has each look whether the
 //! other has set out on the same turn, in the first 100 turns and up to 1,000,000 times in each. Both see each
 //! other in one turn only where neither had ended it before the other set out: so both were under way at once,
-//! which no run by one worker can show. It also keeps the numbers of the turns.
+//! which no run by one worker can show. It also keeps the numbers of the turns. A thread that begins late can miss all turns of
+//! a short run, so a row whose workers did not meet is run again, twenty times at most; those of one worker never meet.
 //!
 //! The rows are worked by hand: sixty frames of a cartridge that shows red and touches no port take fewer than
 //! 100,000 turns; two frames of two processors that read each other's ports for ever take no more than the bound
@@ -24,6 +25,9 @@ use std::alloc::Global;
 use std::thread::Threads;
 use std::time::Clock;
 use std::{io, str};
+
+/// How many times a row is run at most.
+const MOST_TRIES: u8 = 20;
 
 /// A command line with one space between two words, the programs that its files hold, and the number that none of
 /// its turns reaches.
@@ -104,15 +108,20 @@ fn is_numbered(turns: Option<u64>, limit: u64) -> bool {
     }
 }
 
-/// Prints the answer of a row whose words and files stand ready, and what was seen of its workers.
+/// Runs a row whose words and files stand ready, and prints its answer and what was seen of its workers where they met or
+/// it is not to be run again. Answers whether it has printed.
 fn show_run<R: AllocGlobal + Threads + Clock + Print>(
     rt: &R,
     words: &Argv,
     shelf: &mut SureShelf,
     limit: u64,
-) -> io::Result<()> {
+    is_last: bool,
+) -> io::Result<bool> {
     let watch = Watch::new();
     let status = snes::<Console, _, _>(&Host::watched(rt, &watch), words, shelf);
+    if !watch.met() && !is_last {
+        return Ok(false);
+    }
     let ends = if status == Status::Ok { "Ok" } else { "no end" };
     let meets = if watch.met() { "met" } else { "did not meet" };
     let counts = if is_numbered(watch.turns(), limit) {
@@ -122,18 +131,36 @@ fn show_run<R: AllocGlobal + Threads + Clock + Print>(
     };
     match str::from_utf8(shelf.written(Out::Say)) {
         Ok(said) => {
-            println!(rt; "{said:?}, {ends}: the workers {meets}, their turns are {counts}")
+            println!(rt; "{said:?}, {ends}: the workers {meets}, their turns are {counts}")?
         }
-        Err(_) => println!(rt; "no text"),
+        Err(_) => println!(rt; "no text")?,
+    }
+    Ok(true)
+}
+
+/// Runs a row through the program once.
+fn try_row<R: AllocGlobal + Threads + Clock + Print>(
+    rt: &R,
+    row: &Row,
+    is_last: bool,
+) -> io::Result<bool> {
+    match (words_of(rt.alloc(), row), shelf(rt.alloc(), &row.programs)) {
+        (Some(words), Some(mut shelf)) => show_run(rt, &words, &mut shelf, row.limit, is_last),
+        _ => {
+            println!(rt; "no memory")?;
+            Ok(true)
+        }
     }
 }
 
-/// Runs a row through the program, and prints its answer and what was seen of its workers.
+/// Runs a row until its workers meet, and prints its answer and what was seen of them.
 fn show<R: AllocGlobal + Threads + Clock + Print>(rt: &R, row: &Row) -> io::Result<()> {
-    match (words_of(rt.alloc(), row), shelf(rt.alloc(), &row.programs)) {
-        (Some(words), Some(mut shelf)) => show_run(rt, &words, &mut shelf, row.limit),
-        _ => println!(rt; "no memory"),
+    for tried in 0..MOST_TRIES {
+        if try_row(rt, row, tried + 1 == MOST_TRIES)? {
+            return Ok(());
+        }
     }
+    Ok(())
 }
 
 /// Runs all rows.
