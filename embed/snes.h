@@ -1,4 +1,4 @@
-/* The console as a library: one call, proved; see docs/EMBEDDING.md for what is proved, and what a caller has to keep.
+/* The console as a library: one call, proved; see docs/use/EMBEDDING.md for what is proved, and what a caller has to keep.
  *
  * Link libsnes_library.a with heap.c, which stands beside this header. */
 #ifndef SNES_H

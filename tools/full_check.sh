@@ -5,7 +5,8 @@
 #
 # Its parts, the cheap ones first, and the items of each:
 #
-#     edits        each wrong change can be made (check_edits.sh); crates.txt names what is used (check_crates.sh)
+#     edits        each wrong change can be made (check_edits.sh); crates.txt names what is used (check_crates.sh); links of pages
+#                  lead somewhere, and a planted dead one is named (check_pages.sh, try_check_pages.sh)
 #     device       full devices and names that can't be made, by the built program
 #     allocations  each request for memory is refused once (refuse_each_allocation.sh)
 #     soak         SOAK jobs (1000) by two workers, 50 an item (soak.sh)
@@ -113,10 +114,11 @@ item() {
   fi
 }
 
-# These take a second and are tried each time.
+# These take some seconds and are tried each time.
 edits() {
   item edits now "$top/tools/check_edits.sh"
   item crates now "$top/tools/check_crates.sh"
+  item pages now "$top/tools/try_check_pages.sh"
 }
 
 allocations() {

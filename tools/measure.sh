@@ -1,5 +1,5 @@
 #!/usr/bin/env bash
-# Prints the table of figures of docs/PERFORMANCE.md from the built program, each with what it was taken by.
+# Prints the table of figures of docs/lab/PERFORMANCE.md from the built program, each with what it was taken by.
 #
 #   tools/measure.sh [OTHER..]
 #

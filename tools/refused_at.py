@@ -10,7 +10,7 @@ thing that the check complains of. Where that says little of the contract, the c
 and the strongest of all its complaints is kept: a function's goals are all tried, and printed in the order of its code, so
 that what a call requires stands before what the function ensures.
 
-A goal's name says what it asks (the guide SHORTER_PROOFS.md of the toolchain, "The names of goals"). Kinds that count:
+A goal's name says what it asks (the toolchain's guide to shorter proofs, "The names of goals"). Kinds that count:
 
     clause          `returns..`: what the function ensures, or a clause of a trait that it implements
     type            `invariant_of-..`: the invariant of a type

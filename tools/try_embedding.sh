@@ -1,5 +1,5 @@
 #!/usr/bin/env bash
-# Tries the console as a library (docs/EMBEDDING.md): builds embed/frame.c and a shared object with the library, plays the
+# Tries the console as a library (docs/use/EMBEDDING.md): builds embed/frame.c and a shared object with the library, plays the
 # scene by both and by `snes serial`, compares the bytes by their sums, and tries each refusal.
 #
 #     tools/try_embedding.sh [FRAMES]

@@ -6,7 +6,7 @@
 // serial run, what such a pair has emitted and written, and how a leg goes on.
 //
 // A driver that lets two machines run apart keeps two legs (`IsLeg`), and has at each meeting what
-// `heard_is_serial` and `pairs_stay_below` ask for. `docs/COMMUTING.md` says in plain words why it is so.
+// `heard_is_serial` and `pairs_stay_below` ask for. `docs/proof/COMMUTING.md` says in plain words why it is so.
 #![tactic(auto)]
 
 pub mod laws;

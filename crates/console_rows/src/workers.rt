@@ -2,7 +2,7 @@
 //! with a gate that watches their workers. What a line says of the workers is missing where one of these commands
 //! makes its run by one worker: `tools/try_one_worker.sh` tries such bodies.
 //!
-//! A worker passes the gate as it sets out on a turn (`docs/TWO-WORKERS.md`). The gate has each look whether the
+//! A worker passes the gate as it sets out on a turn (`docs/proof/TWO-WORKERS.md`). The gate has each look whether the
 //! other has set out on the same turn, in the first 100 turns and up to 1,000,000 times in each. Both see each
 //! other in one turn only where neither had ended it before the other set out: so both were under way at once,
 //! which no run by one worker can show. It also keeps the numbers of the turns. A thread that begins late can miss all turns of

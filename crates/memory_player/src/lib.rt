@@ -3,7 +3,7 @@
 // Stands on the readers of the inputs and on what plays a job, and knows no machine. `play` reads a job from four
 // slices, plays it by the serial console, and fills two slices with its video and its sound. Its clauses use the
 // program's own words for what is read and refused (`snes_program`), so that a slice is accepted exactly where a file
-// of these bytes is. `docs/EMBEDDING.md` says how other programs call it.
+// of these bytes is. `docs/use/EMBEDDING.md` says how other programs call it.
 #![tactic(auto)]
 
 mod filling;

@@ -10,7 +10,7 @@
 // log lies in the slot beside a note that knows the book, and stands for its lists.
 //
 // A call over a pass is answered as the log call of its name is, on what the pass was told in this call,
-// or it finds the other side's number in the turn word and changes nothing. `docs/TWO-WORKERS.md` tells it.
+// or it finds the other side's number in the turn word and changes nothing. `docs/proof/TWO-WORKERS.md` tells it.
 #![tactic(auto)]
 
 mod event;

@@ -10,7 +10,7 @@
 // whatever order the two sides' calls came in, and is refused exactly where the other side may still
 // write something that it would have to see; a write is refused exactly where it lies past the
 // window. A refused call changes nothing. All memory is taken by `new`, and no buffer is ever full.
-// `docs/PORT-LOG.md` tells it whole.
+// `docs/proof/TWO-WORKERS.md` tells it whole.
 #![tactic(auto)]
 
 mod incoming;

@@ -3,7 +3,7 @@
 //! The program follows the lines of the files that it is given, as `data/rows.txt`, and prints each row with the
 //! exit status, what was said, and the outputs that were created: name, length, and the bytes as runs of equal
 //! units of two bytes, or their sum where there are many runs. What has to be printed, `stdout`, was worked out
-//! by hand from the rules of `docs/FILES-AND-WORDS.md`; the sums of the demo are those of two other programs.
+//! by hand from the rules of `docs/use/COMMANDS.md`; the sums of the demo are those of two other programs.
 //!
 //! Lines that say what a row is run with:
 //!

@@ -6,7 +6,7 @@
 // output of the serial run of the two machines, whichever loop ran them; otherwise the first bytes of
 // it.
 //
-// A caller makes both machines and the buffer, and has created the outputs. `docs/RUNS.md` has the
+// A caller makes both machines and the buffer, and has created the outputs. `docs/proof/RUNS.md` has the
 // rules.
 #![tactic(auto)]
 

@@ -5,7 +5,7 @@
 // `side_law`, for any two machines. `leading` makes many steps of a side, ahead of the other by quiet ones.
 //
 // A caller needs room for the bytes of one step in the side whose turn it is (`Machine::ready`
-// before each turn is enough), and the earlier stamp up to 2^62. `docs/SERIAL.md` has the rule.
+// before each turn is enough), and the earlier stamp up to 2^62. `docs/proof/RUNS.md` has the rule.
 #![tactic(auto)]
 
 mod leading;

@@ -6,7 +6,7 @@
 //! of the shorter one. That a script which goes on leaves the run so far as it was is `proofs/Runs.antt`.
 //!
 //! A caller begins a span, makes its steps and takes their bytes until both stamps have come to the end, and keeps or
-//! goes back only there. `docs/REWINDER.md` has the rules. Only `Rewind::new` takes memory.
+//! goes back only there. `docs/use/REWIND.md` has the rules. Only `Rewind::new` takes memory.
 #![tactic(auto)]
 
 mod driving;

@@ -1,7 +1,7 @@
 // The console for programs that are not written in Rattle: a static library with one call, `snes_play`.
 //
 // Thin over `memory_player`: a player that has both sides of the console, and no lock and no thread. `embed/snes.h` declares the call for C, and
-// `docs/EMBEDDING.md` says what is proved of it, and what a caller has to keep that nothing checks.
+// `docs/use/EMBEDDING.md` says what is proved of it, and what a caller has to keep that nothing checks.
 #![tactic(auto)]
 
 ghost use Rattle.std.specs.Prelude.{◌≡◌, ◌≢◌};

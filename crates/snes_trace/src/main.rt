@@ -2,7 +2,7 @@
 //!
 //! `trace --help` says what it takes. It makes the steps of the serial console (`serial_console`) one after another,
 //! the console's and the sound side's machine being those of `snes`, and looks at each before it is made, by what the
-//! machines lend. So what is told is what `snes serial` does. `docs/TRACE.md` says what a line says.
+//! machines lend. So what is told is what `snes serial` does. `docs/use/TRACE.md` says what a line says.
 //!
 //! The status is 0 where the trace was written, 1 where there are breakpoints and none was hit, and 2 where something
 //! could not be read or written or is refused, or where the command line is at fault.

@@ -4,7 +4,7 @@
 //! first pairs that the machine emits. `read_spc` says which files are accepted, and what they hold
 //! (`specs/SoundFile.antt`); `Player` is the machine that begins there (`specs/Play.antt`): nobody is at
 //! the other side of its ports, so a read gets the byte that the file has there, and a write changes
-//! none. `docs/SOUND-FILES.md` has the format and what a file leaves out.
+//! none. `docs/use/SPC-FILES.md` has the format and what a file leaves out.
 #![tactic(auto)]
 
 mod image;

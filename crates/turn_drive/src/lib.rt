@@ -6,7 +6,7 @@
 // two workers do between two meetings falls as it may; the laws of `commute_laws` make of it steps of the
 // serial run. So the sink takes the bytes that `run_serial` hands it, whatever the workers' order was.
 //
-// A caller has made both machines, the wire with its whole, and the buffer. `docs/RUNS.md` has the rules.
+// A caller has made both machines, the wire with its whole, and the buffer. `docs/proof/RUNS.md` has the rules.
 #![tactic(auto)]
 
 mod both;

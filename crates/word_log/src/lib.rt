@@ -11,7 +11,7 @@
 // how many writes of a side the other has not taken, so none is overwritten before it is.
 //
 // A call over a pass is answered as the log call of its name is, on the clock that it was told. None is held by
-// the other side, and none waits. `docs/TWO-WORKERS.md` tells it.
+// the other side, and none waits. `docs/proof/TWO-WORKERS.md` tells it.
 #![tactic(auto)]
 
 mod calls;

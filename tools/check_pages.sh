@@ -1,0 +1,116 @@
+#!/usr/bin/env bash
+# Whether every link between the pages leads somewhere, every page is reached from README, and every page that a file names is there.
+#
+# It complains of a link whose file or heading is missing, of a page or picture in docs/ to which no way of links leads from README.md,
+# and of the name of a page, in a source, a script or another page, that is no file. Such a name counts from the top of the repository,
+# from the file's own folder, or from the data folder of its crate.
+#
+# It takes no proof and a second. The status is 1 if there is a complaint.
+top=$(cd "$(dirname "${BASH_SOURCE[0]}")/.." && pwd) || exit 2
+cd "$top" && exec python3 - <<'P'
+import os, re, subprocess, sys
+from os.path import dirname, exists, join, normpath
+
+bad = 0
+
+
+def complain(where, what):
+    global bad
+    bad += 1
+    print(f"{where}: {what}")
+
+
+def files():
+    """The repository's files: those that git has and new ones that it does not ignore, or in a bare copy all but what is built."""
+    listed = subprocess.run(["git", "ls-files", "-co", "--exclude-standard"], capture_output=True, text=True)
+    if listed.returncode == 0:
+        return sorted({f for f in listed.stdout.split("\n") if f and exists(f)})
+    found = []
+    for folder, inner, names in os.walk("."):
+        inner[:] = [d for d in inner if d not in ("out", ".git")]
+        found += [normpath(join(folder, n)) for n in names]
+    return sorted(found)
+
+
+def text_of(path):
+    """The text of a file, or nothing if it is not text."""
+    try:
+        return open(path, encoding="utf-8").read()
+    except UnicodeDecodeError:
+        return ""
+
+
+def prose(text):
+    """Numbered lines of a page without its fenced code; code inside a line becomes as many blanks."""
+    fenced = False
+    for number, line in enumerate(text.split("\n"), 1):
+        if line.startswith("```"):
+            fenced = not fenced
+        elif not fenced:
+            yield number, re.sub(r"`[^`]*`", lambda m: " " * len(m[0]), line)
+
+
+def headings(text):
+    """The anchors of a page's headings, as the hosts of repositories make them."""
+    seen, fenced = {}, False
+    for line in text.split("\n"):
+        fenced ^= line.startswith("```")
+        title = re.match(r"#+ +(.*?) *$", line)
+        if fenced or not title:
+            continue
+        plain = re.sub(r"\[([^\]]*)\]\([^)]*\)", r"\1", title[1]).lower()
+        anchor = re.sub(r"[^\w\- ]", "", plain).replace(" ", "-")
+        again = seen.get(anchor, 0)
+        seen[anchor] = again + 1
+        yield f"{anchor}-{again}" if again else anchor
+
+
+def links(page):
+    """Follows the links of a page: complains of the dead ones, and gives the files to which the others lead."""
+    for number, line in prose(texts[page]):
+        for target in re.findall(r"\]\(([^)\s]+)\)", line):
+            if re.match(r"[a-z]+:", target):
+                continue
+            path, _, anchor = target.partition("#")
+            leads = normpath(join(dirname(page), path)) if path else page
+            if leads.startswith("..") or not exists(leads):
+                complain(f"{page}:{number}", f"dead link: there is no {target}")
+                continue
+            if anchor and anchor not in anchors.get(leads, ()):
+                complain(f"{page}:{number}", f"dead link: {leads} has no heading #{anchor}")
+            yield leads
+
+
+def named(path, text):
+    """Complains of the pages that a file names and that are not there."""
+    if ".md" not in text:
+        return
+    crate = re.match(r"crates/[^/]+/", path)
+    folders = ["", dirname(path)] + ([crate[0] + "data"] if crate else [])
+    for number, line in enumerate(text.split("\n"), 1):
+        line = re.sub(r"https?:\S+|\[[^\]]*\]\([^)]*\)|\$\{?\w+\}?/", "", line)
+        for name in re.findall(r"(?<![\w./*-])((?:[\w.-]+/)*[\w.-]+\.md)\b", line):
+            if not any(exists(normpath(join(folder, name))) for folder in folders):
+                complain(f"{path}:{number}", f"names {name}, which is not there")
+
+
+every = files()
+texts = {f: text_of(f) for f in every}
+pages = [f for f in every if f.endswith(".md") and not re.match(r"crates/[^/]+/data/", f)]
+anchors = {f: set(headings(texts[f])) for f in every if f.endswith(".md")}
+leads_to = {page: set(links(page)) for page in pages}
+for path in every:
+    named(path, texts[path])
+
+reached, now = set(), ["README.md"]
+while now:
+    page = now.pop()
+    if page not in reached:
+        reached.add(page)
+        now += leads_to.get(page, ())
+for path in every:
+    if path not in reached and (path in pages or path.startswith("docs/")):
+        complain(path, "no way of links leads to it from README.md")
+print(f"{len(pages)} pages, {bad} complaints about their links")
+sys.exit(bad > 0)
+P
