@@ -92,7 +92,7 @@ build() {
 }
 
 if ! is_built "$crate"; then
-  command -v rt >/dev/null || give_up "rt, the command of the Rattle toolchain, is not on the path (README.md, 'What it needs')"
+  command -v rt >/dev/null || give_up "rt, the command of the Rattle toolchain, is not on the path (README.md, 'Quick start')"
   mkdir -p "$out" 2>/dev/null && [ -w "$out" ] || give_up "$out can't be written to; take a clone of your own"
   # Of several calls at once the first builds, and the others find the program built.
   exec 9>"$out/build.lock"
