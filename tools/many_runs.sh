@@ -15,7 +15,7 @@
 # status and its line there too, in a remark. `joblog` is that of parallel. A call after a break makes the runs that
 # are not there yet. The status is 0 where each run had the status 0, else 1.
 #
-# tools/many_runs.sbatch does the same as an array job of Slurm. docs/use/MANY-RUNS.md has both, and figures.
+# tools/many_runs.sbatch does the same as an array job of Slurm. docs/use/CHECKING.md has both, docs/lab/LAST-RUNS.md figures.
 top=$(cd "$(dirname "${BASH_SOURCE[0]}")/.." && pwd) || exit 2
 snes=${SNES:-$top/crates/snes_run/out/snes_run}
 look=${LOOK:-$top/crates/frame_look/out/frame_look}
