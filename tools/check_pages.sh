@@ -7,7 +7,8 @@
 # from the file's own folder, or from the data folder of its crate.
 #
 # Of docs/machine/INDEX.md it complains of a line whose definition or function is not in the file that it names, of a register whose
-# page has it in no table below the heading that is linked, and of a register in a table of docs/machine that no line has.
+# page has it in no table below the heading that is linked, of an opcode or a term that is not below that heading, and of a register
+# in a table of docs/machine that no line has.
 #
 # It takes no proof and a second. The status is 1 if there is a complaint.
 top=$(cd "$(dirname "${BASH_SOURCE[0]}")/.." && pwd) || exit 2
@@ -130,6 +131,28 @@ def sections(page):
     return by_anchor
 
 
+def section(page, anchor):
+    """The text of a page from a heading to the next one of its level, in small letters."""
+    lines, kept, found, level = [], headings(texts[page]), False, 0
+    for line in texts[page].split("\n"):
+        title = re.match(r"(#+) ", line)
+        if title:
+            found = next(kept) == anchor or found and len(title[1]) > level
+            level = len(title[1]) if found and not lines else level
+        if found:
+            lines.append(line.lower())
+    return "\n".join(lines)
+
+
+def unnamed(entry, text):
+    """The first opcode or term of an index line that its section doesn't name; a remark in brackets is none of them."""
+    for term in re.sub(r" \(.*?\)", "", entry).split(", "):
+        word = re.escape(term.lower().removesuffix("s"))
+        if not re.match(r"modes? |operands |all opcodes|`", term) and not re.search(rf"\b{word}", text):
+            return term
+    return None
+
+
 def defines(path, name):
     """Whether a file below crates/ has a definition or a function of this name."""
     word = re.escape(name)
@@ -156,6 +179,9 @@ def index(page):
         for file, name in (match.groups() for match in names):
             if not defines(f"crates/{file}", name):
                 complain(where, f"crates/{file} has no {name}")
+        term = None if of_registers else unnamed(cells[0], section(f"docs/machine/{link[1]}", link[2]))
+        if term:
+            complain(where, f"{link[1]} has no {term} below #{link[2]}")
         for register in expanded(cells[0]) if of_registers else ():
             indexed.add(register)
             if register not in machine.get(f"docs/machine/{link[1]}", {}).get(link[2], ()):

@@ -43,5 +43,6 @@ fault "sed -i 's/.write_mosaic. |/\`wrote_mosaic\` |/' $index" $index "crates/pp
 fault "sed -i 's/^| 2106 MOSAIC | .PPU.(PPU.$md#written-registers)/| 2106 MOSAIC | [PPU](PPU.$md#tiles)/' $index" $index "PPU.$md has no 2106 in a table below #tiles"
 fault "sed -i '/^| 2106 MOSAIC /d' $index" docs/machine/PPU.md "has the register 2106, which the index lacks"
 fault "sed -i 's/^| mosaic | .*/| mosaic | see mode 7 |/' $index" $index "is no line of an entry"
+fault "sed -i 's/^| mosaic | .PPU.(PPU.$md#mosaic)/| mosaic | [PPU](PPU.$md#tiles)/' $index" $index "PPU.$md has no mosaic below #tiles"
 echo "$tried faults of the pages, $bad not named"
 [ "$bad" = 0 ]
