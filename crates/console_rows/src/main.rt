@@ -17,25 +17,30 @@
 //! - `picture FRAME` prints a frame from 0 on, equal rows in one line, each by runs of equal dots.
 //!
 //! A word `workers` or `plans` in a file's place runs rows of what a run does beside its output, which no clause and no byte
-//! tells: that its two workers are under way at once, and through how many frames a rewinder steps its machines.
+//! tells: that its two workers are under way at once, and through how many frames a rewinder steps its machines. Behind a
+//! word `job` stand the words of one run over real files: it is run as `snes` runs it, its workers are counted, and the
+//! status is that of `snes`.
 //!
 //! A read of a port gets 0, but in rows with `torn`: port 0 gets 1 after clock 540, and port 1 gets 2 after clock 546.
 #![tactic(auto)]
 
 mod cartridge;
+mod job;
 mod picture;
 mod plans;
 mod row;
 mod run;
 mod workers;
 
+use port_wire::Gate;
 use row::Row;
 use std::alloc::Global;
 use std::env::Args;
+use std::process::ExitCode;
 use std::rt::Files;
 use std::thread::Threads;
-use std::time::Clock;
 use std::{env, fs, io};
+use turn_watch::Watch;
 
 /// Follows the lines of a file.
 fn follow<R: Files + Print + AllocGlobal>(rt: &R, row: &mut Row, name: &str) -> io::Result<()> {
@@ -50,23 +55,28 @@ fn follow<R: Files + Print + AllocGlobal>(rt: &R, row: &mut Row, name: &str) -> 
 }
 
 /// Does what the program's words say.
-fn follow_words<R: Files + Print + AllocGlobal + Threads + Clock>(
+fn follow_words<R: Files + Sync + Print + Eprint + AllocGlobal + Threads>(
     rt: &R,
-    row: &mut Row,
+    watch: &Watch<'_, R>,
+    gate: &dyn Gate,
     words: Args<Global>,
-) -> io::Result<()> {
-    for word in words.skip(1) {
+) -> io::Result<ExitCode> {
+    let mut row = Row::new(rt.alloc());
+    let mut words = words;
+    while let Some(word) = words.next() {
         match word.as_str() {
-            "workers" => workers::show_all(rt)?,
+            "workers" => workers::show_all(rt, watch, gate)?,
             "plans" => plans::show_all(rt)?,
-            name => follow(rt, row, name)?,
+            "job" => return job::run_watched(rt, watch, gate, words),
+            name => follow(rt, &mut row, name)?,
         }
     }
-    Ok(())
+    Ok(ExitCode::SUCCESS)
 }
 
-fn main(rt: HostRuntime) -> io::Result<()> {
-    let words = env::args(&rt)?;
-    let mut row = Row::new(rt.alloc());
-    follow_words(&rt, &mut row, words)
+fn main(rt: HostRuntime) -> io::Result<ExitCode> {
+    let watch = Watch::new(&rt);
+    let mut words = env::args(&rt)?;
+    let _program = words.next();
+    follow_words(&rt, &watch, &watch, words)
 }

@@ -1,42 +1,49 @@
 //! Two workers under the whole program: `run`, `lockless` and `demo` are called as a user calls them, over a shelf in memory,
-//! with a gate that watches their workers. What a line says of the workers is missing where one of these commands
-//! makes its run by one worker: `tools/try_one_worker.sh` tries such bodies.
+//! with a gate that counts what their workers do (`turn_watch`). What a line says of the workers is missing if a command
+//! makes its run, or a part of it, in one thread: `tools/try_one_worker.sh` tries such bodies.
 //!
-//! A worker passes the gate as it sets out on a turn (`docs/proof/TWO-WORKERS.md`). The gate has each look whether the
-//! other has set out on the same turn, in the first 100 turns and up to 1,000,000 times in each. Both see each
-//! other in one turn only where neither had ended it before the other set out: so both were under way at once,
-//! which no run by one worker can show. It also keeps the numbers of the turns. A thread that begins late can miss all turns of
-//! a short run, so a row whose workers did not meet is run again, twenty times at most; those of one worker never meet.
+//! Each run is checked whole: its status, its message, every byte of its picture and sound beside those of `serial`, the
+//! numbers of its turns, and that every turn had two threads. Both legs of a turn have to overlap in each row. A row whose
+//! legs never do is run again, three times at most, since a busy machine can hold a thread back. Standard error has the
+//! counts of each run.
 //!
 //! The rows are worked by hand: sixty frames of a cartridge that shows red and touches no port take fewer than
 //! 100,000 turns; two frames of two processors that read each other's ports for ever take no more than the bound
-//! that is proved of every run, 76,602 a frame and 2, by `run` and by `lockless`; and sixty frames of a made cartridge too. No number that the
-//! gate is told reaches these.
+//! that is proved of every run, 76,602 a frame and 2, by `run` and by `lockless`; and sixty frames of a made cartridge too.
 
 mod files;
 
 use file_shelf::{Out, SureShelf};
 use files::{Programs, shelf};
 use job_player::Console;
-use run_drive::{Host, Watch};
+use port_wire::{Gate, OpenGate};
 use run_io::Argv;
 use snes_program::{Status, snes};
 use std::alloc::Global;
+use std::rt::Files;
 use std::thread::Threads;
-use std::time::Clock;
 use std::{io, str};
+use turn_watch::{Counts, Watch};
 
 /// How many times a row is run at most.
-const MOST_TRIES: u8 = 20;
+const MOST_TRIES: u8 = 3;
 
-/// A command line with one space between two words, the programs that its files hold, and the number that none of
-/// its turns reaches.
+/// A command and its other words, with one space between two words, the programs that its files hold, and the number of
+/// turns that it doesn't pass.
 #[derive(Drop)]
 struct Row {
+    command: &'static str,
     words: &'static str,
     programs: Programs,
     limit: u64,
 }
+
+/// The words of a run over files, of sixty frames and of two.
+const SIXTY: &str =
+    "--cart cart --boot boot --table table --script script --video video --audio audio --frames 60";
+
+const TWO: &str =
+    "--cart cart --boot boot --table table --script script --video video --audio audio --frames 2";
 
 /// CGRAM 0 becomes 001F, brightness 15, the screen is shown: red frames. The sound processor sleeps.
 fn red_programs() -> Programs {
@@ -56,7 +63,8 @@ fn red_programs() -> Programs {
 /// Sixty red frames.
 fn red() -> Row {
     Row {
-        words: "run --cart cart --boot boot --table table --script script --video video --audio audio --frames 60",
+        command: "run",
+        words: SIXTY,
         programs: red_programs(),
         limit: 100_000,
     }
@@ -65,7 +73,8 @@ fn red() -> Row {
 /// Two frames in which each processor reads the first port of the other for ever.
 fn polling() -> Row {
     Row {
-        words: "run --cart cart --boot boot --table table --script script --video video --audio audio --frames 2",
+        command: "run",
+        words: TWO,
         programs: Programs {
             cartridge: &[0xAD, 0x40, 0x21, 0x80, 0xFB], // LDA 2140, BRA to it
             boot: &[0xE4, 0xF4, 0x2F, 0xFC], // MOV A,F4, BRA to it
@@ -77,7 +86,7 @@ fn polling() -> Row {
 /// The same over words without a lock.
 fn lockless() -> Row {
     Row {
-        words: "lockless --cart cart --boot boot --table table --script script --video video --audio audio --frames 2",
+        command: "lockless",
         ..polling()
     }
 }
@@ -85,88 +94,169 @@ fn lockless() -> Row {
 /// Sixty frames of a cartridge that the program makes.
 fn demo() -> Row {
     Row {
-        words: "demo 7 --frames 60",
+        command: "demo",
+        words: "7 --frames 60",
         programs: red_programs(),
         limit: 76_602 * 60 + 2,
     }
 }
 
-/// The words of a row.
-fn words_of(alloc: Global, row: &Row) -> Option<Argv> {
-    let mut words = Argv::new(alloc);
-    for word in row.words.split(' ') {
-        words.push(word).ok()?;
+/// A command and the words behind it.
+fn words_of(alloc: Global, command: &str, words: &str) -> Option<Argv> {
+    let mut argv = Argv::new(alloc);
+    argv.push(command).ok()?;
+    for word in words.split(' ') {
+        argv.push(word).ok()?;
     }
-    Some(words)
+    Some(argv)
 }
 
-/// Whether the turns of a run were numbered from 0 on, alike for both workers, and none reached the limit.
-fn is_numbered(turns: Option<u64>, limit: u64) -> bool {
-    match turns {
-        Some(turns) => 0 < turns && turns <= limit,
+/// Runs a command over a shelf, with this gate. True where the answer is Ok.
+fn is_run<R: AllocGlobal + Threads>(
+    rt: &R,
+    gate: &dyn Gate,
+    command: &str,
+    words: &str,
+    shelf: &mut SureShelf,
+) -> bool {
+    match words_of(rt.alloc(), command, words) {
+        Some(argv) => snes::<Console, _, _>(rt, &argv, shelf, gate) == Status::Ok,
         None => false,
     }
 }
 
-/// Runs a row whose words and files stand ready, and prints its answer and what was seen of its workers where they met or
-/// it is not to be run again. Answers whether it has printed.
-fn show_run<R: AllocGlobal + Threads + Clock + Print>(
+/// Whether two shelves have the same picture and sound, each under its name.
+fn are_alike(one: &SureShelf, other: &SureShelf) -> bool {
+    one.written(Out::Video) == other.written(Out::Video)
+        && one.written(Out::Sound) == other.written(Out::Sound)
+        && one.named(Out::Video) == other.named(Out::Video)
+        && one.named(Out::Sound) == other.named(Out::Sound)
+}
+
+/// What came of a row by two workers, beside `serial`.
+#[derive(Clone, Copy)]
+struct Seen {
+    ended: bool,
+    alike: bool,
+    counts: Counts,
+}
+
+/// Runs a row by two workers, into a shelf that holds its files, and compares what it left with what `serial` left.
+fn run_beside<R: AllocGlobal + Threads + Files + Sync>(
     rt: &R,
-    words: &Argv,
-    shelf: &mut SureShelf,
-    limit: u64,
-    is_last: bool,
-) -> io::Result<bool> {
-    let watch = Watch::new();
-    let status = snes::<Console, _, _>(&Host::watched(rt, &watch), words, shelf);
-    if !watch.met() && !is_last {
-        return Ok(false);
+    watch: &Watch<'_, R>,
+    gate: &dyn Gate,
+    row: &Row,
+    by_two: &mut SureShelf,
+    serially: &SureShelf,
+) -> Seen {
+    watch.begin();
+    let ended = is_run(rt, gate, row.command, row.words, by_two);
+    Seen {
+        ended,
+        alike: are_alike(by_two, serially),
+        counts: watch.counts(),
     }
-    let ends = if status == Status::Ok { "Ok" } else { "no end" };
-    let meets = if watch.met() { "met" } else { "did not meet" };
-    let counts = if is_numbered(watch.turns(), limit) {
+}
+
+/// Prints what came of a row: its answer, its line, its bytes beside `serial`, and its workers.
+fn show_seen<R: Print>(rt: &R, row: &Row, by_two: &SureShelf, seen: Seen) -> io::Result<()> {
+    let Ok(said) = str::from_utf8(by_two.written(Out::Say)) else {
+        return println!(rt; "no text");
+    };
+    let ends = if seen.ended { "Ok" } else { "not Ok" };
+    let bytes = if seen.alike {
+        "as serial"
+    } else {
+        "other bytes than serial"
+    };
+    let numbers = if 0 < seen.counts.turns && seen.counts.turns <= row.limit {
         "as they should be"
     } else {
         "wrong"
     };
-    match str::from_utf8(shelf.written(Out::Say)) {
-        Ok(said) => {
-            println!(rt; "{said:?}, {ends}: the workers {meets}, their turns are {counts}")?
-        }
-        Err(_) => println!(rt; "no text")?,
+    let threads = if seen.counts.all_on_two_threads() {
+        "every"
+    } else {
+        "not every"
+    };
+    let legs = if seen.counts.overlaps() {
+        "overlap"
+    } else {
+        "never overlap"
+    };
+    println!(rt;
+        "{} {said:?}, {ends}, {bytes}: turns are {numbers}, {threads} turn has two threads, legs {legs}",
+        row.command
+    )
+}
+
+/// Tells on standard error what was counted, since it is not alike at every run.
+fn tell<R: Eprint>(rt: &R, row: &Row, tried: u8, counts: Counts) {
+    let _told = eprintln!(rt;
+        "{}, try {tried}: {} turns, {} on two threads, {} overlapped",
+        row.command, counts.turns, counts.on_two_threads, counts.overlapped
+    );
+}
+
+/// What `serial` leaves of a row's files; `demo` has none, and leaves nothing.
+fn run_serially<R: AllocGlobal + Threads>(rt: &R, row: &Row, serially: &mut SureShelf) -> bool {
+    row.command == "demo" || is_run(rt, &OpenGate, "serial", row.words, serially)
+}
+
+/// Runs a row once more, and prints what came of it unless its legs alone never overlapped and it may be run again.
+/// True where it has printed.
+fn try_row<R: AllocGlobal + Threads + Files + Sync + Print + Eprint>(
+    rt: &R,
+    watch: &Watch<'_, R>,
+    gate: &dyn Gate,
+    row: &Row,
+    serially: &SureShelf,
+    tried: u8,
+) -> io::Result<bool> {
+    let Some(mut by_two) = shelf(rt.alloc(), &row.programs) else {
+        println!(rt; "no memory")?;
+        return Ok(true);
+    };
+    let seen = run_beside(rt, watch, gate, row, &mut by_two, serially);
+    tell(rt, row, tried, seen.counts);
+    let is_whole = seen.ended && seen.alike && seen.counts.all_on_two_threads();
+    if is_whole && !seen.counts.overlaps() && tried < MOST_TRIES {
+        return Ok(false);
     }
+    show_seen(rt, row, &by_two, seen)?;
     Ok(true)
 }
 
-/// Runs a row through the program once.
-fn try_row<R: AllocGlobal + Threads + Clock + Print>(
+/// Runs a row by `serial` and by two workers, and prints what came of it.
+fn show<R: AllocGlobal + Threads + Files + Sync + Print + Eprint>(
     rt: &R,
+    watch: &Watch<'_, R>,
+    gate: &dyn Gate,
     row: &Row,
-    is_last: bool,
-) -> io::Result<bool> {
-    match (words_of(rt.alloc(), row), shelf(rt.alloc(), &row.programs)) {
-        (Some(words), Some(mut shelf)) => show_run(rt, &words, &mut shelf, row.limit, is_last),
-        _ => {
-            println!(rt; "no memory")?;
-            Ok(true)
-        }
+) -> io::Result<()> {
+    let Some(mut serially) = shelf(rt.alloc(), &row.programs) else {
+        return println!(rt; "no memory");
+    };
+    if !run_serially(rt, row, &mut serially) {
+        return println!(rt; "{} has no serial run beside it", row.command);
     }
-}
-
-/// Runs a row until its workers meet, and prints its answer and what was seen of them.
-fn show<R: AllocGlobal + Threads + Clock + Print>(rt: &R, row: &Row) -> io::Result<()> {
-    for tried in 0..MOST_TRIES {
-        if try_row(rt, row, tried + 1 == MOST_TRIES)? {
+    for tried in 1..=MOST_TRIES {
+        if try_row(rt, watch, gate, row, &serially, tried)? {
             return Ok(());
         }
     }
     Ok(())
 }
 
-/// Runs all rows.
-pub fn show_all<R: AllocGlobal + Threads + Clock + Print>(rt: &R) -> io::Result<()> {
-    show(rt, &red())?;
-    show(rt, &polling())?;
-    show(rt, &lockless())?;
-    show(rt, &demo())
+/// Runs all rows, with a watch, which is the gate too.
+pub fn show_all<R: AllocGlobal + Threads + Files + Sync + Print + Eprint>(
+    rt: &R,
+    watch: &Watch<'_, R>,
+    gate: &dyn Gate,
+) -> io::Result<()> {
+    show(rt, watch, gate, &red())?;
+    show(rt, watch, gate, &polling())?;
+    show(rt, watch, gate, &lockless())?;
+    show(rt, watch, gate, &demo())
 }

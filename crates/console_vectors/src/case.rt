@@ -20,8 +20,6 @@ pub struct Case {
     frames: u32,
     /// The most turns that the run may make.
     pub turns: u64,
-    /// Whether both workers have to be seen under way at once.
-    pub meets: bool,
     pictures: Vec<Frame>,
     sounds: Vec<Frame>,
     console_steps: Vec<Beginning>,
@@ -37,7 +35,6 @@ impl Case {
             script: Vec::new(alloc),
             frames: 0,
             turns: u64::MAX,
-            meets: false,
             pictures: Vec::new(alloc),
             sounds: Vec::new(alloc),
             console_steps: Vec::new(alloc),
@@ -57,7 +54,6 @@ impl Case {
             b"image" => self.image = image_of(alloc, words)?,
             b"fill" => self.image = filled(alloc, words)?,
             b"turns" => self.turns = words.next()?.parse().ok()?,
-            b"meet" => self.meets = true,
             b"p" => put(
                 self.image.as_mut_slice(),
                 hexadecimal(words.next()?)?,

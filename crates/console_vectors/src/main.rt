@@ -8,8 +8,9 @@
 //! Those of `data/turns.txt` are worked by hand: sixty red frames, and two processors that pass bytes through the
 //! ports.
 //!
-//! By turns each worker passes a gate that watches it: the turns of a run have to be numbered from 0 on, in order
-//! and alike for both workers, and where a job asks for it (`meet`) both have to be seen under way at once.
+//! By turns each worker passes a gate that counts (`turn_watch`). The turns of a job have to be numbered from 0 on, in
+//! order and alike for both workers. Every turn has to have two threads, and both legs of a turn have to overlap in each
+//! job of four turns or more. What was counted of all jobs goes to standard error, since it is not alike at every run.
 //!
 //! A job begins `job K` and ends `end`. Between, numbers are hexadecimal but for counts: `image LENGTH SEED
 //! ANDS` and `p OFFSET BYTES` are the cartridge's file, each byte the AND of so many bytes of a generator;
@@ -36,7 +37,20 @@ mod turns;
 
 use case::Case;
 use std::{env, fs, io};
-use tally::{Tally, compare};
+use tally::{Tally, Workers, compare};
+
+/// Prints in how many jobs every turn had two threads, and in how many both legs overlapped; the counts of turns to
+/// standard error.
+fn show_workers<R: Print + Eprint>(rt: &R, how: &str, workers: &Workers) -> io::Result<()> {
+    println!(rt;
+        "{how}: two threads in every turn of {} jobs, legs that overlap in {}",
+        workers.on_two_threads, workers.overlapping
+    )?;
+    eprintln!(rt;
+        "{how}: {} turns, {} on two threads, {} overlapped",
+        workers.turns.turns, workers.turns.on_two_threads, workers.turns.overlapped
+    )
+}
 
 fn main(rt: HostRuntime) -> io::Result<()> {
     let mut tally = Tally::new();
@@ -57,14 +71,11 @@ fn main(rt: HostRuntime) -> io::Result<()> {
         }
     }
     println!(rt;
-        "{} jobs: {} differ, {} differ by turns, {} without a lock, the workers met in {} and {}",
-        tally.jobs,
-        tally.different,
-        tally.different_by_turns,
-        tally.different_without_lock,
-        tally.met,
-        tally.met_without_lock
+        "{} jobs: {} differ, {} differ by turns, {} without a lock",
+        tally.jobs, tally.different, tally.different_by_turns, tally.different_without_lock
     )?;
+    show_workers(&rt, "by turns", &tally.locked)?;
+    show_workers(&rt, "without a lock", &tally.lockless)?;
     println!(rt;
         "{} hashes of first steps: {} differ",
         tally.beginnings, tally.beginnings_different

@@ -3,11 +3,43 @@ use crate::play::play;
 use crate::steps::record_steps;
 use crate::turns::play_on_two;
 use job_player::Carrier;
-use run_drive::Watch;
 use std::alloc::Global;
 use std::io;
+use std::rt::Files;
 use std::thread::Threads;
-use std::time::Clock;
+use turn_watch::{Counts, Watch};
+
+/// What was counted of the workers of all jobs so far, over one wire.
+#[derive(Drop)]
+pub struct Workers {
+    /// The turns of all jobs.
+    pub turns: Counts,
+    /// The jobs of which every turn had two threads.
+    pub on_two_threads: u64,
+    /// The jobs in which both legs of a turn overlapped, or that had fewer than four turns.
+    pub overlapping: u64,
+}
+
+impl Workers {
+    fn none() -> Workers {
+        Workers {
+            turns: Counts::none(),
+            on_two_threads: 0,
+            overlapping: 0,
+        }
+    }
+
+    /// Counts a further job.
+    fn count(&mut self, counts: Counts) {
+        self.turns = self.turns.and(counts);
+        if counts.all_on_two_threads() {
+            self.on_two_threads = self.on_two_threads.saturating_add(1);
+        }
+        if counts.overlaps() {
+            self.overlapping = self.overlapping.saturating_add(1);
+        }
+    }
+}
 
 /// What came of the jobs so far.
 #[derive(Drop)]
@@ -16,10 +48,9 @@ pub struct Tally {
     pub different: u64,
     pub different_by_turns: u64,
     pub different_without_lock: u64,
-    /// The jobs in which both workers were seen under way at once, of those that ask for it.
-    pub met: u64,
-    /// The same over words without a lock.
-    pub met_without_lock: u64,
+    /// What was counted of two workers over the log behind its lock, and over words.
+    pub locked: Workers,
+    pub lockless: Workers,
     /// The hashes of first steps, and those that differ.
     pub beginnings: usize,
     pub beginnings_different: usize,
@@ -32,8 +63,8 @@ impl Tally {
             different: 0,
             different_by_turns: 0,
             different_without_lock: 0,
-            met: 0,
-            met_without_lock: 0,
+            locked: Workers::none(),
+            lockless: Workers::none(),
             beginnings: 0,
             beginnings_different: 0,
         }
@@ -81,12 +112,12 @@ fn compare_steps<R: AllocGlobal + Print>(rt: &R, case: &Case, tally: &mut Tally)
 struct ByTurns {
     agrees: bool,
     /// Whether the turns were numbered as they should be, and few enough.
-    counted: bool,
-    met: bool,
+    numbered: bool,
+    counts: Counts,
 }
 
 /// Runs a job by turns over a wire, or nothing where it is no job.
-fn by_turns<R: AllocGlobal + Threads + Clock>(
+fn by_turns<R: AllocGlobal + Threads + Files + Sync>(
     rt: &R,
     case: &Case,
     carrier: Carrier,
@@ -94,17 +125,18 @@ fn by_turns<R: AllocGlobal + Threads + Clock>(
     let alloc = rt.alloc();
     let job = case.job(alloc)?;
     let mut marks = case.marks(alloc)?;
-    let watch = Watch::new();
+    let watch = Watch::new(rt);
     let turns = play_on_two(rt, &job, carrier, &watch, &mut marks)?;
+    let counts = watch.counts();
     Some(ByTurns {
         agrees: marks.video.agrees() && marks.sound.agrees(),
-        counted: watch.counted(turns) && turns <= case.turns,
-        met: watch.met(),
+        numbered: counts.turns == turns && turns <= case.turns,
+        counts,
     })
 }
 
 /// Compares a job each way, counts it, and names what is wrong.
-pub fn compare<R: AllocGlobal + Threads + Clock + Print>(
+pub fn compare<R: AllocGlobal + Threads + Files + Sync + Print>(
     rt: &R,
     case: &Case,
     tally: &mut Tally,
@@ -130,14 +162,10 @@ pub fn compare<R: AllocGlobal + Threads + Clock + Print>(
         tally.different_without_lock = tally.different_without_lock.saturating_add(1);
         println!(rt; "job {job} differs without a lock")?;
     }
-    if !locked.counted || !lockless.counted {
+    if !locked.numbered || !lockless.numbered {
         println!(rt; "job {job} has other turns")?;
     }
-    if case.meets && locked.met {
-        tally.met = tally.met.saturating_add(1);
-    }
-    if case.meets && lockless.met {
-        tally.met_without_lock = tally.met_without_lock.saturating_add(1);
-    }
+    tally.locked.count(locked.counts);
+    tally.lockless.count(lockless.counts);
     compare_steps(rt, case, tally)
 }

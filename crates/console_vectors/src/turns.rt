@@ -4,10 +4,9 @@ use port_wire::Gate;
 use run_drive::Player;
 use snes_defs::Job;
 use std::thread::Threads;
-use std::time::Clock;
 
 /// Runs a job on two workers over this wire, marks what they emit, and answers how many turns they made.
-pub fn play_on_two<R: AllocGlobal + Threads + Clock, G: Gate>(
+pub fn play_on_two<R: AllocGlobal + Threads, G: Gate>(
     rt: &R,
     job: &Job,
     carrier: Carrier,

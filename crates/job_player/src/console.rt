@@ -4,17 +4,15 @@ ghost use Rattle.run_drive.specs.Played.{PlayedWhole, PlayedFirst};
 ghost use Rattle.run_laws.specs.TurnBound.{most_turns};
 ghost use Rattle.job_player.specs.Start.{Emits, IsReady};
 
-use crate::door::Door;
 use audio_side::AudioSide;
 use clock_ratio::end_stamp_in;
 use console_machine::ConsoleSide;
 use port_lock::{Ports, Whole};
 use port_wire::Gate;
-use run_drive::{Player, Sink, Workers, run_serial};
+use run_drive::{Player, Sink, run_serial};
 use snes_defs::{Job, NoMemory, Side};
 use std::alloc::Global;
 use std::thread::Threads;
-use std::time::Clock;
 use turn_drive::run_turns;
 use word_log::Words;
 
@@ -46,7 +44,7 @@ pub enum Carrier {
 
 /// Runs a job's console on two workers, each of which passes the gate as it sets out on a turn, and
 /// answers how many turns it made: no more than the frames of the job have.
-pub fn play_by_turns<R: Threads + Clock, G: Gate, K: Sink>(
+pub fn play_by_turns<R: Threads, G: Gate, K: Sink>(
     player: Console,
     rt: &R,
     carrier: Carrier,
@@ -137,17 +135,25 @@ impl Player for Console {
         run_serial(console, sound, end, buffer.as_mut_slice(), sink)
     }
 
-    fn play_turns<R: Workers, K: Sink>(self, rt: &R, sink: &mut K) -> Result<(), Side> {
-        let door = Door { watch: rt.watch() };
-        match play_by_turns(self, rt, Carrier::Lock, &door, sink) {
+    fn play_turns<R: Threads, K: Sink>(
+        self,
+        rt: &R,
+        gate: &dyn Gate,
+        sink: &mut K,
+    ) -> Result<(), Side> {
+        match play_by_turns(self, rt, Carrier::Lock, &gate, sink) {
             Ok(_) => Ok(()),
             Err(side) => Err(side),
         }
     }
 
-    fn play_words<R: Workers, K: Sink>(self, rt: &R, sink: &mut K) -> Result<(), Side> {
-        let door = Door { watch: rt.watch() };
-        match play_by_turns(self, rt, Carrier::Words, &door, sink) {
+    fn play_words<R: Threads, K: Sink>(
+        self,
+        rt: &R,
+        gate: &dyn Gate,
+        sink: &mut K,
+    ) -> Result<(), Side> {
+        match play_by_turns(self, rt, Carrier::Words, &gate, sink) {
             Ok(_) => Ok(()),
             Err(side) => Err(side),
         }

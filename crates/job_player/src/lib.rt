@@ -7,7 +7,6 @@
 #![tactic(auto)]
 
 mod console;
-mod door;
 mod planned;
 
 pub use console::{Carrier, Console, play_by_turns};

@@ -12,7 +12,7 @@ use Rattle.commute_laws.proofs.Legs.{leg_at_once, leg_on, leg_longer}
 use Rattle.port_wire.specs.Seen.{Half}
 use Rattle.port_wire.specs.Answers.{HearsOn}
 use Rattle.pair_run.specs.Tried.{Tried}
-use Rattle.pair_run.specs.Leg.{LegRan, HasRun}
+use Rattle.pair_run.specs.Leg.{LegRan}
 
 -- what was heard by one call after another
 pub hears_then : (old mid new : Half) → HearsOn old mid → HearsOn mid new → HearsOn old new
@@ -130,29 +130,3 @@ module _ {State : Type 0} (side : Side) (moves : Moves State) where
     waits_is = sym (append_assoc waited ran.emitted then.emitted) ∙ ap (λ l. l ++ then.emitted) ran.waits_is ∙ then.waits_is;
     within = legs_join half.heard half.upto (half.known + window + 1) before ran.after then.after ran.within then.within;
   }
-
--- a machine ran, and then it ran on, and its pass had heard more meanwhile
-pub run_then : {State : Type 0} (side again : Side) (moves : Moves State) (window end : ℕ) (stood mid_stands stands : State → Type 0) (old mid new : Half)
-    (waited mid_waits waits : List ℕ) → again ≡ side
-    → HasRun side moves window end stood mid_stands old mid waited mid_waits → HearsOn mid new
-    → HasRun again moves window end mid_stands stands mid new mid_waits waits
-    → HasRun side moves window end stood stands old new waited waits
-run_then side again moves window end stood mid_stands stands old mid new waited mid_waits waits is first hears then = record {
-  from = λ before on entries.
-      let was = first.from before on entries in
-      let next = subst (λ s. LegRan s moves window end stands new mid_waits waits was.after) is (then.from was.after was.now_stands was.entries) in
-      let heard : IsHeard mid.heard new.heard mid.upto = record { rest = hears.more; whole_is = hears.heard; later = hears.later } in
-      record {
-        after = next.after;
-        leg = legs_join side moves new.heard new.upto end before was.after next.after
-            (leg_longer side moves mid.heard new.heard mid.upto new.upto end before was.after was.leg heard hears.upto) next.leg;
-        now_stands = next.now_stands;
-        entries = next.entries;
-        emitted = was.emitted ++ next.emitted;
-        emitted_is = sym (append_assoc before.emitted was.emitted next.emitted) ∙ ap (λ l. l ++ next.emitted) was.emitted_is ∙ next.emitted_is;
-        waits_is = sym (append_assoc waited was.emitted next.emitted) ∙ ap (λ l. l ++ next.emitted) was.waits_is ∙ next.waits_is;
-        within = legs_join side moves new.heard new.upto (new.known + window + 1) before was.after next.after
-            (leg_below_later side moves new.heard new.upto (mid.known + window + 1) (new.known + window + 1) before was.after (omega (arith, hears.known))
-            (leg_longer side moves mid.heard new.heard mid.upto new.upto (mid.known + window + 1) before was.after was.within heard hears.upto)) next.within;
-      };
-}

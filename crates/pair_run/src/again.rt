@@ -17,11 +17,13 @@ use std::thread::yield_now;
 /// How often a side tries to publish its clock where the ports are held.
 const TELLS: u32 = 64;
 
-/// Lets other threads run before a step is tried again: the longer, the more often it was tried, up to `waits`
-/// yields. A side that waits for the other's clock, which is published every four lines, would else take the ports
-/// from it again and again.
-fn wait(tried: u32, waits: u32) {
-    for _ in 0..tried.saturating_add(1).min(waits) {
+/// The most yields between two tries of a step.
+const WAITS: u32 = 8;
+
+/// Lets other threads run before a step is tried again: the longer, the more often it was tried. A side that waits
+/// for the other's clock, which is published every four lines, would else take the ports from it again and again.
+fn wait(tried: u32) {
+    for _ in 0..tried.saturating_add(1).min(WAITS) {
         yield_now();
     }
 }
@@ -69,15 +71,13 @@ pub(crate) fn publish<W: Wire>(wire: &W, pass: &mut W::Pass, at: u64)
     }
 }
 
-/// Tries the next step of a machine until it is made, `tries` times in a row at most, with up to `waits` yields
-/// between two tries.
+/// Tries the next step of a machine until it is made, `tries` times in a row at most.
 #[tactic(auto, using(crate::proofs::LegGoesOn::hears_then))]
 fn insist<W: Wire, M: Machine>(
     wire: &W,
     pass: &mut W::Pass,
     machine: &mut M,
     tries: u32,
-    waits: u32,
 ) -> Result<(), PassLate>
     requires of { W.is_pass_of wire.now pass.old }
     requires region { M.region_of machine.old ≡ W.region_of wire.now }
@@ -103,15 +103,14 @@ fn insist<W: Wire, M: Machine>(
     for tried in 0..tries - 1 {
         match attempt(wire, pass, machine) {
             Ok(()) => return Ok(()),
-            Err(_) => wait(tried, waits),
+            Err(_) => wait(tried),
         }
     }
     attempt(wire, pass, machine)
 }
 
 /// Makes the next step of a machine by the call of its act. Where it is refused at first, the own clock is
-/// published, which the other side may be waiting for, and the step is tried `tries` times in a row at most, with up
-/// to `waits` yields between two tries.
+/// published, which the other side may be waiting for, and the step is tried `tries` times in a row at most.
 #[inline(always)]
 #[tactic(auto, using(crate::proofs::LegGoesOn::hears_then))]
 pub(crate) fn step_by_call<W: Wire, M: Machine>(
@@ -119,7 +118,6 @@ pub(crate) fn step_by_call<W: Wire, M: Machine>(
     pass: &mut W::Pass,
     machine: &mut M,
     tries: u32,
-    waits: u32,
 ) -> Result<(), PassLate>
     requires of { W.is_pass_of wire.now pass.old }
     requires region { M.region_of machine.old ≡ W.region_of wire.now }
@@ -147,5 +145,5 @@ pub(crate) fn step_by_call<W: Wire, M: Machine>(
         Err(_) => {}
     }
     publish(wire, pass, machine.stamp());
-    insist(wire, pass, machine, tries, waits)
+    insist(wire, pass, machine, tries)
 }

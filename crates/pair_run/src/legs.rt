@@ -1,9 +1,6 @@
 ghost use Rattle.std.specs.Prelude.{◌≡◌, ◌+◌, ◌*◌, ◌^◌, ◌<◌, ◌≤◌, ◌↔◌, ℕ, length};
 ghost use Rattle.clock_ratio.specs.Stamp.{window_of};
-ghost use Rattle.port_wire.specs.Answers.{HearsOn};
 ghost use Rattle.port_wire.specs.Reach.{IsInReach};
-ghost use Rattle.port_wire.specs.Seen.{Half};
-ghost use Rattle.port_wire.specs.Tally.{HasRisenBy};
 ghost use Rattle.pair_run.specs.Leg.{HasRun, IfHeldBack, IsSpent};
 ghost use Rattle.pair_run.specs.Tried.{call_of};
 
@@ -12,54 +9,6 @@ use crate::ends::{LegEnd, held_back};
 use crate::lone::run_alone;
 use port_wire::{Gate, Wire};
 use side_law::Machine;
-
-/// The most yields between two tries of a step, where the other side runs in another thread.
-const WAITS: u32 = 8;
-
-/// A leg, or a part of one, of a machine whose worker has passed the gate.
-#[tactic(auto, using(crate::proofs::LegGoesOn::hears_then))]
-pub(crate) fn go<W: Wire, M: Machine>(
-    wire: &W,
-    pass: &mut W::Pass,
-    machine: &mut M,
-    end: u64,
-    tries: u32,
-    waits: u32,
-) -> LegEnd
-    requires of { W.is_pass_of wire.now pass.old }
-    requires region { M.region_of machine.old ≡ W.region_of wire.now }
-    requires tries { 1 ≤ tries }
-    requires room { length (M.waiting machine.old) + M.MOST ≤ M.CAP }
-    requires clock { (W.seen pass.old).half.at ≤ M.stamp_of machine.old }
-    requires reach { IsInReach (W.region_of wire.now) (M.stamp_of machine.old) (W.seen pass.old).half }
-    requires end { end ≤ 2 ^ 51 }
-    ensures still_of { W.is_pass_of wire.now pass.new }
-    ensures side { (W.seen pass.new).side ≡ (W.seen pass.old).side }
-    ensures hears { HearsOn (W.seen pass.old).half (W.seen pass.new).half }
-    ensures clock { (W.seen pass.new).half.at ≤ M.stamp_of machine.new }
-    ensures reach { IsInReach (W.region_of wire.now) (M.stamp_of machine.new) (W.seen pass.new).half }
-    ensures same_region { M.region_of machine.new ≡ M.region_of machine.old }
-    ensures room { length (M.waiting machine.new) + M.MOST ≤ M.CAP }
-    ensures ran { HasRun (W.seen pass.old).side M.moves (window_of (W.region_of wire.now)) end (M.stands machine.old) (M.stands machine.new) (W.seen pass.old).half (W.seen pass.new).half (M.waiting machine.old) (M.waiting machine.new) }
-    ensures done { (result ≡ LegEnd.Done) ↔ (end ≤ M.stamp_of machine.new) }
-    ensures drain { (result ≡ LegEnd.Drain) ↔ ((M.stamp_of machine.new < end) × (¬ (length (M.waiting machine.new) + 2 * M.MOST ≤ M.CAP))) }
-    ensures counted { (before : ℕ) → HasRisenBy 0 before (W.seen pass.old).half.tally.refused → HasRisenBy 0 before (W.seen pass.new).half.tally.refused }
-    ensures spent { (m : M.State) → M.stands machine.new m → (before : Half) → HasRisenBy 0 before.tally.refused (W.seen pass.old).half.tally.refused → IfHeldBack result (λ late. IsSpent (call_of (M.moves.act m)) (M.stamp_of machine.new) late tries before (W.seen pass.new).half) }
-{
-    run_alone(wire, pass, machine, end);
-    'steps: while machine.stamp() < end && machine.ready() {
-        match step_by_call(wire, pass, machine, tries, waits) {
-            Ok(()) => run_alone(wire, pass, machine, end),
-            Err(late) => return held_back(late),
-        }
-    }
-    publish(wire, pass, machine.stamp());
-    if machine.stamp() < end {
-        LegEnd::Drain
-    } else {
-        LegEnd::Done
-    }
-}
 
 /// Lets a machine run by itself over its pass, until it has come to `end`, has no room for the bytes of
 /// two more steps, or the call of its next step was refused `tries` times in a row.
@@ -94,5 +43,17 @@ pub fn leg<W: Wire, M: Machine, G: Gate>(
     ensures spent { (m : M.State) → M.stands machine.new m → IfHeldBack result (λ late. IsSpent (call_of (M.moves.act m)) (M.stamp_of machine.new) late tries (W.seen pass.old).half (W.seen pass.new).half) }
 {
     gate.arrive(wire.side(pass), turn);
-    go(wire, pass, machine, end, tries, WAITS)
+    run_alone(wire, pass, machine, end);
+    'steps: while machine.stamp() < end && machine.ready() {
+        match step_by_call(wire, pass, machine, tries) {
+            Ok(()) => run_alone(wire, pass, machine, end),
+            Err(late) => return held_back(late),
+        }
+    }
+    publish(wire, pass, machine.stamp());
+    if machine.stamp() < end {
+        LegEnd::Drain
+    } else {
+        LegEnd::Done
+    }
 }

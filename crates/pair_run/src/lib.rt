@@ -6,13 +6,12 @@
 // a run of that machine alone against what its pass has heard by then. No step is made at the end stamp or
 // later, and none further ahead of a clock of the other side that the pass was told than the window.
 //
-// `turn` parts a whole, runs a leg of each side, in two threads or by turns in the caller's alone, reunites the passes,
-// and makes one step of the earlier side, which no call refuses. By the laws the two machines then stand on the serial
-// run, further by at least one step.
+// `turn` parts a whole, runs a leg of each side, each in a thread of its own, reunites the passes, and makes one step of
+// the earlier side, which no call refuses. By the laws the two machines then stand on the serial run, further by at
+// least one step.
 #![tactic(auto)]
 
 mod again;
-mod alternate;
 mod apart;
 mod attempt;
 mod earlier;
@@ -27,4 +26,4 @@ pub use ends::LegEnd;
 pub use legs::leg;
 pub use port_wire::{CallName, Gate, PassLate, Wire};
 pub use stepped::Stepped;
-pub use turns::{Legs, Turned, turn};
+pub use turns::{Turned, turn};

@@ -8,7 +8,6 @@ ghost use Rattle.pair_run.specs.Leg.{HasRun, IfHeldBack, IsSpent};
 ghost use Rattle.pair_run.specs.Tried.{call_of};
 ghost use Rattle.pair_run.specs.Turn.{HasGone, HasTurned, tries_of_turn};
 
-use crate::alternate::alternate;
 use crate::apart::Apart;
 use crate::ends::LegEnd;
 use crate::legs::leg;
@@ -30,16 +29,7 @@ pub struct Turned<T> {
     pub stepped: Stepped,
 }
 
-/// How the two legs of a turn are made. What a turn promises is the same.
-#[derive(Clone, Copy, Debug, PartialEq, Eq)]
-pub enum Legs {
-    /// At once, each in a thread of its own where one can be made.
-    AtOnce,
-    /// By the caller alone, which goes on with the other one where a call of one is refused.
-    Alternating,
-}
-
-/// Two legs, at once or one after the other.
+/// Two legs at once, each in a thread of its own.
 fn both_legs<R: Threads, W: Wire, C: Machine, S: Machine, G: Gate>(
     rt: &R,
     wire: &W,
@@ -50,7 +40,6 @@ fn both_legs<R: Threads, W: Wire, C: Machine, S: Machine, G: Gate>(
     gate: &G,
     number: u64,
     end: u64,
-    legs: Legs,
 ) -> (LegEnd, LegEnd)
     requires console_pass { W.is_pass_of wire.now console_pass.old }
     requires console_region { C.region_of console.old ≡ W.region_of wire.now }
@@ -84,21 +73,6 @@ fn both_legs<R: Threads, W: Wire, C: Machine, S: Machine, G: Gate>(
     ensures sound_drain { (result.1 ≡ LegEnd.Drain) ↔ ((S.stamp_of sound.new < end) × (¬ (length (S.waiting sound.new) + 2 * S.MOST ≤ S.CAP))) }
     ensures sound_spent { (m : S.State) → S.stands sound.new m → IfHeldBack result.1 (λ late. IsSpent (call_of (S.moves.act m)) (S.stamp_of sound.new) late tries_of_turn (W.seen sound_pass.old).half (W.seen sound_pass.new).half) }
 {
-    match legs {
-        Legs::AtOnce => {}
-        Legs::Alternating => {
-            return alternate(
-                wire,
-                console_pass,
-                sound_pass,
-                console,
-                sound,
-                gate,
-                number,
-                end,
-            );
-        }
-    }
     // The console has most of the work. It goes on in the caller's thread, which is running, and beside what it
     // left in that processor's caches, while the other thread begins.
     let (sound_end, console_end) = join_mut(
@@ -149,7 +123,6 @@ pub fn turn<R: Threads, W: Wire, C: Machine, S: Machine, G: Gate>(
     gate: &G,
     number: u64,
     end: u64,
-    legs: Legs,
 ) -> Turned<W::Whole>
     requires of { W.is_whole_of wire.now whole }
     requires console_region { C.region_of console.old ≡ W.region_of wire.now }
@@ -199,7 +172,6 @@ pub fn turn<R: Threads, W: Wire, C: Machine, S: Machine, G: Gate>(
         gate,
         number,
         end,
-        legs,
     );
     let mut whole = wire.reunite(console_way.value, sound_way.value);
     publish_both(wire, &mut whole, console.stamp(), sound.stamp());

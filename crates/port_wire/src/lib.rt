@@ -6,7 +6,7 @@
 // heard of the other's, the stamp up to which it has heard all, its clock, and the tally of its refusals.
 //
 // No call waits for the other side. A refused call changes nothing but what the pass has heard and its tally.
-// `Gate` is what a worker passes as it sets out. `Counts` keeps the tally of refusals, for whoever carries entries.
+// `Gate` is what a worker passes as it sets out on a leg. `Counts` keeps the tally of refusals, for whoever carries entries.
 #![tactic(auto)]
 
 mod counts;
@@ -15,6 +15,6 @@ mod late;
 mod wire;
 
 pub use counts::{Counts, Refusal, counted};
-pub use gate::Gate;
+pub use gate::{Gate, OpenGate};
 pub use late::{CallName, PassLate};
 pub use wire::Wire;

@@ -1,16 +1,17 @@
 use file_shelf::Shelf;
 use job_player::Console;
-use run_drive::Host;
+use port_wire::Gate;
 use run_io::Argv;
 use snes_program::{Status, snes};
 use std::thread::Threads;
-use std::time::Clock;
 
-/// What the program answers to words over a shelf. It is the one function here that names the console.
-pub fn answer<R: AllocGlobal + Threads + Clock, H: Shelf>(
+/// What the program answers to words over a shelf, with this gate for its workers. It is the one function here that names
+/// the console.
+pub fn answer<R: AllocGlobal + Threads, H: Shelf>(
     rt: &R,
+    gate: &dyn Gate,
     words: &Argv,
     shelf: &mut H,
 ) -> Status {
-    snes::<Console, _, H>(&Host::new(rt), words, shelf)
+    snes::<Console, _, H>(rt, words, shelf, gate)
 }

@@ -2,11 +2,11 @@
 use crate::answer::answer;
 use crate::rows::{Outcome, Rows, performed, words_of};
 use file_shelf::{FileShelf, Out};
+use port_wire::OpenGate;
 use run_io::Argv;
 use snes_program::Status;
 use std::rt::Files;
 use std::thread::Threads;
-use std::time::Clock;
 use std::{fs, io};
 
 /// Writes the files that the words name.
@@ -77,18 +77,18 @@ fn compare_all<R: AllocGlobal + Files + Print>(
 
 /// Answers the words over real files, and prints what is said, the exit status, and whether the outputs are those in
 /// memory. They are read while their shelf still stands, so that nothing is held back that was not flushed.
-fn answer_on_disk<R: AllocGlobal + Threads + Clock + Print + Files>(
+fn answer_on_disk<R: AllocGlobal + Threads + Print + Files>(
     rt: &R,
     argv: &Argv,
     row: &Outcome,
 ) -> io::Result<()> {
     let mut shelf = FileShelf::new(rt);
-    let status = answer(rt, argv, &mut shelf);
+    let status = answer(rt, &OpenGate, argv, &mut shelf);
     compare_all(rt, status, row)
 }
 
 /// Writes the files, answers, and removes them and the outputs.
-fn answer_between<R: AllocGlobal + Threads + Clock + Print + Files>(
+fn answer_between<R: AllocGlobal + Threads + Print + Files>(
     rt: &R,
     rows: &Rows,
     words: &str,
@@ -103,7 +103,7 @@ fn answer_between<R: AllocGlobal + Threads + Clock + Print + Files>(
 /// `disk WORDS`: a row over real files in the folder where the program runs, which holds none of them before and
 /// after. Prints what is said, the exit status, and where that is 0 whether the outputs are those of the same row
 /// in memory.
-pub fn disk<R: AllocGlobal + Threads + Clock + Print + Files>(
+pub fn disk<R: AllocGlobal + Threads + Print + Files>(
     rt: &R,
     rows: &Rows,
     words: &str,

@@ -1,14 +1,15 @@
 use crate::compare::{are_alike, is_begun, is_same};
 use crate::disk::disk;
-use crate::rows::{Failure, Outcome, Rows, performed};
+use crate::rows::{Failure, Outcome, Rows, performed, performed_through};
 use crate::show::{Detail, show_answer, show_outputs};
 use file_shelf::{Out, ShelfCall};
+use port_wire::Gate;
 use snes_program::Status;
 use std::alloc::Global;
 use std::rt::Files;
 use std::thread::Threads;
-use std::time::Clock;
 use std::{io, str};
+use turn_watch::{Counts, Watch};
 
 /// More puts than any row makes that lets each fail in turn.
 const MOST_PUTS: u32 = 2000;
@@ -26,11 +27,7 @@ fn keep(rows: &mut Rows, outcome: &Outcome) -> Option<()> {
 }
 
 /// A row of words: prints the answer and all that was written.
-fn row<R: AllocGlobal + Threads + Clock + Print>(
-    rt: &R,
-    rows: &mut Rows,
-    words: &str,
-) -> io::Result<()> {
+fn row<R: AllocGlobal + Threads + Print>(rt: &R, rows: &mut Rows, words: &str) -> io::Result<()> {
     match performed(rt, rows, words, None) {
         Some(outcome) => show_row(rt, rows, &outcome),
         None => println!(rt; "{NO_ROW}"),
@@ -47,11 +44,7 @@ fn show_row<R: Print>(rt: &R, rows: &mut Rows, outcome: &Outcome) -> io::Result<
 }
 
 /// A row of words of which two numbers of the line are not known from outside: prints the line up to them.
-fn opening<R: AllocGlobal + Threads + Clock + Print>(
-    rt: &R,
-    rows: &Rows,
-    words: &str,
-) -> io::Result<()> {
+fn opening<R: AllocGlobal + Threads + Print>(rt: &R, rows: &Rows, words: &str) -> io::Result<()> {
     match performed(rt, rows, words, None) {
         Some(outcome) => show_opening(rt, &outcome),
         None => println!(rt; "{NO_ROW}"),
@@ -67,23 +60,47 @@ fn show_opening<R: Print>(rt: &R, outcome: &Outcome) -> io::Result<()> {
     }
 }
 
-/// Runs the same files by another command, and answers whether it left what `run` did.
-fn leaves_the_same<R: AllocGlobal + Threads + Clock>(
+/// Runs files by a command, with this gate for its workers.
+fn run_by<R: AllocGlobal + Threads>(
     rt: &R,
+    gate: &dyn Gate,
+    rows: &Rows,
+    command: &str,
+    words: &str,
+) -> Option<Outcome> {
+    let words = format!(in rt.alloc(); "{command} {words}").ok()?;
+    performed_through(rt, gate, rows, words.as_str(), None)
+}
+
+/// Runs the same files by another command, and answers whether it left what `run` did.
+fn leaves_the_same<R: AllocGlobal + Threads>(
+    rt: &R,
+    gate: &dyn Gate,
     rows: &Rows,
     command: &str,
     words: &str,
     by_turns: &Outcome,
 ) -> Option<bool> {
-    let words = format!(in rt.alloc(); "{command} {words}").ok()?;
-    let outcome = performed(rt, rows, words.as_str(), None)?;
+    let outcome = run_by(rt, gate, rows, command, words)?;
     Some(are_alike(by_turns, &outcome))
 }
 
-/// What `run` makes of the files.
-fn by_turns<R: AllocGlobal + Threads + Clock>(rt: &R, rows: &Rows, words: &str) -> Option<Outcome> {
-    let words = format!(in rt.alloc(); "run {words}").ok()?;
-    performed(rt, rows, words.as_str(), None)
+/// Prints whether every turn of a command had two threads, and whether both legs of a turn overlapped, which is asked of
+/// four turns or more. Standard error has the counts, which are not alike at every run.
+fn show_workers<R: Print + Eprint>(rt: &R, command: &str, counts: Counts) -> io::Result<()> {
+    let _told = eprintln!(rt;
+        "{command}: {} turns, {} on two threads, {} overlapped",
+        counts.turns, counts.on_two_threads, counts.overlapped
+    );
+    if counts.turns == 0 {
+        println!(rt; "  {command}: no turn")
+    } else if !counts.all_on_two_threads() {
+        println!(rt; "  {command}: a turn in one thread")
+    } else if !counts.overlaps() {
+        println!(rt; "  {command}: two threads in every turn, whose legs never overlap")
+    } else {
+        println!(rt; "  {command}: two threads in every turn")
+    }
 }
 
 /// Prints whether `serial` and `lockless` left the same as `run`.
@@ -97,32 +114,41 @@ fn show_alike<R: Print>(rt: &R, serially: Option<bool>, lockless: Option<bool>) 
     }
 }
 
-/// A row that is run by `run`, by `serial` and by `lockless`: prints what `run` left, and whether each of the others
-/// left the same.
-fn both<R: AllocGlobal + Threads + Clock + Print>(
+/// A row that is run by `run`, by `serial` and by `lockless`: prints what `run` left, whether each of the others left
+/// the same, and whether `run` and `lockless` had two threads in every turn. The watch is the gate too.
+fn both<R: AllocGlobal + Threads + Files + Sync + Print + Eprint>(
     rt: &R,
+    watch: &Watch<'_, R>,
+    gate: &dyn Gate,
     rows: &Rows,
     words: &str,
     detail: Detail,
 ) -> io::Result<()> {
-    match by_turns(rt, rows, words) {
-        Some(outcome) => show_both(rt, rows, words, detail, &outcome),
+    watch.begin();
+    match run_by(rt, gate, rows, "run", words) {
+        Some(outcome) => show_both(rt, watch, gate, rows, words, detail, &outcome),
         None => println!(rt; "{NO_ROW}"),
     }
 }
 
-fn show_both<R: AllocGlobal + Threads + Clock + Print>(
+fn show_both<R: AllocGlobal + Threads + Files + Sync + Print + Eprint>(
     rt: &R,
+    watch: &Watch<'_, R>,
+    gate: &dyn Gate,
     rows: &Rows,
     words: &str,
     detail: Detail,
     outcome: &Outcome,
 ) -> io::Result<()> {
+    let by_run = watch.counts();
     show_answer(rt, outcome)?;
     show_outputs(rt, outcome, detail)?;
-    let serially = leaves_the_same(rt, rows, "serial", words, outcome);
-    let lockless = leaves_the_same(rt, rows, "lockless", words, outcome);
-    show_alike(rt, serially, lockless)
+    let serially = leaves_the_same(rt, gate, rows, "serial", words, outcome);
+    watch.begin();
+    let lockless = leaves_the_same(rt, gate, rows, "lockless", words, outcome);
+    show_alike(rt, serially, lockless)?;
+    show_workers(rt, "run", by_run)?;
+    show_workers(rt, "lockless", watch.counts())
 }
 
 /// How many puts failed, by the output that the answer names.
@@ -175,7 +201,7 @@ fn count<R: Print>(
 }
 
 /// Lets the nth put of a row fail, and counts the answer. It answers whether it was one of a put that failed.
-fn fail_put<R: AllocGlobal + Threads + Clock + Print>(
+fn fail_put<R: AllocGlobal + Threads + Print>(
     rt: &R,
     rows: &Rows,
     words: &str,
@@ -197,7 +223,7 @@ fn fail_put<R: AllocGlobal + Threads + Clock + Print>(
 }
 
 /// Lets each put of a row fail in turn, until none is left to fail, and prints how many did, by output.
-fn fail_each<R: AllocGlobal + Threads + Clock + Print>(
+fn fail_each<R: AllocGlobal + Threads + Print>(
     rt: &R,
     rows: &Rows,
     words: &str,
@@ -220,11 +246,7 @@ fn fail_each<R: AllocGlobal + Threads + Clock + Print>(
 }
 
 /// A row whose puts fail in turn.
-fn each<R: AllocGlobal + Threads + Clock + Print>(
-    rt: &R,
-    rows: &Rows,
-    words: &str,
-) -> io::Result<()> {
+fn each<R: AllocGlobal + Threads + Print>(rt: &R, rows: &Rows, words: &str) -> io::Result<()> {
     match performed(rt, rows, words, None) {
         Some(whole) => fail_each(rt, rows, words, &whole),
         None => println!(rt; "{NO_ROW}"),
@@ -233,11 +255,7 @@ fn each<R: AllocGlobal + Threads + Clock + Print>(
 
 /// A row of words some put of which fails: prints the answer, and whether first bytes are left, at least one of the
 /// output that failed, of what the row leaves without a failure. How many depends on where the two workers met.
-fn part<R: AllocGlobal + Threads + Clock + Print>(
-    rt: &R,
-    rows: &mut Rows,
-    words: &str,
-) -> io::Result<()> {
+fn part<R: AllocGlobal + Threads + Print>(rt: &R, rows: &mut Rows, words: &str) -> io::Result<()> {
     let part = performed(rt, rows, words, None);
     rows.mend();
     match part {
@@ -247,7 +265,7 @@ fn part<R: AllocGlobal + Threads + Clock + Print>(
 }
 
 /// Prints what a row that some put failed left beside what it leaves without a failure.
-fn beside<R: AllocGlobal + Threads + Clock + Print>(
+fn beside<R: AllocGlobal + Threads + Print>(
     rt: &R,
     rows: &Rows,
     words: &str,
@@ -314,8 +332,10 @@ fn kind_of(word: &str) -> Option<Kind> {
 }
 
 /// Follows a line that runs something. The failures were for it alone.
-fn run<R: AllocGlobal + Threads + Clock + Print + Files>(
+fn run<R: AllocGlobal + Threads + Print + Eprint + Files + Sync>(
     rt: &R,
+    watch: &Watch<'_, R>,
+    gate: &dyn Gate,
     rows: &mut Rows,
     kind: Kind,
     words: &str,
@@ -323,8 +343,8 @@ fn run<R: AllocGlobal + Threads + Clock + Print + Files>(
     let done = match kind {
         Kind::Row => row(rt, rows, words),
         Kind::Opening => opening(rt, rows, words),
-        Kind::Both => both(rt, rows, words, Detail::Bytes),
-        Kind::Alike => both(rt, rows, words, Detail::Length),
+        Kind::Both => both(rt, watch, gate, rows, words, Detail::Bytes),
+        Kind::Alike => both(rt, watch, gate, rows, words, Detail::Length),
         Kind::Each => each(rt, rows, words),
         Kind::Part => part(rt, rows, words),
         Kind::Disk => disk(rt, rows, words),
@@ -335,8 +355,10 @@ fn run<R: AllocGlobal + Threads + Clock + Print + Files>(
 }
 
 /// Follows a line of a file of rows. Headings and rows are printed.
-pub fn follow<R: AllocGlobal + Threads + Clock + Print + Files>(
+pub fn follow<R: AllocGlobal + Threads + Print + Eprint + Files + Sync>(
     rt: &R,
+    watch: &Watch<'_, R>,
+    gate: &dyn Gate,
     rows: &mut Rows,
     line: &str,
 ) -> io::Result<()> {
@@ -349,7 +371,7 @@ pub fn follow<R: AllocGlobal + Threads + Clock + Print + Files>(
     let (word, words) = line.split_once(' ').unwrap_or((line, ""));
     if let Some(kind) = kind_of(word) {
         println!(rt; "{line}")?;
-        return run(rt, rows, kind, words);
+        return run(rt, watch, gate, rows, kind, words);
     }
     match rows.line(line) {
         Some(()) => Ok(()),

@@ -37,24 +37,27 @@ mod rows;
 mod show;
 
 use follow::follow;
+use port_wire::Gate;
 use rows::Rows;
 use std::alloc::Global;
 use std::env::Args;
 use std::rt::Files;
 use std::thread::Threads;
-use std::time::Clock;
 use std::{env, fs, io};
+use turn_watch::Watch;
 
 /// Follows the lines of the files of these names.
-fn follow_files<R: Files + Print + AllocGlobal + Threads + Clock>(
+fn follow_files<R: Files + Sync + Print + Eprint + AllocGlobal + Threads>(
     rt: &R,
+    watch: &Watch<'_, R>,
+    gate: &dyn Gate,
     rows: &mut Rows,
     words: Args<Global>,
 ) -> io::Result<()> {
     for name in words.skip(1) {
         let text = fs::read_to_string(rt, name.as_str())?;
         for line in text.lines() {
-            follow(rt, rows, line)?;
+            follow(rt, watch, gate, rows, line)?;
         }
     }
     Ok(())
@@ -63,5 +66,6 @@ fn follow_files<R: Files + Print + AllocGlobal + Threads + Clock>(
 fn main(rt: HostRuntime) -> io::Result<()> {
     let words = env::args(&rt)?;
     let mut rows = Rows::new(rt.alloc());
-    follow_files(&rt, &mut rows, words)
+    let watch = Watch::new(&rt);
+    follow_files(&rt, &watch, &watch, &mut rows, words)
 }

@@ -1,12 +1,12 @@
 use crate::answer::answer;
 use crate::files::Files;
 use file_shelf::{MemShelf, Out, ShelfCall};
+use port_wire::{Gate, OpenGate};
 use run_io::Argv;
 use snes_program::Status;
 use std::alloc::Global;
 use std::str;
 use std::thread::Threads;
-use std::time::Clock;
 
 /// The nth call of this kind fails.
 #[derive(Clone, Copy)]
@@ -121,10 +121,11 @@ pub fn words_of(alloc: Global, line: &str) -> Option<Argv> {
     Some(argv)
 }
 
-/// Calls the program with the words of a line, over a shelf that fails where it is planned, and here.
-/// Nothing where there is no memory for the shelf and the words.
-pub fn performed<R: AllocGlobal + Threads + Clock>(
+/// Calls the program with the words of a line, over a shelf that fails where it is planned, and here, with this gate for
+/// its workers. Nothing where there is no memory for the shelf and the words.
+pub fn performed_through<R: AllocGlobal + Threads>(
     rt: &R,
+    gate: &dyn Gate,
     rows: &Rows,
     line: &str,
     here: Option<Failure>,
@@ -132,6 +133,16 @@ pub fn performed<R: AllocGlobal + Threads + Clock>(
     let alloc = rt.alloc();
     let words = words_of(alloc, line)?;
     let mut shelf = rows.shelf(alloc, line, here)?;
-    let status = answer(rt, &words, &mut shelf);
+    let status = answer(rt, gate, &words, &mut shelf);
     Some(Outcome { status, shelf })
+}
+
+/// The same with the gate of `snes`, which does nothing.
+pub fn performed<R: AllocGlobal + Threads>(
+    rt: &R,
+    rows: &Rows,
+    line: &str,
+    here: Option<Failure>,
+) -> Option<Outcome> {
+    performed_through(rt, &OpenGate, rows, line, here)
 }

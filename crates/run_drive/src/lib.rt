@@ -15,13 +15,9 @@ mod pours;
 mod serial_run;
 mod shelf_sink;
 mod sink;
-mod watch;
-mod workers;
 
 pub use player::Player;
 pub use pours::pour;
 pub use serial_run::run_serial;
 pub use shelf_sink::out_of;
 pub use sink::Sink;
-pub use watch::Watch;
-pub use workers::{Host, Workers};

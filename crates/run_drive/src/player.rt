@@ -3,9 +3,10 @@ ghost use Rattle.snes_defs.specs.declared.cart.Job.{Job};
 ghost use Rattle.run_drive.specs.Played.{IsPlayable, PlayedWhole, PlayedFirst};
 
 use crate::sink::Sink;
-use crate::workers::Workers;
+use port_wire::Gate;
 use snes_defs::{Job, NoMemory, Side};
 use std::alloc::Global;
+use std::thread::Threads;
 
 /// What plays a job: two machines at their start and all memory that the run of them takes.
 ///
@@ -34,9 +35,13 @@ pub trait Player: Drop {
         ensures failed { IfErr result (K.failed sink.old sink.new) }
         ensures only { K.only_takes sink.old sink.new };
 
-    /// Runs the job by two workers, each of which passes the runtime's watch, where it has one, as it sets
-    /// out on a turn.
-    fn play_turns<R: Workers, K: Sink>(self, rt: &R, sink: &mut K) -> Result<(), Side>
+    /// Runs the job by two workers, each of which passes the gate as it sets out on a turn.
+    fn play_turns<R: Threads, K: Sink>(
+        self,
+        rt: &R,
+        gate: &dyn Gate,
+        sink: &mut K,
+    ) -> Result<(), Side>
         requires at_start { (job : Job) × plays self job }
         requires no_video { K.holds sink.old Side.Console [] }
         requires no_sound { K.holds sink.old Side.Sound [] }
@@ -46,7 +51,12 @@ pub trait Player: Drop {
         ensures only { K.only_takes sink.old sink.new };
 
     /// Runs the job by two workers whose ports are words without a lock.
-    fn play_words<R: Workers, K: Sink>(self, rt: &R, sink: &mut K) -> Result<(), Side>
+    fn play_words<R: Threads, K: Sink>(
+        self,
+        rt: &R,
+        gate: &dyn Gate,
+        sink: &mut K,
+    ) -> Result<(), Side>
         requires at_start { (job : Job) × plays self job }
         requires no_video { K.holds sink.old Side.Console [] }
         requires no_sound { K.holds sink.old Side.Sound [] }

@@ -13,43 +13,47 @@ use crate::say::{refuse, say};
 use crate::status::Status;
 use file_shelf::Shelf;
 use plan_drive::PlanPlayer;
-use run_drive::Workers;
+use port_wire::Gate;
 use run_io::{Argv, Asked, Word, read_form};
+use std::thread::Threads;
 
 /// Does what a command asks for, says how it ended, and gives the answer.
-fn commanded<C: Performs, R: AllocGlobal + Workers, H: Shelf>(
+fn commanded<C: Performs, R: AllocGlobal + Threads, H: Shelf>(
     command: &C,
     rt: &R,
+    gate: &dyn Gate,
     asked: &Asked<'_>,
     shelf: &mut H,
 ) -> Status
     requires { Fits C.command.form (order_by asked.now) }
     ensures { EndsCall C.command (order_by asked.now) (H.shown shelf.old) (H.shown shelf.new) result }
 {
-    let outcome = perform(command, rt, asked, shelf);
+    let outcome = perform(command, rt, gate, asked, shelf);
     say(shelf, outcome)
 }
 
 /// Reads the words behind a command's name by its form, and does what they ask for.
 #[tactic(auto, using(crate::proofs::Ending::reads))]
-fn call<C: Performs, R: AllocGlobal + Workers, H: Shelf>(
+fn call<C: Performs, R: AllocGlobal + Threads, H: Shelf>(
     command: &C,
     rt: &R,
+    gate: &dyn Gate,
     words: &[Word],
     shelf: &mut H,
 ) -> Status
     ensures { EndsWish (asks C.command words.now) (H.shown shelf.old) (H.shown shelf.new) result }
 {
     match read_form(&C::form(), words) {
-        Some(asked) => commanded(command, rt, &asked, shelf),
+        Some(asked) => commanded(command, rt, gate, &asked, shelf),
         None => refuse(shelf, Status::Usage),
     }
 }
 
 /// Calls the command of this name. THE COMMANDS are listed here, and in `asked_by`.
 #[tactic(auto, unfolding(crate::specs::Commands::asked_by))]
-fn call_named<P: PlanPlayer, R: AllocGlobal + Workers, H: Shelf>(
+fn call_named<P: PlanPlayer, R: AllocGlobal + Threads, H: Shelf>(
     rt: &R,
+    gate: &dyn Gate,
     name: &str,
     words: &[Word],
     shelf: &mut H,
@@ -57,40 +61,41 @@ fn call_named<P: PlanPlayer, R: AllocGlobal + Workers, H: Shelf>(
     ensures { EndsWish (asked_by P.emits name.now words.now) (H.shown shelf.old) (H.shown shelf.new) result }
 {
     if name == "run" {
-        return call(&Run::<P>::by(Way::Turns), rt, words, shelf);
+        return call(&Run::<P>::by(Way::Turns), rt, gate, words, shelf);
     }
     if name == "serial" {
-        return call(&Run::<P>::by(Way::Serial), rt, words, shelf);
+        return call(&Run::<P>::by(Way::Serial), rt, gate, words, shelf);
     }
     if name == "lockless" {
-        return call(&Run::<P>::by(Way::Words), rt, words, shelf);
+        return call(&Run::<P>::by(Way::Words), rt, gate, words, shelf);
     }
     if name == "play" {
-        return call(&Play, rt, words, shelf);
+        return call(&Play, rt, gate, words, shelf);
     }
     if name == "make" {
-        return call(&Make, rt, words, shelf);
+        return call(&Make, rt, gate, words, shelf);
     }
     if name == "demo" {
-        return call(&Demo::<P>::new(), rt, words, shelf);
+        return call(&Demo::<P>::new(), rt, gate, words, shelf);
     }
     if name == "rewind" {
-        return call(&Rewind::<P>::new(), rt, words, shelf);
+        return call(&Rewind::<P>::new(), rt, gate, words, shelf);
     }
     refuse(shelf, Status::Usage)
 }
 
 /// Does what the words ask for, says how it ended, and gives the answer.
 #[tactic(auto, using(crate::proofs::Ending::reads))]
-pub(crate) fn performed<P: PlanPlayer, R: AllocGlobal + Workers, H: Shelf>(
+pub(crate) fn performed<P: PlanPlayer, R: AllocGlobal + Threads, H: Shelf>(
     rt: &R,
+    gate: &dyn Gate,
     words: &Argv,
     shelf: &mut H,
 ) -> Status
     ensures { EndsWish (asked P.emits words.now) (H.shown shelf.old) (H.shown shelf.new) result }
 {
     match words.all().split_first() {
-        Some((name, words)) => call_named::<P, R, H>(rt, name.text(), words, shelf),
+        Some((name, words)) => call_named::<P, R, H>(rt, gate, name.text(), words, shelf),
         None => refuse(shelf, Status::Usage),
     }
 }

@@ -8,10 +8,11 @@ ghost use Rattle.snes_program.specs.Ends.{are_apart, OnlyTouches};
 
 use crate::loads::Loads;
 use file_shelf::{Out, Shelf};
-use run_drive::Workers;
+use port_wire::Gate;
 use run_io::{Asked, Form, Line};
 use snes_defs::NoMemory;
 use std::alloc::Global;
+use std::thread::Threads;
 
 /// A command: what is its own beside the words, loads, creations and lines that all commands share.
 pub(crate) trait Performs {
@@ -46,10 +47,11 @@ pub(crate) trait Performs {
         ensures makes { OnOk result ((told : Input → Option (List ℕ)) → Self.Inputs.reads told inputs → CanMake command (order_by asked.now) told) };
 
     /// Puts what it makes to its outputs, which were created, and gives its line. Err names the
-    /// output that was not written.
-    fn fill<R: Workers, H: Shelf>(
+    /// output that was not written. Where two workers run, each passes the gate as it sets out on a turn.
+    fn fill<R: Threads, H: Shelf>(
         &self,
         rt: &R,
+        gate: &dyn Gate,
         asked: &Asked<'_>,
         ready: Self::Ready,
         shelf: &mut H,

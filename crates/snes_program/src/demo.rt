@@ -6,11 +6,13 @@ use crate::sums::Sums;
 use clock_ratio::{end_stamp, samples_before};
 use demo_files::{demo_boot_rom, demo_table, image};
 use file_shelf::{Out, Shelf};
-use run_drive::{Player, Workers};
+use port_wire::Gate;
+use run_drive::Player;
 use run_io::{Asked, Count, Form, Line, demo_line};
 use snes_defs::{Bytes, Cart, Job, MapKind, NoMemory, Region, Spans};
 use std::alloc::Global;
 use std::marker::PhantomData;
+use std::thread::Threads;
 
 /// The command `demo`: the image of a number is run in memory by two workers.
 #[derive(Drop)]
@@ -77,15 +79,16 @@ impl<P: Player> Performs for Demo<P> {
     }
 
     /// Nothing is put: the line has the sums of what the run emits.
-    fn fill<R: Workers, H: Shelf>(
+    fn fill<R: Threads, H: Shelf>(
         &self,
         rt: &R,
+        gate: &dyn Gate,
         asked: &Asked<'_>,
         ready: P,
         _shelf: &mut H,
     ) -> Result<Line, Out> {
         let mut sums = Sums::new();
-        match ready.play_turns(rt, &mut sums) {
+        match ready.play_turns(rt, gate, &mut sums) {
             Ok(()) => {
                 let samples = samples_before(end_stamp(asked.count));
                 Ok(demo_line(asked.count, samples, sums.video, sums.audio))

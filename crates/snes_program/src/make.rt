@@ -1,10 +1,11 @@
 use crate::command::Performs;
 use demo_files::image;
 use file_shelf::{Failed, Out, Shelf};
-use run_drive::Workers;
+use port_wire::Gate;
 use run_io::{Asked, Form, Line, image_line};
 use snes_defs::NoMemory;
 use std::alloc::Global;
+use std::thread::Threads;
 
 /// The command `make`: a number makes the image of a cartridge.
 pub(crate) struct Make;
@@ -37,9 +38,10 @@ impl Performs for Make {
         Ok(bytes)
     }
 
-    fn fill<R: Workers, H: Shelf>(
+    fn fill<R: Threads, H: Shelf>(
         &self,
         _rt: &R,
+        _gate: &dyn Gate,
         _asked: &Asked<'_>,
         ready: Vec<u8>,
         shelf: &mut H,

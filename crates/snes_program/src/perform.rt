@@ -7,15 +7,17 @@ use crate::loads::Loads;
 use crate::outputs::{create_all, flush_all};
 use crate::status::Status;
 use file_shelf::Shelf;
-use run_drive::Workers;
+use port_wire::Gate;
 use run_io::{Asked, Line};
+use std::thread::Threads;
 
 /// Does what a command asks for, and gives the line to say: loads and accepts its inputs in their
 /// order, takes all memory, creates its outputs in their order, fills and flushes them. Err is the
 /// answer where it was not done.
-pub(crate) fn perform<C: Performs, R: AllocGlobal + Workers, H: Shelf>(
+pub(crate) fn perform<C: Performs, R: AllocGlobal + Threads, H: Shelf>(
     command: &C,
     rt: &R,
+    gate: &dyn Gate,
     asked: &Asked<'_>,
     shelf: &mut H,
 ) -> Result<Line, Status>
@@ -33,7 +35,7 @@ pub(crate) fn perform<C: Performs, R: AllocGlobal + Workers, H: Shelf>(
     if let Err(out) = create_all(shelf, asked, outputs) {
         return Err(Status::WriteFault(out));
     }
-    let line = match command.fill(rt, asked, ready, shelf) {
+    let line = match command.fill(rt, gate, asked, ready, shelf) {
         Ok(line) => line,
         Err(out) => return Err(Status::WriteFault(out)),
     };

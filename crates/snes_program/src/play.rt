@@ -4,11 +4,12 @@ use crate::sound_out::play_sound;
 use crate::spc::SpcFile;
 use crate::table::TableFile;
 use file_shelf::{Failed, Input, Out, Shelf};
-use run_drive::Workers;
+use port_wire::Gate;
 use run_io::{Asked, Count, Form, Line, samples_line};
 use snes_defs::NoMemory;
 use spc_player::Player;
 use std::alloc::Global;
+use std::thread::Threads;
 
 /// The command `play`: a sound file is played by the sound side alone.
 pub(crate) struct Play;
@@ -52,9 +53,10 @@ impl Performs for Play {
         Ok(player)
     }
 
-    fn fill<R: Workers, H: Shelf>(
+    fn fill<R: Threads, H: Shelf>(
         &self,
         _rt: &R,
+        _gate: &dyn Gate,
         asked: &Asked<'_>,
         ready: Player,
         shelf: &mut H,

@@ -18,11 +18,13 @@ use crate::table::TableFile;
 use file_shelf::{Input, Out, Shelf};
 use input_files::Plan;
 use plan_drive::{Lengths, PlanPlayer, measure};
-use run_drive::{Workers, out_of};
+use port_wire::Gate;
+use run_drive::out_of;
 use run_io::{Asked, Form, Line, frames_line};
 use snes_defs::{Job, NoMemory, Region, Side, Spans};
 use std::alloc::Global;
 use std::marker::PhantomData;
+use std::thread::Threads;
 
 /// The command `rewind`: a plan of kept moments is played on the console that three inputs make, and its goes become
 /// video and sound.
@@ -137,9 +139,10 @@ impl<P: PlanPlayer> Performs for Rewind<P> {
         })
     }
 
-    fn fill<R: Workers, H: Shelf>(
+    fn fill<R: Threads, H: Shelf>(
         &self,
         _rt: &R,
+        _gate: &dyn Gate,
         _asked: &Asked<'_>,
         ready: ReadyRewind<P::Planned>,
         shelf: &mut H,

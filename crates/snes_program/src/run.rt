@@ -10,11 +10,13 @@ use crate::command::Performs;
 use crate::job::{JobFiles, job_of, line_of_run};
 use crate::loads::Loads;
 use file_shelf::{Input, Out, Shelf};
-use run_drive::{Player, Workers, out_of};
+use port_wire::Gate;
+use run_drive::{Player, out_of};
 use run_io::{Asked, Count, Form, Line};
 use snes_defs::{NoMemory, Side};
 use std::alloc::Global;
 use std::marker::PhantomData;
+use std::thread::Threads;
 
 /// How the two machines of a run are stepped. What they emit is the same.
 #[derive(Clone, Copy)]
@@ -56,8 +58,9 @@ impl<P: Player> Run<P> {
 }
 
 /// Plays one way or the other.
-fn play_by<P: Player, R: Workers, H: Shelf>(
+fn play_by<P: Player, R: Threads, H: Shelf>(
     rt: &R,
+    gate: &dyn Gate,
     player: P,
     way: Way,
     shelf: &mut H,
@@ -72,8 +75,8 @@ fn play_by<P: Player, R: Workers, H: Shelf>(
 {
     match way {
         Way::Serial => player.play_serial(shelf),
-        Way::Turns => player.play_turns(rt, shelf),
-        Way::Words => player.play_words(rt, shelf),
+        Way::Turns => player.play_turns(rt, gate, shelf),
+        Way::Words => player.play_words(rt, gate, shelf),
     }
 }
 
@@ -113,15 +116,16 @@ impl<P: Player> Performs for Run<P> {
         Ok(ReadyRun { player, line })
     }
 
-    fn fill<R: Workers, H: Shelf>(
+    fn fill<R: Threads, H: Shelf>(
         &self,
         rt: &R,
+        gate: &dyn Gate,
         _asked: &Asked<'_>,
         ready: ReadyRun<P>,
         shelf: &mut H,
     ) -> Result<Line, Out> {
         let ReadyRun { player, line } = ready;
-        match play_by(rt, player, self.way, shelf) {
+        match play_by(rt, gate, player, self.way, shelf) {
             Ok(()) => Ok(line),
             Err(side) => Err(out_of(side)),
         }

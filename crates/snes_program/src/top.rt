@@ -16,8 +16,9 @@ use crate::call::performed;
 use crate::status::Status;
 use file_shelf::Shelf;
 use plan_drive::PlanPlayer;
-use run_drive::Workers;
+use port_wire::Gate;
 use run_io::Argv;
+use std::thread::Threads;
 
 /// Does all that the program does: reads the words; loads and accepts the inputs of their command in
 /// their order, takes all memory, creates its outputs in their order, fills and flushes them; and says
@@ -25,11 +26,13 @@ use run_io::Argv;
 /// `specs/Commands.antt`.
 ///
 /// Each clause speaks of what the shelf tells; of a shelf that tells nothing, of the words and of counts
-/// alone. `NoMemory` is the one answer that no input and no count causes.
-pub fn snes<P: PlanPlayer, R: AllocGlobal + Workers, H: Shelf>(
+/// alone. `NoMemory` is the one answer that no input and no count causes. No clause speaks of the gate, which each of two
+/// workers passes as it sets out on a turn.
+pub fn snes<P: PlanPlayer, R: AllocGlobal + Threads, H: Shelf>(
     rt: &R,
     words: &Argv,
     shelf: &mut H,
+    gate: &dyn Gate,
 ) -> Status
     // The headline: once a command is over, its inputs are accepted, and its outputs stand whole under their names.
     ensures headline { IfAsks (asked P.emits words.now) (λ command order. IsOver result → IsAnswered command order (H.shown shelf.old) (H.shown shelf.new) result) }
@@ -65,5 +68,5 @@ pub fn snes<P: PlanPlayer, R: AllocGlobal + Workers, H: Shelf>(
     ensures unnamed { (H.shown shelf.new).named Out.Say ≡ (H.shown shelf.old).named Out.Say }
     ensures refusal { IfSome (refusal_of result) (IsSaid (H.shown shelf.old) (H.shown shelf.new)) }
 {
-    performed::<P, R, H>(rt, words, shelf)
+    performed::<P, R, H>(rt, gate, words, shelf)
 }

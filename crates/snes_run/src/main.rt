@@ -7,7 +7,7 @@
 #![tactic(auto)]
 
 use job_player::Console;
-use run_drive::Host;
+use port_wire::OpenGate;
 use run_io::{Argv, FileShelf};
 use snes_program::{Status, snes};
 use std::process::ExitCode;
@@ -32,5 +32,5 @@ fn main(rt: HostRuntime) -> ExitCode {
         }
     }
     let mut shelf = FileShelf::new(&rt);
-    ExitCode::from(snes::<Console, _, _>(&Host::new(&rt), &words, &mut shelf).exit())
+    ExitCode::from(snes::<Console, _, _>(&rt, &words, &mut shelf, &OpenGate).exit())
 }

@@ -52,11 +52,6 @@ impl Ends {
         ends
     }
 
-    /// Which part of a frame comes before the near end: 1, 2, 3, and 0 for the last.
-    pub(crate) fn part(&self) -> usize {
-        (self.line / ROWS) as usize
-    }
-
     /// Goes on to the next near end, and stays at the end of the run.
     pub(crate) fn go_on(&mut self)
         ensures end { self.new.end ≡ self.old.end }

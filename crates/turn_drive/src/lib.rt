@@ -11,7 +11,6 @@
 
 mod both;
 mod ends;
-mod pace;
 mod turn_run;
 
 pub use turn_run::run_turns;

@@ -10,26 +10,18 @@ ghost use Rattle.turn_drive.specs.Turns.{HasMadeTurns};
 
 use crate::both::{both_at, pour_both};
 use crate::ends::Ends;
-use crate::pace::Pace;
 use pair_run::{Apart, Turned, turn};
 use port_wire::{Gate, Wire};
 use run_drive::Sink;
 use side_law::Machine;
 use snes_defs::Side;
 use std::thread::Threads;
-use std::time::Clock;
 
 /// Runs two machines of one region by turns, each in a worker of its own, until both stamps are at least
 /// `end`, and hands the sink what they emit: after each turn the bytes of that turn. It answers how many turns
-/// it made: just so many lead from the start to the end, and no more than the serial run has. Err names the side of which the sink failed to take some.
-pub fn run_turns<
-    R: Threads + Clock,
-    W: Wire,
-    C: Machine + Drop,
-    S: Machine + Drop,
-    G: Gate,
-    K: Sink,
->(
+/// it made: just so many lead from the start to the end, and no more than the serial run has. Err names the side
+/// of which the sink failed to take some.
+pub fn run_turns<R: Threads, W: Wire, C: Machine + Drop, S: Machine + Drop, G: Gate, K: Sink>(
     rt: &R,
     wire: &W,
     whole: W::Whole,
@@ -81,13 +73,11 @@ where
     };
     let begin = console.value.stamp().min(sound.value.stamp());
     let mut ends = Ends::new(wire.region(), begin, end);
-    let mut pace = Pace::new(wire.region());
     let mut turns = 0;
     while !both_at(&console.value, &sound.value, end) {
         if both_at(&console.value, &sound.value, ends.near) {
             ends.go_on();
         } else {
-            let legs = pace.set_out(rt, console.value.stamp(), ends.part());
             let turned = turn(
                 rt,
                 wire,
@@ -97,7 +87,6 @@ where
                 gate,
                 turns,
                 ends.near,
-                legs,
             );
             let Turned {
                 whole: again,
@@ -106,7 +95,6 @@ where
                 stepped: _,
             } = turned;
             whole = again;
-            pace.arrive(rt, console.value.stamp());
             turns += 1;
             pour_both(&mut console.value, &mut sound.value, buffer, sink)?;
         }

@@ -1,15 +1,16 @@
 // Pairs of tapes by turns, each beside the serial console of the same two.
 ghost use Rattle.std.specs.Prelude.{◌≤◌};
 
-use crate::runs::{Manner, by_lock, by_serial, by_words};
+use crate::runs::{Manner, Ran, by_lock, by_serial, by_words};
 use crate::sums::Sums;
 use crate::tapes::{Style, style_of, tape, writes_and_reads};
 use clock_ratio::least;
 use snes_defs::{Region, Side};
 use std::alloc::AllocGlobal;
+use std::rt::Files;
 use std::test::Fail;
 use std::thread::Threads;
-use std::time::Clock;
+use turn_watch::Counts;
 
 /// Pairs of a region.
 const PAIRS: u64 = 100;
@@ -28,6 +29,10 @@ struct Compared {
     /// Pairs that emitted what the pair before them did by the serial console, of other tapes: none, or the sums would tell
     /// nothing.
     as_before: u64,
+    /// Pairs of which every turn had two threads, and pairs in which both legs of a turn overlapped, where there were
+    /// four turns or more.
+    on_two_threads: u64,
+    overlapping: u64,
 }
 
 /// A pair of tapes of a region: its style and its seed.
@@ -62,12 +67,12 @@ fn serially<R: AllocGlobal>(rt: &R, pair: Pair) -> Result<Sums, Fail>
 }
 
 /// And what turns make of it.
-fn by_turns<R: AllocGlobal + Threads + Clock>(
+fn by_turns<R: AllocGlobal + Threads + Files + Sync>(
     rt: &R,
     pair: Pair,
     carrier: Carrier,
     manner: Manner,
-) -> Result<Sums, Fail>
+) -> Result<Ran, Fail>
     requires { pair.style.grid ≤ 6 }
 {
     let Pair {
@@ -86,13 +91,19 @@ fn by_turns<R: AllocGlobal + Threads + Clock>(
 
 /// Runs the pairs of a region: four by `run_turns`, four by bare turns, and so on, and of these eight over the lock,
 /// then eight over words.
-fn compare<R: AllocGlobal + Threads + Clock>(rt: &R, region: Region) -> Result<Compared, Fail> {
+fn compare<R: AllocGlobal + Threads + Files + Sync + Eprint>(
+    rt: &R,
+    region: Region,
+) -> Result<Compared, Fail> {
     let mut compared = Compared {
         alike: 0,
         heard: 0,
         as_before: 0,
+        on_two_threads: 0,
+        overlapping: 0,
     };
     let mut before = Sums::new();
+    let mut counts = Counts::none();
     for number in 0..PAIRS {
         let pair = Pair {
             region,
@@ -110,7 +121,17 @@ fn compare<R: AllocGlobal + Threads + Clock>(rt: &R, region: Region) -> Result<C
             Carrier::Words
         };
         let serial = serially(rt, pair)?;
-        let turns = by_turns(rt, pair, carrier, manner)?;
+        let Ran {
+            sums: turns,
+            counts: counted,
+        } = by_turns(rt, pair, carrier, manner)?;
+        counts = counts.and(counted);
+        if counted.all_on_two_threads() {
+            compared.on_two_threads = compared.on_two_threads.wrapping_add(1);
+        }
+        if counted.overlaps() {
+            compared.overlapping = compared.overlapping.wrapping_add(1);
+        }
         if turns == serial {
             compared.alike = compared.alike.wrapping_add(1);
         }
@@ -122,6 +143,10 @@ fn compare<R: AllocGlobal + Threads + Clock>(rt: &R, region: Region) -> Result<C
         }
         before = serial;
     }
+    let _told = eprintln!(rt;
+        "{region:?}: {} turns, {} on two threads, {} overlapped",
+        counts.turns, counts.on_two_threads, counts.overlapped
+    );
     Ok(compared)
 }
 
@@ -132,7 +157,9 @@ fn turns_emit_what_the_serial_console_emits(rt: HostRuntime) -> Result<(), Fail>
         Compared {
             alike: 100,
             heard: 88,
-            as_before: 0
+            as_before: 0,
+            on_two_threads: 100,
+            overlapping: 100
         }
     );
     Ok(())
@@ -145,7 +172,9 @@ fn turns_emit_what_the_serial_console_emits_in_pal(rt: HostRuntime) -> Result<()
         Compared {
             alike: 100,
             heard: 88,
-            as_before: 0
+            as_before: 0,
+            on_two_threads: 100,
+            overlapping: 100
         }
     );
     Ok(())
@@ -157,7 +186,7 @@ fn the_ring_goes_round_twice(rt: HostRuntime) -> Result<(), Fail> {
     let (console, sound) = writes_and_reads(rt.alloc())?;
     let serial = by_serial(console, sound, 600_000_000)?;
     let (console, sound) = writes_and_reads(rt.alloc())?;
-    let turns = by_words(&rt, console, sound, 600_000_000, Manner::Bare)?;
+    let turns = by_words(&rt, console, sound, 600_000_000, Manner::Bare)?.sums;
     assert_eq!(rt; serial.sound.count, 5000);
     assert_eq!(rt; turns, serial);
     Ok(())

@@ -3,28 +3,22 @@ ghost use Rattle.std.specs.Prelude.{◌≡◌, ◌^◌, ◌<◌, ◌≤◌, ◌�
 ghost use Rattle.port_wire.specs.Reach.{IsInReach};
 
 use crate::sums::Sums;
-use pair_run::{Legs, Turned, turn};
+use pair_run::{Turned, turn};
 use port_lock::Ports;
 use port_wire::{Gate, Wire};
 use run_drive::{pour, run_serial};
 use side_law::{Machine, Tape};
 use snes_defs::Side;
 use std::alloc::AllocGlobal;
+use std::rt::Files;
 use std::test::Fail;
 use std::thread::Threads;
-use std::time::Clock;
 use turn_drive::run_turns;
+use turn_watch::{Counts, Watch};
 use word_log::Words;
 
 /// How many turns a run of tapes is given.
 const MOST_TURNS: u64 = 100_000;
-
-/// A gate that both workers pass at once.
-struct OpenGate;
-
-impl Gate for OpenGate {
-    fn arrive(&self, _side: Side, _turn: u64) {}
-}
 
 /// How turns follow one another.
 #[derive(Clone, Copy, Debug, PartialEq, Eq)]
@@ -33,6 +27,13 @@ pub(crate) enum Manner {
     Run,
     /// By turns that each have the end of the run as theirs.
     Bare,
+}
+
+/// What two workers emitted, and what was counted of their turns.
+#[derive(Clone, Copy, Debug, PartialEq, Eq)]
+pub(crate) struct Ran {
+    pub(crate) sums: Sums,
+    pub(crate) counts: Counts,
 }
 
 /// What the serial console emits.
@@ -58,12 +59,13 @@ fn both_at(console: &Tape, sound: &Tape, end: u64) -> bool
 }
 
 /// Turns to the end stamp, one after another, until both tapes are there. Whether they are.
-fn turns_to<R: Threads + Clock, W: Wire>(
+fn turns_to<R: Threads, W: Wire, G: Gate>(
     rt: &R,
     wire: &W,
     whole: W::Whole,
     console: &mut Tape,
     sound: &mut Tape,
+    gate: &G,
     end: u64,
     sums: &mut Sums,
 ) -> bool
@@ -86,15 +88,7 @@ where
         if both_at(console, sound, end) {
             return true;
         }
-        // Three turns of four in two threads, one by the caller alone.
-        let legs = if number % 4 == 3 {
-            Legs::Alternating
-        } else {
-            Legs::AtOnce
-        };
-        let turned = turn(
-            rt, wire, whole, console, sound, &OpenGate, number, end, legs,
-        );
+        let turned = turn(rt, wire, whole, console, sound, gate, number, end);
         let Turned {
             whole: again,
             console: _,
@@ -109,12 +103,13 @@ where
 }
 
 /// What turns over a new wire emit.
-fn emitted<R: Threads + Clock, W: Wire>(
+fn emitted<R: Threads, W: Wire, G: Gate>(
     rt: &R,
     wire: &W,
     whole: W::Whole,
     console: Tape,
     sound: Tape,
+    gate: &G,
     end: u64,
     manner: Manner,
 ) -> Result<Sums, Fail>
@@ -143,7 +138,7 @@ where
                 whole,
                 console,
                 sound,
-                &OpenGate,
+                gate,
                 end,
                 &mut buffer,
                 &mut sums,
@@ -155,7 +150,16 @@ where
         Manner::Bare => {
             let mut console = console;
             let mut sound = sound;
-            if turns_to(rt, wire, whole, &mut console, &mut sound, end, &mut sums) {
+            if turns_to(
+                rt,
+                wire,
+                whole,
+                &mut console,
+                &mut sound,
+                gate,
+                end,
+                &mut sums,
+            ) {
                 Ok(sums)
             } else {
                 Err(Fail::new("too many turns"))
@@ -165,13 +169,13 @@ where
 }
 
 /// What turns over the log behind its lock emit.
-pub(crate) fn by_lock<R: AllocGlobal + Threads + Clock>(
+pub(crate) fn by_lock<R: AllocGlobal + Threads + Files + Sync>(
     rt: &R,
     console: Tape,
     sound: Tape,
     end: u64,
     manner: Manner,
-) -> Result<Sums, Fail>
+) -> Result<Ran, Fail>
     requires one_region { console.state.region ≡ sound.state.region }
     requires console_start { console.state.stamp ≡ 0 }
     requires sound_start { sound.state.stamp ≡ 0 }
@@ -180,17 +184,22 @@ pub(crate) fn by_lock<R: AllocGlobal + Threads + Clock>(
     requires early { end ≤ 2 ^ 51 }
 {
     let (ports, whole) = Ports::open(rt.alloc(), console.region())?;
-    emitted(rt, &ports, whole, console, sound, end, manner)
+    let watch = Watch::new(rt);
+    let sums = emitted(rt, &ports, whole, console, sound, &watch, end, manner)?;
+    Ok(Ran {
+        sums,
+        counts: watch.counts(),
+    })
 }
 
 /// What turns over words without a lock emit.
-pub(crate) fn by_words<R: AllocGlobal + Threads + Clock>(
+pub(crate) fn by_words<R: AllocGlobal + Threads + Files + Sync>(
     rt: &R,
     console: Tape,
     sound: Tape,
     end: u64,
     manner: Manner,
-) -> Result<Sums, Fail>
+) -> Result<Ran, Fail>
     requires one_region { console.state.region ≡ sound.state.region }
     requires console_start { console.state.stamp ≡ 0 }
     requires sound_start { sound.state.stamp ≡ 0 }
@@ -199,5 +208,10 @@ pub(crate) fn by_words<R: AllocGlobal + Threads + Clock>(
     requires early { end ≤ 2 ^ 51 }
 {
     let (words, whole) = Words::open(rt.alloc(), console.region())?;
-    emitted(rt, &words, whole, console, sound, end, manner)
+    let watch = Watch::new(rt);
+    let sums = emitted(rt, &words, whole, console, sound, &watch, end, manner)?;
+    Ok(Ran {
+        sums,
+        counts: watch.counts(),
+    })
 }

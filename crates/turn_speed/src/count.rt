@@ -1,15 +1,6 @@
 use file_shelf::Failed;
-use port_wire::Gate;
 use run_drive::Sink;
 use snes_defs::Side;
-
-/// A gate that both workers pass at once.
-pub struct OpenGate;
-
-impl Gate for OpenGate {
-    #[inline(always)]
-    fn arrive(&self, _side: Side, _turn: u64) {}
-}
 
 /// A sink that counts the bytes of both sides. Its clauses say nothing of it.
 #[derive(Drop)]

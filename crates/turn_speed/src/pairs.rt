@@ -2,18 +2,17 @@
 ghost use Rattle.std.specs.Prelude.{◌≡◌, ◌≤◌, [], IfOk, length};
 ghost use Rattle.snes_defs.specs.declared.region.Region.TheVariants.{Ntsc};
 
-use crate::count::{Count, OpenGate};
+use crate::count::Count;
 use crate::emitter::{Emitter, Rhythm};
 use crate::worker::Worker;
 use clock_ratio::end_stamp;
 use port_lock::Ports;
-use port_wire::Wire;
+use port_wire::{OpenGate, Wire};
 use run_drive::run_serial;
 use side_law::Tape;
 use snes_defs::{NoMemory, Region};
 use std::alloc::Global;
 use std::thread::Threads;
-use std::time::Clock;
 use turn_drive::run_turns;
 use word_log::Words;
 
@@ -61,7 +60,7 @@ pub(crate) fn samples(alloc: Global) -> Result<Samples, NoMemory>
 }
 
 /// Runs the two by turns, and answers how many turns that took.
-pub fn emitted<R: Threads + Clock>(rt: &R, alloc: Global, frames: u32) -> Result<u64, NoMemory>
+pub fn emitted<R: Threads>(rt: &R, alloc: Global, frames: u32) -> Result<u64, NoMemory>
     requires { frames ≤ 36000 }
 {
     let console = rows(alloc)?;
@@ -89,7 +88,7 @@ pub fn emitted<R: Threads + Clock>(rt: &R, alloc: Global, frames: u32) -> Result
 }
 
 /// Runs two tapes whose steps cost time by turns over a new wire, and answers how many turns that took.
-fn worked<R: Threads + Clock, W: Wire>(
+fn worked<R: Threads, W: Wire>(
     rt: &R,
     wire: &W,
     whole: W::Whole,
@@ -128,7 +127,7 @@ where
 }
 
 /// Runs the two over the log behind its lock.
-pub fn worked_by_lock<R: Threads + Clock>(
+pub fn worked_by_lock<R: Threads>(
     rt: &R,
     alloc: Global,
     console: Tape,
@@ -144,7 +143,7 @@ pub fn worked_by_lock<R: Threads + Clock>(
 }
 
 /// Runs the two over words without a lock.
-pub fn worked_by_words<R: Threads + Clock>(
+pub fn worked_by_words<R: Threads>(
     rt: &R,
     alloc: Global,
     console: Tape,

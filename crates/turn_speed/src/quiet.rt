@@ -3,10 +3,11 @@ ghost use Rattle.std.specs.Prelude.{◌≡◌, ◌<◌, ◌≤◌, ◌⊎◌, fa
 ghost use Rattle.port_lock.specs.Wholes.{IsWholeOf};
 ghost use Rattle.port_wire.specs.Reach.{IsInReach};
 
-use crate::count::{Count, OpenGate};
+use crate::count::Count;
 use crate::tapes::RISE;
-use pair_run::{Legs, Turned, turn};
+use pair_run::{Turned, turn};
 use port_lock::{Ports, Whole};
+use port_wire::OpenGate;
 use run_drive::pour;
 use side_law::{Machine, Tape};
 use snes_defs::Side;
@@ -54,7 +55,6 @@ pub fn quiet_turns<R: Threads>(
                 &OpenGate,
                 number as u64,
                 end,
-                Legs::AtOnce,
             );
             let Turned {
                 whole: again,

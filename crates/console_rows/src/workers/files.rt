@@ -51,9 +51,12 @@ fn boot(alloc: Global, program: &[u8]) -> Option<Vec<u8>> {
     Some(rom)
 }
 
-/// A shelf that holds the four files of a run, and keeps the first bytes of what is put to it.
+/// Room for each output of sixty frames.
+const ROOM: usize = 60 * 244_736;
+
+/// A shelf that holds the four files of a run, and keeps all that is put to it.
 pub fn shelf(alloc: Global, programs: &Programs) -> Option<SureShelf> {
-    let mut shelf = SureShelf::new(alloc, 4096).ok()?;
+    let mut shelf = SureShelf::new(alloc, ROOM).ok()?;
     let table = vec![in alloc; 0u8; 1024].ok()?;
     shelf
         .hold("cart", cartridge(alloc, programs.cartridge)?.as_slice())

@@ -1,10 +1,9 @@
 use Rattle.std.proofs.Common.{◌≡◌, ◌+◌, ◌-◌, ◌≤◌, ℕ, length}
 use Rattle.clock_ratio.specs.Stamp.{window_of}
-use Rattle.port_wire.specs.Answers.{HearsOn}
 use Rattle.port_wire.specs.Reach.{IsInReach}
 use Rattle.port_wire.specs.Tally.{HasRisenBy}
 use Rattle.pair_run.specs.Leg.{HasRun}
-use Rattle.pair_run.proofs.legs.go.Given as goal
+use Rattle.pair_run.proofs.legs.leg.Given as goal
 
 abbrev pub invariant-steps : goal.invariant-steps
 invariant-steps g l =
@@ -13,7 +12,6 @@ invariant-steps g l =
     record {
       still_of : wire.is_pass_of l.wire l.pass;
       side : (wire.seen l.pass).side ≡ (wire.seen l.fn.pass).side;
-      hears : HearsOn (wire.seen l.fn.pass).half (wire.seen l.pass).half;
       clock : (wire.seen l.pass).half.at ≤ machine.stamp_of l.machine;
       reach : IsInReach (wire.region_of l.wire) (machine.stamp_of l.machine) (wire.seen l.pass).half;
       region : machine.region_of l.machine ≡ machine.region_of l.fn.machine;

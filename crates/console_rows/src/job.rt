@@ -1,0 +1,44 @@
+//! One job over real files, as `snes` runs it, with a gate that counts what its two workers do (`turn_watch`).
+
+use file_shelf::FileShelf;
+use job_player::Console;
+use port_wire::Gate;
+use run_io::Argv;
+use snes_program::snes;
+use std::alloc::Global;
+use std::env::Args;
+use std::io;
+use std::process::ExitCode;
+use std::rt::Files;
+use std::thread::Threads;
+use turn_watch::Watch;
+
+/// The words that are left.
+fn words_of(alloc: Global, words: Args<Global>) -> Option<Argv> {
+    let mut argv = Argv::new(alloc);
+    for word in words {
+        argv.push(word.as_str()).ok()?;
+    }
+    Some(argv)
+}
+
+/// Runs the job, prints the counts of its turns on standard error, and ends with the status of `snes`.
+pub fn run_watched<R: AllocGlobal + Files + Sync + Threads + Print + Eprint>(
+    rt: &R,
+    watch: &Watch<'_, R>,
+    gate: &dyn Gate,
+    words: Args<Global>,
+) -> io::Result<ExitCode> {
+    let Some(argv) = words_of(rt.alloc(), words) else {
+        return Ok(ExitCode::from(5));
+    };
+    watch.begin();
+    let mut shelf = FileShelf::new(rt);
+    let status = snes::<Console, _, _>(rt, &argv, &mut shelf, gate);
+    let counts = watch.counts();
+    eprintln!(rt;
+        "{} turns, {} on two threads, {} overlapped",
+        counts.turns, counts.on_two_threads, counts.overlapped
+    )?;
+    Ok(ExitCode::from(status.exit()))
+}
