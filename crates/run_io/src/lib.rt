@@ -7,6 +7,7 @@
 #![tactic(auto)]
 
 mod forms;
+mod help;
 mod lines;
 mod options;
 mod pairs;
@@ -16,6 +17,7 @@ pub use file_shelf::{
     Failed, FileShelf, Input, LoadEnd, MemShelf, Out, Shelf, ShelfCall, SureShelf,
 };
 pub use forms::{Asked, Form, read_form};
+pub use help::{help_line, version_line};
 pub use lines::{
     Line, boot_refused_line, cannot_read_line, cannot_write_line, cart_refused_line, demo_line,
     frames_line, image_line, no_memory_line, plan_refused_line, samples_line, script_refused_line,

@@ -4,6 +4,7 @@ ghost use Rattle.snes_program.specs.Ends.{EndsCall, EndsWish};
 
 use crate::command::Performs;
 use crate::demo::Demo;
+use crate::help::{Help, Version};
 use crate::make::Make;
 use crate::perform::perform;
 use crate::play::Play;
@@ -76,6 +77,15 @@ fn call_named<P: PlanPlayer, R: AllocGlobal + Workers, H: Shelf>(
     }
     if name == "rewind" {
         return call(&Rewind::<P>::new(), rt, words, shelf);
+    }
+    if name == "--help" {
+        return call(&Help, rt, words, shelf);
+    }
+    if name == "-h" {
+        return call(&Help, rt, words, shelf);
+    }
+    if name == "--version" {
+        return call(&Version, rt, words, shelf);
     }
     refuse(shelf, Status::Usage)
 }

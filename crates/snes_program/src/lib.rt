@@ -5,7 +5,7 @@
 // says what the words, files and lines are.
 //
 // What all commands share stands in `call`, `perform`, `loads`, `outputs` and `say`. A command is a
-// file of its own (`run`, `play`, `make`, `demo`, `rewind`) and what it means, in `specs/`; a kind of input is a file of
+// file of its own (`run`, `play`, `make`, `demo`, `rewind`, `help`) and what it means, in `specs/`; a kind of input is a file of
 // `cart`, `boot`, `spc`, `table`, `script`, `plan`. `docs/ARCHITECTURE.md` says how one is added.
 #![tactic(auto)]
 
@@ -14,6 +14,7 @@ mod call;
 mod cart;
 mod command;
 mod demo;
+mod help;
 mod job;
 mod loads;
 mod make;
