@@ -21,7 +21,7 @@ snes demo NUMBER --frames N\n\
 \x20           run that cartridge in memory, and print the sums of what it put out\n\
 snes rewind --cart FILE --boot FILE --table FILE --plan FILE --video FILE --audio FILE\n\
 \x20           play a plan: lines go COUNT PAD1 PAD2, keep SLOT, back SLOT (docs/REWINDER.md)\n\
-snes --help, snes --version\n\
+snes --help, snes -h, snes --version\n\
 \x20           print this text, or the version\n\
 ./snes --quiet ..\n\
 \x20           the same without a word on how far a run is\n\

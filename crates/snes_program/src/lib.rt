@@ -18,6 +18,7 @@ mod help;
 mod job;
 mod loads;
 mod make;
+mod mistakes;
 mod outputs;
 mod perform;
 mod plan;
@@ -34,5 +35,7 @@ mod sums;
 mod table;
 mod top;
 
+pub use mistakes::explain;
+pub use say::refusal_line;
 pub use status::{Status, Why};
 pub use top::snes;
