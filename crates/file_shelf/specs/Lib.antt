@@ -1,6 +1,7 @@
 pub mod Counts
 pub mod Edge
 pub mod Given
+pub mod Known
 pub mod Memory
 pub mod Plan
 pub mod Shelves

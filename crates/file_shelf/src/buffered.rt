@@ -2,8 +2,8 @@ ghost use Rattle.std.specs.Prelude.{◌≡◌, ℕ, ◌<◌, ◌≤◌, [], true
 ghost use Rattle.std.specs.Io.KnownBytes.{Appends as AppendsKnown, Keeps};
 ghost use Rattle.file_shelf.specs.Given.{given_to, held_after};
 
+use crate::cause::Cause;
 use crate::gathered::Gathered;
-use crate::shelves::Failed;
 use std::io::Write;
 
 /// A file that is written, and the bytes that it was given and that are not yet written.
@@ -33,7 +33,7 @@ impl<F: Write + Drop> Buffered<F> {
 
     /// Writes the gathered bytes. Where that fails those that were not written stay gathered.
     #[tactic(auto, using(crate::proofs::EdgeLemmas::written_first))]
-    pub(crate) fn flush(&mut self) -> Result<(), Failed>
+    pub(crate) fn flush(&mut self) -> Result<(), Cause>
         ensures kept { Keeps (given_to F.contents self.old) (given_to F.contents self.new) }
         ensures open { OnOk result (self.old.failed ≡ false) }
         ensures open_still { OnOk result (self.new.failed ≡ false) }
@@ -42,24 +42,24 @@ impl<F: Write + Drop> Buffered<F> {
         ensures less { length self.new.gathered ≤ length self.old.gathered }
     {
         if self.failed {
-            return Err(Failed);
+            return Err(Cause::Closed);
         }
         match write_whole(&mut self.file, self.gathered.as_slice()) {
             Ok(()) => {
                 self.gathered.clear();
                 Ok(())
             }
-            Err(count) => {
-                self.gathered.forget_first(count);
+            Err(stopped) => {
+                self.gathered.forget_first(stopped.count);
                 self.failed = true;
-                Err(Failed)
+                Err(stopped.cause)
             }
         }
     }
 
     /// Gives the file these bytes, after those that it was given before.
     #[tactic(auto, using(crate::proofs::EdgeLemmas::given_some))]
-    pub(crate) fn put(&mut self, bytes: &[u8]) -> Result<(), Failed>
+    pub(crate) fn put(&mut self, bytes: &[u8]) -> Result<(), Cause>
         ensures whole { OnOk result (AppendsKnown (given_to F.contents self.old) (given_to F.contents self.new) bytes.now) }
         ensures some { OnErr result ((count : ℕ) × AppendsKnown (given_to F.contents self.old) (given_to F.contents self.new) (take count bytes.now)) }
         ensures open { OnOk result (self.old.failed ≡ false) }
@@ -69,7 +69,7 @@ impl<F: Write + Drop> Buffered<F> {
         ensures less { OnErr result (length self.new.gathered ≤ length self.old.gathered) }
     {
         if self.failed {
-            return Err(Failed);
+            return Err(Cause::Closed);
         }
         let Err(_) = self.gathered.add(bytes) else {
             return Ok(());
@@ -78,10 +78,10 @@ impl<F: Write + Drop> Buffered<F> {
         let Err(_) = self.gathered.add(bytes) else {
             return Ok(());
         };
-        let Ok(()) = write_whole(&mut self.file, bytes) else {
+        if let Err(stopped) = write_whole(&mut self.file, bytes) {
             self.failed = true;
-            return Err(Failed);
-        };
+            return Err(stopped.cause);
+        }
         Ok(())
     }
 }
@@ -98,19 +98,30 @@ impl<F: Write + Drop> Drop for Buffered<F> {
     }
 }
 
-/// Writes all these bytes, by as many writes as it takes. A write that takes nothing is a fault. Err says how
-/// many were written.
-pub(crate) fn write_whole<W: Write>(file: &mut W, bytes: &[u8]) -> Result<(), usize>
+/// Where writes stopped: how many bytes were written, and why no more.
+#[derive(Clone, Copy, Debug, PartialEq, Eq)]
+pub(crate) struct Stopped {
+    pub(crate) count: usize,
+    pub(crate) cause: Cause,
+}
+
+/// Writes all these bytes, by as many writes as it takes. A write that takes nothing is a fault.
+pub(crate) fn write_whole<W: Write>(file: &mut W, bytes: &[u8]) -> Result<(), Stopped>
     ensures whole { OnOk result (AppendsKnown (W.contents file.old) (W.contents file.new) bytes.now) }
-    ensures first { IfErr result (λ count. AppendsKnown (W.contents file.old) (W.contents file.new) (take count bytes.now)) }
-    ensures within { IfErr result (λ count. count ≤ length bytes.now) }
+    ensures first { IfErr result (λ stopped. AppendsKnown (W.contents file.old) (W.contents file.new) (take stopped.count bytes.now)) }
+    ensures within { IfErr result (λ stopped. stopped.count ≤ length bytes.now) }
 {
     let mut count = 0;
     while count < bytes.len() {
-        match file.write(&bytes[count..]) {
-            Ok(more) if more > 0 => count += more,
-            _ => return Err(count),
-        }
+        let cause = match file.write(&bytes[count..]) {
+            Ok(0) => Cause::TookNothing,
+            Ok(more) => {
+                count += more;
+                continue;
+            }
+            Err(error) => Cause::System(error.kind()),
+        };
+        return Err(Stopped { count, cause });
     }
     Ok(())
 }

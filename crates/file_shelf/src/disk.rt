@@ -4,16 +4,18 @@ ghost use Rattle.file_shelf.specs.Given.{held_after};
 ghost use Rattle.file_shelf.specs.Shelves.{shown_by_files};
 ghost use Rattle.file_shelf.specs.Shown.{IsUntouched, IsCreated, OnlyCreates, OnlyLoads, OnlyPuts};
 ghost use Rattle.file_shelf.specs.Told.{Holds, Appends, AppendsSome, HasRisen};
-ghost use Rattle.file_shelf.specs.Counts.{count_of};
+ghost use Rattle.file_shelf.specs.Counts.{next, count_of};
 ghost use Rattle.file_shelf.specs.Edge.{new_edge, kept_of, kept_in, faulted, IsNew, Took, TookSome, Wrote, WroteSome};
 
 use crate::buffered::{Buffered, write_whole};
+use crate::cause::Cause;
 use crate::counts::Counts;
+use crate::known::KnownFiles;
+use crate::opened::{create_apart, identity_at, open_known};
 use crate::shelves::{Failed, LoadEnd, Out, Shelf};
-use std::io::{Read, Write};
+use std::io::{self, Read, Write};
 use std::marker::Model;
 use std::rt::Files;
-use std::{fs, io};
 
 /// How many bytes one read asks for.
 const READ: usize = 8192;
@@ -24,6 +26,10 @@ const READ: usize = 8192;
 /// those of each output; every error of the system is a fault, and so is a write that takes nothing.
 /// A run comes in many small puts, so the bytes of a file are gathered before they are written. After a fault
 /// an output takes nothing until it is created again.
+///
+/// An output is refused, before anything of it is lost, where it is a regular file that was loaded, that another
+/// output is written to, or that standard output or standard error goes to, whatever its names. A terminal, a pipe or
+/// a device never is.
 #[derive(Drop)]
 pub struct FileShelf<'a, R: Files + Print> {
     rt: &'a R,
@@ -32,6 +38,8 @@ pub struct FileShelf<'a, R: Files + Print> {
     image: Option<Buffered<R::File>>,
     load_faults: u64,
     write_faults: Counts,
+    known: KnownFiles,
+    first_fault: Option<Cause>,
 }
 
 impl<'a, R: Files + Print> Model for FileShelf<'a, R> {
@@ -54,7 +62,33 @@ impl<'a, R: Files + Print> FileShelf<'a, R> {
             image: None,
             load_faults: 0,
             write_faults: Counts::new(),
+            known: KnownFiles::of_streams(
+                identity_at(rt, "/dev/stdout"),
+                identity_at(rt, "/dev/stderr"),
+            ),
+            first_fault: None,
         }
+    }
+
+    /// Why the first call failed that did, for the user.
+    pub fn first_fault(&self) -> Option<Cause> {
+        self.first_fault
+    }
+
+    /// Counts a fault of a load.
+    fn count_load(&mut self, cause: Cause)
+        ensures { self.new ≡ record self.old { loads = next self.old.loads } }
+    {
+        self.load_faults = self.load_faults.saturating_add(1);
+        self.first_fault = self.first_fault.or(Some(cause));
+    }
+
+    /// Counts a fault of an output.
+    fn count_write(&mut self, out: Out, cause: Cause)
+        ensures { self.new ≡ faulted self.old out }
+    {
+        self.write_faults.raise(out);
+        self.first_fault = self.first_fault.or(Some(cause));
     }
 }
 
@@ -70,14 +104,23 @@ impl<R: Files + Print> Shelf for FileShelf<'_, R> {
         ensures whole { OnOk result (Holds ((shown_by_files self.old).held name.now) into.new.items) }
         ensures only { OnlyLoads (shown_by_files self.old) (shown_by_files self.new) }
     {
-        let end = match fs::open(self.rt, name) {
-            Ok(mut file) => read_whole(&mut file, limit, into),
-            Err(_) => Err(LoadEnd::Failed),
+        let (mut file, identity) = match open_known(self.rt, name) {
+            Ok(opened) => opened,
+            Err(cause) => {
+                self.count_load(cause);
+                return Err(LoadEnd::Failed);
+            }
         };
-        if let Err(LoadEnd::Failed) = end {
-            self.load_faults = self.load_faults.saturating_add(1);
+        self.known.add_loaded(identity);
+        match read_whole(&mut file, limit, into) {
+            Ok(()) => Ok(()),
+            Err(ReadEnd::Fault(kind)) => {
+                self.count_load(Cause::System(kind));
+                Err(LoadEnd::Failed)
+            }
+            Err(ReadEnd::TooLong) => Err(LoadEnd::TooLong),
+            Err(ReadEnd::NoMemory) => Err(LoadEnd::NoMemory),
         }
-        end
     }
 
     fn create(&mut self, out: Out, name: &str) -> Result<(), Failed>
@@ -93,10 +136,14 @@ impl<R: Files + Print> Shelf for FileShelf<'_, R> {
         ensures untouched { OnErr result (IsUntouched (shown_by_files self.old) (shown_by_files self.new) out) }
         ensures only { OnlyCreates (shown_by_files self.old) (shown_by_files self.new) out }
     {
-        let Ok(file) = fs::create(self.rt, name) else {
-            self.write_faults.raise(out);
-            return Err(Failed);
+        let (file, identity) = match create_apart(self.rt, &self.known, out, name) {
+            Ok(created) => created,
+            Err(cause) => {
+                self.count_write(out, cause);
+                return Err(Failed);
+            }
         };
+        self.known.set_created(out, identity);
         match out {
             Out::Video => self.video = Some(Buffered::new(file)),
             Out::Sound => self.sound = Some(Buffered::new(file)),
@@ -127,10 +174,13 @@ impl<R: Files + Print> Shelf for FileShelf<'_, R> {
             Out::Image => put_created(&mut self.image, bytes),
             Out::Say => say(self.rt, bytes),
         };
-        if end.is_err() {
-            self.write_faults.raise(out);
+        match end {
+            Ok(()) => Ok(()),
+            Err(cause) => {
+                self.count_write(out, cause);
+                Err(Failed)
+            }
         }
-        end
     }
 
     fn flush(&mut self, out: Out) -> Result<(), Failed>
@@ -151,64 +201,76 @@ impl<R: Files + Print> Shelf for FileShelf<'_, R> {
             Out::Image => flush_created(&mut self.image),
             Out::Say => Ok(()),
         };
-        if end.is_err() {
-            self.write_faults.raise(out);
+        match end {
+            Ok(()) => Ok(()),
+            Err(cause) => {
+                self.count_write(out, cause);
+                Err(Failed)
+            }
         }
-        end
     }
 }
 
+/// Why a file was not read whole.
+#[derive(Clone, Copy, Debug, PartialEq, Eq)]
+enum ReadEnd {
+    Fault(io::ErrorKind),
+    TooLong,
+    NoMemory,
+}
+
 /// Reads all that is left, of which the end is where a read gives nothing.
-fn read_whole<F: Read>(file: &mut F, limit: usize, into: &mut Vec<u8>) -> Result<(), LoadEnd>
+fn read_whole<F: Read>(file: &mut F, limit: usize, into: &mut Vec<u8>) -> Result<(), ReadEnd>
     requires { into.old.items ≡ [] }
     ensures whole { OnOk result (IfSome (F.remaining file.old) (λ bytes. into.new.items ≡ bytes)) }
     ensures within { OnOk result (vec_len into.new ≤ limit) }
-    ensures too_long { IsErrOf result LoadEnd.TooLong → IfSome (F.remaining file.old) (λ bytes. limit < length bytes) }
+    ensures too_long { IsErrOf result ReadEnd.TooLong → IfSome (F.remaining file.old) (λ bytes. limit < length bytes) }
 {
     let mut part = [0u8; READ];
     loop {
-        let Ok(count) = file.read(&mut part) else {
-            return Err(LoadEnd::Failed);
+        let count = match file.read(&mut part) {
+            Ok(count) => count,
+            Err(error) => return Err(ReadEnd::Fault(error.kind())),
         };
         if count == 0 {
             return Ok(());
         }
         if count > limit - into.len() {
-            return Err(LoadEnd::TooLong);
+            return Err(ReadEnd::TooLong);
         }
         if into.extend_from_slice(&part[..count]).is_err() {
-            return Err(LoadEnd::NoMemory);
+            return Err(ReadEnd::NoMemory);
         }
     }
 }
 
 /// Writes to standard output, at once.
-fn say<R: Print>(rt: &R, bytes: &[u8]) -> Result<(), Failed> {
+fn say<R: Print>(rt: &R, bytes: &[u8]) -> Result<(), Cause> {
     match write_whole(&mut io::writer(rt), bytes) {
         Ok(()) => Ok(()),
-        Err(_) => Err(Failed),
+        Err(stopped) => Err(stopped.cause),
     }
 }
 
 /// Puts to an output, which takes bytes from its creation to a fault.
-fn put_created<F: Write + Drop>(file: &mut Option<Buffered<F>>, bytes: &[u8]) -> Result<(), Failed>
+fn put_created<F: Write + Drop>(file: &mut Option<Buffered<F>>, bytes: &[u8]) -> Result<(), Cause>
     ensures took { OnOk result (Took (kept_of F.contents file.old) (kept_of F.contents file.new) bytes.now) }
     ensures unwritten { OnOk result ((kept_of F.contents file.new).unwritten ≡ held_after (kept_of F.contents file.old).unwritten (length bytes.now)) }
     ensures some { OnErr result (TookSome (kept_of F.contents file.old) (kept_of F.contents file.new) bytes.now) }
 {
     match file {
         Some(file) => file.put(bytes),
-        None => Err(Failed),
+        None => Err(Cause::Closed),
     }
 }
 
 /// Writes what an output that was created holds back.
-fn flush_created<F: Write + Drop>(file: &mut Option<Buffered<F>>) -> Result<(), Failed>
+fn flush_created<F: Write + Drop>(file: &mut Option<Buffered<F>>) -> Result<(), Cause>
     ensures wrote { OnOk result (Wrote (kept_of F.contents file.old) (kept_of F.contents file.new)) }
     ensures some { OnErr result (WroteSome (kept_of F.contents file.old) (kept_of F.contents file.new)) }
 {
     match file {
         Some(file) => file.flush(),
-        None => Err(Failed),
+        None => Err(Cause::Closed),
     }
 }

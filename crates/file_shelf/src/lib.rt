@@ -9,16 +9,21 @@
 #![tactic(auto)]
 
 mod buffered;
+mod cause;
 mod counts;
 mod disk;
 mod gathered;
+mod known;
 mod mem;
+mod opened;
 mod plan;
 mod shelves;
 mod store;
 mod sure;
 
+pub use cause::Cause;
 pub use disk::FileShelf;
+pub use known::Clash;
 pub use mem::MemShelf;
 pub use plan::ShelfCall;
 pub use shelves::{Failed, Input, LoadEnd, Out, Shelf};

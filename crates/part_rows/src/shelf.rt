@@ -1,8 +1,8 @@
 // What an outside reader expects of real files, and the lines as they are printed. Planned failures, a shelf that never
 // fails and a full device stand in the rows of the whole program, `program_rows` and `console_rows`.
 use run_io::{
-    Failed, FileShelf, Input, Line, LoadEnd, Out, Shelf, cannot_read_line, cannot_write_line,
-    frames_line, no_memory_line, usage_line,
+    Cause, Clash, Failed, FileShelf, Input, Line, LoadEnd, Out, Shelf, cannot_read_line,
+    cannot_write_line, frames_line, no_memory_line, usage_line,
 };
 use std::alloc::Global;
 use std::test::Fail;
@@ -67,6 +67,41 @@ fn an_output_takes_nothing_before_it_is_created(rt: HostRuntime) {
     assert_eq!(rt; shelf.create(Out::Video, "/dev/null"), Ok(()));
     assert_eq!(rt; put(&mut shelf, Out::Video, "abc"), Ok(()));
     assert_eq!(rt; shelf.flush(Out::Video), Ok(()));
+}
+
+/// Two names of one file: an output is refused before anything is lost, and a device never is.
+#[test]
+fn an_output_is_no_file_that_the_shelf_has_to_do_with(rt: HostRuntime) -> Result<(), Fail> {
+    let alloc = rt.alloc();
+    let mut folder = env::temp_dir(&rt)?;
+    folder.push("snes-run-io-names")?;
+    let folder = folder.to_str().ok_or("no text")?;
+    fs::create_dir_all(&rt, folder)?;
+    let read = format!(in alloc; "{folder}/read")?;
+    let link = format!(in alloc; "{folder}/link")?;
+    let film = format!(in alloc; "{folder}/film")?;
+    let again = format!(in alloc; "{folder}/./film")?;
+    fs::write(&rt, read.as_str(), "abc")?;
+    fs::hard_link(&rt, read.as_str(), link.as_str())?;
+    fs::write(&rt, film.as_str(), "longer than what is put")?;
+    let mut shelf = FileShelf::new(&rt);
+    let bytes = load(alloc, &mut shelf, read.as_str(), 3)?;
+    assert_eq!(rt; bytes.as_slice(), b"abc".as_slice());
+    assert_eq!(rt; shelf.first_fault(), None);
+    assert_eq!(rt; shelf.create(Out::Video, link.as_str()), Err(Failed));
+    assert_eq!(rt; shelf.first_fault(), Some(Cause::Same(Clash::Loaded)));
+    assert_eq!(rt; fs::read(&rt, read.as_str())?.as_slice(), b"abc".as_slice());
+    assert_eq!(rt; shelf.create(Out::Video, film.as_str()), Ok(()));
+    assert_eq!(rt; put(&mut shelf, Out::Video, "abc"), Ok(()));
+    assert_eq!(rt; shelf.flush(Out::Video), Ok(()));
+    assert_eq!(rt; shelf.create(Out::Sound, again.as_str()), Err(Failed));
+    assert_eq!(rt; fs::read(&rt, film.as_str())?.as_slice(), b"abc".as_slice());
+    assert_eq!(rt; shelf.create(Out::Sound, "/dev/null"), Ok(()));
+    assert_eq!(rt; shelf.create(Out::Image, "/dev/null"), Ok(()));
+    assert_eq!(rt; shelf.create(Out::Video, film.as_str()), Ok(()));
+    assert_eq!(rt; fs::read(&rt, film.as_str())?.as_slice(), b"".as_slice());
+    fs::remove_dir_all(&rt, folder)?;
+    Ok(())
 }
 
 fn prints(line: &Line, text: &str) -> bool {

@@ -2,6 +2,7 @@ pub use Rattle.file_shelf.specs.Told
 pub mod Form
 pub mod Line
 pub mod Lists
+pub mod Mistakes
 pub mod Number
 pub mod Options
 pub mod Words

@@ -6,6 +6,14 @@ use Rattle.file_shelf.specs.declared.shelves.Input.{Input}
 use Rattle.file_shelf.specs.declared.shelves.Input.TheVariants as input
 use Rattle.file_shelf.specs.declared.shelves.Out.{Out}
 use Rattle.file_shelf.specs.declared.shelves.Out.TheVariants as out
+use Rattle.run_io.specs.declared.help.TheConstants.{HELP, VERSION}
+
+-- the help and the version, which are the texts of the code
+abbrev pub help_text : List ℕ
+help_text = HELP.now
+
+abbrev pub version_text : List ℕ
+version_text = VERSION.now
 
 -- a text, ended by LF
 abbrev pub line_of : List ℕ → List ℕ

@@ -7,20 +7,24 @@
 #![tactic(auto)]
 
 mod forms;
+mod help;
 mod lines;
+mod mistakes;
 mod options;
 mod pairs;
 mod words;
 
 pub use file_shelf::{
-    Failed, FileShelf, Input, LoadEnd, MemShelf, Out, Shelf, ShelfCall, SureShelf,
+    Cause, Clash, Failed, FileShelf, Input, LoadEnd, MemShelf, Out, Shelf, ShelfCall, SureShelf,
 };
 pub use forms::{Asked, Form, read_form};
+pub use help::{help_line, version_line};
 pub use lines::{
     Line, boot_refused_line, cannot_read_line, cannot_write_line, cart_refused_line, demo_line,
     frames_line, image_line, no_memory_line, plan_refused_line, samples_line, script_refused_line,
     spc_no_text_line, spc_too_long_line, spc_too_short_line, table_refused_line, usage_line,
 };
+pub use mistakes::{Fault, Mistake, mistake_in};
 pub use options::Count;
-pub use pairs::{input_name, output_name};
+pub use pairs::{input_given, input_name, output_given, output_name};
 pub use words::{Argv, Word};

@@ -9,10 +9,10 @@ use file_shelf::{Input, Out};
 use itoa::Buffer;
 use std::marker::Model;
 
-/// The most bytes that a line has.
-const ROOM: usize = 256;
+/// The most bytes that a text for the user has.
+const ROOM: usize = 4096;
 
-/// One line for the user, ended by LF. It is made without memory.
+/// What the user is told: one line, ended by LF, or the lines of the help. It is made without memory.
 #[derive(Drop)]
 pub struct Line {
     text: ArrayString<ROOM>,
@@ -43,14 +43,14 @@ impl Line {
     }
 
     fn push(&mut self, text: &str)
-        requires room { length self.old + length text.now ≤ 256 }
+        requires room { length self.old + length text.now ≤ 4096 }
         ensures appended { self.new ≡ self.old ++ text.now }
     {
         self.text.push_str(text);
     }
 
     fn push_number(&mut self, number: u64)
-        requires room { length self.old + 40 ≤ 256 }
+        requires room { length self.old + 40 ≤ 4096 }
         ensures appended { self.new ≡ self.old ++ decimal number }
         ensures short { length self.new ≤ length self.old + 40 }
     {
@@ -71,7 +71,7 @@ impl Line {
     }
 
     fn push_hex(&mut self, byte: u8)
-        requires room { length self.old + 2 ≤ 256 }
+        requires room { length self.old + 2 ≤ 4096 }
         ensures appended { self.new ≡ self.old ++ hex_byte byte }
     {
         self.text.push(char::from(digit(byte / 16)));
@@ -256,8 +256,8 @@ pub fn no_memory_line() -> Line
 }
 
 /// A line of this text.
-fn whole(text: &str) -> Line
-    requires room { length text.now ≤ 256 }
+pub(crate) fn whole(text: &str) -> Line
+    requires room { length text.now ≤ 4096 }
     ensures same { result ≡ text.now }
 {
     let mut line = Line::new();

@@ -79,3 +79,23 @@ fn number_of(digits: &[u8]) -> Option<u64>
     }
     Some(number)
 }
+
+/// The word behind the option of an input, in a command line. No text where the option is missing.
+pub fn input_given(words: &[Word], input: Input) -> &str {
+    word_after(words, option_of_input(input))
+}
+
+/// The word behind the option of an output, in a command line. No text where the option is missing.
+pub fn output_given(words: &[Word], out: Out) -> &str {
+    word_after(words, option_of_output(out))
+}
+
+/// The word behind the first that is this one.
+fn word_after<'a>(words: &'a [Word], option: &str) -> &'a str {
+    for at in 1..words.len() {
+        if words[at - 1].text() == option {
+            return words[at].text();
+        }
+    }
+    ""
+}

@@ -1,4 +1,4 @@
-ghost use Rattle.std.specs.Prelude.{◌≡◌, ℕ, ◌<◌, List, [], ◌∷◌, ◌++◌, length, slice_get, Some, OnOk, OnErr};
+ghost use Rattle.std.specs.Prelude.{◌≡◌, ℕ, ◌<◌, List, [], ◌∷◌, ◌++◌, length, slice_get, Some, OnOk, OnErr, IfOk, map, string_bytes};
 
 use snes_defs::NoMemory;
 use std::alloc::{AllocError, Global};
@@ -51,6 +51,17 @@ impl Argv {
             words: Vec::new(alloc),
             alloc,
         }
+    }
+
+    /// The words of these texts, all of them in their order.
+    pub fn of(alloc: Global, texts: &[String]) -> Result<Argv, NoMemory>
+        ensures { IfOk result (λ words. words ≡ map string_bytes texts.now) }
+    {
+        let mut words = Argv::new(alloc);
+        for text in texts {
+            words.push(text.as_str())?;
+        }
+        Ok(words)
     }
 
     /// Appends a word, or changes nothing.

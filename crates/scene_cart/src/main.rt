@@ -17,6 +17,7 @@ mod program;
 use assembler::Code;
 use demo_files::{demo_boot_rom, demo_table};
 use image::{Image, NUMBERS};
+use standard_streams::hold_standard_streams;
 use std::alloc::{AllocError, Global};
 use std::{env, fs, io};
 
@@ -48,6 +49,7 @@ fn table_bytes(alloc: Global) -> Result<Vec<u8>, AllocError> {
 }
 
 fn main(rt: HostRuntime) -> io::Result<()> {
+    let _streams = hold_standard_streams(&rt);
     let alloc = rt.alloc();
     let Some(image) = cartridge(alloc)? else {
         return println!(rt; "the program doesn't fit");

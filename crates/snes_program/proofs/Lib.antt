@@ -3,6 +3,8 @@ pub mod Clauses
 pub mod DemoCartridge
 pub mod DemoLemmas
 pub mod Ending
+pub mod Explaining
+pub mod HelpLemmas
 pub mod KindLemmas
 pub mod Lists
 pub mod Loading

@@ -2,6 +2,7 @@ pub mod Command
 pub mod Commands
 pub mod Demo
 pub mod Ends
+pub mod Help
 pub mod Job
 pub mod Kinds
 pub mod Loads

@@ -4,6 +4,7 @@ ghost use Rattle.snes_program.specs.Ends.{EndsCall, EndsWish};
 
 use crate::command::Performs;
 use crate::demo::Demo;
+use crate::help::{Help, Version};
 use crate::make::Make;
 use crate::perform::perform;
 use crate::play::Play;
@@ -80,6 +81,15 @@ fn call_named<P: PlanPlayer, R: AllocGlobal + Threads, H: Shelf>(
     }
     if name == "rewind" {
         return call(&Rewind::<P>::new(), rt, gate, words, shelf);
+    }
+    if name == "--help" {
+        return call(&Help, rt, gate, words, shelf);
+    }
+    if name == "-h" {
+        return call(&Help, rt, gate, words, shelf);
+    }
+    if name == "--version" {
+        return call(&Version, rt, gate, words, shelf);
     }
     refuse(shelf, Status::Usage)
 }

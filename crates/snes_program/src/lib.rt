@@ -5,7 +5,7 @@
 // says what the words, files and lines are.
 //
 // What all commands share stands in `call`, `perform`, `loads`, `outputs` and `say`. A command is a
-// file of its own (`run`, `play`, `make`, `demo`, `rewind`) and what it means, in `specs/`; a kind of input is a file of
+// file of its own (`run`, `play`, `make`, `demo`, `rewind`, `help`) and what it means, in `specs/`; a kind of input is a file of
 // `cart`, `boot`, `spc`, `table`, `script`, `plan`. `CONTRIBUTING.md` says how one is added.
 #![tactic(auto)]
 
@@ -14,9 +14,11 @@ mod call;
 mod cart;
 mod command;
 mod demo;
+mod help;
 mod job;
 mod loads;
 mod make;
+mod mistakes;
 mod outputs;
 mod perform;
 mod plan;
@@ -33,5 +35,7 @@ mod sums;
 mod table;
 mod top;
 
+pub use mistakes::explain;
+pub use say::refusal_line;
 pub use status::{Status, Why};
 pub use top::snes;

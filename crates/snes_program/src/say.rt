@@ -31,7 +31,7 @@ fn refused_line(cause: Why) -> Line
 }
 
 /// The line of an answer, where it has one.
-fn refusal(status: Status) -> Option<Line>
+pub fn refusal_line(status: Status) -> Option<Line>
     ensures { result ≡ refusal_of status }
 {
     match status {
@@ -51,7 +51,7 @@ pub(crate) fn refuse<H: Shelf>(shelf: &mut H, status: Status) -> Status
     ensures said { IfSome (refusal_of status) (IsSaid (H.shown shelf.old) (H.shown shelf.new)) }
     ensures only { OnlyPuts (H.shown shelf.old) (H.shown shelf.new) Out.Say }
 {
-    if let Some(line) = refusal(status) {
+    if let Some(line) = refusal_line(status) {
         let _ = put_whole(shelf, Out::Say, line.bytes());
     }
     status

@@ -1,4 +1,5 @@
 ghost use Rattle.std.specs.Prelude.{◌≡◌};
+ghost use Rattle.snes_program.specs.Kinds.{input_of};
 ghost use Rattle.snes_program.specs.Status.{exit_of};
 
 use cart_map::CartRefused;
@@ -21,6 +22,22 @@ pub enum Why {
     Script(u32),
     /// The plan has more than 1,048,576 bytes (0), or this is its first line that is in no form, from 1.
     Plan(u32),
+}
+
+impl Why {
+    /// The input that was not accepted.
+    pub fn input(&self) -> Input
+        ensures { result ≡ input_of self.now }
+    {
+        match self {
+            Why::Cart(_) => Input::Cart,
+            Why::Boot => Input::Boot,
+            Why::Spc(_) => Input::Spc,
+            Why::Table(_) => Input::Table,
+            Why::Script(_) => Input::Script,
+            Why::Plan(_) => Input::Plan,
+        }
+    }
 }
 
 /// How a call of the program ended.

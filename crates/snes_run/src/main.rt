@@ -6,31 +6,44 @@
 // status of the answer. Stands on all other crates of the program.
 #![tactic(auto)]
 
+mod messages;
+
 use job_player::Console;
+use messages::{say_why, say_why_no_words};
 use port_wire::OpenGate;
 use run_io::{Argv, FileShelf};
+use snes_defs::NoMemory;
 use snes_program::{Status, snes};
+use standard_streams::hold_standard_streams;
 use std::process::ExitCode;
 use std::{env, io};
 
-/// Hands the words after the program's own name to `snes`. Words that are no text are no words of a
-/// form: none is handed on.
+/// The words after the program's own name. Words that are no text are no words of a form: none is handed on.
+fn words_of(rt: &HostRuntime) -> Result<Argv, NoMemory> {
+    let alloc = rt.alloc();
+    let args = match env::args(rt) {
+        Ok(args) => args,
+        Err(error) if error.kind() == io::ErrorKind::OutOfMemory => return Err(NoMemory),
+        Err(_) => {
+            let _ = say_why_no_words(rt);
+            return Ok(Argv::new(alloc));
+        }
+    };
+    let Ok(given) = args.skip(1).collect::<Vec<String>>(alloc) else {
+        return Err(NoMemory);
+    };
+    Argv::of(alloc, given.as_slice())
+}
+
+/// Hands the words to `snes`, and says on standard error what its line leaves out.
 fn main(rt: HostRuntime) -> ExitCode {
-    let mut words = Argv::new(rt.alloc());
-    match env::args(&rt) {
-        Ok(args) => {
-            for word in args.skip(1) {
-                if words.push(word.as_str()).is_err() {
-                    return ExitCode::from(Status::NoMemory.exit());
-                }
-            }
-        }
-        Err(error) => {
-            if error.kind() == io::ErrorKind::OutOfMemory {
-                return ExitCode::from(Status::NoMemory.exit());
-            }
-        }
-    }
+    let _streams = hold_standard_streams(&rt);
+    let words = match words_of(&rt) {
+        Ok(words) => words,
+        Err(NoMemory) => return ExitCode::from(Status::NoMemory.exit()),
+    };
     let mut shelf = FileShelf::new(&rt);
-    ExitCode::from(snes::<Console, _, _>(&rt, &words, &mut shelf, &OpenGate).exit())
+    let status = snes::<Console, _, _>(&rt, &words, &mut shelf, &OpenGate);
+    let _ = say_why(&rt, &words, status, shelf.first_fault());
+    ExitCode::from(status.exit())
 }

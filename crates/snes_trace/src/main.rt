@@ -31,6 +31,7 @@ use clock_ratio::end_stamp_in;
 use inputs::{Names, job_of};
 use pair::Pair;
 use snes_defs::{Job, MOST_FRAMES, Region, Side};
+use standard_streams::hold_standard_streams;
 use std::alloc::Global;
 use std::fs;
 use std::io::{self, BufWriter};
@@ -150,6 +151,7 @@ fn run<R: Files + Print + Eprint + AllocGlobal + Env>(rt: &R) -> Result<u8> {
 }
 
 fn main(rt: HostRuntime) -> ExitCode {
+    let _streams = hold_standard_streams(&rt);
     match run(&rt) {
         Ok(status) => ExitCode::from(status),
         Err(error) => {

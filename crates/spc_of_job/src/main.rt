@@ -21,6 +21,7 @@ use cause::Cause;
 use file_shelf::{FileShelf, Out, Shelf};
 use job::job_of;
 use snes_defs::Table;
+use standard_streams::hold_standard_streams;
 use std::alloc::Global;
 use std::rt::Files;
 use std::{env, io};
@@ -106,6 +107,7 @@ fn samples_of(word: Option<&String>) -> Option<u32> {
 }
 
 fn main(rt: HostRuntime) -> anyhow::Result<()> {
+    let _streams = hold_standard_streams(&rt);
     let alloc = rt.alloc();
     let given: Vec<String> = env::args(&rt)?.collect(alloc)?;
     let given = given.as_slice();

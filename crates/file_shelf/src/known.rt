@@ -1,0 +1,117 @@
+ghost use Rattle.std.specs.Prelude.{◌≡◌};
+ghost use Rattle.file_shelf.specs.Known.{is_same, is_loaded, is_created_otherwise, clash_of, none_known};
+
+use crate::shelves::Out;
+
+/// How many loads are remembered: more than any command has inputs.
+const MOST_LOADED: usize = 8;
+
+/// Which file a name leads to, whatever names it has: the device that it is on, and its number there.
+#[derive(Clone, Copy, Debug)]
+pub(crate) struct Identity {
+    pub(crate) device: u64,
+    pub(crate) node: u64,
+}
+
+/// What else a file to write is.
+#[derive(Clone, Copy, Debug, PartialEq, Eq)]
+pub enum Clash {
+    /// A file that was loaded.
+    Loaded,
+    /// Another output that was created.
+    Created,
+    /// What standard output or standard error goes to.
+    Stream,
+}
+
+/// The regular files that a shelf has to do with: the last eight that were loaded, the outputs, and those that standard
+/// output and standard error go to.
+#[derive(Clone, Copy)]
+pub(crate) struct KnownFiles {
+    loaded: [Option<Identity>; MOST_LOADED],
+    next: usize,
+    video: Option<Identity>,
+    sound: Option<Identity>,
+    image: Option<Identity>,
+    said: Option<Identity>,
+    warned: Option<Identity>,
+}
+
+impl KnownFiles {
+    /// Those that the two streams go to, and no others.
+    pub(crate) fn of_streams(said: Option<Identity>, warned: Option<Identity>) -> KnownFiles
+        ensures { result ≡ none_known said warned }
+    {
+        KnownFiles {
+            loaded: [None; MOST_LOADED],
+            next: 0,
+            video: None,
+            sound: None,
+            image: None,
+            said,
+            warned,
+        }
+    }
+
+    /// What else the file is that an output is to be written to.
+    pub(crate) fn clash(&self, out: Out, file: Identity) -> Option<Clash>
+        ensures { result ≡ clash_of self.now out file }
+    {
+        if self.is_loaded(file) {
+            return Some(Clash::Loaded);
+        }
+        if self.is_created_otherwise(out, file) {
+            return Some(Clash::Created);
+        }
+        if is_same(self.said, file) || is_same(self.warned, file) {
+            return Some(Clash::Stream);
+        }
+        None
+    }
+
+    /// Whether this file was loaded.
+    fn is_loaded(&self, file: Identity) -> bool
+        ensures { result ≡ is_loaded self.now file }
+    {
+        self.loaded.iter().any(|known| is_same(*known, file))
+    }
+
+    /// Whether another output is written to this file.
+    fn is_created_otherwise(&self, out: Out, file: Identity) -> bool
+        ensures { result ≡ is_created_otherwise self.now out file }
+    {
+        match out {
+            Out::Video => is_same(self.sound, file) || is_same(self.image, file),
+            Out::Sound => is_same(self.video, file) || is_same(self.image, file),
+            Out::Image => is_same(self.video, file) || is_same(self.sound, file),
+            Out::Say => false,
+        }
+    }
+
+    /// A file was loaded.
+    pub(crate) fn add_loaded(&mut self, file: Option<Identity>) {
+        let place = self.next % MOST_LOADED;
+        self.loaded[place] = file;
+        self.next = (place + 1) % MOST_LOADED;
+    }
+
+    /// An output is written to a file now.
+    pub(crate) fn set_created(&mut self, out: Out, file: Option<Identity>) {
+        match out {
+            Out::Video => self.video = file,
+            Out::Sound => self.sound = file,
+            Out::Image => self.image = file,
+            Out::Say => {}
+        }
+    }
+}
+
+/// Whether a file is known, and this one.
+fn is_same(known: Option<Identity>, file: Identity) -> bool
+    ensures { result ≡ is_same known file }
+{
+    match known {
+        Some(known) => known.device == file.device && known.node == file.node,
+        None => false,
+    }
+}

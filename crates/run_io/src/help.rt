@@ -1,0 +1,50 @@
+ghost use Rattle.std.specs.Prelude.{◌≡◌};
+ghost use Rattle.run_io.specs.Line.{line_of, help_text, version_text};
+
+use crate::lines::{Line, whole};
+
+/// The version. The head of CHANGELOG.md has it too, and a check compares them.
+const VERSION: &str = "snes 1.1\n";
+
+/// THE HELP: each command with its arguments.
+static HELP: &str = "\
+snes run    --cart FILE --boot FILE --table FILE --script FILE --frames N --video FILE --audio FILE\n\
+snes serial --cart FILE --boot FILE --table FILE --script FILE --frames N --video FILE --audio FILE\n\
+snes lockless (the same arguments)\n\
+\x20           run a cartridge for N frames (at most 36000) and write raw frames and raw samples;\n\
+\x20           run: on two workers, serial: in one, lockless: on two without a lock; the bytes are the same\n\
+snes play --spc FILE --table FILE --samples N --audio FILE\n\
+\x20           play a sound file for N samples, 32000 a second (at most 19200000), and write raw samples\n\
+snes make NUMBER --out FILE\n\
+\x20           write the cartridge that a number makes\n\
+snes demo NUMBER --frames N\n\
+\x20           run that cartridge in memory, and print the sums of what it put out\n\
+snes rewind --cart FILE --boot FILE --table FILE --plan FILE --video FILE --audio FILE\n\
+\x20           play a plan: lines go COUNT PAD1 PAD2, keep SLOT, back SLOT (docs/REWINDER.md)\n\
+snes --help, snes -h, snes --version\n\
+\x20           print this text, or the version\n\
+./snes --quiet ..\n\
+\x20           the same without a word on how far a run is\n\
+\n\
+\x20 --cart    a raw LoROM or HiROM image        --boot    the sound processor's boot ROM, 64 bytes\n\
+\x20 --table   512 numbers of 16 bits            --script  lines of frames and pads; may be empty\n\
+\x20 --spc     a sound file\n\
+\x20 ./scene FOLDER writes a free cartridge with the three other files.\n\
+\n\
+Statuses: 0 done, 1 invalid arguments, 2 an input could not be read, 3 an input was refused, 4 an output could\n\
+not be written, 5 out of memory; of the script ./snes: 70 the program could not be built.\n\
+docs/FILES-AND-WORDS.md has the formats, and the cause of each answer.\n";
+
+/// The help: each command with its arguments, the options, and the exit statuses.
+pub fn help_line() -> Line
+    ensures text { result ≡ help_text }
+{
+    whole(HELP)
+}
+
+/// The version: `snes 1.1`.
+pub fn version_line() -> Line
+    ensures text { result ≡ version_text }
+{
+    whole(VERSION)
+}

@@ -1,0 +1,248 @@
+ghost use Rattle.std.specs.Prelude.{◌≡◌, ◌≤◌, length, IfSome};
+ghost use Rattle.std.specs.List.{list_any};
+ghost use Rattle.std.specs.Str.{bytes_eq};
+ghost use Rattle.run_io.specs.Options.{input_option, output_option};
+ghost use Rattle.run_io.specs.Form.{form_by};
+ghost use Rattle.run_io.specs.Mistakes.{is_option, is_count_option, IsAtFault, IsMistake};
+
+use crate::forms::Form;
+use crate::options::{option_of_input, option_of_output};
+use crate::pairs::{is_value, number_in, output_name, word_behind};
+use crate::words::Word;
+use file_shelf::Out;
+use std::fmt::{self, Display, Formatter};
+
+/// What can be wrong with the words of a command line.
+#[derive(Clone, Copy, Debug, PartialEq, Eq)]
+pub enum Fault {
+    /// There is no word.
+    NoCommand,
+    /// The first word is no command's name.
+    NotACommand,
+    /// No number stands behind the command's name.
+    NoNumber,
+    /// The word behind the command's name is not the number that it takes.
+    NotTheNumber,
+    /// A word stands where an option belongs, and is none of the command's.
+    NotAnOption,
+    /// An option stands there twice.
+    Twice,
+    /// Nothing stands behind an option.
+    NoValue,
+    /// What stands behind an option is empty, longer than 4,096 bytes, or begins with a dash.
+    NotAValue,
+    /// An option is missing.
+    Missing,
+    /// What stands behind an option is not the number that it takes.
+    NotItsNumber,
+    /// Two outputs have one name.
+    SameName,
+    /// The words are in no form.
+    Formless,
+}
+
+/// What is wrong with words, and which are at fault. The option and the word are empty where none is.
+#[derive(Clone, Copy, Debug)]
+pub struct Mistake<'a> {
+    /// What is wrong.
+    pub fault: Fault,
+    /// The option that is at fault.
+    pub option: &'a str,
+    /// The word that is at fault.
+    pub word: &'a str,
+}
+
+impl<'a> Mistake<'a> {
+    /// A mistake of this kind.
+    pub fn of(fault: Fault, option: &'a str, word: &'a str) -> Mistake<'a>
+        ensures fault { result.fault ≡ fault }
+        ensures option { result.option.now ≡ option.now }
+        ensures word { result.word.now ≡ word.now }
+    {
+        Mistake {
+            fault,
+            option,
+            word,
+        }
+    }
+}
+
+/// What is wrong with the words behind a command's name that are not in its form.
+pub fn mistake_in<'a>(form: &Form, words: &'a [Word]) -> Mistake<'a>
+    ensures { IsMistake (form_by form.now) result }
+{
+    if !form.numbered {
+        return mistake_in_pairs(form, words);
+    }
+    let Some((word, pairs)) = words.split_first() else {
+        return Mistake::of(Fault::NoNumber, "", "");
+    };
+    if number_in(word.text(), 10, u32::MAX).is_none() {
+        return Mistake::of(Fault::NotTheNumber, "", word.text());
+    }
+    mistake_in_pairs(form, pairs)
+}
+
+/// What is wrong with words that are to be pairs of an option and its value.
+fn mistake_in_pairs<'a>(form: &Form, pairs: &'a [Word]) -> Mistake<'a>
+    ensures { IsMistake (form_by form.now) result }
+{
+    if let Some(mistake) = wrong_pair(form, pairs) {
+        return mistake;
+    }
+    if let Some(option) = missing_option(form, pairs) {
+        return Mistake::of(Fault::Missing, option, "");
+    }
+    if let Some(mistake) = wrong_number(form, pairs) {
+        return mistake;
+    }
+    match same_name(pairs, form.outputs) {
+        Some(out) => Mistake::of(
+            Fault::SameName,
+            option_of_output(out),
+            output_name(pairs, out),
+        ),
+        None => Mistake::of(Fault::Formless, "", ""),
+    }
+}
+
+/// The first pair that is none of the form, or stands there twice.
+fn wrong_pair<'a>(form: &Form, pairs: &'a [Word]) -> Option<Mistake<'a>>
+    ensures { IfSome result (IsMistake (form_by form.now)) }
+{
+    let mut at = 0;
+    while at < pairs.len() {
+        let option = pairs[at].text();
+        if !is_option(form, option) {
+            return Some(Mistake::of(Fault::NotAnOption, "", option));
+        }
+        if stands_in(&pairs[..at], option) {
+            return Some(Mistake::of(Fault::Twice, option, ""));
+        }
+        if at + 1 == pairs.len() {
+            return Some(Mistake::of(Fault::NoValue, option, ""));
+        }
+        let value = pairs[at + 1].text();
+        if !is_value(value) {
+            return Some(Mistake::of(Fault::NotAValue, option, value));
+        }
+        at += 2;
+    }
+    None
+}
+
+/// Whether a word is an option of the form.
+fn is_option(form: &Form, word: &str) -> bool
+    ensures { result ≡ is_option (form_by form.now) word.now }
+{
+    is_input_option(form, word) || is_output_option(form, word) || is_count_option(form, word)
+}
+
+fn is_input_option(form: &Form, word: &str) -> bool
+    ensures { result ≡ list_any (λ input. bytes_eq (input_option input) word.now) form.now.inputs.now }
+{
+    form.inputs
+        .iter()
+        .any(|input| option_of_input(*input) == word)
+}
+
+fn is_output_option(form: &Form, word: &str) -> bool
+    ensures { result ≡ list_any (λ out. bytes_eq (output_option out) word.now) form.now.outputs.now }
+{
+    form.outputs
+        .iter()
+        .any(|out| option_of_output(*out) == word)
+}
+
+fn is_count_option(form: &Form, word: &str) -> bool
+    ensures { result ≡ is_count_option form.now.count word.now }
+{
+    match form.count {
+        Some(count) => count.option() == word,
+        None => false,
+    }
+}
+
+/// Whether a word stands among others.
+fn stands_in(words: &[Word], word: &str) -> bool
+    ensures { result ≡ list_any (λ one. bytes_eq one word.now) words.now }
+{
+    words.iter().any(|one| one.text() == word)
+}
+
+/// The first option of the form that is missing.
+fn missing_option(form: &Form, pairs: &[Word]) -> Option<&'static str> {
+    for input in form.inputs {
+        if !stands_in(pairs, option_of_input(*input)) {
+            return Some(option_of_input(*input));
+        }
+    }
+    let count = form.count?;
+    if !stands_in(pairs, count.option()) {
+        return Some(count.option());
+    }
+    missing_output(form, pairs)
+}
+
+fn missing_output(form: &Form, pairs: &[Word]) -> Option<&'static str> {
+    for out in form.outputs {
+        if !stands_in(pairs, option_of_output(*out)) {
+            return Some(option_of_output(*out));
+        }
+    }
+    None
+}
+
+/// The number behind its option, where it is not the one that the form takes.
+fn wrong_number<'a>(form: &Form, pairs: &'a [Word]) -> Option<Mistake<'a>>
+    ensures { IfSome result (IsMistake (form_by form.now)) }
+{
+    let count = form.count?;
+    let word = word_behind(pairs, count.option());
+    if number_in(word, count.digits(), count.most()).is_some() {
+        return None;
+    }
+    Some(Mistake::of(Fault::NotItsNumber, count.option(), word))
+}
+
+/// The first output that has the name of another.
+fn same_name(pairs: &[Word], outputs: &[Out]) -> Option<Out> {
+    for out in outputs {
+        for other in outputs {
+            if out != other && output_name(pairs, *out) == output_name(pairs, *other) {
+                return Some(*other);
+            }
+        }
+    }
+    None
+}
+
+/// What an option takes, for the user.
+fn taken_by(option: &str) -> &'static str {
+    match option {
+        "--frames" => "a number of at most 36000",
+        "--samples" => "a number of at most 19200000",
+        _ => "a file",
+    }
+}
+
+impl Display for Mistake<'_> {
+    fn fmt<W: fmt::Write>(&self, f: &mut Formatter<W>) -> fmt::Result {
+        let option = self.option;
+        let word = self.word;
+        match self.fault {
+            Fault::NoCommand => f.write_str("no command is given"),
+            Fault::NotACommand => write!(f, "{word:?} is not a command"),
+            Fault::NoNumber => f.write_str("the number behind the command is missing"),
+            Fault::NotTheNumber => write!(f, "{word:?} is not a number of at most 4294967295"),
+            Fault::NotAnOption => write!(f, "{word:?} is not an option of this command"),
+            Fault::Twice => write!(f, "{option} is given twice"),
+            Fault::NoValue => write!(f, "{option} needs {}", taken_by(option)),
+            Fault::NotAValue => write!(f, "{option} needs {}, not {word:?}", taken_by(option)),
+            Fault::Missing => write!(f, "{option} is missing"),
+            Fault::NotItsNumber => write!(f, "{option} needs {}, not {word:?}", taken_by(option)),
+            Fault::SameName => write!(f, "{option} names the output {word:?} again"),
+            Fault::Formless => f.write_str("the arguments do not fit the command"),
+        }
+    }
+}

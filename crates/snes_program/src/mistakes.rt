@@ -1,0 +1,72 @@
+ghost use Rattle.std.specs.Prelude.{MatchOption};
+ghost use Rattle.snes_program.specs.Commands.{asks, asked_by, asked, IsNothing};
+
+use crate::command::Performs;
+use crate::demo::Demo;
+use crate::help::{Help, Version};
+use crate::make::Make;
+use crate::play::Play;
+use crate::rewind::Rewind;
+use crate::run::Run;
+use plan_drive::PlanPlayer;
+use run_io::{Argv, Fault, Mistake, Word, mistake_in, read_form};
+
+/// Why the words behind a command's name are not in its form.
+#[tactic(auto, using(crate::proofs::Explaining::explains))]
+fn explain_form<C: Performs>(words: &[Word]) -> Option<Mistake<'_>>
+    ensures { MatchOption result (¬ IsNothing (asks C.command words.now)) (λ mistake. IsNothing (asks C.command words.now)) }
+{
+    let form = C::form();
+    match read_form(&form, words) {
+        Some(_) => None,
+        None => Some(mistake_in(&form, words)),
+    }
+}
+
+/// Why the words behind this name ask for nothing. The commands stand here as in `call_named`.
+#[tactic(auto, unfolding(crate::specs::Commands::asked_by))]
+fn explain_named<'a, P: PlanPlayer>(name: &'a str, words: &'a [Word]) -> Option<Mistake<'a>>
+    ensures { MatchOption result (¬ IsNothing (asked_by P.emits name.now words.now)) (λ mistake. IsNothing (asked_by P.emits name.now words.now)) }
+{
+    if name == "run" {
+        return explain_form::<Run<P>>(words);
+    }
+    if name == "serial" {
+        return explain_form::<Run<P>>(words);
+    }
+    if name == "lockless" {
+        return explain_form::<Run<P>>(words);
+    }
+    if name == "play" {
+        return explain_form::<Play>(words);
+    }
+    if name == "make" {
+        return explain_form::<Make>(words);
+    }
+    if name == "demo" {
+        return explain_form::<Demo<P>>(words);
+    }
+    if name == "rewind" {
+        return explain_form::<Rewind<P>>(words);
+    }
+    if name == "--help" {
+        return explain_form::<Help>(words);
+    }
+    if name == "-h" {
+        return explain_form::<Help>(words);
+    }
+    if name == "--version" {
+        return explain_form::<Version>(words);
+    }
+    Some(Mistake::of(Fault::NotACommand, "", name))
+}
+
+/// Why a command line is at fault: there is a mistake exactly where `snes` answers `Usage`.
+pub fn explain<P: PlanPlayer>(words: &Argv) -> Option<Mistake<'_>>
+    ensures { MatchOption result (¬ IsNothing (asked P.emits words.now)) (λ mistake. IsNothing (asked P.emits words.now)) }
+{
+    match words.all().split_first() {
+        Some((name, words)) => explain_named::<P>(name.text(), words),
+        None => Some(Mistake::of(Fault::NoCommand, "", "")),
+    }
+}
