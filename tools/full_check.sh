@@ -6,7 +6,8 @@
 # Its parts, the cheap ones first, and the items of each:
 #
 #     edits        each wrong change can be made (check_edits.sh); crates.txt names what is used (check_crates.sh); links of pages
-#                  lead somewhere, and a planted dead one is named (check_pages.sh, try_check_pages.sh)
+#                  lead somewhere, and a planted dead one is named (check_pages.sh, try_check_pages.sh); listings give the bytes
+#                  in the sources (check_listings.py), the formula the table's numbers (make_table.py)
 #     device       full devices and names that can't be made, by the built program
 #     allocations  each request for memory is refused once (refuse_each_allocation.sh)
 #     soak         SOAK jobs (1000) by two workers, 50 an item (soak.sh)
@@ -119,6 +120,8 @@ edits() {
   item edits now "$top/tools/check_edits.sh"
   item crates now "$top/tools/check_crates.sh"
   item pages now "$top/tools/try_check_pages.sh"
+  item listings now "$top/tools/check_listings.py"
+  item table now "$top/tools/make_table.py"
 }
 
 allocations() {
@@ -134,10 +137,15 @@ soak() {
 }
 
 rows() {
-  local fault below
-  below=$(sum_of "$(sources_of console_rows)" "$(committed crates/console_rows)" "$(committed tools/try_row_faults.sh)")
-  item none "$below" "$top/tools/try_row_faults.sh" none
+  local fault crate below
+  local -A rest
+  for crate in console_rows sound_rows; do
+    rest[$crate]=$(sum_of "$(sources_of $crate)" "$(committed crates/$crate)" "$(committed tools/try_row_faults.sh)")
+  done
+  item none "$(sum_of "${rest[console_rows]}" "${rest[sound_rows]}")" "$top/tools/try_row_faults.sh" none
   for fault in "$top"/tools/row_faults/*.edit; do
+    below=${rest[console_rows]}
+    ! grep -q '^file: crates/free_files/' "$fault" || below=${rest[sound_rows]}
     fault=$(basename "$fault" .edit)
     item "$fault" "$(sum_of "$below" "$(committed "tools/row_faults/$fault.edit")")" "$top/tools/try_row_faults.sh" "$fault"
   done

@@ -3,7 +3,7 @@
 #
 #   tools/measure.sh [OTHER..]
 #
-# The jobs: `scene` (the cartridge of ./scene), `seven` (that of `snes make 7`) and `red` (the one of snes_run's stored
+# The jobs: `scene` (the cartridge of ./scene --measured), `seven` (that of `snes make 7`) and `red` (the one of snes_run's stored
 # run: a backdrop, a loop of two instructions, and a sound processor that has halted). For each it prints, of `serial`,
 # the million instructions a frame (callgrind; the difference of a run of 25 frames and one of 5, over 20; a `-` where
 # there is no valgrind), and the frames a second of processor time of `serial`, `run` and `lockless`, by the clock too for the last two:
@@ -11,7 +11,7 @@
 # figure has the writing of files in it. An OTHER is a program with the same words, which is measured beside.
 #
 # The program has to be built: ./snes demo 7 --frames 0. SNES=PROGRAM measures another build, JOBS="red" only some jobs;
-# SCENE=FOLDER takes the files that ./scene has written there before. FILES=FOLDER leaves the jobs' files there, a folder
+# SCENE=FOLDER takes the files that ./scene --measured has written there before. FILES=FOLDER leaves the jobs' files there, a folder
 # each, for tools/profile.py and tools/unproved/try_hints.py; with RUNS=0 nothing is measured.
 top=$(cd "$(dirname "${BASH_SOURCE[0]}")/.." && pwd) || exit 2
 snes=${SNES:-$top/crates/snes_run/out/snes_run}
@@ -22,7 +22,7 @@ frames=${FRAMES:-600} runs=${RUNS:-5}
 
 # The scene's files, in a folder.
 scene_in() {
-  if [ -n "${SCENE:-}" ]; then cp "$SCENE"/{scene.sfc,boot.bin,table.bin,script.txt} "$1/"; else "$top/scene" "$1" >/dev/null; fi
+  if [ -n "${SCENE:-}" ]; then cp "$SCENE"/{scene.sfc,boot.bin,table.bin,script.txt} "$1/"; else "$top/scene" --measured "$1" >/dev/null; fi
 }
 
 # The files of a job, in $work/JOB: cart.sfc, boot.bin, table.bin, script.txt.

@@ -2,7 +2,7 @@
 # Prints million instructions a frame of programs that build.sh made: callgrind's difference of a run of 25 frames and one
 # of 5, over 20. The jobs are those of tools/measure.sh.
 #
-#   tools/by_rustc/measure.sh PROGRAM..        JOBS="red" only some jobs; SCENE=FOLDER takes the files that ./scene has written there before
+#   tools/by_rustc/measure.sh PROGRAM..        JOBS="red" only some jobs; SCENE=FOLDER takes the files that ./scene --measured has written there before
 here=$(cd "$(dirname "$(readlink -f "${BASH_SOURCE[0]}")")" && pwd) || exit 2
 top=$here/../..
 [ $# -ge 1 ] || { echo 'measure.sh PROGRAM..: million instructions a frame' >&2; exit 2; }
@@ -16,7 +16,7 @@ files_of() {
   case $1 in
     red) cp "$top"/crates/snes_run/data/* "$folder/" && mv "$folder/red.sfc" "$folder/cart.sfc" ;;
     scene)
-      if [ -n "${SCENE:-}" ]; then cp "$SCENE"/{scene.sfc,boot.bin,table.bin,script.txt} "$folder/"; else "$top/scene" "$folder" >/dev/null; fi &&
+      if [ -n "${SCENE:-}" ]; then cp "$SCENE"/{scene.sfc,boot.bin,table.bin,script.txt} "$folder/"; else "$top/scene" --measured "$folder" >/dev/null; fi &&
         mv "$folder/scene.sfc" "$folder/cart.sfc"
       ;;
     seven) "$2" make 7 "$folder" ;;

@@ -1,7 +1,7 @@
 //! An assembler of as much of the 65C816 as the scene needs.
 
 /// The most bytes of a program, and the address of the first.
-const ROOM: usize = 0x400;
+const ROOM: usize = 0x480;
 
 const ORIGIN: u16 = 0x8000;
 
@@ -29,6 +29,7 @@ pub enum Plain {
     Pla = 0x68,
     Sei = 0x78,
     Ply = 0x7a,
+    Txa = 0x8a,
     Txs = 0x9a,
     Tay = 0xa8,
     Phx = 0xda,
@@ -54,6 +55,7 @@ pub enum Step {
     Lda(Operand),
     Ldy(Operand),
     Ldx(Operand),
+    Cmp(Operand),
     Cpx(Operand),
     Inc(Operand),
     Stz(u16),
@@ -109,6 +111,7 @@ impl Code {
             Step::Adc(operand) => self.of_a(0x60, operand),
             Step::Sta(operand) => self.of_a(0x80, operand),
             Step::Lda(operand) => self.of_a(0xa0, operand),
+            Step::Cmp(operand) => self.of_a(0xc0, operand),
             Step::Ldy(operand) => self.of_index(0xa0, operand),
             Step::Ldx(operand) => self.of_index(0xa2, operand),
             Step::Cpx(operand) => self.of_index(0xe0, operand),

@@ -4,6 +4,9 @@ use std::alloc::{AllocError, Global};
 
 pub const SIZE: usize = 0x2_0000;
 
+/// The sound program in bank 0.
+pub const SOUND_PROGRAM: u32 = 0x6000;
+
 /// Tables of 256 bytes in bank 0, which the program reads by Y.
 pub const PATHS: u32 = 0x7000;
 

@@ -11,6 +11,7 @@ use crate::assembler::{Code, Label};
 use crate::image::{COLOURS, NUMBERS, OBJECTS, PATHS, SKY, SUN, VIDEO, WAVES};
 use crate::landscape::WAVE_PAIRS;
 use crate::objects::{BALLS, GLINTS, Table};
+use crate::sound::send_sound;
 
 /// The direct page: numbers of the sums, the frame and the slower scrolls, and two angles with a zero behind each.
 const ROUNDS: u8 = 0x10;
@@ -352,8 +353,8 @@ fn interrupt(code: &mut Code, moves: &[Label]) -> Label {
     label
 }
 
-/// Writes the program, and gives where a reset and an NMI begin.
-pub fn write_program(code: &mut Code) -> (Label, Label) {
+/// Writes the program, with its tune or without, and gives where a reset and an NMI begin.
+pub fn write_program(code: &mut Code, with_tune: bool) -> (Label, Label) {
     let mix = mix(code);
     let bob = Path::of(DOWN, Table::LetterY, 3, 40);
     let letters = move_objects(code, 0, BALLS, None, Some(bob));
@@ -366,6 +367,10 @@ pub fn write_program(code: &mut Code) -> (Label, Label) {
     let nmi = interrupt(code, &[letters, balls, glints, waves]);
     let reset = code.here();
     start(code);
+    // The frames are counted in each NMI by now, so the tune takes none of them.
+    if with_tune {
+        send_sound(code);
+    }
     work(code, mix);
     (reset, nmi)
 }

@@ -13,7 +13,11 @@
 //! half of it: 28 and -4. By the envelope 2,032 of GAIN 7F, divided by 2,048, that is 27 and -4; by the
 //! volume 40, divided by 64, the same; by the main volume 7F, divided by 128, 26 and -4. The right
 //! volumes are 0.
+//!
+//! What follows are rows of the free boot ROM (`upload`).
 #![tactic(auto)]
+
+mod upload;
 
 use audio_side::AudioSide;
 use side_law::Machine;
@@ -145,5 +149,6 @@ fn main(rt: HostRuntime) -> io::Result<()> {
     println!(rt; "block")?;
     let mut block = job(alloc, boot_rom(&BLOCK_PROGRAM), Region::Ntsc, false)?;
     block.table = newest_alone();
-    listen(&rt, alloc, &block)
+    listen(&rt, alloc, &block)?;
+    upload::show(&rt, alloc)
 }

@@ -1,0 +1,351 @@
+//! Rows of the free boot ROM: a console made by hand uploads blocks by the protocol and has a program begin.
+//!
+//! What each row has to print comes from the protocol. Of the writes at port 0 there are one for AA, one for each order
+//! and one for each byte; at port 1 one for BB; at ports 2 and 3 none. At the start address X is 00 and SP is EF. Of the
+//! memory 0000 and 0001 hold that address, 0002 to 00EF zeros, and the rest what was sent, where it was sent: each byte
+//! from 0100 to FFBF is compared. From FFC0 on the boot ROM is still seen. That A and Y are 00 too is this boot ROM's own.
+//!
+//! The order behind a block has the last index and 2 (or what the row says) more, or 01 where that is 00.
+
+use crate::upload::sender::{Block, Fill, Manner, Missing, Sender};
+use audio_side::AudioSide;
+use free_files::free_boot_rom;
+use snes_defs::Region;
+use spc_tables::SpcRegs;
+use std::alloc::{AllocError, Global};
+use std::io;
+
+mod sender;
+
+/// The usual uploader: bytes, and a look or a store each fourth cycle.
+const USUAL: Manner = Manner {
+    by_words: false,
+    pace: 4,
+};
+
+/// What a row sends, and where the program begins that it asks for.
+#[derive(Clone, Copy)]
+struct Upload {
+    blocks: &'static [Block],
+    /// How much more than the last index the next order's byte is.
+    further: u8,
+    start: u16,
+}
+
+static NONE: [Block; 0] = [];
+
+static ONE_BYTE: [Block; 1] = [Block {
+    at: 0x0200,
+    size: 1,
+    fill: Fill::From(0x5a),
+}];
+
+static A_PAGE_LESS_ONE: [Block; 1] = [Block {
+    at: 0x02f0,
+    size: 255,
+    fill: Fill::From(0x11),
+}];
+
+static A_PAGE: [Block; 1] = [Block {
+    at: 0x02f0,
+    size: 256,
+    fill: Fill::From(0x11),
+}];
+
+static A_PAGE_AND_ONE: [Block; 1] = [Block {
+    at: 0x02f0,
+    size: 257,
+    fill: Fill::From(0x11),
+}];
+
+static LONG: [Block; 1] = [Block {
+    at: 0x0123,
+    size: 60_000,
+    fill: Fill::From(0x01),
+}];
+
+static SEVERAL: [Block; 4] = [
+    Block {
+        at: 0x0400,
+        size: 300,
+        fill: Fill::From(0x20),
+    },
+    Block {
+        at: 0x0300,
+        size: 256,
+        fill: Fill::From(0x40),
+    },
+    Block {
+        at: 0xff00,
+        size: 192,
+        fill: Fill::From(0x60),
+    },
+    Block {
+        at: 0x0410,
+        size: 3,
+        fill: Fill::From(0x80),
+    },
+];
+
+/// MOV X,#F0; MOV A,#A5; DEC X; MOV 00+X,A; CMP X,#00; BNE; MOV Y,#00; MOV 0100+Y,A; INC Y; BNE; MOV X,#10; MOV SP,X;
+/// JMP FFC0: it puts A5 at 0000 to 00EF and 0100 to 01FF, sets SP to 10, and gives the boot ROM its turn again.
+const DIRTY: [u8; 25] = [
+    0xcd, 0xf0, 0xe8, 0xa5, 0x1d, 0xd4, 0x00, 0xc8, 0x00, 0xd0, 0xf9, 0x8d, 0x00, 0xd6, 0x00, 0x01,
+    0xfc, 0xd0, 0xfa, 0xcd, 0x10, 0xbd, 0x5f, 0xc0, 0xff,
+];
+
+static DIRTY_PROGRAM: [Block; 1] = [Block {
+    at: 0x0300,
+    size: 25,
+    fill: Fill::Program(DIRTY),
+}];
+
+/// Puts a byte where memory has to have it.
+fn put(bytes: &mut Vec<u8>, at: u16, byte: u8) {
+    if let Some(place) = bytes.get_mut(usize::from(at)) {
+        *place = byte;
+    }
+}
+
+/// The bytes that memory has to have: those of blocks, and zeros.
+fn wanted(alloc: Global, blocks: &[Block]) -> Result<Vec<u8>, AllocError> {
+    let mut bytes = vec![in alloc; 0u8; 65_536]?;
+    for block in blocks {
+        for index in 0..block.size {
+            put(&mut bytes, block.at.wrapping_add(index), block.byte(index));
+        }
+    }
+    Ok(bytes)
+}
+
+/// The registers as an instruction begins at an address, which is to be soon.
+fn arrive(side: &mut AudioSide, sender: &mut Sender, at: u16) -> Option<SpcRegs> {
+    for _ in 0..100 {
+        if let Some(regs) = side.begins()
+            && regs.pc == at
+        {
+            return Some(regs);
+        }
+        sender.pass_one(side);
+    }
+    None
+}
+
+/// How many bytes from one address up to another are not as wanted.
+fn differing(side: &AudioSide, from: u16, to: u16, wanted: &[u8]) -> u32 {
+    let mut count = 0u32;
+    for at in from..to {
+        if wanted.get(usize::from(at)).copied() != Some(side.byte_at(at, 0)) {
+            count = count.saturating_add(1);
+        }
+    }
+    count
+}
+
+/// Prints the memory: what stands at 0000 and 0001, and how many bytes are not as they have to be.
+fn show_memory(rt: &impl Print, side: &AudioSide, wanted: &[u8]) -> io::Result<()> {
+    let zeros = [0u8; 240];
+    println!(rt;
+        "  0000: {:02X} {:02X}; 0002 to 00EF: {} not zero; 0100 to FFBF: {} not as sent",
+        side.byte_at(0, 0),
+        side.byte_at(1, 0),
+        differing(side, 0x0002, 0x00f0, &zeros),
+        differing(side, 0x0100, 0xffc0, wanted),
+    )?;
+    let mut seen = 0u32;
+    for (i, byte) in free_boot_rom().into_iter().enumerate() {
+        if side.byte_at(0xffc0u16.saturating_add(i as u16), 0) == byte {
+            seen = seen.saturating_add(1);
+        }
+    }
+    println!(rt; "  boot ROM: {seen} of 64 bytes are seen")
+}
+
+/// Prints where the program begins, and with what.
+fn show_start(
+    rt: &impl Print,
+    side: &mut AudioSide,
+    sender: &mut Sender,
+    at: u16,
+    wanted: &[u8],
+) -> io::Result<()> {
+    let Some(regs) = arrive(side, sender, at) else {
+        return println!(rt; "  nothing begins at {at:04X}");
+    };
+    println!(rt;
+        "  begins at {:04X} with A {:02X}, X {:02X}, Y {:02X}, SP {:02X}",
+        regs.pc, regs.a, regs.x, regs.y, regs.sp,
+    )?;
+    show_memory(rt, side, wanted)?;
+    let ([zero, one, two, three], counts) = (sender.shown(), sender.counts());
+    println!(rt;
+        "  ports {zero:02X} {one:02X} {two:02X} {three:02X}, written {} {} {} {} times",
+        counts[0], counts[1], counts[2], counts[3],
+    )
+}
+
+/// Sends what a row sends: the blocks, and the order to jump.
+fn send(side: &mut AudioSide, sender: &mut Sender, upload: &Upload) -> Result<(), Missing> {
+    sender.wait_for_offer(side)?;
+    let mut byte = 0xcc;
+    for block in upload.blocks {
+        byte = sender.block(side, block, byte, upload.further)?;
+    }
+    sender.jump(side, upload.start, byte)
+}
+
+/// Prints what the protocol lacks.
+fn show_missing(rt: &impl Print, missing: &Missing) -> io::Result<()> {
+    println!(rt;
+        "  port {} has {:02X} and never {:02X}",
+        missing.port, missing.stands, missing.byte,
+    )
+}
+
+/// The sound side at its start, with the free boot ROM.
+fn start(alloc: Global) -> io::Result<Option<AudioSide>> {
+    let job = crate::job(alloc, free_boot_rom(), Region::Ntsc, false)?;
+    Ok(AudioSide::new(alloc, &job).ok())
+}
+
+/// A row: an upload from reset on.
+fn row(
+    rt: &impl Print,
+    alloc: Global,
+    title: &str,
+    upload: &Upload,
+    manner: Manner,
+) -> io::Result<()> {
+    println!(rt; "{title}")?;
+    let Some(mut side) = start(alloc)? else {
+        return println!(rt; "no memory");
+    };
+    let mut sender = Sender::new(manner);
+    let wanted = wanted(alloc, upload.blocks)?;
+    match send(&mut side, &mut sender, upload) {
+        Err(missing) => show_missing(rt, &missing),
+        Ok(()) => show_start(rt, &mut side, &mut sender, upload.start, wanted.as_slice()),
+    }
+}
+
+/// A row in which a program leaves the two pages full and has the boot ROM begin again.
+fn begin_again(rt: &impl Print, alloc: Global) -> io::Result<()> {
+    println!(rt; "begun again by a program that left its pages full")?;
+    let Some(mut side) = start(alloc)? else {
+        return println!(rt; "no memory");
+    };
+    let mut sender = Sender::new(USUAL);
+    let first = Upload {
+        blocks: &DIRTY_PROGRAM,
+        further: 2,
+        start: 0x0300,
+    };
+    let again = Upload {
+        blocks: &ONE_BYTE,
+        further: 2,
+        start: 0x0200,
+    };
+    if let Err(missing) = send(&mut side, &mut sender, &first) {
+        return show_missing(rt, &missing);
+    }
+    if let Err(missing) = send(&mut side, &mut sender, &again) {
+        return show_missing(rt, &missing);
+    }
+    let mut wanted = wanted(alloc, &DIRTY_PROGRAM)?;
+    for at in 0x0100..0x0200u16 {
+        put(&mut wanted, at, 0xa5);
+    }
+    put(&mut wanted, 0x0200, 0x5a);
+    show_start(rt, &mut side, &mut sender, 0x0200, wanted.as_slice())
+}
+
+/// Nothing but the offer, for a long time.
+fn offer_alone(rt: &impl Print, alloc: Global) -> io::Result<()> {
+    println!(rt; "no order for 20,000 cycles")?;
+    let Some(mut side) = start(alloc)? else {
+        return println!(rt; "no memory");
+    };
+    let mut sender = Sender::new(USUAL);
+    sender.pass(&mut side, 20_000);
+    let ([zero, one, two, three], counts) = (sender.shown(), sender.counts());
+    println!(rt;
+        "  ports {zero:02X} {one:02X} {two:02X} {three:02X}, written {} {} {} {} times",
+        counts[0], counts[1], counts[2], counts[3],
+    )
+}
+
+/// All rows.
+pub fn show(rt: &impl Print, alloc: Global) -> io::Result<()> {
+    offer_alone(rt, alloc)?;
+    let of = |blocks, further, start| Upload {
+        blocks,
+        further,
+        start,
+    };
+    row(rt, alloc, "a jump alone", &of(&NONE, 2, 0x0400), USUAL)?;
+    row(
+        rt,
+        alloc,
+        "a block of 1 byte",
+        &of(&ONE_BYTE, 2, 0x0200),
+        USUAL,
+    )?;
+    row(
+        rt,
+        alloc,
+        "a block of 255 bytes, over a page's end",
+        &of(&A_PAGE_LESS_ONE, 2, 0x02f0),
+        USUAL,
+    )?;
+    row(
+        rt,
+        alloc,
+        "a block of 256 bytes",
+        &of(&A_PAGE, 2, 0x02f0),
+        USUAL,
+    )?;
+    row(
+        rt,
+        alloc,
+        "a block of 257 bytes",
+        &of(&A_PAGE_AND_ONE, 2, 0x02f0),
+        USUAL,
+    )?;
+    row(
+        rt,
+        alloc,
+        "a block of 60,000 bytes",
+        &of(&LONG, 2, 0x1234),
+        USUAL,
+    )?;
+    row(
+        rt,
+        alloc,
+        "several blocks, the last over the first",
+        &of(&SEVERAL, 4, 0x0301),
+        USUAL,
+    )?;
+    let words = Manner {
+        by_words: true,
+        pace: 3,
+    };
+    row(
+        rt,
+        alloc,
+        "the same by words",
+        &of(&SEVERAL, 3, 0x0301),
+        words,
+    )?;
+    let slow = Manner {
+        by_words: false,
+        pace: 90,
+    };
+    row(
+        rt,
+        alloc,
+        "the same slowly",
+        &of(&SEVERAL, 0x7f, 0x0301),
+        slow,
+    )?;
+    begin_again(rt, alloc)
+}
