@@ -1,11 +1,14 @@
 //! Makes a cartridge to look at: an evening over a lake, in mode 1 with three backgrounds, 128 moving objects, a
 //! window, colour arithmetic, three channels of HDMA, and a program that works as a game does.
 //!
-//! `scene_cart FOLDER` writes the cartridge `scene.sfc` into FOLDER, which it makes, and what else a run of it needs: the
+//! `scene_cart FOLDER` writes into FOLDER, which it makes, the cartridge `scene.sfc` and what else a run of it needs: the
 //! free boot ROM `boot.bin`, the interpolation table `table.bin` and the empty `script.txt`. The cartridge sends a tune
-//! to the sound side. `scene_cart --measured FOLDER` writes the same without the tune, and the demo's boot ROM and table:
-//! the files by which speed has always been measured. Without a word it writes nothing. It always prints the
-//! cartridge's length.
+//! to the sound side. `scene_cart --measured FOLDER` writes the scene without its tune, with
+//! the demo's boot ROM and table: the files by which speed has always been measured. Without a word it writes nothing.
+//! It prints the cartridge's length, once all is written.
+//!
+//! The status is 0 only where all was written and printed: 1 for words at fault, 4 where the folder, a file or the line
+//! cannot be written, 5 for no memory. Standard error says which, and what the system said.
 #![tactic(auto)]
 
 mod assembler;
@@ -24,7 +27,8 @@ use image::{Image, NUMBERS};
 use snes_defs::Table;
 use standard_streams::hold_standard_streams;
 use std::alloc::{AllocError, Global};
-use std::rt::Files;
+use std::process::ExitCode;
+use std::rt::{Env, Files};
 use std::{env, fs, io};
 
 /// What a run of the scene needs, whole.
@@ -84,41 +88,143 @@ fn table_bytes(alloc: Global, table: &Table) -> Result<Vec<u8>, AllocError> {
     Ok(bytes)
 }
 
-/// Writes the files into a folder, which is made.
-fn write<R: Files + AllocGlobal>(rt: &R, folder: &str, files: &Scene) -> io::Result<()> {
-    let alloc = rt.alloc();
-    fs::create_dir_all(rt, folder)?;
-    fs::write(
-        rt,
-        format!(in alloc; "{folder}/scene.sfc")?,
-        files.cartridge.bytes(),
-    )?;
-    fs::write(rt, format!(in alloc; "{folder}/boot.bin")?, files.boot)?;
-    fs::write(
-        rt,
-        format!(in alloc; "{folder}/table.bin")?,
-        table_bytes(alloc, &files.table)?,
-    )?;
-    fs::write(rt, format!(in alloc; "{folder}/script.txt")?, "")
+/// Why it does not end well: the exit status, which is as those of `snes`.
+#[derive(Clone, Copy)]
+enum End {
+    Words,
+    Unwritten,
+    NoMemory,
 }
 
-fn main(rt: HostRuntime) -> io::Result<()> {
-    let _streams = hold_standard_streams(&rt);
-    let alloc = rt.alloc();
-    let mut words = env::args(&rt)?.skip(1);
-    let mut folder = words.next();
-    let is_measured = folder
-        .as_ref()
-        .is_some_and(|word| word.as_str() == "--measured");
-    if is_measured {
-        folder = words.next();
+impl End {
+    fn status(self) -> u8 {
+        match self {
+            End::Words => 1,
+            End::Unwritten => 4,
+            End::NoMemory => 5,
+        }
     }
-    let Some(files) = files(alloc, is_measured)? else {
-        return println!(rt; "the program doesn't fit");
+}
+
+/// Says what cannot be written, and what the system said.
+fn unwritten(rt: &impl Eprint, name: &str, error: io::Error) -> End {
+    if error.kind() == io::ErrorKind::OutOfMemory {
+        return End::NoMemory;
+    }
+    let _ = eprintln!(rt; "scene: cannot write {name}: {error}");
+    End::Unwritten
+}
+
+/// Writes a file of a folder.
+fn write_file<R: Files + Eprint + AllocGlobal>(
+    rt: &R,
+    folder: &str,
+    name: &str,
+    bytes: &[u8],
+) -> Result<(), End> {
+    let Ok(path) = format!(in rt.alloc(); "{folder}/{name}") else {
+        return Err(End::NoMemory);
     };
-    println!(rt; "scene.sfc: {} bytes", files.cartridge.bytes().len())?;
-    if let Some(folder) = folder {
-        write(&rt, folder.as_str(), &files)?;
+    match fs::write(rt, path.as_str(), bytes) {
+        Ok(()) => Ok(()),
+        Err(error) => Err(unwritten(rt, path.as_str(), error)),
     }
-    Ok(())
+}
+
+/// Makes a folder, and writes the files into it.
+fn write_all<R: Files + Eprint + AllocGlobal>(
+    rt: &R,
+    folder: &str,
+    files: &Scene,
+) -> Result<(), End> {
+    if let Err(error) = fs::create_dir_all(rt, folder) {
+        return Err(unwritten(rt, folder, error));
+    }
+    let Ok(table) = table_bytes(rt.alloc(), &files.table) else {
+        return Err(End::NoMemory);
+    };
+    write_file(rt, folder, "scene.sfc", files.cartridge.bytes())?;
+    write_file(rt, folder, "boot.bin", files.boot.as_slice())?;
+    write_file(rt, folder, "table.bin", table.as_slice())?;
+    write_file(rt, folder, "script.txt", b"")
+}
+
+/// The words of the command line, without the program's own name.
+fn words_of<R: Env + AllocGlobal>(rt: &R) -> Result<Vec<String>, End> {
+    let Ok(args) = env::args(rt) else {
+        return Err(End::Words);
+    };
+    match args.skip(1).collect::<Vec<String>>(rt.alloc()) {
+        Ok(words) => Ok(words),
+        Err(_) => Err(End::NoMemory),
+    }
+}
+
+/// What the words ask for: the files of the scene or those that speed is measured by, and the folder, if one is named.
+#[derive(Clone, Copy)]
+struct Wanted<'a> {
+    is_measured: bool,
+    folder: Option<&'a str>,
+}
+
+/// What the words ask for, or nothing where they are at fault.
+fn wanted_of(words: &[String]) -> Option<Wanted<'_>> {
+    let (is_measured, rest) = match words.split_first() {
+        Some((first, rest)) if first.as_str() == "--measured" => (true, rest),
+        _ => (false, words),
+    };
+    match rest.split_first() {
+        None => Some(Wanted {
+            is_measured,
+            folder: None,
+        }),
+        Some((folder, more)) if more.is_empty() => Some(Wanted {
+            is_measured,
+            folder: Some(folder.as_str()),
+        }),
+        Some(_) => None,
+    }
+}
+
+/// Prints the length of the cartridge.
+fn told<R: Print + Eprint>(rt: &R, files: &Scene) -> Result<(), End> {
+    match println!(rt; "scene.sfc: {} bytes", files.cartridge.bytes().len()) {
+        Ok(()) => Ok(()),
+        Err(error) => Err(unwritten(rt, "standard output", error)),
+    }
+}
+
+/// Does what the words ask for.
+fn obey<R: Files + Env + Print + Eprint + AllocGlobal>(rt: &R) -> Result<(), End> {
+    let words = words_of(rt)?;
+    let Some(wanted) = wanted_of(words.as_slice()) else {
+        return Err(End::Words);
+    };
+    let files = match files(rt.alloc(), wanted.is_measured) {
+        Ok(Some(files)) => files,
+        // The program is the same at each run, and fits.
+        Ok(None) => return Err(End::Unwritten),
+        Err(_) => return Err(End::NoMemory),
+    };
+    if let Some(folder) = wanted.folder {
+        write_all(rt, folder, &files)?;
+    }
+    told(rt, &files)
+}
+
+fn main(rt: HostRuntime) -> ExitCode {
+    let _streams = hold_standard_streams(&rt);
+    match obey(&rt) {
+        Ok(()) => ExitCode::from(0),
+        Err(end) => {
+            let _ = match end {
+                End::Words => eprintln!(rt;
+                    "scene [--measured] FOLDER: writes scene.sfc, boot.bin, table.bin and script.txt into it"
+                ),
+                End::NoMemory => eprintln!(rt; "scene: no memory"),
+                End::Unwritten => Ok(()),
+            };
+            ExitCode::from(end.status())
+        }
+    }
 }
