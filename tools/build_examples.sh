@@ -12,7 +12,7 @@ work=$(mktemp -d) || exit 2
 trap 'rm -rf "$work"' EXIT
 cp -r "$top/examples" "$work" || exit 2
 status=0
-for name in hello; do
+for name in hello game; do
   folder=$work/examples/$name
   make -s -C "$folder" clean && make -s -C "$folder" || { echo "build_examples: $name could not be built" >&2; exit 2; }
   sum=$(sha256sum "$folder/$name.sfc" | cut -d ' ' -f 1)

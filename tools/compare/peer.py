@@ -8,15 +8,22 @@ CORE is a shared library of Debian's packages, as
 a count and two pads). VIDEO gets frames of 239 rows of 512 dots of 15 bits, where rows that the core doesn't show are
 zeros; AUDIO pairs of 16 bits at the core's own rate, which is printed. With --later the script begins N frames later.
 
+The cartridge has to read the pads once in each frame, from its first time on, since the core's frames end close to
+the auto-read, some before it and some behind it: so reads are counted, and not frames.
+
 The core has a boot ROM and a table of its own: no core of these packages lets a front end choose them. What a front end
-needs of libretro's interface is declared here.
+needs of libretro's interface is declared here. Needs numpy.
 """
 import argparse
 import array
 import ctypes
 import sys
 
+import numpy
+
 WIDTH, HEIGHT = 512, 239
+# Where red, green and blue begin in a dot, without their low bits: of the formats 0RGB1555, XRGB8888 and RGB565.
+SHIFTS = [(10, 5, 0), (19, 11, 3), (11, 6, 0)]
 GET_CAN_DUPE, GET_SYSTEM_DIRECTORY, SET_PIXEL_FORMAT, GET_SAVE_DIRECTORY = 3, 9, 10, 31
 
 
@@ -56,8 +63,8 @@ class Peer:
 
     def __init__(self, library, cart, pads):
         self.core = ctypes.CDLL(library)
-        self.pads, self.frame, self.format = pads, 0, 0
-        self.picture, self.sound = array.array("H", bytes(2 * WIDTH * HEIGHT)), array.array("h")
+        self.pads, self.frame, self.read, self.format = pads, 0, None, 0
+        self.picture, self.sound = numpy.zeros((HEIGHT, WIDTH), dtype="<u2"), array.array("h")
         # The core keeps these, so they have to live as long as it does.
         self.kept = [ENVIRONMENT(self.environment), PICTURE(self.show), SAMPLE(self.hear), BATCH(self.hear_many),
                      POLL(lambda: None), STATE(self.button)]
@@ -92,19 +99,15 @@ class Peer:
         """Takes a picture to five bits a channel, red lowest, and a row to 512 dots."""
         if not data:
             return
-        size = 4 if self.format == 1 else 2
-        picture = array.array("H")
-        for y in range(min(height, HEIGHT)):
-            row = array.array("I" if size == 4 else "H", ctypes.string_at(data + y * pitch, width * size))
-            if self.format == 1:
-                dots = [c >> 19 & 31 | (c >> 11 & 31) << 5 | (c >> 3 & 31) << 10 for c in row]
-            elif self.format == 2:
-                dots = [c >> 11 | (c >> 6 & 31) << 5 | (c & 31) << 10 for c in row]
-            else:
-                dots = [c >> 10 & 31 | (c >> 5 & 31) << 5 | (c & 31) << 10 for c in row]
-            picture.extend(dots if width == WIDTH else [dot for dot in dots for _ in (0, 1)])
-        picture.frombytes(bytes(2 * (WIDTH * HEIGHT - len(picture))))
-        self.picture = picture
+        kind = numpy.uint32 if self.format == 1 else numpy.uint16
+        bytes_ = ctypes.string_at(data, pitch * height)
+        dots = numpy.frombuffer(bytes_, dtype=kind).reshape(height, -1)[:HEIGHT, :width]
+        red, green, blue = SHIFTS[self.format]
+        colours = (dots >> red & 31) | (dots >> green & 31) << 5 | (dots >> blue & 31) << 10
+        if width * 2 == WIDTH:
+            colours = numpy.repeat(colours, 2, axis=1)
+        self.picture = numpy.zeros((HEIGHT, WIDTH), dtype="<u2")
+        self.picture[:len(colours)] = colours
 
     def hear(self, left, right):
         self.sound.extend((left, right))
@@ -114,9 +117,12 @@ class Peer:
         return count
 
     def button(self, port, device, _index, number):
-        if device != 1 or port > 1 or number > 11 or self.frame >= len(self.pads):
+        """A button. The first one that is asked of the first pad begins an auto-read."""
+        if port == 0 and number == 0:
+            self.read = self.frame if self.read is None else self.read + 1
+        if device != 1 or port > 1 or number > 11 or self.read is None or self.read >= len(self.pads):
             return 0
-        return self.pads[self.frame][port] >> (15 - number) & 1
+        return self.pads[self.read][port] >> (15 - number) & 1
 
     def run(self, frames, video, audio):
         for self.frame in range(frames):
