@@ -26,4 +26,13 @@ for name in hello game; do
     status=1
   fi
 done
+images=("$work/examples/game/game.sfc" "$work/examples/hello/hello.sfc" "$top/crates")
+if [ "${1-}" = --write ]; then
+  "$top/tools/write_game.py" "${images[@]}" || exit 2
+fi
+if "$top/tools/write_game.py" "${images[@]}" --compare; then
+  echo "the crates free_game and game_rows have these bytes"
+else
+  status=1
+fi
 exit "$status"
