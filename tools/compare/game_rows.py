@@ -1,11 +1,12 @@
 #!/usr/bin/env python3
 """Follows the rows of the crate game_rows in another emulator, a libretro core, and compares the pictures.
 
-  game_rows.py CORE CRATE [--table FILE --boot FILE --snes PROGRAM]
+  game_rows.py CORE CRATE [--table FILE --boot FILE --snes PROGRAM [--write]]
 
 CRATE is crates/game_rows, whose data/rows.txt and data/hello.txt are followed and whose stdout is compared, but for the
 lines of the sound. The game's image is examples/game/game.sfc, built before (tools/build_examples.sh). With --snes the
-sound's lines come from that program, which has ./snes' command line. The status is 1 if a line differs.
+sound's lines come from that program, which has ./snes' command line; and --write writes stdout. The status is 1 if a line
+differs.
 """
 import argparse
 import os
@@ -111,9 +112,13 @@ def main():
     parser.add_argument("crate")
     for name in ("table", "boot", "snes"):
         parser.add_argument("--" + name)
+    parser.add_argument("--write", action="store_true")
     words = parser.parse_args()
     with tempfile.TemporaryDirectory() as folder:
         lines = follow(words, folder)
+    if words.write and words.snes:
+        with open(os.path.join(words.crate, "stdout"), "w", encoding="ascii") as file:
+            file.write("".join(line + "\n" for line in lines))
     with open(os.path.join(words.crate, "stdout"), encoding="ascii") as file:
         stands = file.read().splitlines()
     status = 0

@@ -10,22 +10,32 @@ const PICTURE: usize = 244_736;
 /// The hashes of what a run shows and lets hear. What it took is nobody's question, so it may have taken anything.
 #[derive(Drop)]
 pub struct Film {
-    /// The hash of each frame. Those that have not come yet are 0.
+    /// Which frames are hashed.
+    wanted: Vec<bool>,
+    /// Their hashes. Those that have not come yet are 0.
     pictures: Vec<u64>,
     next: usize,
     size: usize,
+    is_wanted: bool,
     hash: u64,
     sound: u64,
     sound_bytes: u64,
 }
 
 impl Film {
-    /// An empty film of so many frames.
-    pub fn new(alloc: Global, frames: usize) -> Result<Film, AllocError> {
+    /// An empty film. Of its frames those are hashed that are wanted.
+    pub fn new(alloc: Global, wanted: Vec<bool>) -> Result<Film, AllocError> {
+        let pictures = vec![in alloc; 0u64; wanted.len()]?;
+        let is_wanted = match wanted.first() {
+            Some(first) => *first,
+            None => false,
+        };
         Ok(Film {
-            pictures: vec![in alloc; 0u64; frames]?,
+            wanted,
+            pictures,
             next: 0,
             size: 0,
+            is_wanted,
             hash: no_hash(),
             sound: no_hash(),
             sound_bytes: 0,
@@ -47,7 +57,7 @@ impl Film {
 
     /// The first frame that differs from another film's, or that only one of the two has.
     pub fn first_difference(&self, other: &Film) -> Option<usize> {
-        for frame in 0..self.pictures.len().max(other.pictures.len()) {
+        for frame in 0..self.wanted.len().max(other.wanted.len()) {
             if self.picture(frame) != other.picture(frame) {
                 return Some(frame);
             }
@@ -57,16 +67,27 @@ impl Film {
 
     /// One byte more of the picture.
     fn show(&mut self, byte: u8) {
-        self.hash = hashed(self.hash, byte);
+        if self.is_wanted {
+            self.hash = hashed(self.hash, byte);
+        }
         self.size = self.size.saturating_add(1);
         if self.size == PICTURE {
-            if let Some(picture) = self.pictures.get_mut(self.next) {
-                *picture = self.hash;
-                self.next = self.next.saturating_add(1);
-            }
-            self.size = 0;
-            self.hash = no_hash();
+            self.end_picture();
         }
+    }
+
+    /// The last byte of a frame came.
+    fn end_picture(&mut self) {
+        if let Some(picture) = self.pictures.get_mut(self.next) {
+            *picture = self.hash;
+            self.next = self.next.saturating_add(1);
+        }
+        self.is_wanted = match self.wanted.get(self.next) {
+            Some(next) => *next,
+            None => false,
+        };
+        self.size = 0;
+        self.hash = no_hash();
     }
 
     /// One byte more of the sound.

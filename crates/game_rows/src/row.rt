@@ -51,12 +51,17 @@ fn job_of(alloc: Global, row: &Row, frames: u32) -> Option<Job> {
     })
 }
 
-/// What a job shows and lets hear.
-fn film_of<R: AllocGlobal + Threads + Clock>(rt: &R, job: &Job, by: By) -> Option<Film> {
+/// What a job shows and lets hear, with these of its frames hashed.
+fn film_of<R: AllocGlobal + Threads + Clock>(
+    rt: &R,
+    job: &Job,
+    by: By,
+    wanted: Vec<bool>,
+) -> Option<Film> {
     if job.frames > 36_000 {
         return None;
     }
-    let mut film = Film::new(rt.alloc(), job.frames as usize).ok()?;
+    let mut film = Film::new(rt.alloc(), wanted).ok()?;
     let player = Console::ready(rt.alloc(), job).ok()?;
     match by {
         By::Serial => player.play_serial(&mut film).ok()?,
@@ -64,6 +69,20 @@ fn film_of<R: AllocGlobal + Threads + Clock>(rt: &R, job: &Job, by: By) -> Optio
         By::Lockless => player.play_words(&Host::new(rt), &mut film).ok()?,
     }
     Some(film)
+}
+
+/// Which of so many frames the words name; all of them, where `all` is set.
+fn wanted(
+    alloc: Global,
+    frames: u32,
+    all: bool,
+    words: SplitWhitespace<'_>,
+) -> Option<Vec<bool>> {
+    let mut wanted = vec![in alloc; all; frames as usize].ok()?;
+    for word in words {
+        *wanted.get_mut(word.parse::<usize>().ok()?)? = true;
+    }
+    Some(wanted)
 }
 
 /// How the word says that a job is played.
@@ -91,12 +110,6 @@ impl Row {
         }
     }
 
-    /// Plays so many frames.
-    fn film<R: AllocGlobal + Threads + Clock>(&self, rt: &R, frames: &str, by: By) -> Option<Film> {
-        let job = job_of(rt.alloc(), self, frames.parse().ok()?)?;
-        film_of(rt, &job, by)
-    }
-
     /// A line that says what is played.
     fn prepare(&mut self, line: &str) -> Option<()> {
         if let Some(text) = line.strip_prefix("script ") {
@@ -117,21 +130,23 @@ impl Row {
         }
     }
 
-    /// A line that plays: its film, and what is left of the line.
+    /// A line that plays: its film, and the frames that it names.
     fn played<'a, R: AllocGlobal + Threads + Clock>(
         &self,
         rt: &R,
         line: &'a str,
     ) -> Option<(Film, SplitWhitespace<'a>)> {
         let mut words = line.split_whitespace();
-        let by = match words.next()?.as_bytes() {
-            b"show" => by_of(words.next()?)?,
-            b"keep" => By::Serial,
-            b"compare" => By::Serial,
+        let (by, all) = match words.next()?.as_bytes() {
+            b"show" => (by_of(words.next()?)?, false),
+            b"keep" => (By::Serial, true),
+            b"compare" => (By::Serial, true),
             _ => return None,
         };
-        let film = self.film(rt, words.next()?, by)?;
-        Some((film, words))
+        let frames = words.next()?.parse::<u32>().ok()?;
+        let wanted = wanted(rt.alloc(), frames, all, words.clone())?;
+        let job = job_of(rt.alloc(), self, frames)?;
+        Some((film_of(rt, &job, by, wanted)?, words))
     }
 
     /// Prints what a line that plays asks for.
