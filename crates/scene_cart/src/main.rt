@@ -1,11 +1,11 @@
 //! Makes a cartridge to look at: an evening over a lake, in mode 1 with three backgrounds, 128 moving objects, a
 //! window, colour arithmetic, three channels of HDMA, and a program that works as a game does.
 //!
-//! `scene_cart FOLDER` writes into FOLDER, which it makes, the cartridge `scene.sfc` and what else a run of it needs: the
-//! free boot ROM `boot.bin`, the interpolation table `table.bin` and the empty `script.txt`. The cartridge sends a tune
-//! to the sound side. `scene_cart --measured FOLDER` writes the scene without its tune, with
+//! `scene_cart FOLDER` writes into FOLDER, which it makes, the cartridge `scene.sfc`, the game `game.sfc`, and what else a
+//! run of them needs: the free boot ROM `boot.bin`, the interpolation table `table.bin` and the empty `script.txt`. Both
+//! cartridges send a sound program to the sound side. `scene_cart --measured FOLDER` writes the scene without its tune, with
 //! the demo's boot ROM and table: the files by which speed has always been measured. Without a word it writes nothing.
-//! It prints the cartridge's length, once all is written.
+//! It prints the length of each cartridge, once all is written.
 //!
 //! The status is 0 only where all was written and printed: 1 for words at fault, 4 where the folder, a file or the line
 //! cannot be written, 5 for no memory. Standard error says which, and what the system said.
@@ -23,6 +23,7 @@ mod sound;
 use assembler::Code;
 use demo_files::{demo_boot_rom, demo_table};
 use free_files::{free_boot_rom, interpolation_table};
+use free_game::game_cartridge;
 use image::{Image, NUMBERS};
 use snes_defs::Table;
 use standard_streams::hold_standard_streams;
@@ -31,10 +32,11 @@ use std::process::ExitCode;
 use std::rt::{Env, Files};
 use std::{env, fs, io};
 
-/// What a run of the scene needs, whole.
+/// What a run of the scene needs, whole, and the game, which is not among the files that speed is measured by.
 #[derive(Drop)]
 struct Scene {
     cartridge: Image,
+    game: Option<Vec<u8>>,
     boot: [u8; 64],
     table: Table,
 }
@@ -65,12 +67,14 @@ fn files(alloc: Global, is_measured: bool) -> Result<Option<Scene>, AllocError> 
     Ok(Some(if is_measured {
         Scene {
             cartridge,
+            game: None,
             boot: demo_boot_rom(),
             table: demo_table(),
         }
     } else {
         Scene {
             cartridge,
+            game: Some(game_cartridge(alloc)?),
             boot: free_boot_rom(),
             table: interpolation_table(),
         }
@@ -144,6 +148,9 @@ fn write_all<R: Files + Eprint + AllocGlobal>(
         return Err(End::NoMemory);
     };
     write_file(rt, folder, "scene.sfc", files.cartridge.bytes())?;
+    if let Some(game) = &files.game {
+        write_file(rt, folder, "game.sfc", game.as_slice())?;
+    }
     write_file(rt, folder, "boot.bin", files.boot.as_slice())?;
     write_file(rt, folder, "table.bin", table.as_slice())?;
     write_file(rt, folder, "script.txt", b"")
@@ -186,9 +193,9 @@ fn wanted_of(words: &[String]) -> Option<Wanted<'_>> {
     }
 }
 
-/// Prints the length of the cartridge.
-fn told<R: Print + Eprint>(rt: &R, files: &Scene) -> Result<(), End> {
-    match println!(rt; "scene.sfc: {} bytes", files.cartridge.bytes().len()) {
+/// Prints the length of a cartridge.
+fn told<R: Print + Eprint>(rt: &R, name: &str, bytes: &[u8]) -> Result<(), End> {
+    match println!(rt; "{name}: {} bytes", bytes.len()) {
         Ok(()) => Ok(()),
         Err(error) => Err(unwritten(rt, "standard output", error)),
     }
@@ -209,7 +216,11 @@ fn obey<R: Files + Env + Print + Eprint + AllocGlobal>(rt: &R) -> Result<(), End
     if let Some(folder) = wanted.folder {
         write_all(rt, folder, &files)?;
     }
-    told(rt, &files)
+    told(rt, "scene.sfc", files.cartridge.bytes())?;
+    match &files.game {
+        Some(game) => told(rt, "game.sfc", game.as_slice()),
+        None => Ok(()),
+    }
 }
 
 fn main(rt: HostRuntime) -> ExitCode {
@@ -219,7 +230,7 @@ fn main(rt: HostRuntime) -> ExitCode {
         Err(end) => {
             let _ = match end {
                 End::Words => eprintln!(rt;
-                    "scene [--measured] FOLDER: writes scene.sfc, boot.bin, table.bin and script.txt into it"
+                    "scene FOLDER: writes scene.sfc, game.sfc, boot.bin, table.bin and script.txt into it"
                 ),
                 End::NoMemory => eprintln!(rt; "scene: no memory"),
                 End::Unwritten => Ok(()),

@@ -1,0 +1,209 @@
+//! What a line of a file of rows does.
+
+use crate::film::Film;
+use cart_map::accept;
+use case_text::{hexadecimal, put};
+use free_files::{free_boot_rom, interpolation_table};
+use free_game::{SIZE, game_cartridge};
+use input_files::read_script;
+use job_player::Console;
+use run_drive::{Host, Player};
+use snes_defs::Job;
+use std::alloc::Global;
+use std::io;
+use std::str::SplitWhitespace;
+use std::thread::Threads;
+use std::time::Clock;
+
+/// How a job is played.
+#[derive(Clone, Copy, Debug, PartialEq, Eq)]
+enum By {
+    Serial,
+    Run,
+    Lockless,
+}
+
+/// A row in the making.
+#[derive(Drop)]
+pub struct Row {
+    hello: Vec<u8>,
+    is_game: bool,
+    script: Vec<u8>,
+    kept: Option<Film>,
+}
+
+/// The job of so many frames: the game, or the other cartridge, with the free boot ROM and table.
+fn job_of(alloc: Global, row: &Row, frames: u32) -> Option<Job> {
+    let image = if row.is_game {
+        game_cartridge(alloc).ok()?
+    } else {
+        row.hello.as_slice().to_vec(alloc).ok()?
+    };
+    let script = read_script(alloc, row.script.as_slice()).ok()?;
+    let region = script.region();
+    Some(Job {
+        cart: accept(image).ok()?,
+        boot: free_boot_rom(),
+        table: interpolation_table(),
+        script,
+        frames,
+        region,
+    })
+}
+
+/// What a job shows and lets hear, with these of its frames hashed.
+fn film_of<R: AllocGlobal + Threads + Clock>(
+    rt: &R,
+    job: &Job,
+    by: By,
+    wanted: Vec<bool>,
+) -> Option<Film> {
+    if job.frames > 36_000 {
+        return None;
+    }
+    let mut film = Film::new(rt.alloc(), wanted).ok()?;
+    let player = Console::ready(rt.alloc(), job).ok()?;
+    match by {
+        By::Serial => player.play_serial(&mut film).ok()?,
+        By::Run => player.play_turns(&Host::new(rt), &mut film).ok()?,
+        By::Lockless => player.play_words(&Host::new(rt), &mut film).ok()?,
+    }
+    Some(film)
+}
+
+/// Which of so many frames the words name; all of them, where `all` is set.
+fn wanted(
+    alloc: Global,
+    frames: u32,
+    all: bool,
+    words: SplitWhitespace<'_>,
+) -> Option<Vec<bool>> {
+    let mut wanted = vec![in alloc; all; frames as usize].ok()?;
+    for word in words {
+        *wanted.get_mut(word.parse::<usize>().ok()?)? = true;
+    }
+    Some(wanted)
+}
+
+/// How the word says that a job is played.
+fn by_of(word: &str) -> Option<By> {
+    match word.as_bytes() {
+        b"serial" => Some(By::Serial),
+        b"run" => Some(By::Run),
+        b"lockless" => Some(By::Lockless),
+        _ => None,
+    }
+}
+
+impl Row {
+    /// A row whose cartridge `hello` is zeros, or has no bytes where there is no memory.
+    pub fn new(alloc: Global) -> Row {
+        let hello = match vec![in alloc; 0u8; SIZE] {
+            Ok(bytes) => bytes,
+            Err(_) => Vec::new(alloc),
+        };
+        Row {
+            hello,
+            is_game: true,
+            script: Vec::new(alloc),
+            kept: None,
+        }
+    }
+
+    /// A line that says what is played.
+    fn prepare(&mut self, line: &str) -> Option<()> {
+        if let Some(text) = line.strip_prefix("script ") {
+            self.script.extend_from_slice(text.as_bytes()).ok()?;
+            return self.script.push(b'\n').ok();
+        }
+        let mut words = line.split_whitespace();
+        match words.next()?.as_bytes() {
+            b"put" => {
+                let offset = hexadecimal(words.next()?)?;
+                put(self.hello.as_mut_slice(), offset, words.next()?)
+            }
+            b"cart" => {
+                self.is_game = words.next()? == "game";
+                Some(())
+            }
+            _ => None,
+        }
+    }
+
+    /// A line that plays: its film, and the frames that it names.
+    fn played<'a, R: AllocGlobal + Threads + Clock>(
+        &self,
+        rt: &R,
+        line: &'a str,
+    ) -> Option<(Film, SplitWhitespace<'a>)> {
+        let mut words = line.split_whitespace();
+        let (by, all) = match words.next()?.as_bytes() {
+            b"show" => (by_of(words.next()?)?, false),
+            b"keep" => (By::Serial, true),
+            b"compare" => (By::Serial, true),
+            _ => return None,
+        };
+        let frames = words.next()?.parse::<u32>().ok()?;
+        let wanted = wanted(rt.alloc(), frames, all, words.clone())?;
+        let job = job_of(rt.alloc(), self, frames)?;
+        Some((film_of(rt, &job, by, wanted)?, words))
+    }
+
+    /// Prints what a line that plays asks for.
+    fn tell<R: Print>(
+        &mut self,
+        rt: &R,
+        line: &str,
+        film: Film,
+        frames: SplitWhitespace<'_>,
+    ) -> io::Result<()> {
+        if line.starts_with("keep") {
+            self.kept = Some(film);
+            return Ok(());
+        }
+        if line.starts_with("show") {
+            return show(rt, &film, frames);
+        }
+        match &self.kept {
+            Some(kept) => match kept.first_difference(&film) {
+                Some(frame) => println!(rt; "the first frame that differs: {frame}"),
+                None => println!(rt; "no frame differs"),
+            },
+            None => println!(rt; "nothing was kept"),
+        }
+    }
+
+    /// Follows a line.
+    pub fn follow<R: Print + AllocGlobal + Threads + Clock>(
+        &mut self,
+        rt: &R,
+        line: &str,
+    ) -> io::Result<()> {
+        if let Some(title) = line.strip_prefix("row ") {
+            self.script.clear();
+            return println!(rt; "{title}");
+        }
+        if self.prepare(line).is_some() {
+            return Ok(());
+        }
+        match self.played(rt, line) {
+            Some((film, frames)) => self.tell(rt, line, film, frames),
+            None => println!(rt; "no line of a row: {line}"),
+        }
+    }
+}
+
+/// Prints the hash of each of these frames, and of the sound.
+fn show<R: Print>(rt: &R, film: &Film, frames: SplitWhitespace<'_>) -> io::Result<()> {
+    for word in frames {
+        let Ok(frame) = word.parse::<usize>() else {
+            return println!(rt; "no frame: {word}");
+        };
+        match film.picture(frame) {
+            Some(hash) => println!(rt; "frame {frame}: {hash:016x}")?,
+            None => println!(rt; "frame {frame} didn't come")?,
+        }
+    }
+    let (hash, samples) = film.sound();
+    println!(rt; "sound of {samples} samples: {hash:016x}")
+}
