@@ -37,7 +37,7 @@ for name, pattern in others.items():
         complain(f"{name} has other commands than call.rt, or in another order")
 shown = {
     "the help": re.search(r"static HELP.*?;\n\n", help_code, re.S)[0],
-    "docs/FILES-AND-WORDS.md": text_of("docs/FILES-AND-WORDS.md"),
+    "docs/use/COMMANDS.md": text_of("docs/use/COMMANDS.md"),
 }
 for where, text in shown.items():
     for command in called:

@@ -1,5 +1,5 @@
 #!/usr/bin/env python3
-"""Makes the interpolation table of the S-DSP by its formula (docs/SOUND.md), and compares it with crates/free_files.
+"""Makes the interpolation table of the S-DSP by its formula (docs/machine/S-DSP.md), and compares it with crates/free_files.
 
     tools/make_table.py           compares the 512 numbers with those in code and definition
     tools/make_table.py --write   writes them there (rt fmt then lays the code out)

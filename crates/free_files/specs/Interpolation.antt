@@ -1,4 +1,4 @@
--- The interpolation table of the S-DSP, by the formula of nocash fullsnes (docs/SOUND.md); tools/make_table.py makes it.
+-- The interpolation table of the S-DSP, by the formula of nocash fullsnes (docs/machine/S-DSP.md); tools/make_table.py makes it.
 use Rattle.std.specs.Prelude.{ℕ, List, [], ◌∷◌}
 
 -- the 512 numbers, from entry 0 on

@@ -20,7 +20,7 @@ snes make NUMBER --out FILE\n\
 snes demo NUMBER --frames N\n\
 \x20           run that cartridge in memory, and print the sums of what it put out\n\
 snes rewind --cart FILE --boot FILE --table FILE --plan FILE --video FILE --audio FILE\n\
-\x20           play a plan: lines go COUNT PAD1 PAD2, keep SLOT, back SLOT (docs/REWINDER.md)\n\
+\x20           play a plan: lines go COUNT PAD1 PAD2, keep SLOT, back SLOT (docs/use/REWIND.md)\n\
 snes --help, snes -h, snes --version\n\
 \x20           print this text, or the version\n\
 ./snes --quiet ..\n\
@@ -29,11 +29,11 @@ snes --help, snes -h, snes --version\n\
 \x20 --cart    a raw LoROM or HiROM image        --boot    the sound processor's boot ROM, 64 bytes\n\
 \x20 --table   512 numbers of 16 bits            --script  lines of frames and pads; may be empty\n\
 \x20 --spc     a sound file\n\
-\x20 ./scene FOLDER writes a free cartridge with the three other files.\n\
+\x20 ./scene FOLDER writes two free cartridges, a boot ROM, a table and an empty script.\n\
 \n\
 Statuses: 0 done, 1 invalid arguments, 2 an input could not be read, 3 an input was refused, 4 an output could\n\
 not be written, 5 out of memory; of the script ./snes: 70 the program could not be built.\n\
-docs/FILES-AND-WORDS.md has the formats, and the cause of each answer.\n";
+docs/use/COMMANDS.md has the formats, and the cause of each answer.\n";
 
 /// The help: each command with its arguments, the options, and the exit statuses.
 pub fn help_line() -> Line

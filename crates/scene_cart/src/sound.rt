@@ -1,7 +1,7 @@
 //! The sound program, and what sends it to the sound side: a slow tune of two voices. It answers port 0 by one more.
 //!
 //! Its listing is `examples/spc700/scene.lst`. The program of the cartridge sends it by the boot ROM's protocol
-//! (`docs/BOOT-ROM.md`), as a game does.
+//! (`docs/machine/BOOT-ROM.md`), as a game does.
 
 use crate::assembler::Code;
 use crate::assembler::Operand::{At, AtX, Byte, Word};
