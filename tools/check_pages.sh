@@ -94,6 +94,8 @@ def named(path, text):
     folders = ["", dirname(path)] + ([crate[0] + "data"] if crate else [])
     for number, line in enumerate(text.split("\n"), 1):
         line = re.sub(r"https?:\S+|\[[^\]]*\]\([^)]*\)|\$\{?\w+\}?/", "", line)
+        # What a program prints stands in its stdout with the marks of its strings.
+        line = line.replace("\\n", " ")
         for name in re.findall(r"(?<![\w./*-])((?:[\w.-]+/)*[\w.-]+\.md)\b", line):
             if not any(exists(normpath(join(folder, name))) for folder in folders):
                 complain(f"{path}:{number}", f"names {name}, which is not there")
