@@ -25,7 +25,7 @@
 # The output of each item goes to CHECKED/PART-ITEM, of all of `workers` to CHECKED/workers (CHECKED: /tmp/snes-full-check).
 #
 # It wants the built programs (./snes demo 7 --frames 0, ./look --help, ./trace --help; ONLY_BUILD=1 tools/run_built.sh CRATE
-# CRATE for spc_of_job and wild_jobs), a C compiler, and some three hours of four processors, of which the wrong bodies take nearly all.
+# CRATE for spc_of_job, wild_jobs and console_rows), a C compiler, and some three hours of four processors, of which the wrong bodies take nearly all.
 # TREE, a clone of this repository that it may keep its proofs in, spares proofs of crates below. It
 # checks what is committed. The status is 1 where a part doesn't hold.
 top=$(cd "$(dirname "${BASH_SOURCE[0]}")/.." && pwd) || exit 2
@@ -34,6 +34,7 @@ held=${HELD:-$top/tools/full_check.held}
 mkdir -p "$checked" && touch "$held" || exit 2
 export snes=${SNES:-$top/crates/snes_run/out/snes_run}
 jobs=${WILD_JOBS:-$top/crates/wild_jobs/out/wild_jobs}
+watched=${CONSOLE_ROWS:-$top/crates/console_rows/out/console_rows}
 commit=$(git -C "$top" rev-parse --short HEAD) || exit 2
 read -r kit _ < <(rt version) || exit 2
 parts=("$@")
@@ -147,7 +148,7 @@ allocations() {
 soak() {
   local first count=${SOAK:-1000}
   for ((first = 0; first < count; first += 50)); do
-    item "$first" "$(sum_of "$snes" "$jobs" "$top/tools/soak.sh" "$first")" "$top/tools/soak.sh" \
+    item "$first" "$(sum_of "$snes" "$jobs" "$watched" "$top/tools/soak.sh" "$first")" "$top/tools/soak.sh" \
       $((count - first < 50 ? count - first : 50)) "$first"
   done
 }
@@ -171,7 +172,7 @@ rows() {
 workers() {
   local body below line left=()
   local -A sums
-  below=$(sum_of "$(sources_of console_rows)" "$(committed crates/console_rows)" "$(committed tools/try_one_worker.sh)")
+  below=$(sum_of "$(sources_of console_rows)" "$(committed crates/console_rows)" "$(committed tools/try_one_worker.sh)" "$(committed tools/count_threads.sh)")
   for body in "$top"/tools/one_worker/*.edit; do
     body=$(basename "$body" .edit)
     chosen "$body" || continue
