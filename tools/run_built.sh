@@ -6,13 +6,20 @@
 # TOOL is the name under which messages are printed, CRATE the crate of the program, the words are the program's.
 # File names are those of the folder in which it is called. `./snes`, `./scene`, `./look` and `./trace` are calls of it.
 #
-# The program is built where it is missing or a source of the crates that it stands on is newer. That is the gate,
-# `rt ci`, over a copy of those crates without the edits that have to fail. It takes minutes, says on standard error how
-# far it is, and its log is crates/CRATE/out/build.log. A toolchain that keeps proofs on the machine takes here what the
-# gate has proved, and there what is proved here; one that keeps none proves the crates of each program anew. A program
-# that the gate, or `rt run` in its crate, has built since the last change is taken as it is.
+# The program is built where it is missing or was built from other sources. What it was built from is kept beside it,
+# in crates/CRATE/out/CRATE.sums: the checksum of the sources of the crates that it stands on, and that of the program.
+# So a tree that was copied elsewhere is not built again, nor one whose files were touched, whatever their times. A
+# program that the gate, or `rt run` in its crate, has built has other bytes than those that are kept, or none are: it is
+# taken as it is where no source is newer, and its sums are kept then.
 #
-# Where there is no program to run, the status is 70, which no program here has. With ONLY_BUILD set it is not run.
+# To build is to run the gate, `rt ci`, over a copy of those crates without the edits that have to fail. It takes minutes,
+# says on standard error how far it is, and its log is crates/CRATE/out/build.log. A toolchain that keeps proofs on the
+# machine takes here what the gate has proved, and there what is proved here; one that keeps none proves the crates of
+# each program anew. Of several calls at once one builds, and the others wait for it. However a call ends that builds,
+# the gate that it began is ended and the copy is gone; the next call begins anew, with the proofs that are kept.
+#
+# Where there is no program to run, the status is 70, which no program here has. With ONLY_BUILD set it is not run. A
+# write beyond a limit of file sizes is a fault that the program tells, and does not end it by a signal.
 top=$(cd "$(dirname "$(readlink -f "${BASH_SOURCE[0]}")")/.." && pwd) || exit 70
 tool=$1
 crate=$2
@@ -31,12 +38,41 @@ give_up() {
 # The folders of the crates of such lines of crates.txt, from the top of the repository.
 folders_of() { sed 's/[ :].*//; s,^,crates/,'; }
 
-# Whether the program of a crate stands and no source of the crates below it is newer.
+# Finds the sources of the crates of such lines in the current folder, as `find` is told.
+find_sources() {
+  local folders
+  mapfile -t folders < <(folders_of <<<"$1")
+  shift
+  find "${folders[@]}" -name out -prune -o \( -path '*/src/*.rt' -o -path '*/specs/*.antt' \) "$@"
+}
+
+# The checksum of a text.
+sum() { sha256sum | cut -c 1-64; }
+
+# The checksum of the sources of the crates of such lines, in a tree.
+sum_of_sources() { (cd "$1" && { echo "$2" && find_sources "$2" -print0 | LC_ALL=C sort -z | xargs -0 sha256sum; } | sum); }
+
+# Keeps what a program was built from: the crate and the checksum of its sources.
+keep_sums() {
+  local made=$top/crates/$1/out/$1
+  { echo "$2 $(sum <"$made")" >"$made.sums.new" && mv "$made.sums.new" "$made.sums"; } 2>/dev/null
+}
+
+# Whether the program of a crate stands and was built from the sources as they are.
 is_built() {
-  local made=$top/crates/$1/out/$1 folders
-  [ -x "$made" ] || return 1
-  mapfile -t folders < <("$top/tools/lines_below.sh" "$1" | folders_of)
-  [ -z "$(cd "$top" && find "${folders[@]}" -name out -prune -o \( -path '*/src/*.rt' -o -path '*/specs/*.antt' \) -newer "$made" -print -quit)" ]
+  local made=$top/crates/$1/out/$1 lines sources kept_sources='' kept_program=''
+  [ -f "$made" ] && [ -x "$made" ] || return 1
+  lines=$("$top/tools/lines_below.sh" "$1")
+  sources=$(sum_of_sources "$top" "$lines")
+  [ ! -r "$made.sums" ] || read -r kept_sources kept_program <"$made.sums"
+  if [ "$(sum <"$made")" = "$kept_program" ]; then
+    [ "$sources" = "$kept_sources" ]
+    return
+  fi
+  # The gate has built it, or `rt run`.
+  [ -z "$(cd "$top" && find_sources "$lines" -newer "$made" -print -quit)" ] || return 1
+  keep_sums "$1" "$sources"
+  return 0
 }
 
 # The crates whose programs are built now: this one, and of the console's and the scene's the other, where it is not built
@@ -56,49 +92,96 @@ copy_sources() {
   tar -C "$top" --exclude=out --exclude=must-fail -cf - "${folders[@]}" | tar -C "$work" -xf -
 }
 
-# Tells each crate that is proved, of what the gate prints.
+# Tells each crate that is proved, of what the gate has printed since it was looked at last.
 tell() {
-  local finished=0 line
-  while read -r line; do
+  local line
+  while IFS= read -r line <&7; do
+    line=$part$line
+    part=''
     if [[ $line =~ ^rt:\ ([a-z0-9_]+)\ (proved|is\ kept) ]]; then
       finished=$((finished + 1))
       say "proved $finished of $1: ${BASH_REMATCH[1]}"
     fi
   done
+  part=$part$line
+}
+
+# Ends the gate, whose process group it is told, and removes the copy as soon as this script has ended, by whatever.
+watch_over() {
+  local group='' word
+  trap '' INT TERM HUP QUIT
+  while read -r word; do group=$word; done
+  if [ "${group:-none}" != none ]; then
+    kill -TERM -- "-$group" 2>/dev/null && sleep 1
+    kill -KILL -- "-$group" 2>/dev/null
+  fi
+  rm -rf "$1"
+}
+
+# Runs the gate over a copy, in a process group of its own, and tells how far it is.
+run_gate() {
+  local gate finished=0 part=''
+  : >"$log" && exec 7<"$log" || return 1
+  set -m
+  # rt is a program of Python, which else would hold its lines back.
+  (cd "$work" && PYTHONUNBUFFERED=1 exec rt ci) </dev/null >>"$log" 2>&1 7<&- 8>&- 9>&- &
+  gate=$!
+  set +m
+  echo "$gate" >&8
+  while kill -0 "$gate" 2>/dev/null; do
+    tell "$1"
+    sleep 1
+  done
+  wait "$gate"
+  local status=$?
+  tell "$1"
+  exec 7<&-
+  echo none >&8
+  return "$status"
 }
 
 build() {
   local work total name names
+  local -A lines
   work=$(mktemp -d) || return 1
-  trap 'rm -rf "$work"' EXIT
-  # A source that is saved from here on is newer than the program.
-  touch "$work/begun"
+  exec 8> >(exec 9>&- && watch_over "$work")
   mapfile -t names < <(to_build)
+  for name in "${names[@]}"; do lines[$name]=$("$top/tools/lines_below.sh" "$name"); done
+  # A source that is saved from here on is not in the copy, whose checksum is kept.
+  touch "$work/begun"
   copy_sources "$work" "${names[@]}" || give_up "the sources could not be copied to $work"
   total=$(wc -l <"$work/crates.txt")
   say "the program is proved and built first: $total crates, $(nproc) at once (log: $log)"
-  # rt is a program of Python, which else would hold its lines back.
-  (cd "$work" && PYTHONUNBUFFERED=1 rt ci 2>&1) | tee "$log" | tell "$total"
-  [ "${PIPESTATUS[0]}" -eq 0 ] || give_up "the program was not proved and built; see $log"
+  run_gate "$total" || give_up "the program was not proved and built; see $log"
   for name in "${names[@]}"; do
     mkdir -p "$top/crates/$name/out" &&
       cp "$work/crates/$name/out/$name" "$top/crates/$name/out/$name.new" &&
       touch -r "$work/begun" "$top/crates/$name/out/$name.new" &&
       mv "$top/crates/$name/out/$name.new" "$top/crates/$name/out/$name" ||
       give_up "the program of $name could not be put into $top/crates/$name/out"
+    keep_sums "$name" "$(sum_of_sources "$work" "${lines[$name]}")"
   done
-  rm -rf "$work"
-  trap - EXIT
+  exec 8>&-
 }
+
+# Bash alone takes a SIGINT for that of the command which it waits for.
+trap 'trap - INT && kill -s INT $$' INT
+
+# The console's program and the scene's are built together, so they have one lock.
+lock=$out/build.lock
+[ "$crate" != scene_cart ] || lock=$top/crates/snes_run/out/build.lock
 
 if ! is_built "$crate"; then
   command -v rt >/dev/null || give_up "rt, the command of the Rattle toolchain, is not on the path (README.md, 'Quick start')"
-  mkdir -p "$out" 2>/dev/null && [ -w "$out" ] || give_up "$out can't be written to; take a clone of your own"
-  # Of several calls at once the first builds, and the others find the program built.
-  exec 9>"$out/build.lock"
-  command -v flock >/dev/null && flock 9
+  mkdir -p "$out" "${lock%/*}" 2>/dev/null && [ -w "$out" ] || give_up "$out can't be written to; take a clone of your own"
+  exec 9>"$lock"
+  if command -v flock >/dev/null && ! flock -n 9; then
+    say "another call is building it"
+    until flock -w 1 9; do :; done
+  fi
   is_built "$crate" || build
   exec 9>&-
 fi
 [ -z "${ONLY_BUILD-}" ] || exit 0
+trap '' XFSZ
 exec "$program" "$@"
