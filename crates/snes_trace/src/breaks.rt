@@ -2,16 +2,30 @@
 
 use crate::step::{Kind, Step, Way};
 use anyhow::{Result, bail};
+use cart_map::Place;
+use console_bus::Bus;
 use snes_defs::Side;
-use std::alloc::Global;
+use std::alloc::{AllocError, Global};
+
+/// More than there are bytes or registers of a kind.
+const KIND: u64 = 1 << 32;
+
+/// The numbers of bytes that lie side by side.
+#[derive(Clone, Copy)]
+struct Span {
+    first: u64,
+    last: u64,
+}
 
 /// Addresses, and which steps at them hit.
-#[derive(Clone, Copy)]
+#[derive(Drop)]
 pub struct Break {
     first: u32,
     last: u32,
-    /// Whether the bank counts: an address of four digits or fewer is meant in every bank.
+    /// Whether an address names a bank, and so a byte: one of four digits or fewer is meant in every bank.
     in_bank: bool,
+    /// The bytes that lie there, where a bank is named.
+    spans: Vec<Span>,
     side: Option<Side>,
     kind: Option<Kind>,
 }
@@ -35,7 +49,7 @@ fn address_of(word: &str) -> Option<(u32, bool)> {
 }
 
 /// An address, or the first and the last of a range.
-fn range_of(word: &str) -> Option<Break> {
+fn range_of(alloc: Global, word: &str) -> Option<Break> {
     let (from, to) = match word.split_once("-") {
         Some(ends) => ends,
         None => (word, word),
@@ -49,6 +63,7 @@ fn range_of(word: &str) -> Option<Break> {
         first,
         last,
         in_bank,
+        spans: Vec::new(alloc),
         side: None,
         kind: None,
     })
@@ -68,9 +83,9 @@ fn kind_of(word: &str) -> Option<Kind> {
 }
 
 /// A breakpoint: an address or a range, then a side and a kind, each at most once.
-fn break_of(text: &str) -> Option<Break> {
+fn break_of(alloc: Global, text: &str) -> Option<Break> {
     let mut words = text.split_whitespace();
-    let mut found = range_of(words.next()?)?;
+    let mut found = range_of(alloc, words.next()?)?;
     for word in words {
         match word.as_bytes() {
             b"console" if found.side.is_none() => found.side = Some(Side::Console),
@@ -100,7 +115,7 @@ pub fn read_breaks(alloc: Global, name: &str, file: &str) -> Result<Vec<Break>> 
         if text.is_empty() {
             continue;
         }
-        match break_of(text) {
+        match break_of(alloc, text) {
             Some(found) => breaks.push(found)?,
             None => bail!("{name} refused: line {number} is no breakpoint (see --help)"),
         }
@@ -111,15 +126,88 @@ pub fn read_breaks(alloc: Global, name: &str, file: &str) -> Result<Vec<Break>> 
     Ok(breaks)
 }
 
-impl Break {
-    /// Whether an address is one of these.
-    fn has(&self, address: u32) -> bool {
-        let seen = if self.in_bank {
-            address
+/// The number of what lies at an address: bytes and registers that lie side by side have numbers that do, and where
+/// nothing lies each address has one of its own.
+fn number_of(place: Place, address: u32) -> u64 {
+    match place {
+        Place::Wram(at) => u64::from(at),
+        Place::Rom(at) => KIND + u64::from(at),
+        Place::Ram(at) => 2 * KIND + u64::from(at),
+        Place::BBus(port) => 3 * KIND + u64::from(port),
+        Place::Cpu(register) => 4 * KIND + u64::from(register),
+        Place::Open => 5 * KIND + u64::from(address),
+    }
+}
+
+/// Whether a number is in one of some spans.
+fn holds(spans: &[Span], number: u64) -> bool {
+    for span in spans {
+        if span.first <= number && number <= span.last {
+            return true;
+        }
+    }
+    false
+}
+
+/// Keeps a span, unless one that is kept has all of it: mirrors have the same numbers.
+fn keep(spans: &mut Vec<Span>, next: Span) -> Result<(), AllocError> {
+    for span in spans.as_slice() {
+        if span.first <= next.first && next.last <= span.last {
+            return Ok(());
+        }
+    }
+    spans.push(next)?;
+    Ok(())
+}
+
+/// What lies at some addresses of a console.
+fn spans_of(alloc: Global, bus: &Bus, first: u32, last: u32) -> Result<Vec<Span>, AllocError> {
+    let mut spans = Vec::new(alloc);
+    let number = number_of(bus.place(first), first);
+    let mut span = Span {
+        first: number,
+        last: number,
+    };
+    for address in first..last {
+        let next = address.saturating_add(1);
+        let number = number_of(bus.place(next), next);
+        if span.last.saturating_add(1) == number {
+            span.last = number;
         } else {
-            address % 65_536
-        };
+            keep(&mut spans, span)?;
+            span = Span {
+                first: number,
+                last: number,
+            };
+        }
+    }
+    keep(&mut spans, span)?;
+    Ok(spans)
+}
+
+/// Finds out what lies at the addresses of each breakpoint that names a bank.
+pub fn settle_breaks(alloc: Global, bus: &Bus, breaks: &mut [Break]) -> Result<(), AllocError> {
+    for one in breaks {
+        if one.in_bank {
+            one.spans = spans_of(alloc, bus, one.first, one.last)?;
+        }
+    }
+    Ok(())
+}
+
+impl Break {
+    /// Whether an address at which this lies is one of these.
+    fn has(&self, place: Place, address: u32) -> bool {
+        if self.in_bank {
+            return holds(self.spans.as_slice(), number_of(place, address));
+        }
+        let seen = address % 65_536;
         self.first <= seen && seen <= self.last
+    }
+
+    /// Whether a register of the B bus is one of these.
+    fn has_port(&self, port: u8) -> bool {
+        self.has(Place::BBus(port), 0x2100 + u32::from(port))
     }
 
     /// Whether a step hits.
@@ -134,10 +222,11 @@ impl Break {
             return false;
         }
         let at_port = match step.way {
-            Way::To(port) | Way::From(port) => self.has(0x2100 + u32::from(port)),
+            Way::To(port) | Way::From(port) => self.has_port(port),
             Way::Table | Way::Nowhere => false,
         };
-        at_port || step.address.is_some_and(|address| self.has(address))
+        let place = step.place.unwrap_or(Place::Open);
+        at_port || step.address.is_some_and(|address| self.has(place, address))
     }
 }
 

@@ -32,6 +32,7 @@ fn still(side: Side, stamp: u64, kind: Kind) -> Step
         stamp,
         kind,
         address: None,
+        place: None,
         way: Way::Nowhere,
         byte: None,
         instruction: Instruction::Nothing,
@@ -52,6 +53,7 @@ fn at(stamp: u64, kind: Kind, address: u32, way: Way) -> Step
         stamp,
         kind,
         address: Some(address),
+        place: None,
         way,
         byte: None,
         instruction: Instruction::Nothing,
@@ -172,9 +174,9 @@ pub fn complete(console: &ConsoleSide, step: &mut Step) {
 }
 
 /// The channels hear what a step of the console did to DMA.
-pub fn tell_dma(dma: &mut Dma, place: Option<Place>, step: &Step) {
+pub fn tell_dma(dma: &mut Dma, step: &Step) {
     let byte = step.byte.unwrap_or(0);
-    match (step.kind, place) {
+    match (step.kind, step.place) {
         (Kind::Reset, _) => *dma = Dma::new(),
         (Kind::Dma, _) => {
             if dma.next().is_some() {
@@ -219,6 +221,7 @@ fn at_sound(stamp: u64, kind: Kind, address: u16, byte: u8) -> Step
         stamp,
         kind,
         address: Some(u32::from(address)),
+        place: None,
         way: Way::Nowhere,
         byte: Some(byte),
         instruction: Instruction::Nothing,

@@ -53,24 +53,37 @@ fn frame_stamp(region: Region, frame: u64) -> Result<u64> {
     }
 }
 
-/// The first stamp that is told, and the one behind the last.
-fn range_of(region: Region, words: &ArgMatches<'_>) -> Result<(u64, u64)> {
+/// The stamps of the words, or none.
+fn stamps_of(words: &ArgMatches<'_>) -> Result<Option<(u64, u64)>> {
     let from = words.get_one::<u64>("from");
     let to = words.get_one::<u64>("to");
     match (from, to) {
-        (Some(from), Some(to)) => {
+        (Some(from), Some(to)) if to < from => bail!("--to {to} is before --from {from}"),
+        (Some(from), Some(to)) => Ok(Some((from, to))),
+        (None, None) => Ok(None),
+        _ => bail!("--from and --to go together"),
+    }
+}
+
+/// The first stamp that is told, and the one behind the last.
+fn range_of(
+    region: Region,
+    stamps: Option<(u64, u64)>,
+    words: &ArgMatches<'_>,
+) -> Result<(u64, u64)> {
+    match stamps {
+        Some((from, to)) => {
             if to > end_stamp_in(region, MOST_FRAMES) {
                 bail!("a run has at most {MOST_FRAMES} frames");
             }
             Ok((from, to))
         }
-        (None, None) => {
+        None => {
             let first = words.get_one::<u64>("frame").unwrap_or(0);
             let count = words.get_one::<u64>("frames").unwrap_or(1);
             let from = frame_stamp(region, first)?;
             Ok((from, frame_stamp(region, first.saturating_add(count))?))
         }
-        _ => bail!("--from and --to go together"),
     }
 }
 
@@ -116,9 +129,10 @@ fn job_in<R: Files + Print>(rt: &R, alloc: Global, words: &ArgMatches<'_>) -> Re
 /// Does what the words ask for, and gives the status.
 fn obey<R: Files + Print + AllocGlobal>(rt: &R, words: &ArgMatches<'_>) -> Result<u8> {
     let alloc = rt.alloc();
+    let stamps = stamps_of(words)?;
     let job = job_in(rt, alloc, words)?;
-    let (from, to) = range_of(job.region, words)?;
-    let wanted = Wanted {
+    let (from, to) = range_of(job.region, stamps, words)?;
+    let mut wanted = Wanted {
         from,
         to,
         side: side_of(words),
@@ -131,6 +145,7 @@ fn obey<R: Files + Print + AllocGlobal>(rt: &R, words: &ArgMatches<'_>) -> Resul
     let Ok(mut pair) = Pair::new(alloc, &job) else {
         bail!("no memory");
     };
+    pair.settle(alloc, wanted.breaks.as_mut_slice())?;
     let mut out = BufWriter::new(alloc, io::writer(rt))?;
     let told = write_trace(alloc, &mut pair, &wanted, &mut out)?;
     Ok(if told.is_hit { 0 } else { NO_HIT })

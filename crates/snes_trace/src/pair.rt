@@ -1,5 +1,6 @@
 //! The two machines of a job, and each step of them as it is made.
 
+use crate::breaks::{Break, settle_breaks};
 use crate::looks::{complete, look_at_console, look_at_sound, tell_dma};
 use crate::step::Step;
 use audio_side::AudioSide;
@@ -9,7 +10,7 @@ use dma_hdma::Dma;
 use serial_console::Serial;
 use side_law::Machine;
 use snes_defs::{Job, NoMemory, Region};
-use std::alloc::Global;
+use std::alloc::{AllocError, Global};
 
 /// The last stamp at which a step may begin.
 const LAST: u64 = 1 << 62;
@@ -61,6 +62,12 @@ impl Pair {
         self.region
     }
 
+    /// Finds out what lies at the addresses of each breakpoint.
+    pub fn settle(&mut self, alloc: Global, breaks: &mut [Break]) -> Result<(), AllocError> {
+        let (console, _) = self.serial.machines();
+        settle_breaks(alloc, console.bus(), breaks)
+    }
+
     /// Whether both machines stand at a stamp or behind it.
     pub fn is_past(&self, end: u64) -> bool {
         self.serial.finished(end)
@@ -70,7 +77,7 @@ impl Pair {
     fn next_of_console(&mut self) -> Option<Step> {
         let (console, _) = self.serial.machines();
         let mut step = look_at_console(console, &self.dma);
-        let place = match step.address {
+        step.place = match step.address {
             Some(address) => Some(console.bus().place(address)),
             None => None,
         };
@@ -79,7 +86,7 @@ impl Pair {
         }
         let (console, _) = self.serial.machines();
         complete(console, &mut step);
-        tell_dma(&mut self.dma, place, &step);
+        tell_dma(&mut self.dma, &step);
         Some(step)
     }
 

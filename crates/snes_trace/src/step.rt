@@ -1,5 +1,6 @@
 //! A step of the console, as a trace tells it.
 
+use cart_map::Place;
 use cpu_tables::Regs;
 use snes_defs::Side;
 use spc_tables::SpcRegs;
@@ -70,6 +71,8 @@ pub struct Step {
     pub kind: Kind,
     /// The address on the bus, of 24 bits of the console and 16 of the sound side; of a transfer that of the A side.
     pub address: Option<u32>,
+    /// What lies at that address, of a step of the console that has one.
+    pub place: Option<Place>,
     pub way: Way,
     /// The byte that goes over the bus.
     pub byte: Option<u8>,

@@ -8,7 +8,7 @@ use crate::text::push_line;
 use anyhow::{Context, Result, bail};
 use snes_defs::{Region, Side};
 use std::alloc::Global;
-use std::io::Write;
+use std::io::{self, Write};
 
 /// Which steps are told.
 #[derive(Drop)]
@@ -34,7 +34,7 @@ pub struct Wanted {
 pub struct Told {
     /// The lines that were written, but for a head.
     pub lines: u64,
-    /// Whether a breakpoint was hit, or there is none.
+    /// Whether a breakpoint was hit, or there is none, or nobody reads on.
     pub is_hit: bool,
 }
 
@@ -88,7 +88,7 @@ fn write_step<W: Write>(
     region: Region,
     step: &Step,
     is_csv: bool,
-) -> Result<()> {
+) -> io::Result<()> {
     line.clear();
     if is_csv {
         push_row(line, region, step)?;
@@ -96,8 +96,17 @@ fn write_step<W: Write>(
         push_line(line, region, step)?;
     }
     out.write_all(line.as_slice())
-        .context("cannot write the trace")?;
-    Ok(())
+}
+
+/// What a trace comes to that could not be written. One whose reader has closed the pipe, as `head` does, is at its end.
+fn ended(error: io::Error, lines: u64) -> Result<Told> {
+    if error.kind() == io::ErrorKind::BrokenPipe {
+        return Ok(Told {
+            lines,
+            is_hit: true,
+        });
+    }
+    Err(error).context("cannot write the trace")
 }
 
 /// Makes the steps up to the end of what is wanted, and writes those that are told.
@@ -118,8 +127,9 @@ pub fn write_trace<W: Write>(
         },
     };
     if wanted.is_csv {
-        out.write_all(HEAD.as_bytes())
-            .context("cannot write the trace")?;
+        if let Err(error) = out.write_all(HEAD.as_bytes()) {
+            return ended(error, 0);
+        }
     }
     for _ in 0..u64::MAX {
         if pair.is_past(wanted.to) || telling.told.lines >= wanted.lines {
@@ -129,10 +139,14 @@ pub fn write_trace<W: Write>(
             bail!("the machines cannot go on");
         };
         if telling.tells(&step) {
-            write_step(out, &mut line, region, &step, wanted.is_csv)?;
+            if let Err(error) = write_step(out, &mut line, region, &step, wanted.is_csv) {
+                return ended(error, telling.told.lines);
+            }
             telling.told.lines = telling.told.lines.saturating_add(1);
         }
     }
-    out.flush().context("cannot write the trace")?;
-    Ok(telling.told)
+    match out.flush() {
+        Ok(()) => Ok(telling.told),
+        Err(error) => ended(error, telling.told.lines),
+    }
 }

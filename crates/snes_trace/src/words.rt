@@ -12,6 +12,8 @@ enum Kind {
     MayBeFile,
     /// A number.
     Number,
+    /// A stamp, which no frame stands beside.
+    Stamp,
     /// A side, or both.
     Side,
     /// It is there or not.
@@ -51,8 +53,8 @@ static WORDS: [Word; 14] = words![
     File "script" "FILE" "" "the controllers' script",
     Number "frame" "N" "0" "the first frame that is told, from 0",
     Number "frames" "COUNT" "1" "how many frames are told",
-    Number "from" "STAMP" "" "tell the steps from this stamp on, in place of --frame; with --to",
-    Number "to" "STAMP" "" "and before this stamp",
+    Stamp "from" "STAMP" "" "tell the steps from this stamp on, in place of --frame; with --to",
+    Stamp "to" "STAMP" "" "and before this stamp, which is no earlier",
     Side "side" "SIDE" "both" "whose steps are told: console, sound or both",
     Flag "instructions" "" "" "tell opcode fetches, resets and hits, no other step",
     MayBeFile "break" "FILE" "" "tell only the steps that hit a breakpoint of this file (below)",
@@ -65,9 +67,9 @@ static WORDS: [Word; 14] = words![
 static SIDES: [&str; 3] = ["console", "sound", "both"];
 
 /// A word as `clap` takes it, without a default.
-fn plain<'a>(alloc: Global, word: &Word) -> Arg<'a> {
+fn plain<'a>(alloc: Global, word: &Word) -> Result<Arg<'a>, AllocError> {
     let plain = Arg::new(alloc, word.name).long(word.name).help(word.help);
-    match word.kind {
+    let plain = match word.kind {
         Kind::File => plain
             .action(ArgAction::Set)
             .value_name(word.value)
@@ -77,29 +79,35 @@ fn plain<'a>(alloc: Global, word: &Word) -> Arg<'a> {
             .action(ArgAction::Set)
             .value_name(word.value)
             .value_parser(value_parser!(u64)),
+        Kind::Stamp => plain
+            .action(ArgAction::Set)
+            .value_name(word.value)
+            .value_parser(value_parser!(u64))
+            .conflicts_with_all(&["frame", "frames"])?,
         Kind::Side => plain
             .action(ArgAction::Set)
             .value_name(word.value)
             .value_parser(SIDES.as_slice()),
         Kind::Flag => plain.action(ArgAction::SetTrue),
-    }
+    };
+    Ok(plain)
 }
 
 /// A word as `clap` takes it.
-fn argument<'a>(alloc: Global, word: &Word) -> Arg<'a> {
-    let plain = plain(alloc, word);
-    if word.default.is_empty() {
+fn argument<'a>(alloc: Global, word: &Word) -> Result<Arg<'a>, AllocError> {
+    let plain = plain(alloc, word)?;
+    Ok(if word.default.is_empty() {
         plain
     } else {
         plain.default_value(word.default)
-    }
+    })
 }
 
 /// All words as `clap` takes them.
 fn arguments<'a>(alloc: Global) -> Result<Vec<Arg<'a>>, AllocError> {
     let mut list = Vec::new(alloc);
     for word in WORDS.iter() {
-        list.push(argument(alloc, word))?;
+        list.push(argument(alloc, word)?)?;
     }
     Ok(list)
 }
@@ -108,8 +116,9 @@ fn arguments<'a>(alloc: Global) -> Result<Vec<Arg<'a>>, AllocError> {
 static AFTER: &str =
     "A file of breakpoints has one a line: ADDRESS or FIRST-LAST in hexadecimal digits, then, where
 wanted, a side (console or sound) and a kind (opcode, fetch, read, write, dma or hdma). Five or six
-digits name a bank; four or fewer mean the address in every bank, and on the sound side. A byte of a
-transfer is at both its addresses, that of the A side and 002100 to 0021FF. # begins a comment.
+digits name a bank, and mean the byte or register that lies there, by whatever mirror; four or fewer
+mean the address in every bank, and on the sound side. A byte of a transfer is at both its addresses,
+that of the A side and 002100 to 0021FF. # begins a comment.
 
 Statuses: 0 done; 1 there are breakpoints, and none was hit; 2 a file could not be read or is refused,
 the trace could not be written, or the words are at fault: standard error says which.";
