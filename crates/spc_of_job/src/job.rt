@@ -1,10 +1,10 @@
 // The job of the files that are named.
-ghost use Rattle.std.specs.Prelude.{◌≤◌, IfOk};
+ghost use Rattle.std.specs.Prelude.{◌≤◌, IfOk, IfSome};
 
-use crate::cause::Cause;
-use cart_map::accept;
+use crate::cause::{Cause, Fault};
+use cart_map::{CartEnd, accept};
 use file_shelf::{LoadEnd, Shelf};
-use input_files::{read_boot, read_script, read_table};
+use input_files::{ScriptEnd, read_boot, read_script, read_table};
 use snes_defs::{Job, MOST_FRAMES};
 use std::alloc::Global;
 
@@ -18,43 +18,63 @@ const TABLE: usize = 1024;
 const SCRIPT: usize = 1_048_576;
 
 /// A whole file.
-fn load<H: Shelf>(
+fn load<'a, H: Shelf>(
     alloc: Global,
     shelf: &mut H,
-    name: &str,
+    name: &'a str,
     limit: usize,
-) -> Result<Vec<u8>, Cause> {
+) -> Result<Vec<u8>, Fault<'a>> {
     let mut bytes = Vec::new(alloc);
     match shelf.load(name, limit, &mut bytes) {
         Ok(()) => Ok(bytes),
-        Err(LoadEnd::Failed) => Err(Cause::Unreadable),
-        Err(LoadEnd::TooLong) => Err(Cause::TooLong),
-        Err(LoadEnd::NoMemory) => Err(Cause::NoMemory),
+        Err(LoadEnd::Failed) => Err(Fault::of(Cause::Unreadable, name)),
+        Err(LoadEnd::TooLong) => Err(Fault::of(Cause::TooLong, name)),
+        Err(LoadEnd::NoMemory) => Err(Fault::plain(Cause::NoMemory)),
     }
 }
 
-/// The job of a cartridge, a boot ROM, a table and a script of these names, and of as many frames as the last word says.
-pub fn job_of<H: Shelf>(alloc: Global, shelf: &mut H, words: &[&str; 5]) -> Result<Job, Cause>
-    ensures { IfOk result (λ job. job.frames ≤ 36000) }
+/// The number of frames that a word says.
+fn frames_of(word: &str) -> Option<u32>
+    ensures { IfSome result (λ frames. frames ≤ 36000) }
 {
-    let Ok(cart) = accept(load(alloc, shelf, words[0], CART)?) else {
-        return Err(Cause::Cart);
-    };
-    let Some(boot) = read_boot(load(alloc, shelf, words[1], BOOT)?.as_slice()) else {
-        return Err(Cause::Boot);
-    };
-    let Ok(table) = read_table(load(alloc, shelf, words[2], TABLE)?.as_slice()) else {
-        return Err(Cause::Table);
-    };
-    let Ok(script) = read_script(alloc, load(alloc, shelf, words[3], SCRIPT)?.as_slice()) else {
-        return Err(Cause::Script);
-    };
-    let Ok(frames) = words[4].parse::<u32>() else {
-        return Err(Cause::Frames);
+    let Ok(frames) = word.parse::<u32>() else {
+        return None;
     };
     if frames > MOST_FRAMES {
-        return Err(Cause::Frames);
+        return None;
     }
+    Some(frames)
+}
+
+/// The job of a cartridge, a boot ROM, a table and a script of these names, and of as many frames as the last word says.
+/// No file is read where that says none.
+pub fn job_of<'a, H: Shelf>(
+    alloc: Global,
+    shelf: &mut H,
+    words: &[&'a str; 5],
+) -> Result<Job, Fault<'a>>
+    ensures { IfOk result (λ job. job.frames ≤ 36000) }
+{
+    let Some(frames) = frames_of(words[4]) else {
+        return Err(Fault::plain(Cause::Frames));
+    };
+    let cart = match accept(load(alloc, shelf, words[0], CART)?) {
+        Ok(cart) => cart,
+        Err(CartEnd::NoMemory) => return Err(Fault::plain(Cause::NoMemory)),
+        Err(CartEnd::Refused(_)) => return Err(Fault::of(Cause::Cart, words[0])),
+    };
+    let Some(boot) = read_boot(load(alloc, shelf, words[1], BOOT)?.as_slice()) else {
+        return Err(Fault::of(Cause::Boot, words[1]));
+    };
+    let Ok(table) = read_table(load(alloc, shelf, words[2], TABLE)?.as_slice()) else {
+        return Err(Fault::of(Cause::Table, words[2]));
+    };
+    let script = load(alloc, shelf, words[3], SCRIPT)?;
+    let script = match read_script(alloc, script.as_slice()) {
+        Ok(script) => script,
+        Err(ScriptEnd::NoMemory) => return Err(Fault::plain(Cause::NoMemory)),
+        Err(ScriptEnd::Line(_)) => return Err(Fault::of(Cause::Script, words[3])),
+    };
     let region = script.region();
     Ok(Job {
         cart,

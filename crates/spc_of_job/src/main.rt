@@ -6,7 +6,11 @@
 //! gets the sound file of that moment; `take` says by its contract what it holds (`specs/Taken.antt`). The first line
 //! that is printed tells the cycle. With SAMPLES the job goes on for so many pairs, and the file is played beside it: the
 //! second line tells how many pairs are alike before the first that differs, and how often the console wrote to the
-//! ports meanwhile, which a player of the file doesn't hear. Without words it does nothing.
+//! ports meanwhile, which a player of the file doesn't hear.
+//!
+//! The status is 0 only where FILE was written and all lines were printed: 1 for words at fault, 2 for a file that
+//! cannot be read, 3 for one that is refused, 4 where FILE or a line cannot be written, 5 for no memory, 6 where the job
+//! cannot go on. One line on standard error says which.
 #![tactic(auto)]
 
 mod beside;
@@ -17,29 +21,71 @@ mod run;
 mod taken;
 
 use beside::{alike, listen, play};
-use cause::Cause;
+use cause::{Cause, Fault};
 use file_shelf::{FileShelf, Out, Shelf};
 use job::job_of;
 use snes_defs::Table;
 use standard_streams::hold_standard_streams;
 use std::alloc::Global;
-use std::rt::Files;
+use std::process::ExitCode;
+use std::rt::{Env, Files};
 use std::{env, io};
 use taken::{Taken, take};
 
 /// The most pairs that are compared: ten minutes.
 const MOST_SAMPLES: u32 = 19_200_000;
 
+/// What is asked for.
+#[derive(Clone, Copy)]
+struct Wanted<'a> {
+    /// The names of the four files of a job, and its number of frames.
+    job: [&'a str; 5],
+    file: &'a str,
+    samples: Option<u32>,
+}
+
+/// How many pairs are compared, by a word.
+fn samples_of(word: &str) -> Option<u32> {
+    match word.parse::<u32>() {
+        Ok(samples) if samples <= MOST_SAMPLES => Some(samples),
+        _ => None,
+    }
+}
+
+/// What the words behind the program's own name ask for.
+fn wanted_of<'a>(given: &'a [String]) -> Option<Wanted<'a>> {
+    if given.len() < 7 || given.len() > 8 {
+        return None;
+    }
+    let job = [
+        given[1].as_str(),
+        given[2].as_str(),
+        given[3].as_str(),
+        given[4].as_str(),
+        given[5].as_str(),
+    ];
+    let samples = match given.get(7) {
+        Some(word) => Some(samples_of(word.as_str())?),
+        None => None,
+    };
+    Some(Wanted {
+        job,
+        file: given[6].as_str(),
+        samples,
+    })
+}
+
 /// Writes a file.
-fn write<H: Shelf>(shelf: &mut H, name: &str, bytes: &[u8]) -> Result<(), Cause> {
+fn write<'a, H: Shelf>(shelf: &mut H, name: &'a str, bytes: &[u8]) -> Result<(), Fault<'a>> {
+    let fault = Fault::of(Cause::Unwritten, name);
     if name.is_empty() || name.len() > 4096 {
-        return Err(Cause::Unwritten);
+        return Err(fault);
     }
     if shelf.create(Out::Image, name).is_err()
         || shelf.put(Out::Image, bytes).is_err()
         || shelf.flush(Out::Image).is_err()
     {
-        return Err(Cause::Unwritten);
+        return Err(fault);
     }
     Ok(())
 }
@@ -51,77 +97,81 @@ fn compare(
     taken: &mut Taken,
     table: &Table,
     samples: u32,
-) -> io::Result<()> {
-    let shelf = match play(alloc, taken.file.as_slice(), table, samples) {
-        Ok(shelf) => shelf,
-        Err(why) => return println!(rt; "{}", why.text()),
-    };
-    match listen(alloc, taken, samples) {
-        Ok(job) => println!(rt;
-            "pairs {samples}, alike {}, writes of the console {}",
-            alike(job.pairs.as_slice(), shelf.written(Out::Sound)),
-            job.writes
-        ),
-        Err(why) => println!(rt; "{}", why.text()),
-    }
-}
-
-/// Takes a file out of the job of five words, and prints where.
-fn obey<R: Files + Print>(
-    rt: &R,
-    alloc: Global,
-    words: &[&str; 5],
-    file: &str,
-    samples: Option<u32>,
-) -> io::Result<()> {
-    let mut shelf = FileShelf::new(rt);
-    let job = match job_of(alloc, &mut shelf, words) {
-        Ok(job) => job,
-        Err(why) => return println!(rt; "{}", why.text()),
-    };
-    let mut taken = match take(alloc, &job) {
-        Ok(taken) => taken,
-        Err(why) => return println!(rt; "{}", why.text()),
-    };
-    match write(&mut shelf, file, taken.file.as_slice()) {
-        Ok(()) => told(rt, taken.cycle)?,
-        Err(why) => return println!(rt; "{}", why.text()),
-    }
-    match samples {
-        Some(samples) => compare(rt, alloc, &mut taken, &job.table, samples),
-        None => Ok(()),
+) -> Result<(), Cause> {
+    let shelf = play(alloc, taken.file.as_slice(), table, samples)?;
+    let job = listen(alloc, taken, samples)?;
+    let alike = alike(job.pairs.as_slice(), shelf.written(Out::Sound));
+    match println!(rt;
+        "pairs {samples}, alike {alike}, writes of the console {}",
+        job.writes
+    ) {
+        Ok(()) => Ok(()),
+        Err(_) => Err(Cause::Unsaid),
     }
 }
 
 /// Prints the cycle at which a file was taken.
-fn told(rt: &impl Print, cycle: u64) -> io::Result<()> {
-    println!(rt; "cycle {cycle}, {} past one that 128 divides", cycle % 128)
-}
-
-/// How many pairs are compared, by a word.
-fn samples_of(word: Option<&String>) -> Option<u32> {
-    let Ok(samples) = word?.as_str().parse::<u32>() else {
-        return None;
-    };
-    Some(samples.min(MOST_SAMPLES))
-}
-
-fn main(rt: HostRuntime) -> anyhow::Result<()> {
-    let _streams = hold_standard_streams(&rt);
-    let alloc = rt.alloc();
-    let given: Vec<String> = env::args(&rt)?.collect(alloc)?;
-    let given = given.as_slice();
-    if given.len() < 7 {
-        return Ok(());
+fn told(rt: &impl Print, cycle: u64) -> Result<(), Cause> {
+    match println!(rt; "cycle {cycle}, {} past one that 128 divides", cycle % 128) {
+        Ok(()) => Ok(()),
+        Err(_) => Err(Cause::Unsaid),
     }
-    let words = [
-        given[1].as_str(),
-        given[2].as_str(),
-        given[3].as_str(),
-        given[4].as_str(),
-        given[5].as_str(),
-    ];
-    let samples = samples_of(given.get(7));
-    obey(&rt, alloc, &words, given[6].as_str(), samples)?;
-    Ok(())
+}
+
+/// Takes a file out of a job, and prints where.
+fn obey<'a, R: Files + Print>(rt: &R, alloc: Global, wanted: &Wanted<'a>) -> Result<(), Fault<'a>> {
+    let mut shelf = FileShelf::new(rt);
+    let job = job_of(alloc, &mut shelf, &wanted.job)?;
+    let mut taken = match take(alloc, &job) {
+        Ok(taken) => taken,
+        Err(cause) => return Err(Fault::plain(cause)),
+    };
+    write(&mut shelf, wanted.file, taken.file.as_slice())?;
+    let mut end = told(rt, taken.cycle);
+    if let (Ok(()), Some(samples)) = (end, wanted.samples) {
+        end = compare(rt, alloc, &mut taken, &job.table, samples);
+    }
+    match end {
+        Ok(()) => Ok(()),
+        Err(cause) => Err(Fault::plain(cause)),
+    }
+}
+
+/// Says why it ends so, and gives the status.
+fn tell(rt: &impl Eprint, fault: Fault<'_>) -> u8 {
+    let text = fault.cause.text();
+    let _ = match fault.name {
+        Some(name) => eprintln!(rt; "spc_of_job: {name} {text}"),
+        None => eprintln!(rt; "spc_of_job: {text}"),
+    };
+    fault.cause.status()
+}
+
+/// Does what the words ask for, and gives the status.
+fn status_of<R: Files + Print + Eprint + AllocGlobal>(rt: &R, given: &[String]) -> u8 {
+    let Some(wanted) = wanted_of(given) else {
+        return tell(rt, Fault::plain(Cause::Words));
+    };
+    match obey(rt, rt.alloc(), &wanted) {
+        Ok(()) => 0,
+        Err(fault) => tell(rt, fault),
+    }
+}
+
+/// The words of the command line.
+fn words_of<R: Env + AllocGlobal>(rt: &R) -> io::Result<Vec<String>> {
+    let words: Vec<String> = env::args(rt)?.collect(rt.alloc())?;
+    Ok(words)
+}
+
+fn main(rt: HostRuntime) -> ExitCode {
+    let _streams = hold_standard_streams(&rt);
+    let status = match words_of(&rt) {
+        Ok(given) => status_of(&rt, given.as_slice()),
+        Err(error) if error.kind() == io::ErrorKind::OutOfMemory => {
+            tell(&rt, Fault::plain(Cause::NoMemory))
+        }
+        Err(_) => tell(&rt, Fault::plain(Cause::Words)),
+    };
+    ExitCode::from(status)
 }
