@@ -1,5 +1,5 @@
 #!/usr/bin/env bash
-# Whether each wrong change (crates/*/must-fail/*.edit, tools/wrong_bodies/*/*.edit, tools/row_faults/*.edit, tools/one_worker/*.edit) can be made as it stands: its file is there, and
+# Whether each wrong change (crates/*/must-fail/*.edit, tools/wrong_bodies/*/*.edit, tools/row_faults/*.edit, tools/one_worker/*.edit, tools/edges/*.edit) can be made as it stands: its file is there, and
 # each text that it replaces stands there once when its turn comes; the new text is another; no two of a crate make the same
 # change; and none changes what is proved and not the code: a clause, a definition, a proof.
 #
@@ -38,11 +38,12 @@ edits = sorted(
     + glob.glob("tools/wrong_bodies/*/*.edit")
     + glob.glob("tools/row_faults/*.edit")
     + glob.glob("tools/one_worker/*.edit")
+    + glob.glob("tools/edges/*.edit")
 )
 for edit in edits:
     parts = edit.split("/")
     # What is told by a program names its files from the top.
-    crate = {"crates": parts[1], "tools": parts[2]}[parts[0]] if parts[1] not in ("row_faults", "one_worker") else None
+    crate = {"crates": parts[1], "tools": parts[2]}[parts[0]] if parts[1] not in ("row_faults", "one_worker", "edges") else None
     texts = {}
     name = old = None
     pairs = 0

@@ -9,6 +9,8 @@
 #                  lead somewhere, and a planted dead one is named (check_pages.sh, try_check_pages.sh); listings give the bytes
 #                  in the sources (check_listings.py), the formula the table's numbers (make_table.py)
 #     device       full devices and names that can't be made, by the built program
+#     edges        the cases of try_edges.py by the built programs; 10,000 hostile inputs and command lines (try_hostile.py);
+#                  each fault of tools/edges is told (try_edge_faults.sh)
 #     allocations  each request for memory is refused once (refuse_each_allocation.sh)
 #     soak         SOAK jobs (1000) by two workers, 50 an item (soak.sh)
 #     rows         the rows of the console without a fault, and each planted fault (try_row_faults.sh)
@@ -22,8 +24,8 @@
 # of the libraries that the prover takes; two kits that differ by name alone count as one, and the line names the one that was used.
 # The output of each item goes to CHECKED/PART-ITEM, of all of `workers` to CHECKED/workers (CHECKED: /tmp/snes-full-check).
 #
-# It wants the built programs (./snes demo 7 --frames 0; in crates/wild_jobs `rt run`, or ONLY_BUILD=1 tools/run_built.sh
-# jobs wild_jobs), a C compiler, and some three hours of four processors, of which the wrong bodies take nearly all.
+# It wants the built programs (./snes demo 7 --frames 0, ./look --help, ./trace --help; ONLY_BUILD=1 tools/run_built.sh CRATE
+# CRATE for spc_of_job and wild_jobs), a C compiler, and some three hours of four processors, of which the wrong bodies take nearly all.
 # TREE, a clone of this repository that it may keep its proofs in, spares proofs of crates below. It
 # checks what is committed. The status is 1 where a part doesn't hold.
 top=$(cd "$(dirname "${BASH_SOURCE[0]}")/.." && pwd) || exit 2
@@ -35,7 +37,7 @@ jobs=${WILD_JOBS:-$top/crates/wild_jobs/out/wild_jobs}
 commit=$(git -C "$top" rev-parse --short HEAD) || exit 2
 read -r kit _ < <(rt version) || exit 2
 parts=("$@")
-[ $# -gt 0 ] || parts=(edits device allocations soak rows workers bodies)
+[ $# -gt 0 ] || parts=(edits device edges allocations soak rows workers bodies)
 
 # A full device, a device that takes everything, a name that can't be made: what the program says and its status.
 device() {
@@ -124,6 +126,20 @@ edits() {
   item table now "$top/tools/make_table.py"
 }
 
+# The programs and scripts that the cases are tried with.
+edges() {
+  local fault name programs=()
+  for name in snes_run frame_look scene_cart snes_trace spc_of_job; do programs+=("$top/crates/$name/out/$name"); done
+  local scripts=("$top"/tools/edges/*.py "$top"/{snes,look,scene,trace,README.md} "$top"/tools/{run_built.sh,lines_below.sh,many_runs.sh,many_runs.sbatch})
+  item cases "$(sum_of "$snes" "${programs[@]}" "${scripts[@]}" "$top/tools/try_edges.py")" "$top/tools/try_edges.py" --snes "$snes"
+  item hostile "$(sum_of "$snes" "$top"/tools/edges/{oracle,lab}.py "$top/tools/try_hostile.py")" "$top/tools/try_hostile.py" --snes "$snes"
+  for fault in "$top"/tools/edges/*.edit; do
+    fault=$(basename "$fault" .edit)
+    item "$fault" "$(sum_of "$(sources_of snes_run)" "${programs[@]}" "${scripts[@]}" "$top/tools/try_edges.py" "$(committed "tools/edges/$fault.edit")")" \
+      "$top/tools/try_edge_faults.sh" "$fault"
+  done
+}
+
 allocations() {
   item each "$(sum_of "$snes" "$top/tools/refuse_each_allocation.sh")" "$top/tools/refuse_each_allocation.sh" "$snes"
 }
@@ -197,7 +213,7 @@ for part in "${parts[@]}"; do
   started=$(date +%s) items=0 noted=0 bad=0 only=
   [[ $part != *:* ]] || { only=${part#*:} && part=${part%%:*}; }
   case $part in
-    edits | allocations | soak | rows | workers | bodies) $part ;;
+    edits | edges | allocations | soak | rows | workers | bodies) $part ;;
     device) item all now device ;;
     *) echo "no part of this name: $part" ;;
   esac

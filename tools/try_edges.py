@@ -6,7 +6,7 @@
 
 Without options it tries what is built here: crates/snes_run/out/snes_run and so on (./snes demo 7 --frames 0, ./look
 --help, ./trace --help and tools/run_built.sh spc_of_job spc_of_job build them). --tree names another checkout whose
-scripts are tried in the place of those here; --only tries the cases whose name has the word, --list prints the names. docs/use/EDGES.md says what each group is for, and what each fault did before.
+scripts are tried in the place of those here; --only tries the cases whose name has the word, --list prints the names. docs/proof/EDGES.md says what each group is for, and what each fault did before.
 
 Each case brings one fault about and asserts the exit status, the text on standard output, and the bytes of each output:
 a prefix of the right bytes, or all of them, or what the file held before, as docs/use/COMMANDS.md says of the answer. The
