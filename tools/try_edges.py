@@ -28,7 +28,7 @@ The groups, each a file of tools/edges:
     descriptors  0, 1 and 2 closed, in each combination, of `snes`, `look`, `scene` and `trace`
     companions   what `scene`, `trace`, `look` and `spc_of_job` say, and their statuses
     wrappers     ./snes on a terminal that gets signals; a built tree that was copied; two first builds at once; a first
-                 build that is interrupted; the line of README for many cartridges
+                 build that is interrupted; the line of docs/use/CHECKING.md for many cartridges
     many         tools/many_runs.sh: what is made again, and what its status tells
 
 The wrappers are tried in a small copy of the repository, whose crates have one source each, with a stand-in for `rt`

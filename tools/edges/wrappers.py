@@ -335,11 +335,11 @@ def odd_folder(room):
     room.has("serial", "video", "whole")
 
 
-@case("wrappers: the line of README for many cartridges takes every name")
-def readme(room):
-    text = read(f"{lab.TREE}/README.md").decode()
-    found = re.search(r"^    (find \. .*?\\\n.*?)\n\n", text, re.S | re.M)
-    assert found, "README has no such line"
+@case("wrappers: the line of CHECKING for many cartridges takes every name")
+def line_of_page(room):
+    page = next(it for it in (f"{lab.TREE}/docs/use/CHECKING.md", f"{lab.TREE}/README.md") if os.path.exists(it))
+    found = re.search(r"^    (\S.*\| xargs .*?\./snes serial .*?\\\n.*?)\n\n", read(page).decode(), re.M)
+    assert found, "the page has no such line"
     stage = Stage(room).build()
     folder = room.path("games")
     os.makedirs(folder)
