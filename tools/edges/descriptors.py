@@ -92,14 +92,13 @@ def trace(room):
 def look_cut(room):
     room.run(room.words("serial")).came(0)
     write(room.path("cut"), read(room.path("audio"))[:1001])
-    for combination in range(8):
+    for combination in range(0, 8, 2):
         tail, text = closing(combination)
-        with open(room.path("cut"), "rb") as cut:
-            # Standard input is the sound, and is not closed.
-            end = room.run(["sh", "-c", 'exec "$@"', "sh", room.bench.programs["look"], "wav", "-", "out"],
-                           tail=tail.replace("0>&-", ""), stdin=cut)
+        # Standard input is the sound, by a pipe.
+        end = room.run(["bash", "-c", f'cat cut | "$@" {tail}', "bash", room.bench.programs["look"], "wav", "-", "out"])
         same(f"status without {text}", end.status, 2)
-        assert b"look" not in read(room.path("out")), f"the message is in the WAV, without {text}"
+        got = read(room.path("out"))
+        assert b"look" not in got, f"the message is in the WAV, without {text}: {got[-80:]}"
 
 
 @case("descriptors: spc_of_job without each of them")
