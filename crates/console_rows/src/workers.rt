@@ -165,8 +165,10 @@ fn show_seen<R: Print>(rt: &R, row: &Row, by_two: &SureShelf, seen: Seen) -> io:
         return println!(rt; "no text");
     };
     let ends = if seen.ended { "Ok" } else { "not Ok" };
-    let bytes = if seen.alike {
-        "as serial"
+    let bytes = if row.command == "demo" {
+        "no files"
+    } else if seen.alike {
+        "the bytes of serial"
     } else {
         "other bytes than serial"
     };
