@@ -177,14 +177,11 @@ fn missing_option(form: &Form, pairs: &[Word]) -> Option<&'static str> {
             return Some(option_of_input(*input));
         }
     }
-    let count = form.count?;
-    if !stands_in(pairs, count.option()) {
-        return Some(count.option());
+    if let Some(count) = form.count {
+        if !stands_in(pairs, count.option()) {
+            return Some(count.option());
+        }
     }
-    missing_output(form, pairs)
-}
-
-fn missing_output(form: &Form, pairs: &[Word]) -> Option<&'static str> {
     for out in form.outputs {
         if !stands_in(pairs, option_of_output(*out)) {
             return Some(option_of_output(*out));

@@ -9,7 +9,7 @@
 mod messages;
 
 use job_player::Console;
-use messages::{say_why, say_why_no_words};
+use messages::{say_why, say_why_no_text};
 use port_wire::OpenGate;
 use run_io::{Argv, FileShelf};
 use snes_defs::NoMemory;
@@ -18,32 +18,36 @@ use standard_streams::hold_standard_streams;
 use std::process::ExitCode;
 use std::{env, io};
 
-/// The words after the program's own name. Words that are no text are no words of a form: none is handed on.
-fn words_of(rt: &HostRuntime) -> Result<Argv, NoMemory> {
+/// The words after the program's own name, or nothing where one of them is no text.
+fn words_of(rt: &HostRuntime) -> Result<Option<Argv>, NoMemory> {
     let alloc = rt.alloc();
     let args = match env::args(rt) {
         Ok(args) => args,
         Err(error) if error.kind() == io::ErrorKind::OutOfMemory => return Err(NoMemory),
-        Err(_) => {
-            let _ = say_why_no_words(rt);
-            return Ok(Argv::new(alloc));
-        }
+        Err(_) => return Ok(None),
     };
     let Ok(given) = args.skip(1).collect::<Vec<String>>(alloc) else {
         return Err(NoMemory);
     };
-    Argv::of(alloc, given.as_slice())
+    let words = Argv::of(alloc, given.as_slice())?;
+    Ok(Some(words))
 }
 
-/// Hands the words to `snes`, and says on standard error what its line leaves out.
+/// Hands the words to `snes`, and says on standard error what its line leaves out. Words that are no text are no words
+/// of a form: none is handed on.
 fn main(rt: HostRuntime) -> ExitCode {
     let _streams = hold_standard_streams(&rt);
-    let words = match words_of(&rt) {
-        Ok(words) => words,
-        Err(NoMemory) => return ExitCode::from(Status::NoMemory.exit()),
+    let Ok(given) = words_of(&rt) else {
+        return ExitCode::from(Status::NoMemory.exit());
     };
+    let is_text = given.is_some();
+    let words = given.unwrap_or(Argv::new(rt.alloc()));
     let mut shelf = FileShelf::new(&rt);
     let status = snes::<Console, _, _>(&rt, &words, &mut shelf, &OpenGate);
-    let _ = say_why(&rt, &words, status, shelf.first_fault());
+    let _ = if is_text {
+        say_why(&rt, &words, status, shelf.first_fault())
+    } else {
+        say_why_no_text(&rt)
+    };
     ExitCode::from(status.exit())
 }

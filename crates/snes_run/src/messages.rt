@@ -21,7 +21,7 @@ fn tell_mistake(rt: &HostRuntime, mistake: &Mistake<'_>) -> io::Result<()> {
 }
 
 /// Says that the words are no text.
-pub fn say_why_no_words(rt: &HostRuntime) -> io::Result<()> {
+pub fn say_why_no_text(rt: &HostRuntime) -> io::Result<()> {
     eprintln!(rt; "snes: an argument is not UTF-8")
 }
 
