@@ -144,7 +144,7 @@ impl Row {
             _ => return None,
         };
         let frames = words.next()?.parse::<u32>().ok()?;
-        let wanted = wanted(rt.alloc(), frames, all, words.clone())?;
+        let wanted = wanted(rt.alloc(), frames, all, words.clone().ok()?)?;
         let job = job_of(rt.alloc(), self, frames)?;
         Some((film_of(rt, &job, by, wanted)?, words))
     }
