@@ -9,6 +9,7 @@
 #                  lead somewhere, and a planted dead one is named (check_pages.sh, try_check_pages.sh); listings give the bytes
 #                  in the sources (check_listings.py), the formula the table's numbers (make_table.py)
 #     device       full devices and names that can't be made, by the built program
+#     ends         what ./trace says of machines that go nowhere (try_trace_ends.sh)
 #     edges        the cases of try_edges.py by the built programs; 10,000 hostile inputs and command lines (try_hostile.py);
 #                  each fault of tools/edges is told (try_edge_faults.sh)
 #     allocations  each request for memory is refused once (refuse_each_allocation.sh)
@@ -38,7 +39,7 @@ watched=${CONSOLE_ROWS:-$top/crates/console_rows/out/console_rows}
 commit=$(git -C "$top" rev-parse --short HEAD) || exit 2
 read -r kit _ < <(rt version) || exit 2
 parts=("$@")
-[ $# -gt 0 ] || parts=(edits device edges allocations soak rows workers bodies)
+[ $# -gt 0 ] || parts=(edits device ends edges allocations soak rows workers bodies)
 
 # A full device, a device that takes everything, a name that can't be made: what the program says and its status.
 device() {
@@ -216,6 +217,7 @@ for part in "${parts[@]}"; do
   case $part in
     edits | edges | allocations | soak | rows | workers | bodies) $part ;;
     device) item all now device ;;
+    ends) item all now "$top/tools/try_trace_ends.sh" ;;
     *) echo "no part of this name: $part" ;;
   esac
   [ $bad = 0 ] && [ $items -gt 0 ] && hold=$((hold + 1))

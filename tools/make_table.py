@@ -4,7 +4,7 @@
     tools/make_table.py           compares the 512 numbers with those in code and definition
     tools/make_table.py --write   writes them there (rt fmt then lays the code out)
 
-It reckons with 60 digits, and prints how near a number comes to where rounding would go the other way. The status is 1
+It reckons with 70 digits, and prints how near a number comes to where rounding would go the other way. The status is 1
 where a number differs, or where the numbers' sum is not the one below.
 """
 import hashlib

@@ -2,7 +2,8 @@
 //!
 //! `trace --help` says what it takes. It makes the steps of the serial console (`serial_console`) one after another,
 //! the console's and the sound side's machine being those of `snes`, and looks at each before it is made, by what the
-//! machines lend. So what is told is what `snes serial` does. `docs/use/TRACE.md` says what a line says.
+//! machines lend. So what is told is what `snes serial` does. `docs/use/TRACE.md` says what a line says. Where a processor has
+//! stopped for good, or the sound side waits in its boot ROM, standard error says so at the end.
 //!
 //! The status is 0 where the trace was written, 1 where there are breakpoints and none was hit, and 2 where something
 //! could not be read or written or is refused, or where the command line is at fault.
@@ -11,6 +12,7 @@
 mod breaks;
 mod comma;
 mod digits;
+mod ends;
 mod inputs;
 mod looks;
 mod mnemonics;
@@ -28,6 +30,7 @@ mod words;
 use anyhow::{Context, Result, bail};
 use clap::ArgMatches;
 use clock_ratio::end_stamp_in;
+use ends::tell_ends;
 use inputs::{Names, job_of};
 use pair::Pair;
 use snes_defs::{Job, MOST_FRAMES, Region, Side};
@@ -127,7 +130,7 @@ fn job_in<R: Files + Print>(rt: &R, alloc: Global, words: &ArgMatches<'_>) -> Re
 }
 
 /// Does what the words ask for, and gives the status.
-fn obey<R: Files + Print + AllocGlobal>(rt: &R, words: &ArgMatches<'_>) -> Result<u8> {
+fn obey<R: Files + Print + Eprint + AllocGlobal>(rt: &R, words: &ArgMatches<'_>) -> Result<u8> {
     let alloc = rt.alloc();
     let stamps = stamps_of(words)?;
     let job = job_in(rt, alloc, words)?;
@@ -148,6 +151,7 @@ fn obey<R: Files + Print + AllocGlobal>(rt: &R, words: &ArgMatches<'_>) -> Resul
     pair.settle(alloc, wanted.breaks.as_mut_slice())?;
     let mut out = BufWriter::new(alloc, io::writer(rt))?;
     let told = write_trace(alloc, &mut pair, &wanted, &mut out)?;
+    tell_ends(rt, &pair)?;
     Ok(if told.is_hit { 0 } else { NO_HIT })
 }
 

@@ -68,6 +68,16 @@ impl Pair {
         settle_breaks(alloc, console.bus(), breaks)
     }
 
+    /// The machines, to look at.
+    pub fn machines(&self) -> (&ConsoleSide, &AudioSide) {
+        self.serial.machines()
+    }
+
+    /// The bytes that go to the sound side, then those that go to the console, each by its port.
+    pub fn ports(&self) -> ([u8; 4], [u8; 4]) {
+        self.serial.ports()
+    }
+
     /// Whether both machines stand at a stamp or behind it.
     pub fn is_past(&self, end: u64) -> bool {
         self.serial.finished(end)

@@ -23,13 +23,39 @@ const USUAL: Manner = Manner {
     pace: 4,
 };
 
-/// What a row sends, and where the program begins that it asks for.
+/// What a row sends, how, and where the program begins that it asks for.
 #[derive(Clone, Copy)]
 struct Upload {
+    title: &'static str,
     blocks: &'static [Block],
     /// How much more than the last index the next order's byte is.
     further: u8,
     start: u16,
+    manner: Manner,
+}
+
+impl Upload {
+    /// What is sent as usual.
+    fn usual(title: &'static str, blocks: &'static [Block], start: u16) -> Upload {
+        Upload {
+            title,
+            blocks,
+            further: 2,
+            start,
+            manner: USUAL,
+        }
+    }
+
+    /// Four blocks, and a start in the second.
+    fn several(title: &'static str, further: u8, manner: Manner) -> Upload {
+        Upload {
+            title,
+            blocks: &SEVERAL,
+            further,
+            start: 0x0301,
+            manner,
+        }
+    }
 }
 
 static NONE: [Block; 0] = [];
@@ -40,19 +66,19 @@ static ONE_BYTE: [Block; 1] = [Block {
     fill: Fill::From(0x5a),
 }];
 
-static A_PAGE_LESS_ONE: [Block; 1] = [Block {
+static PAGE_LESS_ONE: [Block; 1] = [Block {
     at: 0x02f0,
     size: 255,
     fill: Fill::From(0x11),
 }];
 
-static A_PAGE: [Block; 1] = [Block {
+static PAGE: [Block; 1] = [Block {
     at: 0x02f0,
     size: 256,
     fill: Fill::From(0x11),
 }];
 
-static A_PAGE_AND_ONE: [Block; 1] = [Block {
+static PAGE_AND_ONE: [Block; 1] = [Block {
     at: 0x02f0,
     size: 257,
     fill: Fill::From(0x11),
@@ -209,18 +235,12 @@ fn start(alloc: Global) -> io::Result<Option<AudioSide>> {
 }
 
 /// A row: an upload from reset on.
-fn row(
-    rt: &impl Print,
-    alloc: Global,
-    title: &str,
-    upload: &Upload,
-    manner: Manner,
-) -> io::Result<()> {
-    println!(rt; "{title}")?;
+fn row(rt: &impl Print, alloc: Global, upload: &Upload) -> io::Result<()> {
+    println!(rt; "{}", upload.title)?;
     let Some(mut side) = start(alloc)? else {
         return println!(rt; "no memory");
     };
-    let mut sender = Sender::new(manner);
+    let mut sender = Sender::new(upload.manner);
     let wanted = wanted(alloc, upload.blocks)?;
     match send(&mut side, &mut sender, upload) {
         Err(missing) => show_missing(rt, &missing),
@@ -235,16 +255,8 @@ fn begin_again(rt: &impl Print, alloc: Global) -> io::Result<()> {
         return println!(rt; "no memory");
     };
     let mut sender = Sender::new(USUAL);
-    let first = Upload {
-        blocks: &DIRTY_PROGRAM,
-        further: 2,
-        start: 0x0300,
-    };
-    let again = Upload {
-        blocks: &ONE_BYTE,
-        further: 2,
-        start: 0x0200,
-    };
+    let first = Upload::usual("", &DIRTY_PROGRAM, 0x0300);
+    let again = Upload::usual("", &ONE_BYTE, 0x0200);
     if let Err(missing) = send(&mut side, &mut sender, &first) {
         return show_missing(rt, &missing);
     }
@@ -277,75 +289,30 @@ fn offer_alone(rt: &impl Print, alloc: Global) -> io::Result<()> {
 /// All rows.
 pub fn show(rt: &impl Print, alloc: Global) -> io::Result<()> {
     offer_alone(rt, alloc)?;
-    let of = |blocks, further, start| Upload {
-        blocks,
-        further,
-        start,
-    };
-    row(rt, alloc, "a jump alone", &of(&NONE, 2, 0x0400), USUAL)?;
-    row(
-        rt,
-        alloc,
-        "a block of 1 byte",
-        &of(&ONE_BYTE, 2, 0x0200),
-        USUAL,
-    )?;
-    row(
-        rt,
-        alloc,
-        "a block of 255 bytes, over a page's end",
-        &of(&A_PAGE_LESS_ONE, 2, 0x02f0),
-        USUAL,
-    )?;
-    row(
-        rt,
-        alloc,
-        "a block of 256 bytes",
-        &of(&A_PAGE, 2, 0x02f0),
-        USUAL,
-    )?;
-    row(
-        rt,
-        alloc,
-        "a block of 257 bytes",
-        &of(&A_PAGE_AND_ONE, 2, 0x02f0),
-        USUAL,
-    )?;
-    row(
-        rt,
-        alloc,
-        "a block of 60,000 bytes",
-        &of(&LONG, 2, 0x1234),
-        USUAL,
-    )?;
-    row(
-        rt,
-        alloc,
-        "several blocks, the last over the first",
-        &of(&SEVERAL, 4, 0x0301),
-        USUAL,
-    )?;
     let words = Manner {
         by_words: true,
         pace: 3,
     };
-    row(
-        rt,
-        alloc,
-        "the same by words",
-        &of(&SEVERAL, 3, 0x0301),
-        words,
-    )?;
     let slow = Manner {
         by_words: false,
         pace: 90,
     };
-    row(
-        rt,
-        alloc,
-        "the same slowly",
-        &of(&SEVERAL, 0x7f, 0x0301),
-        slow,
-    )?;
+    for upload in [
+        Upload::usual("a jump alone", &NONE, 0x0400),
+        Upload::usual("a block of 1 byte", &ONE_BYTE, 0x0200),
+        Upload::usual(
+            "a block of 255 bytes, over a page's end",
+            &PAGE_LESS_ONE,
+            0x02f0,
+        ),
+        Upload::usual("a block of 256 bytes", &PAGE, 0x02f0),
+        Upload::usual("a block of 257 bytes", &PAGE_AND_ONE, 0x02f0),
+        Upload::usual("a block of 60,000 bytes", &LONG, 0x1234),
+        Upload::several("several blocks, the last over the first", 4, USUAL),
+        Upload::several("the same by words", 3, words),
+        Upload::several("the same slowly", 0x7f, slow),
+    ] {
+        row(rt, alloc, &upload)?;
+    }
     begin_again(rt, alloc)
 }
