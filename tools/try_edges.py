@@ -26,6 +26,7 @@ The groups, each a file of tools/edges:
                  UTF-8; two names for one file: by ./, a hard link, a symbolic link, and an output that is an input
     words        command lines with more words than any form has, and with one word too few
     descriptors  0, 1 and 2 closed, in each combination, of `snes`, `look`, `scene` and `trace`
+    messages     what standard error says of words, inputs and outputs; --help and --version
     companions   what `scene`, `trace`, `look` and `spc_of_job` say, and their statuses
     wrappers     ./snes on a terminal that gets signals; a built tree that was copied; two first builds at once; a first
                  build that is interrupted; the line of docs/use/CHECKING.md for many cartridges
@@ -50,7 +51,7 @@ import time
 sys.path.insert(0, os.path.join(os.path.dirname(os.path.realpath(__file__)), "edges"))
 
 import lab  # noqa: E402
-import companions, descriptors, many, names, readers, signals, words, wrappers, writing  # noqa: E401,E402,F401
+import companions, descriptors, many, messages, names, readers, signals, words, wrappers, writing  # noqa: E401,E402,F401
 
 
 def tried(bench, name, function):

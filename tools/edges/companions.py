@@ -19,7 +19,7 @@ def scene(room):
     room.run(room.nobody([program, "shut"])).came(4, b"", b"cannot write shut/scene.sfc")
     room.run(room.nobody([program, "shut/below"])).came(4, b"", b"cannot write shut/below")
     room.run([program, "out"], tail=">/dev/full").came(4, b"", b"cannot write standard output")
-    room.run([program, "out", "more"]).came(1, b"", b"scene FOLDER")
+    room.run([program, "out", "more"]).came(1, b"", b"FOLDER: writes")
     room.run([program, b"\xff"]).came(1, b"")
     os.chmod(room.path("shut"), 0o755)
 

@@ -1,5 +1,6 @@
 """Faults of writing in the middle of an output, of every output of every command."""
 import os
+import shutil
 
 from lab import COMMANDS, SAMPLES, case, read, same
 
@@ -96,6 +97,6 @@ def companions_on_device(room):
         end.came(status, None, said)
         if right is not None:
             assert right.startswith(read(kept)), "the picture is no prefix"
-        os.rmdir(room.path("device"))
+        shutil.rmtree(room.path("device"))
     end, _ = on_small_device(room, [programs["scene"], "device"], 4)
     end.came(4, b"", b"cannot write device/scene.sfc")
