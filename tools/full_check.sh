@@ -7,7 +7,8 @@
 #
 #     edits        each wrong change can be made (check_edits.sh); crates.txt names what is used (check_crates.sh); links of pages
 #                  lead somewhere, and a planted dead one is named (check_pages.sh, try_check_pages.sh); listings give the bytes
-#                  in the sources (check_listings.py), the formula the table's numbers (make_table.py)
+#                  in the sources (check_listings.py), the formula the table's numbers (make_table.py), ca65 the pinned
+#                  cartridges of examples/, if it is there (build_examples.sh)
 #     device       full devices and names that can't be made, by the built program
 #     ends         what ./trace says of machines that go nowhere (try_trace_ends.sh)
 #     edges        the cases of try_edges.py by the built programs; 10,000 hostile inputs and command lines (try_hostile.py);
@@ -126,6 +127,7 @@ edits() {
   item pages now "$top/tools/try_check_pages.sh"
   item listings now "$top/tools/check_listings.py"
   item table now "$top/tools/make_table.py"
+  ! command -v ca65 >/dev/null || item examples now "$top/tools/build_examples.sh"
 }
 
 # The programs and scripts that the cases are tried with.

@@ -27,22 +27,6 @@ waves:    .res 10                       ; HDMA: how the hills and the ground scr
 
 .segment "CODE"
 
-; Channel 0: way of the bytes, register of page 21, where from, how many (0: 65,536). A of 8 bits.
-.macro dma pattern, register, from, count
-        lda     #pattern
-        sta     DMAP0
-        lda     #<register
-        sta     BBAD0
-        ldx     #.loword(from)
-        stx     A1T0L
-        lda     #^(from)
-        sta     A1B0
-        ldx     #count
-        stx     DAS0L
-        lda     #1
-        sta     MDMAEN
-.endmacro
-
 reset:  sei
         clc
         xce

@@ -23,23 +23,6 @@ FACES   = $2000                         ; the tiles of the objects
 oam:    .res 544                        ; what goes to OAM: 128 objects of 4 bytes, then two bits for each
 row:    .res 64                         ; what goes to a row of the map
 
-; Aims channel 0 and starts it: way of the bytes, register of page 21, where from, how many (0: 65,536).
-; The processor stands still until the last byte has been moved.
-.macro dma pattern, register, from, count
-        lda     #pattern
-        sta     DMAP0
-        lda     #<register
-        sta     BBAD0
-        ldx     #.loword(from)
-        stx     A1T0L
-        lda     #^(from)
-        sta     A1B0
-        ldx     #count
-        stx     DAS0L
-        lda     #1
-        sta     MDMAEN
-.endmacro
-
 .segment "CODE"
 .a8
 .i16
