@@ -6,7 +6,7 @@ is taken with its bytes, which are those that its opcode line and the fetches be
 a branch, its address. ca65 (Debian's package cc65) assembles the text. So mnemonics, operands, widths and the targets
 of branches are checked for every opcode that is reached, which is all but STP.
 
-    tools/assemble_trace.py [PROGRAM]
+    tools/compare/assemble_trace.py [PROGRAM]
 
 ca65 writes the operands of BRK, COP and WDM without #, takes the banks of MVN and MVP from addresses of 24 bits, and
 wants a: and f: before addresses of two and three bytes, so these are written so. The status is 0 where all are alike,
@@ -14,13 +14,13 @@ but for instructions that overwrite their own last byte before they fetch it, wh
 """
 import csv, importlib.util, io, os, re, subprocess, sys, tempfile
 
-TOP = os.path.join(os.path.dirname(os.path.abspath(__file__)), "..")
+TOP = os.path.join(os.path.dirname(os.path.abspath(__file__)), "..", "..")
 BRANCHES = {0x10, 0x30, 0x50, 0x70, 0x90, 0xB0, 0xD0, 0xF0, 0x80, 0x82, 0x62}
 
 
 def jobs():
-    """The jobs of console_vectors, read as tools/compare_trace.py reads them."""
-    spec = importlib.util.spec_from_file_location("compare_trace", f"{TOP}/tools/compare_trace.py")
+    """The jobs of console_vectors, read as tools/compare/compare_trace.py reads them."""
+    spec = importlib.util.spec_from_file_location("compare_trace", f"{TOP}/tools/compare/compare_trace.py")
     module = importlib.util.module_from_spec(spec)
     spec.loader.exec_module(module)
     return module.jobs(f"{TOP}/crates/console_vectors/data/console.txt")

@@ -6,13 +6,13 @@ each side, which two other programs agreed on (the file's form stands in crates/
 job is traced as CSV, the records of its steps are made of the lines, and their hashes compared. So times, kinds,
 addresses, registers of transfers and bytes of some 320,000 lines are checked; instructions and registers are not.
 
-    tools/compare_trace.py [PROGRAM [CASES]]
+    tools/compare/compare_trace.py [PROGRAM [CASES]]
 
 The status is 0 where all are alike.
 """
 import collections, os, struct, subprocess, sys, tempfile
 
-TOP = os.path.join(os.path.dirname(os.path.abspath(__file__)), "..")
+TOP = os.path.join(os.path.dirname(os.path.abspath(__file__)), "..", "..")
 LETTERS = {"opcode": "F", "fetch": "F", "read": "R", "write": "W", "internal": "I", "reset": "z", "refresh": "r"}
 TRANSFERS = {("HDMA", "table"): "l", ("HDMA", "to"): "b", ("DMA", "to"): "B", ("DMA", "from"): "A"}
 

@@ -2,12 +2,12 @@
 # Tries the console as a library (docs/use/EMBEDDING.md): builds embed/frame.c and a shared object with the library, plays the
 # scene by both and by `snes serial`, compares the bytes by their sums, and tries each refusal.
 #
-#     tools/try_embedding.sh [FRAMES]
+#     tools/compare/try_embedding.sh [FRAMES]
 #
 # FRAMES is 60 if left out. The library is proved and built first where it is missing (`rt lib`). Needs a C compiler and
 # python3. SNES and SCENE may name built programs in place of ./snes and ./scene. Says each check, and ends with status 1
 # where one failed.
-top=$(cd "$(dirname "${BASH_SOURCE[0]}")/.." && pwd) || exit 1
+top=$(cd "$(dirname "${BASH_SOURCE[0]}")/../.." && pwd) || exit 1
 frames=${1:-60}
 snes=${SNES:-$top/snes}
 scene=${SCENE:-$top/scene}

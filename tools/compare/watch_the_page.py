@@ -1,7 +1,7 @@
 #!/usr/bin/env python3
-"""Tries web/index.html in a headless Chromium of Debian's packages, and compares its films with those of `snes serial`.
+"""Tries web/emulator/index.html in a headless Chromium of Debian's packages, and compares its films with those of `snes serial`.
 
-    tools/watch_the_page.py SHOTS [CHROMIUM]
+    tools/compare/watch_the_page.py SHOTS [CHROMIUM]
 
 tools/build_page.sh has to be run before. The sum that the page shows of 300 frames of the scene has to be that of
 `snes serial`; so too after keys were pressed, by the script that the page took down. SHOTS is where screenshots go. SNES
@@ -19,7 +19,7 @@ import zlib
 
 from watch_the_viewer import FRAME, Browser, Checks
 
-TOP = os.path.join(os.path.dirname(os.path.abspath(__file__)), '..')
+TOP = os.path.join(os.path.dirname(os.path.abspath(__file__)), '..', '..')
 SNES = os.environ.get('SNES', os.path.join(TOP, 'snes'))
 SCENE = os.environ.get('SCENE', os.path.join(TOP, 'scene'))
 
@@ -154,7 +154,7 @@ def main():
             for domain in ('Page', 'Runtime', 'Log', 'Network'):
                 browser.do(domain + '.enable')
             browser.do('Emulation.setDeviceMetricsOverride', width=1240, height=880, deviceScaleFactor=1, mobile=False)
-            browser.do('Page.navigate', url='file://' + os.path.realpath(os.path.join(TOP, 'web', 'index.html')))
+            browser.do('Page.navigate', url='file://' + os.path.realpath(os.path.join(TOP, 'web', 'emulator', 'index.html')))
             checks.same('the page is there', browser.until("document.readyState === 'complete' && typeof making === 'boolean'"), True)
             try_page(browser, folder, shots, checks)
             checks.same('errors on the console', browser.errors, [])

@@ -1,9 +1,9 @@
 #!/usr/bin/env python3
-"""Tries viewer/index.html in a headless Chromium of Debian's packages, and takes screenshots to look at.
+"""Tries web/viewer/index.html in a headless Chromium of Debian's packages, and takes screenshots to look at.
 
-    tools/watch_the_viewer.py FILMS SHOTS [CHROMIUM]
+    tools/compare/watch_the_viewer.py FILMS SHOTS [CHROMIUM]
 
-FILMS is a folder with the films that tools/open_what_look_writes.sh makes in the folder that it is given. The files are
+FILMS is a folder with the films that tools/compare/open_what_look_writes.sh makes in the folder that it is given. The files are
 dropped on the page as a user drops them. Each frame that is checked is read from the film by this program and compared
 with the dots of the page. SHOTS is where the screenshots go. An error on the page's console fails it, and so does any
 request that is not for a local file. The status is 1 where a check failed.
@@ -224,7 +224,7 @@ def main():
     films, shots = sys.argv[1:3]
     program = sys.argv[3] if len(sys.argv) > 3 else 'chromium'
     os.makedirs(shots, exist_ok=True)
-    page = os.path.join(os.path.dirname(os.path.abspath(__file__)), '..', 'viewer', 'index.html')
+    page = os.path.join(os.path.dirname(os.path.abspath(__file__)), '..', '..', 'web', 'viewer', 'index.html')
     checks = Checks()
     with tempfile.TemporaryDirectory() as folder:
         browser = Browser(program, folder)

@@ -1,13 +1,13 @@
 #!/usr/bin/env bash
 # Counts the threads that the built program starts, as a user runs it, with no gate that counts.
 #
-#   tools/count_threads.sh [PROGRAM]
+#   tools/evidence/count_threads.sh [PROGRAM]
 #
 # PROGRAM is crates/snes_run/out/snes_run, where none is named. A small library stands before the system's pthread_create and
 # counts its calls (cc, LD_PRELOAD). Ten frames of the cartridge of `make 7` are run by `serial`, `run`, `lockless` and `demo`.
 # Each of their turns starts one thread, and a frame has four turns at least. So `serial` has to start none, and each of the
 # others forty or more. The bytes of `run` and `lockless` have to be those of `serial`. The status is 1 where that is not so.
-top=$(cd "$(dirname "$(readlink -f "${BASH_SOURCE[0]}")")/.." && pwd) || exit 2
+top=$(cd "$(dirname "$(readlink -f "${BASH_SOURCE[0]}")")/../.." && pwd) || exit 2
 program=${1:-$top/crates/snes_run/out/snes_run}
 [ -x "$program" ] || { echo "no program: $program" >&2; exit 2; }
 program=$(readlink -f "$program")

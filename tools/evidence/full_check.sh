@@ -1,7 +1,7 @@
 #!/usr/bin/env bash
 # Runs everything that is no part of the gate, and ends with one line: `full check: N of M parts hold`.
 #
-#     tools/full_check.sh [PART | PART:ITEM ..]
+#     tools/evidence/full_check.sh [PART | PART:ITEM ..]
 #
 # Its parts, the cheap ones first, and the items of each:
 #
@@ -12,14 +12,14 @@
 #     device       full devices and names that can't be made, by the built program
 #     ends         what ./trace says of machines that go nowhere (try_trace_ends.sh)
 #     edges        the cases of try_edges.py by the built programs; 10,000 hostile inputs and command lines (try_hostile.py);
-#                  each fault of tools/edges is told (try_edge_faults.sh)
+#                  each fault of tools/evidence/edges is told (try_edge_faults.sh)
 #     allocations  each request for memory is refused once (refuse_each_allocation.sh)
 #     soak         SOAK jobs (1000) by two workers, 50 an item (soak.sh)
 #     rows         the rows of the console without a fault, and each planted fault (try_row_faults.sh)
 #     workers      the bodies that make a run by one worker (try_one_worker.sh)
 #     bodies       the wrong bodies of each crate (try_wrong_bodies.sh), each refused where that counts (refused_at.py)
 #
-# It can be ended at any time and called again. What held is noted in tools/full_check.held (HELD names another file), a line
+# It can be ended at any time and called again. What held is noted in records/full_check.held (HELD names another file), a line
 # an item: a sum of all that the item rests on (sources, edits, scripts, built programs, the toolchain's logic), part, item,
 # date, commit, kit. An item whose sum stands there is not tried again, at this commit or a later one, here or on another
 # machine: so the file is committed after a run. Of the toolchain the sum has what `rt version` says behind `logic`, a sum
@@ -30,9 +30,9 @@
 # CRATE for spc_of_job, wild_jobs and console_rows), a C compiler, and some three hours of four processors, of which the wrong bodies take nearly all.
 # TREE, a clone of this repository that it may keep its proofs in, spares proofs of crates below. It
 # checks what is committed. The status is 1 where a part doesn't hold.
-top=$(cd "$(dirname "${BASH_SOURCE[0]}")/.." && pwd) || exit 2
+top=$(cd "$(dirname "${BASH_SOURCE[0]}")/../.." && pwd) || exit 2
 checked=${CHECKED:-/tmp/snes-full-check}
-held=${HELD:-$top/tools/full_check.held}
+held=${HELD:-$top/records/full_check.held}
 mkdir -p "$checked" && touch "$held" || exit 2
 export snes=${SNES:-$top/crates/snes_run/out/snes_run}
 jobs=${WILD_JOBS:-$top/crates/wild_jobs/out/wild_jobs}
@@ -76,7 +76,7 @@ sum_of() {
 }
 
 # What the check of a crate rests on: the committed sources of it and of all below, and the toolchain's logic.
-sources_of() { "$top/tools/proof_sources.py" "$1"; }
+sources_of() { "$top/tools/evidence/proof_sources.py" "$1"; }
 
 # What is committed in a file or folder.
 committed() { git -C "$top" rev-parse "HEAD:$1"; }
@@ -122,10 +122,10 @@ item() {
 
 # These take some seconds and are tried each time.
 edits() {
-  item edits now "$top/tools/check_edits.sh"
-  item crates now "$top/tools/check_crates.sh"
-  item pages now "$top/tools/try_check_pages.sh"
-  item listings now "$top/tools/check_listings.py"
+  item edits now "$top/tools/gate/check_edits.sh"
+  item crates now "$top/tools/gate/check_crates.sh"
+  item pages now "$top/tools/evidence/try_check_pages.sh"
+  item listings now "$top/tools/gate/check_listings.py"
   item table now "$top/tools/make_table.py"
   ! command -v ca65 >/dev/null || item examples now "$top/tools/build_examples.sh"
 }
@@ -134,24 +134,24 @@ edits() {
 edges() {
   local fault name programs=()
   for name in snes_run frame_look scene_cart snes_trace spc_of_job; do programs+=("$top/crates/$name/out/$name"); done
-  local scripts=("$top"/tools/edges/*.py "$top"/{snes,look,scene,trace,docs/use/CHECKING.md} "$top"/tools/{run_built.sh,lines_below.sh,many_runs.sh,many_runs.sbatch})
-  item cases "$(sum_of "$snes" "${programs[@]}" "${scripts[@]}" "$top/tools/try_edges.py")" "$top/tools/try_edges.py" --snes "$snes"
-  item hostile "$(sum_of "$snes" "$top"/tools/edges/{oracle,lab}.py "$top/tools/try_hostile.py")" "$top/tools/try_hostile.py" --snes "$snes"
-  for fault in "$top"/tools/edges/*.edit; do
+  local scripts=("$top"/tools/evidence/edges/*.py "$top"/{snes,look,scene,trace,docs/use/CHECKING.md} "$top"/tools/{run_built.sh,lines_below.sh,many_runs.sh,many_runs.sbatch})
+  item cases "$(sum_of "$snes" "${programs[@]}" "${scripts[@]}" "$top/tools/evidence/try_edges.py")" "$top/tools/evidence/try_edges.py" --snes "$snes"
+  item hostile "$(sum_of "$snes" "$top"/tools/evidence/edges/{oracle,lab}.py "$top/tools/evidence/try_hostile.py")" "$top/tools/evidence/try_hostile.py" --snes "$snes"
+  for fault in "$top"/tools/evidence/edges/*.edit; do
     fault=$(basename "$fault" .edit)
-    item "$fault" "$(sum_of "$(sources_of snes_run)" "${programs[@]}" "${scripts[@]}" "$top/tools/try_edges.py" "$(committed "tools/edges/$fault.edit")")" \
-      "$top/tools/try_edge_faults.sh" "$fault"
+    item "$fault" "$(sum_of "$(sources_of snes_run)" "${programs[@]}" "${scripts[@]}" "$top/tools/evidence/try_edges.py" "$(committed "tools/evidence/edges/$fault.edit")")" \
+      "$top/tools/evidence/try_edge_faults.sh" "$fault"
   done
 }
 
 allocations() {
-  item each "$(sum_of "$snes" "$top/tools/refuse_each_allocation.sh")" "$top/tools/refuse_each_allocation.sh" "$snes"
+  item each "$(sum_of "$snes" "$top/tools/evidence/refuse_each_allocation.sh")" "$top/tools/evidence/refuse_each_allocation.sh" "$snes"
 }
 
 soak() {
   local first count=${SOAK:-1000}
   for ((first = 0; first < count; first += 50)); do
-    item "$first" "$(sum_of "$snes" "$jobs" "$watched" "$top/tools/soak.sh" "$first")" "$top/tools/soak.sh" \
+    item "$first" "$(sum_of "$snes" "$jobs" "$watched" "$top/tools/evidence/soak.sh" "$first")" "$top/tools/evidence/soak.sh" \
       $((count - first < 50 ? count - first : 50)) "$first"
   done
 }
@@ -160,14 +160,14 @@ rows() {
   local fault crate below
   local -A rest
   for crate in console_rows sound_rows; do
-    rest[$crate]=$(sum_of "$(sources_of $crate)" "$(committed crates/$crate)" "$(committed tools/try_row_faults.sh)")
+    rest[$crate]=$(sum_of "$(sources_of $crate)" "$(committed crates/$crate)" "$(committed tools/evidence/try_row_faults.sh)")
   done
-  item none "$(sum_of "${rest[console_rows]}" "${rest[sound_rows]}")" "$top/tools/try_row_faults.sh" none
-  for fault in "$top"/tools/row_faults/*.edit; do
+  item none "$(sum_of "${rest[console_rows]}" "${rest[sound_rows]}")" "$top/tools/evidence/try_row_faults.sh" none
+  for fault in "$top"/tools/evidence/row_faults/*.edit; do
     below=${rest[console_rows]}
     ! grep -q '^file: crates/free_files/' "$fault" || below=${rest[sound_rows]}
     fault=$(basename "$fault" .edit)
-    item "$fault" "$(sum_of "$below" "$(committed "tools/row_faults/$fault.edit")")" "$top/tools/try_row_faults.sh" "$fault"
+    item "$fault" "$(sum_of "$below" "$(committed "tools/evidence/row_faults/$fault.edit")")" "$top/tools/evidence/try_row_faults.sh" "$fault"
   done
 }
 
@@ -175,12 +175,12 @@ rows() {
 workers() {
   local body below line left=()
   local -A sums
-  below=$(sum_of "$(sources_of console_rows)" "$(committed crates/console_rows)" "$(committed tools/try_one_worker.sh)" "$(committed tools/count_threads.sh)")
-  for body in "$top"/tools/one_worker/*.edit; do
+  below=$(sum_of "$(sources_of console_rows)" "$(committed crates/console_rows)" "$(committed tools/evidence/try_one_worker.sh)" "$(committed tools/evidence/count_threads.sh)")
+  for body in "$top"/tools/evidence/one_worker/*.edit; do
     body=$(basename "$body" .edit)
     chosen "$body" || continue
     items=$((items + 1))
-    sums[$body]=$(sum_of "$below" "$(committed "tools/one_worker/$body.edit")")
+    sums[$body]=$(sum_of "$below" "$(committed "tools/evidence/one_worker/$body.edit")")
     if grep -q "^${sums[$body]} $part $body " "$held"; then noted=$((noted + 1)); else left+=("$body"); fi
   done
   [ ${#left[@]} -gt 0 ] || return
@@ -192,19 +192,19 @@ workers() {
       note "${sums[$body]}" "$body"
       bad=$((bad - 1))
     fi
-  done < <("$top/tools/try_one_worker.sh" "${left[@]}" 2>&1) >"$checked/workers"
+  done < <("$top/tools/evidence/try_one_worker.sh" "${left[@]}" 2>&1) >"$checked/workers"
   [ $bad = 0 ] || echo "workers: $(tail -n 1 "$checked/workers")"
 }
 
 bodies() {
   local crate
-  for crate in "$top"/tools/wrong_bodies/*/; do
+  for crate in "$top"/tools/evidence/wrong_bodies/*/; do
     crate=$(basename "$crate")
     chosen "$crate" || continue
     # What held before it was kept where each is refused, or is no longer recorded so, is tried again.
-    "$top/tools/refused_at.py" counts "$crate" || forget "$crate"
-    item "$crate" "$(sum_of "$(sources_of "$crate")" "$(committed "tools/wrong_bodies/$crate")")" \
-      "$top/tools/try_wrong_bodies.sh" "$crate"
+    "$top/tools/evidence/refused_at.py" counts "$crate" || forget "$crate"
+    item "$crate" "$(sum_of "$(sources_of "$crate")" "$(committed "tools/evidence/wrong_bodies/$crate")")" \
+      "$top/tools/evidence/try_wrong_bodies.sh" "$crate"
   done
 }
 
@@ -219,7 +219,7 @@ for part in "${parts[@]}"; do
   case $part in
     edits | edges | allocations | soak | rows | workers | bodies) $part ;;
     device) item all now device ;;
-    ends) item all now "$top/tools/try_trace_ends.sh" ;;
+    ends) item all now "$top/tools/evidence/try_trace_ends.sh" ;;
     *) echo "no part of this name: $part" ;;
   esac
   [ $bad = 0 ] && [ $items -gt 0 ] && hold=$((hold + 1))

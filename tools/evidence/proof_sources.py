@@ -1,7 +1,7 @@
 #!/usr/bin/env python3
 """Prints what the check of a crate rests on: the toolchain's logic, and a sum of each committed source of the crate and of all below it.
 
-    tools/proof_sources.py CRATE
+    tools/evidence/proof_sources.py CRATE
 
 Lines that only tell the compiler what to build into its callers (`#[inline]`, `#[inline(always)]`, `#[inline(never)]`) are left
 out of a sum: a check over kept work proves no function anew where one of them changes, so no verdict rests on them.
@@ -13,7 +13,7 @@ import re
 import subprocess
 import sys
 
-TOP = os.path.dirname(os.path.dirname(os.path.realpath(__file__)))
+TOP = os.path.dirname(os.path.dirname(os.path.dirname(os.path.realpath(__file__))))
 INLINING = re.compile(rb"^[ \t]*#\[inline(\((always|never)\))?\]\n", re.M)
 
 

@@ -8,7 +8,7 @@
 # It says how many requests were refused; its status is 1 where an answer was neither, where no request was refused at
 # all (the library was not taken, as by a static program), or where there were more than MOST (5000). Where no memory is found
 # for the words themselves the program says nothing and ends with the same status, 5.
-top=$(cd "$(dirname "${BASH_SOURCE[0]}")/.." && pwd) || exit 1
+top=$(cd "$(dirname "${BASH_SOURCE[0]}")/../.." && pwd) || exit 1
 program=$(realpath "${1:-$top/crates/snes_run/out/snes_run}") || exit 2
 data=$top/crates/snes_run/data
 [ -x "$program" ] || { echo "no program: $program" >&2; exit 2; }

@@ -1,9 +1,9 @@
 #!/usr/bin/env python3
-"""Tells at what the check of a crate refused each wrong body, and keeps it in tools/wrong_bodies/refused_at.tsv.
+"""Tells at what the check of a crate refused each wrong body, and keeps it in tools/evidence/wrong_bodies/refused_at.tsv.
 
-    tools/refused_at.py keep TREE OUTPUT CRATE ..
-    tools/refused_at.py counts CRATE
-    tools/refused_at.py held CRATE
+    tools/evidence/refused_at.py keep TREE OUTPUT CRATE ..
+    tools/evidence/refused_at.py counts CRATE
+    tools/evidence/refused_at.py held CRATE
 
 OUTPUT has what `rt must-fail CRATE ..` said in TREE, a clone with the edits in crates/CRATE/must-fail: of each mutant the first
 thing that the check complains of. Where that says little of the contract, the crate is checked once more with the edit,
@@ -27,7 +27,7 @@ and kinds that say little of the contract, as the fault may not have been looked
 
 A complaint within the written answer of a goal counts as one of that goal. The record has a line for each mutant: crate,
 mutant, kind, file and goal, and a sum of all that the refusal rests on (what proof_sources.py prints of the crate, and the edit).
-A mutant whose kind says little counts where tools/wrong_bodies/says_little.txt names it, or its crate and the place of the
+A mutant whose kind says little counts where tools/evidence/wrong_bodies/says_little.txt names it, or its crate and the place of the
 refusal, with a reason. The status is 1 where one doesn't; `counts` tells it of what the record has of the crate's mutants
 beside the gate. `held` names those that count and whose sum is that of now: they need not be tried again.
 """
@@ -40,9 +40,9 @@ import sys
 
 from proof_sources import sources_of
 
-TOP = os.path.dirname(os.path.dirname(os.path.realpath(__file__)))
-RECORD = f"{TOP}/tools/wrong_bodies/refused_at.tsv"
-EXCUSED = f"{TOP}/tools/wrong_bodies/says_little.txt"
+TOP = os.path.dirname(os.path.dirname(os.path.dirname(os.path.realpath(__file__))))
+RECORD = f"{TOP}/tools/evidence/wrong_bodies/refused_at.tsv"
+EXCUSED = f"{TOP}/tools/evidence/wrong_bodies/says_little.txt"
 # The strongest first.
 KINDS = ["clause", "type", "loop", "premise", "assertion", "safety", "proof", "limit", "unknown"]
 COUNTS = KINDS[:3]
@@ -166,12 +166,12 @@ def recorded(text):
 
 def stands(crate, name):
     """Whether there is a mutant of this name, in the gate or beside it."""
-    return any(os.path.isfile(f"{TOP}/{it}/{name}.edit") for it in (f"tools/wrong_bodies/{crate}", f"crates/{crate}/must-fail"))
+    return any(os.path.isfile(f"{TOP}/{it}/{name}.edit") for it in (f"tools/evidence/wrong_bodies/{crate}", f"crates/{crate}/must-fail"))
 
 
 def sum_of(crate, name):
     """A sum of all that the refusal of a mutant rests on; nothing where there is no such mutant."""
-    for folder in (f"tools/wrong_bodies/{crate}", f"crates/{crate}/must-fail"):
+    for folder in (f"tools/evidence/wrong_bodies/{crate}", f"crates/{crate}/must-fail"):
         path = f"{TOP}/{folder}/{name}.edit"
         if os.path.isfile(path):
             with open(path, encoding="utf-8") as edit:
@@ -239,7 +239,7 @@ def held(crate):
 
 def counts(crate):
     known = {it[1] for it in counting(crate)}
-    names = [it.removesuffix(".edit") for it in os.listdir(f"{TOP}/tools/wrong_bodies/{crate}")]
+    names = [it.removesuffix(".edit") for it in os.listdir(f"{TOP}/tools/evidence/wrong_bodies/{crate}")]
     return all(it in known for it in names)
 
 

@@ -1,7 +1,7 @@
 #!/usr/bin/env bash
 # Runs jobs at random by `serial` and by two workers over either wire, and compares every byte, the line that is said and the exit status.
 #
-# `tools/soak.sh COUNT [FIRST]`: the jobs of the numbers FIRST (0, where it isn't given) to FIRST + COUNT - 1, made by the program of
+# `tools/evidence/soak.sh COUNT [FIRST]`: the jobs of the numbers FIRST (0, where it isn't given) to FIRST + COUNT - 1, made by the program of
 # crates/wild_jobs. Each is run by `serial` once, by `run` and `lockless` on all processors, and by `run` on one, while as many
 # other processes as there are processors keep these busy (none with LOAD=0). Four jobs are under way at once (JOBS=N).
 # `run` and `lockless` are then run once more behind a gate that counts (`console_rows job ..`): every turn has to have two
@@ -14,9 +14,9 @@
 #
 # What it can't show: that the two workers' steps fell between each other in any particular way. It can only try many ways,
 # of which a busy machine makes more than an idle one; that all of them give the bytes of `serial` is the theorem.
-top=$(cd "$(dirname "${BASH_SOURCE[0]}")/.." && pwd) || exit 2
+top=$(cd "$(dirname "${BASH_SOURCE[0]}")/../.." && pwd) || exit 2
 count=${1:-} first=${2:-0}
-[[ $count =~ ^[1-9][0-9]*$ && $first =~ ^[0-9]+$ ]] || { echo "usage: tools/soak.sh COUNT [FIRST]" >&2; exit 2; }
+[[ $count =~ ^[1-9][0-9]*$ && $first =~ ^[0-9]+$ ]] || { echo "usage: tools/evidence/soak.sh COUNT [FIRST]" >&2; exit 2; }
 export snes=${SNES:-$top/crates/snes_run/out/snes_run} jobs=${WILD_JOBS:-$top/crates/wild_jobs/out/wild_jobs}
 export watched=${CONSOLE_ROWS:-$top/crates/console_rows/out/console_rows}
 for program in "$snes" "$jobs" "$watched"; do

@@ -1,7 +1,7 @@
 #!/usr/bin/env python3
 """Tries the built programs at their edges, unattended: files, descriptors, signals, command lines.
 
-    tools/try_edges.py [--snes PROGRAM] [--look PROGRAM] [--scene PROGRAM] [--trace PROGRAM] [--spc PROGRAM]
+    tools/evidence/try_edges.py [--snes PROGRAM] [--look PROGRAM] [--scene PROGRAM] [--trace PROGRAM] [--spc PROGRAM]
                        [--tree FOLDER] [--only WORD] [--list]
 
 Without options it tries what is built here: crates/snes_run/out/snes_run and so on (./snes demo 7 --frames 0, ./look
@@ -14,7 +14,7 @@ right bytes are those of a run of the same program without a fault. A case print
 differed; the last line is `N passed, M failed`, and the status is 1 where M is not 0. Nothing is read from outside, no
 network is needed, and all files lie in a folder of its own below TMPDIR, which is removed.
 
-The groups, each a file of tools/edges:
+The groups, each a file of tools/evidence/edges:
 
     writing      a device that fills up in the middle of a film, a limit of file sizes, a full device: every output of
                  every command. The device is a tmpfs of a few pages in a mount namespace of its own: as root, or else
@@ -38,9 +38,9 @@ second or two.
 
 `NOBODY`: as root, files are read and written by the user 65534 where a case is about permissions, since root may all.
 
-A case is a function of one argument, the lab (tools/edges/lab.py), in a folder of its own. To add one, write it into the
+A case is a function of one argument, the lab (tools/evidence/edges/lab.py), in a folder of its own. To add one, write it into the
 file of its group under `@case("name")`, let it assert, and see it fail on a program that is wrong: those of
-tools/edges/*.edit are kept to that end, and tools/try_edge_faults.sh plants them one at a time.
+tools/evidence/edges/*.edit are kept to that end, and tools/evidence/try_edge_faults.sh plants them one at a time.
 """
 import argparse
 import concurrent.futures

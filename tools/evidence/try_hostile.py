@@ -1,13 +1,13 @@
 #!/usr/bin/env python3
 """Gives the built program hostile inputs and command lines, and compares what it answers with what the pages say.
 
-    tools/try_hostile.py [--snes PROGRAM] [--count N] [--seed N] [--jobs N] [--case N]
+    tools/evidence/try_hostile.py [--snes PROGRAM] [--count N] [--seed N] [--jobs N] [--case N]
 
 N tries (10,000) in order from the seed (1), each a call of `snes` in a folder of its own: a command with words that
 are cut, swapped, doubled, replaced or random, or with a cartridge, boot ROM, table, script, sound file or plan that is cut,
 swapped, flipped, random, empty, oversized, missing, a folder or a device. Runs have 0 to 2 frames or few samples.
 
-What has to come is reckoned by tools/edges/oracle.py, which was written from docs/use/COMMANDS.md and the pages that it
+What has to come is reckoned by tools/evidence/edges/oracle.py, which was written from docs/use/COMMANDS.md and the pages that it
 names. Asserted of each try: it ends within a minute, by no signal; its status and the whole of standard output are
 those of the page; after Usage, LoadFault and Refused everything in the folder is as it was, outputs that were there among
 it; after Ok each output has the length that the line says; after WriteFault no input has changed.

@@ -1,17 +1,17 @@
 #!/usr/bin/env bash
-# Tries the bodies of tools/one_worker/*.edit, one at a time: each makes a run, or some of its turns, in one thread or one leg after
+# Tries the bodies of tools/evidence/one_worker/*.edit, one at a time: each makes a run, or some of its turns, in one thread or one leg after
 # the other. Their bytes are the same, so these bodies meet every contract, and tests have to detect them: the rows `workers` of
 # `console_rows` print something else, or, of a body that has two threads only behind a gate that counts, the built program starts
 # too few threads (count_threads.sh). As the sources stand neither may complain.
 #
-#   tools/try_one_worker.sh [BODY ..]
+#   tools/evidence/try_one_worker.sh [BODY ..]
 #
 # Each body is proved first, in the crates whose sources it changes (`rt check`), so that it is seen that no contract refuses it.
-# Then the programs are built without a proof (tools/unproved/build.sh), one or two minutes each. An edit is as in
+# Then the programs are built without a proof (tools/lab/unproved/build.sh), one or two minutes each. An edit is as in
 # crates/*/must-fail, but that its file is named from the top. Works on what is committed, in a clone of its own; TREE names a
 # clone where crates are proved already, with nothing changed in it, and is left so. PROVE=no leaves the proofs out. The
 # status is 1 where a body is not detected, can't be made, or isn't proved.
-top=$(cd "$(dirname "${BASH_SOURCE[0]}")/.." && pwd) || exit 2
+top=$(cd "$(dirname "${BASH_SOURCE[0]}")/../.." && pwd) || exit 2
 work=$(mktemp -d) || exit 2
 trap 'rm -rf "$work"' EXIT
 tree=${TREE:-$work/snes}
@@ -48,7 +48,7 @@ prove() {
 }
 
 # Builds a program of the tree without a proof.
-build() { "$tree/tools/unproved/build.sh" "$work/$1" "$@" >"$work/built" 2>&1 || { tail -n 3 "$work/built"; return 1; }; }
+build() { "$tree/tools/lab/unproved/build.sh" "$work/$1" "$@" >"$work/built" 2>&1 || { tail -n 3 "$work/built"; return 1; }; }
 
 # What the rows of the workers print. A body that waits for ever at each turn is cut off; what it has printed counts.
 rows() { (cd "$tree/crates/console_rows/data" && timeout 600 "$work/console_rows" workers 2>"$work/counts") >"$work/rows"; }
@@ -58,7 +58,7 @@ detected_by() {
   local body=$1
   if [ "$body" = two_threads_only_behind_a_gate_that_counts ]; then
     build snes_run demo 7 --frames 1 || return 2
-    "$tree/tools/count_threads.sh" "$work/snes_run" >"$work/threads" 2>&1 || grep -m 1 wanted "$work/threads"
+    "$tree/tools/evidence/count_threads.sh" "$work/snes_run" >"$work/threads" 2>&1 || grep -m 1 wanted "$work/threads"
     return 0
   fi
   build console_rows || return 2
@@ -73,9 +73,9 @@ if [ -n "$complaint" ] || ! cmp -s "$work/rows" "$work/wanted"; then
   exit 1
 fi
 bad=0 tried=0
-if [ $# -gt 0 ]; then bodies=("$@"); else mapfile -t bodies < <(ls "$top/tools/one_worker" | sed 's/\.edit$//'); fi
+if [ $# -gt 0 ]; then bodies=("$@"); else mapfile -t bodies < <(ls "$top/tools/evidence/one_worker" | sed 's/\.edit$//'); fi
 for body in "${bodies[@]}"; do
-  edit=$top/tools/one_worker/$body.edit
+  edit=$top/tools/evidence/one_worker/$body.edit
   tried=$((tried + 1))
   if ! make_body "$edit"; then
     echo "$body: can't be made" && bad=$((bad + 1))

@@ -1,5 +1,5 @@
 #!/usr/bin/env bash
-# Plants each fault of tools/row_faults/*.edit in the code, one at a time, and runs rows, which have to tell it: their output has to
+# Plants each fault of tools/evidence/row_faults/*.edit in the code, one at a time, and runs rows, which have to tell it: their output has to
 # differ from that in the `stdout` of their crate. With no fault planted it has to be that. A fault of crates/free_files is
 # met by the rows of crates/sound_rows, any other by those of crates/console_rows.
 #
@@ -9,7 +9,7 @@
 # with no fault planted; without words `none` and all faults are tried, a minute or two each. Works on what is committed, in a
 # folder of its own. It names the first row that tells each fault. The status is 1 where a fault is not told, can't be
 # planted, or doesn't run, or where the rows are not as they should be without one.
-top=$(cd "$(dirname "${BASH_SOURCE[0]}")/.." && pwd) || exit 2
+top=$(cd "$(dirname "${BASH_SOURCE[0]}")/../.." && pwd) || exit 2
 work=$(mktemp -d) || exit 2
 trap 'rm -rf "$work"' EXIT
 git clone -q "$top" "$work/snes" && cd "$work/snes" || exit 2
@@ -32,7 +32,7 @@ take_rows() {
 
 # The crate whose rows have to tell a fault.
 rows_of() {
-  if grep -q '^file: crates/free_files/' "$top/tools/row_faults/$1.edit"; then echo sound_rows; else echo console_rows; fi
+  if grep -q '^file: crates/free_files/' "$top/tools/evidence/row_faults/$1.edit"; then echo sound_rows; else echo console_rows; fi
 }
 
 # What the rows print, without the lines that `rt try` adds; nothing where the program didn't end well.
@@ -80,7 +80,7 @@ as_they_stand() {
 told() {
   local line row
   take_rows "$(rows_of "$1")"
-  if ! plant "$work/snes/tools/row_faults/$1.edit"; then
+  if ! plant "$work/snes/tools/evidence/row_faults/$1.edit"; then
     echo "$1: can't be planted"
     return 1
   elif ! shown; then
@@ -97,7 +97,7 @@ told() {
 }
 
 bad=0 tried=0
-if [ $# -gt 0 ]; then faults=("$@"); else mapfile -t faults < <(echo none; ls "$top/tools/row_faults" | sed 's/\.edit$//'); fi
+if [ $# -gt 0 ]; then faults=("$@"); else mapfile -t faults < <(echo none; ls "$top/tools/evidence/row_faults" | sed 's/\.edit$//'); fi
 for fault in "${faults[@]}"; do
   git checkout -q -- crates
   if [ "$fault" = none ]; then

@@ -1,12 +1,12 @@
 #!/usr/bin/env python3
 """Tries the mutants of a crate in few checks: in each, as many of them together as change different functions.
 
-    tools/try_together.py TREE CRATE
+    tools/evidence/try_together.py TREE CRATE
 
 TREE is a clone with the mutants in crates/CRATE/must-fail. A function is proved by its own code and by the contracts of what it
 calls, and a check tries the goals of every function, also of those that call one that is not proved. So of mutants that
 change different functions, each of which has a contract, each has to be refused by a goal of its own function, whatever the
-others change. A mutant that is refused so, where it counts (tools/refused_at.py), is put into the record, and its edit is
+others change. A mutant that is refused so, where it counts (tools/evidence/refused_at.py), is put into the record, and its edit is
 taken out of the folder. What is left there is for `rt must-fail`, one by one: a change of a constant or a type, of a
 function without a contract, and whatever no goal of its own function refused, or only one that says little.
 

@@ -2,10 +2,10 @@
 # Tries what ./trace says at its end: of a 65C816 that has stopped, of an SPC700 that has stopped, of a sound side that waits in its boot
 # ROM, and nothing of a run that goes on.
 #
-#     tools/try_trace_ends.sh [TRACE]
+#     tools/evidence/try_trace_ends.sh [TRACE]
 #
 # TRACE is the built program (crates/snes_trace/out/snes_trace). The status is 1 where it says something else.
-top=$(cd "$(dirname "${BASH_SOURCE[0]}")/.." && pwd) || exit 2
+top=$(cd "$(dirname "${BASH_SOURCE[0]}")/../.." && pwd) || exit 2
 trace=${1:-$top/crates/snes_trace/out/snes_trace}
 [ -x "$trace" ] || { echo "no program: $trace (ONLY_BUILD=1 tools/run_built.sh trace snes_trace builds it)" >&2; exit 2; }
 work=$(mktemp -d) || exit 2

@@ -6,7 +6,7 @@
 # all, since then the check finds no such name. An idle entry costs proofs: a crate is proved again whenever one that it names changes.
 #
 # This takes no proof and a second. The status is 1 where an entry is idle or missing, or a crate or line is none.
-top=$(cd "$(dirname "${BASH_SOURCE[0]}")/.." && pwd) || exit 2
+top=$(cd "$(dirname "${BASH_SOURCE[0]}")/../.." && pwd) || exit 2
 cd "$top" && exec python3 - <<'P'
 import collections, os, re, sys
 

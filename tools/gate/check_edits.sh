@@ -1,10 +1,10 @@
 #!/usr/bin/env bash
-# Whether each wrong change (crates/*/must-fail/*.edit, tools/wrong_bodies/*/*.edit, tools/row_faults/*.edit, tools/one_worker/*.edit, tools/edges/*.edit) can be made as it stands: its file is there, and
+# Whether each wrong change (crates/*/must-fail/*.edit, tools/evidence/wrong_bodies/*/*.edit, tools/evidence/row_faults/*.edit, tools/evidence/one_worker/*.edit, tools/evidence/edges/*.edit) can be made as it stands: its file is there, and
 # each text that it replaces stands there once when its turn comes; the new text is another; no two of a crate make the same
 # change; and none changes what is proved and not the code: a clause, a definition, a proof.
 #
 # Not every toolchain's `rt ci` fails at an edit that can't be made. This takes no proof and a second. The status is 1 where one can't.
-top=$(cd "$(dirname "${BASH_SOURCE[0]}")/.." && pwd) || exit 2
+top=$(cd "$(dirname "${BASH_SOURCE[0]}")/../.." && pwd) || exit 2
 cd "$top" && exec python3 - <<'P'
 import collections, glob, os, re, sys
 
@@ -35,13 +35,13 @@ def is_statement(text):
 
 edits = sorted(
     glob.glob("crates/*/must-fail/*.edit")
-    + glob.glob("tools/wrong_bodies/*/*.edit")
-    + glob.glob("tools/row_faults/*.edit")
-    + glob.glob("tools/one_worker/*.edit")
-    + glob.glob("tools/edges/*.edit")
+    + glob.glob("tools/evidence/wrong_bodies/*/*.edit")
+    + glob.glob("tools/evidence/row_faults/*.edit")
+    + glob.glob("tools/evidence/one_worker/*.edit")
+    + glob.glob("tools/evidence/edges/*.edit")
 )
 for edit in edits:
-    parts = edit.split("/")
+    parts = edit.replace("tools/evidence/", "tools/").split("/")
     # What is told by a program names its files from the top.
     crate = {"crates": parts[1], "tools": parts[2]}[parts[0]] if parts[1] not in ("row_faults", "one_worker", "edges") else None
     texts = {}

@@ -8,7 +8,7 @@ import os
 import re
 import sys
 
-TOP = os.path.dirname(os.path.dirname(os.path.abspath(__file__)))
+TOP = os.path.dirname(os.path.dirname(os.path.dirname(os.path.abspath(__file__))))
 # A listing, the address of its first byte, and the sources with its bytes, each by the text before them.
 LISTINGS = (
     (

@@ -11,7 +11,7 @@
 # in a table of docs/machine that no line has.
 #
 # It takes no proof and a second. The status is 1 if there is a complaint.
-top=$(cd "$(dirname "${BASH_SOURCE[0]}")/.." && pwd) || exit 2
+top=$(cd "$(dirname "${BASH_SOURCE[0]}")/../.." && pwd) || exit 2
 cd "$top" && exec python3 - <<'P'
 import os, re, subprocess, sys
 from os.path import dirname, exists, join, normpath

@@ -3,7 +3,7 @@
 # in the code, in the definitions, in the help, in the page of formats and in what is said of a faulty command line.
 #
 # This takes no proof and less than a second. The status is 1 where something differs.
-top=$(cd "$(dirname "${BASH_SOURCE[0]}")/.." && pwd) || exit 2
+top=$(cd "$(dirname "${BASH_SOURCE[0]}")/../.." && pwd) || exit 2
 cd "$top" && exec python3 - <<'P'
 import re, sys
 

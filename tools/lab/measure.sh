@@ -1,7 +1,7 @@
 #!/usr/bin/env bash
 # Prints the table of figures of docs/lab/PERFORMANCE.md from the built program, each with what it was taken by.
 #
-#   tools/measure.sh [OTHER..]
+#   tools/lab/measure.sh [OTHER..]
 #
 # The jobs: `scene` (the cartridge of ./scene --measured), `seven` (that of `snes make 7`) and `red` (the one of snes_run's stored
 # run: a backdrop, a loop of two instructions, and a sound processor that has halted). For each it prints, of `serial`,
@@ -12,8 +12,8 @@
 #
 # The program has to be built: ./snes demo 7 --frames 0. SNES=PROGRAM measures another build, JOBS="red" only some jobs;
 # SCENE=FOLDER takes the files that ./scene --measured has written there before. FILES=FOLDER leaves the jobs' files there, a folder
-# each, for tools/profile.py and tools/unproved/try_hints.py; with RUNS=0 nothing is measured.
-top=$(cd "$(dirname "${BASH_SOURCE[0]}")/.." && pwd) || exit 2
+# each, for tools/lab/profile.py and tools/lab/unproved/try_hints.py; with RUNS=0 nothing is measured.
+top=$(cd "$(dirname "${BASH_SOURCE[0]}")/../.." && pwd) || exit 2
 snes=${SNES:-$top/crates/snes_run/out/snes_run}
 [ -x "$snes" ] || { echo "no program: $snes (./snes demo 7 --frames 0 builds it)" >&2; exit 2; }
 work=$(mktemp -d) || exit 2

@@ -1,4 +1,4 @@
-"""What the cases of tools/try_edges.py share: programs, inputs, the right bytes, how a program is run and looked at."""
+"""What the cases of tools/evidence/try_edges.py share: programs, inputs, the right bytes, how a program is run and looked at."""
 import contextlib
 import os
 import shutil
@@ -7,7 +7,7 @@ import subprocess
 import tempfile
 import threading
 
-TOP = os.path.realpath(os.path.join(os.path.dirname(os.path.realpath(__file__)), "..", ".."))
+TOP = os.path.realpath(os.path.join(os.path.dirname(os.path.realpath(__file__)), "..", "..", ".."))
 # The checkout whose scripts are tried.
 TREE = TOP
 TOOLS = {"snes": "snes_run", "look": "frame_look", "scene": "scene_cart", "trace": "snes_trace", "spc": "spc_of_job"}

@@ -2,7 +2,7 @@
 # Builds the serial run of the console by rustc, from the same texts: ghost items, clauses, tactics and `prove!` are
 # taken out of the crates below it, and one program is made of them in one unit.
 #
-#   tools/by_rustc/build.sh OUT [FLAG..]       the FLAGs go to rustc, as -C debuginfo=1 for callgrind_annotate
+#   tools/lab/by_rustc/build.sh OUT [FLAG..]       the FLAGs go to rustc, as -C debuginfo=1 for callgrind_annotate
 #
 # The program says how it is called at the head of bench.rs. It has no noalias, as the proved program has none. With
 # UNCHECKED=1 it has no checks of indices and divisors either: they are taken out of what LLVM is given, so CLANG has to name a
@@ -14,7 +14,7 @@ out=$1
 shift
 work=$(mktemp -d) || exit 2
 trap 'rm -rf "$work"' EXIT
-python3 "$here/strip.py" "$here/../.." "$work" && cp "$here"/{kit,bench}.rs "$work/" && mkdir "$work/out" || exit 1
+python3 "$here/strip.py" "$here/../../.." "$work" && cp "$here"/{kit,bench}.rs "$work/" && mkdir "$work/out" || exit 1
 flags=(--edition 2024 --crate-name bench -C opt-level=3 -C target-cpu=x86-64-v2 -C codegen-units=1 -C panic=abort -Z mutable-noalias=no)
 if [ -n "${UNCHECKED:-}" ]; then
   # rustc writes what LLVM gets before any pass; the calls at which a check fails are taken out (their blocks end in

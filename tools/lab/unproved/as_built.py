@@ -1,7 +1,7 @@
 #!/usr/bin/env python3
 """Makes of the LLVM module of `rt try` one that is nearly that of the proved build: without checks, with hints on inlining.
 
-    tools/unproved/as_built.py REPOSITORY MODULE.ll OUT.ll
+    tools/lab/unproved/as_built.py REPOSITORY MODULE.ll OUT.ll
 
 SIZE (7350): above how many instructions, with those of what is built into it, a function loses `inline(always)`, as does one that
 calls itself. The functions that lose it are named on standard output with VERBOSE=1. By this size the functions that are left in

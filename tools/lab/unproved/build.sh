@@ -2,7 +2,7 @@
 # Builds a program of the sources as they stand, without a proof, nearly as the toolchain builds what is proved: to measure what
 # a change gains before it is proved.
 #
-#   [MODULE=FILE] [PROVED=1] tools/unproved/build.sh OUT [CRATE WORD..]
+#   [MODULE=FILE] [PROVED=1] tools/lab/unproved/build.sh OUT [CRATE WORD..]
 #
 # CRATE is snes_run where none is named. Its words are what `rt try` runs on the way, to no other end: a short run.
 # MODULE names a file for the LLVM module as `rt try` has it, for try_hints.py.
@@ -48,7 +48,7 @@ TEXT
 chmod +x "$work/kit/toolchain/bin/clang"
 how=(try --seconds 600)
 [ -z "${PROVED-}" ] || how=(run)
-(cd "$here/../../crates/$crate" && "$work/kit/bin/rt" "${how[@]}" -- "$@") >"$work/said" 2>&1
+(cd "$here/../../../crates/$crate" && "$work/kit/bin/rt" "${how[@]}" -- "$@") >"$work/said" 2>&1
 [ -f "$work/module.bc" ] || { tail -n 9 "$work/said" >&2; exit 1; }
 
 "$kit/toolchain/bin/clang" --no-default-config -Wno-override-module -O0 -S -emit-llvm -x ir "$work/module.bc" -o "$work/module.ll" || exit 1
@@ -56,5 +56,5 @@ how=(try --seconds 600)
 if [ -n "${PROVED-}" ]; then
   cp "$work/module.ll" "$work/program.ll"
 else
-  "$here/as_built.py" "$here/../.." "$work/module.ll" "$work/program.ll"
+  "$here/as_built.py" "$here/../../.." "$work/module.ll" "$work/program.ll"
 fi && "$here/compile.sh" "$work/program.ll" "$out"

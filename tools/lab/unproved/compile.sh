@@ -1,7 +1,7 @@
 #!/usr/bin/env bash
 # Makes a program of an LLVM module that as_built.py wrote, by the toolchain's compiler and linker.
 #
-#   tools/unproved/compile.sh MODULE.ll OUT
+#   tools/lab/unproved/compile.sh MODULE.ll OUT
 [ $# -eq 2 ] || { echo 'compile.sh MODULE.ll OUT: makes a program of a module' >&2; exit 2; }
 kit=$(dirname "$(dirname "$(readlink -f "$(command -v rt)")")") || exit 2
 object=$(mktemp --suffix=.o) || exit 2

@@ -1,9 +1,9 @@
 #!/usr/bin/env python3
 """Tries other hints on inlining than the sources have, without a proof, and prints what each comes to.
 
-    tools/unproved/try_hints.py MODULE.ll JOB[,JOB..] CHANGE ..
+    tools/lab/unproved/try_hints.py MODULE.ll JOB[,JOB..] CHANGE ..
 
-MODULE.ll is what `MODULE=FILE tools/unproved/build.sh OUT` left. A JOB is a folder with cart.sfc, boot.bin, table.bin and
+MODULE.ll is what `MODULE=FILE tools/lab/unproved/build.sh OUT` left. A JOB is a folder with cart.sfc, boot.bin, table.bin and
 script.txt. A CHANGE is FUNCTION=HINT, or several joined by commas that are tried together: a function by its name in the
 module, as console_machine::many_steps::make_accesses, and a hint that is always, never, hint (a plain #[inline]) or none.
 
@@ -58,7 +58,7 @@ def measured(module, jobs):
 def main():
     if len(sys.argv) < 3:
         sys.exit(__doc__)
-    module = as_built.Module(sys.argv[1], as_built.hints_of(f"{HERE}/../.."))
+    module = as_built.Module(sys.argv[1], as_built.hints_of(f"{HERE}/../../.."))
     jobs = sys.argv[2].split(",")
     for change in [[], *(it.split(",") for it in sys.argv[3:])]:
         figures = " ".join(f"{it:7.3f}" for it in measured(changed(module, change), jobs))
