@@ -4,33 +4,22 @@ use file_shelf::FileShelf;
 use job_player::Console;
 use port_wire::Gate;
 use run_io::Argv;
-use snes_program::snes;
-use std::alloc::Global;
-use std::env::Args;
+use snes_program::{Status, snes};
 use std::io;
 use std::process::ExitCode;
 use std::rt::Files;
 use std::thread::Threads;
 use turn_watch::Watch;
 
-/// The words that are left.
-fn words_of(alloc: Global, words: Args<Global>) -> Option<Argv> {
-    let mut argv = Argv::new(alloc);
-    for word in words {
-        argv.push(word.as_str()).ok()?;
-    }
-    Some(argv)
-}
-
 /// Runs the job, prints the counts of its turns on standard error, and ends with the status of `snes`.
 pub fn run_watched<R: AllocGlobal + Files + Sync + Threads + Print + Eprint>(
     rt: &R,
     watch: &Watch<'_, R>,
     gate: &dyn Gate,
-    words: Args<Global>,
+    words: &[String],
 ) -> io::Result<ExitCode> {
-    let Some(argv) = words_of(rt.alloc(), words) else {
-        return Ok(ExitCode::from(5));
+    let Ok(argv) = Argv::of(rt.alloc(), words) else {
+        return Ok(ExitCode::from(Status::NoMemory.exit()));
     };
     watch.begin();
     let mut shelf = FileShelf::new(rt);

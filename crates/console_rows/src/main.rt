@@ -35,7 +35,6 @@ mod workers;
 use port_wire::Gate;
 use row::Row;
 use std::alloc::Global;
-use std::env::Args;
 use std::process::ExitCode;
 use std::rt::Files;
 use std::thread::Threads;
@@ -54,29 +53,42 @@ fn follow<R: Files + Print + AllocGlobal>(rt: &R, row: &mut Row, name: &str) -> 
     Ok(())
 }
 
-/// Does what the program's words say.
-fn follow_words<R: Files + Sync + Print + Eprint + AllocGlobal + Threads>(
+/// Does what the program's words say, unless they are those of a job.
+fn follow_words<R: Files + Print + Eprint + AllocGlobal + Threads + Sync>(
     rt: &R,
     watch: &Watch<'_, R>,
     gate: &dyn Gate,
-    words: Args<Global>,
-) -> io::Result<ExitCode> {
+    words: &[String],
+) -> io::Result<()> {
     let mut row = Row::new(rt.alloc());
-    let mut words = words;
-    while let Some(word) = words.next() {
+    for word in words {
         match word.as_str() {
             "workers" => workers::show_all(rt, watch, gate)?,
             "plans" => plans::show_all(rt)?,
-            "job" => return job::run_watched(rt, watch, gate, words),
             name => follow(rt, &mut row, name)?,
         }
     }
-    Ok(ExitCode::SUCCESS)
+    Ok(())
+}
+
+/// Does what the program's words say. The watch is the gate too.
+fn obey<R: Files + Print + Eprint + AllocGlobal + Threads + Sync>(
+    rt: &R,
+    watch: &Watch<'_, R>,
+    gate: &dyn Gate,
+    words: &[String],
+) -> io::Result<ExitCode> {
+    match words.split_first() {
+        Some((first, job)) if first.as_str() == "job" => job::run_watched(rt, watch, gate, job),
+        _ => {
+            follow_words(rt, watch, gate, words)?;
+            Ok(ExitCode::SUCCESS)
+        }
+    }
 }
 
 fn main(rt: HostRuntime) -> io::Result<ExitCode> {
     let watch = Watch::new(&rt);
-    let mut words = env::args(&rt)?;
-    let _program = words.next();
-    follow_words(&rt, &watch, &watch, words)
+    let words: Vec<String> = env::args(&rt)?.skip(1).collect(rt.alloc())?;
+    obey(&rt, &watch, &watch, words.as_slice())
 }

@@ -38,6 +38,7 @@ mod turns;
 use case::Case;
 use std::{env, fs, io};
 use tally::{Tally, Workers, compare};
+use turn_watch::Watch;
 
 /// Prints in how many jobs every turn had two threads, and in how many both legs overlapped; the counts of turns to
 /// standard error.
@@ -54,6 +55,7 @@ fn show_workers<R: Print + Eprint>(rt: &R, how: &str, workers: &Workers) -> io::
 
 fn main(rt: HostRuntime) -> io::Result<()> {
     let mut tally = Tally::new();
+    let watch = Watch::new(&rt);
     for name in env::args(&rt)?.skip(1) {
         let text = fs::read_to_string(&rt, name.as_str())?;
         let mut case = Case::new(rt.alloc());
@@ -64,7 +66,7 @@ fn main(rt: HostRuntime) -> io::Result<()> {
             if line.starts_with("job ") {
                 case = Case::new(rt.alloc());
             } else if line == "end" {
-                compare(&rt, &case, &mut tally)?;
+                compare(&rt, &watch, &watch, &case, &mut tally)?;
             } else if case.line(rt.alloc(), line).is_none() {
                 println!(rt; "no line of a job: {line}")?;
             }

@@ -3,6 +3,7 @@ use crate::play::play;
 use crate::steps::record_steps;
 use crate::turns::play_on_two;
 use job_player::Carrier;
+use port_wire::Gate;
 use std::alloc::Global;
 use std::io;
 use std::rt::Files;
@@ -116,17 +117,19 @@ struct ByTurns {
     counts: Counts,
 }
 
-/// Runs a job by turns over a wire, or nothing where it is no job.
-fn by_turns<R: AllocGlobal + Threads + Files + Sync>(
+/// Runs a job by turns over a wire, or nothing where it is no job. The watch is the gate too.
+fn by_turns<R: AllocGlobal + Threads + Files>(
     rt: &R,
+    watch: &Watch<'_, R>,
+    gate: &dyn Gate,
     case: &Case,
     carrier: Carrier,
 ) -> Option<ByTurns> {
     let alloc = rt.alloc();
     let job = case.job(alloc)?;
     let mut marks = case.marks(alloc)?;
-    let watch = Watch::new(rt);
-    let turns = play_on_two(rt, &job, carrier, &watch, &mut marks)?;
+    watch.begin();
+    let turns = play_on_two(rt, &job, carrier, gate, &mut marks)?;
     let counts = watch.counts();
     Some(ByTurns {
         agrees: marks.video.agrees() && marks.sound.agrees(),
@@ -136,8 +139,10 @@ fn by_turns<R: AllocGlobal + Threads + Files + Sync>(
 }
 
 /// Compares a job each way, counts it, and names what is wrong.
-pub fn compare<R: AllocGlobal + Threads + Files + Sync + Print>(
+pub fn compare<R: AllocGlobal + Threads + Files + Print>(
     rt: &R,
+    watch: &Watch<'_, R>,
+    gate: &dyn Gate,
     case: &Case,
     tally: &mut Tally,
 ) -> io::Result<()> {
@@ -145,8 +150,8 @@ pub fn compare<R: AllocGlobal + Threads + Files + Sync + Print>(
     let job = tally.jobs;
     let (Some(agrees), Some(locked), Some(lockless)) = (
         agrees(rt.alloc(), case),
-        by_turns(rt, case, Carrier::Lock),
-        by_turns(rt, case, Carrier::Words),
+        by_turns(rt, watch, gate, case, Carrier::Lock),
+        by_turns(rt, watch, gate, case, Carrier::Words),
     ) else {
         return println!(rt; "job {job} is none");
     };

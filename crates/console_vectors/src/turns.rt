@@ -6,11 +6,11 @@ use snes_defs::Job;
 use std::thread::Threads;
 
 /// Runs a job on two workers over this wire, marks what they emit, and answers how many turns they made.
-pub fn play_on_two<R: AllocGlobal + Threads, G: Gate>(
+pub fn play_on_two<R: AllocGlobal + Threads>(
     rt: &R,
     job: &Job,
     carrier: Carrier,
-    gate: &G,
+    gate: &dyn Gate,
     marks: &mut Marks,
 ) -> Option<u64> {
     if job.frames > 36_000 {
@@ -19,5 +19,5 @@ pub fn play_on_two<R: AllocGlobal + Threads, G: Gate>(
     let Ok(player) = Console::ready(rt.alloc(), job) else {
         return None;
     };
-    play_by_turns(player, rt, carrier, gate, marks).ok()
+    play_by_turns(player, rt, carrier, &gate, marks).ok()
 }

@@ -5,12 +5,13 @@ use crate::runs::{Manner, Ran, by_lock, by_serial, by_words};
 use crate::sums::Sums;
 use crate::tapes::{Style, style_of, tape, writes_and_reads};
 use clock_ratio::least;
+use port_wire::Gate;
 use snes_defs::{Region, Side};
 use std::alloc::AllocGlobal;
 use std::rt::Files;
 use std::test::Fail;
 use std::thread::Threads;
-use turn_watch::Counts;
+use turn_watch::{Counts, Watch};
 
 /// Pairs of a region.
 const PAIRS: u64 = 100;
@@ -67,8 +68,10 @@ fn serially<R: AllocGlobal>(rt: &R, pair: Pair) -> Result<Sums, Fail>
 }
 
 /// And what turns make of it.
-fn by_turns<R: AllocGlobal + Threads + Files + Sync>(
+fn by_turns<R: AllocGlobal + Threads + Files>(
     rt: &R,
+    watch: &Watch<'_, R>,
+    gate: &dyn Gate,
     pair: Pair,
     carrier: Carrier,
     manner: Manner,
@@ -84,15 +87,17 @@ fn by_turns<R: AllocGlobal + Threads + Files + Sync>(
     let sound = tape(rt.alloc(), region, Side::Sound, style, seed)?;
     let end = least(region) * LENGTH;
     match carrier {
-        Carrier::Lock => by_lock(rt, console, sound, end, manner),
-        Carrier::Words => by_words(rt, console, sound, end, manner),
+        Carrier::Lock => by_lock(rt, watch, gate, console, sound, end, manner),
+        Carrier::Words => by_words(rt, watch, gate, console, sound, end, manner),
     }
 }
 
 /// Runs the pairs of a region: four by `run_turns`, four by bare turns, and so on, and of these eight over the lock,
 /// then eight over words.
-fn compare<R: AllocGlobal + Threads + Files + Sync + Eprint>(
+fn compare<R: AllocGlobal + Threads + Files + Eprint>(
     rt: &R,
+    watch: &Watch<'_, R>,
+    gate: &dyn Gate,
     region: Region,
 ) -> Result<Compared, Fail> {
     let mut compared = Compared {
@@ -124,7 +129,7 @@ fn compare<R: AllocGlobal + Threads + Files + Sync + Eprint>(
         let Ran {
             sums: turns,
             counts: counted,
-        } = by_turns(rt, pair, carrier, manner)?;
+        } = by_turns(rt, watch, gate, pair, carrier, manner)?;
         counts = counts.and(counted);
         if counted.all_on_two_threads() {
             compared.on_two_threads = compared.on_two_threads.wrapping_add(1);
@@ -152,8 +157,9 @@ fn compare<R: AllocGlobal + Threads + Files + Sync + Eprint>(
 
 #[test]
 fn turns_emit_what_the_serial_console_emits(rt: HostRuntime) -> Result<(), Fail> {
+    let watch = Watch::new(&rt);
     assert_eq!(rt;
-        compare(&rt, Region::Ntsc)?,
+        compare(&rt, &watch, &watch, Region::Ntsc)?,
         Compared {
             alike: 100,
             heard: 88,
@@ -167,8 +173,9 @@ fn turns_emit_what_the_serial_console_emits(rt: HostRuntime) -> Result<(), Fail>
 
 #[test]
 fn turns_emit_what_the_serial_console_emits_in_pal(rt: HostRuntime) -> Result<(), Fail> {
+    let watch = Watch::new(&rt);
     assert_eq!(rt;
-        compare(&rt, Region::Pal)?,
+        compare(&rt, &watch, &watch, Region::Pal)?,
         Compared {
             alike: 100,
             heard: 88,
@@ -186,7 +193,17 @@ fn the_ring_goes_round_twice(rt: HostRuntime) -> Result<(), Fail> {
     let (console, sound) = writes_and_reads(rt.alloc())?;
     let serial = by_serial(console, sound, 600_000_000)?;
     let (console, sound) = writes_and_reads(rt.alloc())?;
-    let turns = by_words(&rt, console, sound, 600_000_000, Manner::Bare)?.sums;
+    let watch = Watch::new(&rt);
+    let turns = by_words(
+        &rt,
+        &watch,
+        &watch,
+        console,
+        sound,
+        600_000_000,
+        Manner::Bare,
+    )?
+    .sums;
     assert_eq!(rt; serial.sound.count, 5000);
     assert_eq!(rt; turns, serial);
     Ok(())

@@ -168,9 +168,11 @@ where
     }
 }
 
-/// What turns over the log behind its lock emit.
-pub(crate) fn by_lock<R: AllocGlobal + Threads + Files + Sync>(
+/// What turns over the log behind its lock emit. The watch is the gate too.
+pub(crate) fn by_lock<R: AllocGlobal + Threads + Files>(
     rt: &R,
+    watch: &Watch<'_, R>,
+    gate: &dyn Gate,
     console: Tape,
     sound: Tape,
     end: u64,
@@ -184,17 +186,19 @@ pub(crate) fn by_lock<R: AllocGlobal + Threads + Files + Sync>(
     requires early { end ≤ 2 ^ 51 }
 {
     let (ports, whole) = Ports::open(rt.alloc(), console.region())?;
-    let watch = Watch::new(rt);
-    let sums = emitted(rt, &ports, whole, console, sound, &watch, end, manner)?;
+    watch.begin();
+    let sums = emitted(rt, &ports, whole, console, sound, &gate, end, manner)?;
     Ok(Ran {
         sums,
         counts: watch.counts(),
     })
 }
 
-/// What turns over words without a lock emit.
-pub(crate) fn by_words<R: AllocGlobal + Threads + Files + Sync>(
+/// What turns over words without a lock emit. The watch is the gate too.
+pub(crate) fn by_words<R: AllocGlobal + Threads + Files>(
     rt: &R,
+    watch: &Watch<'_, R>,
+    gate: &dyn Gate,
     console: Tape,
     sound: Tape,
     end: u64,
@@ -208,8 +212,8 @@ pub(crate) fn by_words<R: AllocGlobal + Threads + Files + Sync>(
     requires early { end ≤ 2 ^ 51 }
 {
     let (words, whole) = Words::open(rt.alloc(), console.region())?;
-    let watch = Watch::new(rt);
-    let sums = emitted(rt, &words, whole, console, sound, &watch, end, manner)?;
+    watch.begin();
+    let sums = emitted(rt, &words, whole, console, sound, &gate, end, manner)?;
     Ok(Ran {
         sums,
         counts: watch.counts(),
