@@ -1,5 +1,5 @@
 #!/usr/bin/env bash
-# Builds what web/index.html needs: web/built.js, with the console as a WebAssembly module of 64-bit memory, and the scene.
+# Builds what web/emulator/index.html needs: web/emulator/built.js, with the console as a WebAssembly module of 64-bit memory, and the scene.
 #
 #     tools/build_page.sh
 #
@@ -39,7 +39,7 @@ clang=$kit/toolchain/bin/clang
 target=(--no-default-config --target=wasm64-unknown-unknown -mbulk-memory -msign-ext -mnontrapping-fptoint -O3)
 "$clang" "${target[@]}" -Wno-override-module -c -x ir "$work/module.bc" -o "$work/snes.o" 2>"$work/said" || { cat "$work/said" >&2; exit 1; }
 grep -v "is not a recognized processor for this target" "$work/said" >&2
-"$clang" "${target[@]}" -ffreestanding -Wall -Wextra -Werror -c "$top/web/heap.c" -o "$work/heap.o" || exit 1
+"$clang" "${target[@]}" -ffreestanding -Wall -Wextra -Werror -c "$top/web/emulator/heap.c" -o "$work/heap.o" || exit 1
 (exec -a wasm-ld "$clang" -mwasm64 --no-entry --gc-sections --strip-all -z stack-size=1048576 \
   --export=snes_play --export=page_alloc --export=page_free -o "$work/snes.wasm" "$work/snes.o" "$work/heap.o") || exit 1
 
@@ -51,6 +51,6 @@ grep -v "is not a recognized processor for this target" "$work/said" >&2
     echo "  ${one%%:*}: '$(base64 -w 0 "$work/${one#*:}")',"
   done
   echo '};'
-} >"$top/web/built.js"
+} >"$top/web/emulator/built.js"
 echo "snes.wasm: $(stat -c %s "$work/snes.wasm") bytes, sha256 $(sha256sum "$work/snes.wasm" | cut -d ' ' -f 1)"
-echo "open $top/web/index.html"
+echo "open $top/web/emulator/index.html"
