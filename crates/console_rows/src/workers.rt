@@ -1,6 +1,6 @@
 //! Two workers under the whole program: `run`, `lockless` and `demo` are called as a user calls them, over a shelf in memory,
 //! with a gate that counts what their workers do (`turn_watch`). What a line says of the workers is missing if a command
-//! makes its run, or a part of it, in one thread: `tools/try_one_worker.sh` tries such bodies.
+//! makes its run, or a part of it, in one thread: `tools/evidence/try_one_worker.sh` tries such bodies.
 //!
 //! Each run is checked whole: its status, its message, every byte of its picture and sound beside those of `serial`, the
 //! numbers of its turns, and that every turn had two threads. Both legs of a turn have to overlap in each row. A row whose

@@ -2,7 +2,7 @@
 // protocol, and the interpolation table of the S-DSP.
 //
 // Stands on the plain types. Every byte and number is said by a definition, and no memory is taken. The boot ROM's
-// listing is `examples/spc700/boot.lst`; `tools/check_listings.py` assembles it and compares. The table comes from
+// listing is `examples/spc700/boot.lst`; `tools/gate/check_listings.py` assembles it and compares. The table comes from
 // `tools/make_table.py`.
 #![tactic(auto)]
 

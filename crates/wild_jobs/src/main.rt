@@ -2,7 +2,7 @@
 //! other, time out, move bytes by DMA and HDMA, switch interrupts, and run wild; a table; a script with pads and resets.
 //!
 //! `wild_jobs NUMBER FOLDER` writes `cart.sfc`, `boot.bin`, `table.bin` and `script.txt` into FOLDER, which it makes, and
-//! prints how many frames the job has. Equal numbers make equal files. `tools/soak.sh` runs many of them by `run` and
+//! prints how many frames the job has. Equal numbers make equal files. `tools/evidence/soak.sh` runs many of them by `run` and
 //! by `serial` and compares what comes out; no clause rests on them.
 #![tactic(auto)]
 

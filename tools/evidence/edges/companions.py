@@ -11,7 +11,8 @@ def job(room):
 @case("companions: scene says that it wrote only where it did")
 def scene(room):
     program = room.bench.programs["scene"]
-    room.run([program, "out"]).came(0, b"scene.sfc: 131072 bytes\n")
+    end = room.run([program, "out"]).came(0)
+    assert end.out.startswith(b"scene.sfc: 131072 bytes\n"), end.out
     for folder in ("/proc/x", "/dev/null/x", "/dev/null"):
         room.run([program, folder]).came(4, b"", b"cannot write " + folder.encode())
     os.makedirs(room.path("shut"))
