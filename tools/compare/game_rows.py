@@ -3,7 +3,7 @@
 
   game_rows.py CORE CRATE [--table FILE --boot FILE --snes PROGRAM [--write]]
 
-CRATE is crates/game_rows, whose data/rows.txt and data/hello.txt are followed and whose stdout is compared, but for the
+CRATE is crates/game_rows, whose data/hello.txt, rows.txt and pads.txt are followed and whose stdout is compared, but for the
 lines of the sound. The game's image is examples/game/game.sfc, built before (tools/build_examples.sh). With --snes the
 sound's lines come from that program, which has ./snes' command line; and --write writes stdout. The status is 1 if a line
 differs.
@@ -73,7 +73,7 @@ def follow(words, folder):
             known[key] = films.film(cart, script, frames)
         return known[key]
 
-    for name in ("hello.txt", "rows.txt"):
+    for name in ("hello.txt", "rows.txt", "pads.txt"):
         with open(os.path.join(words.crate, "data", name), encoding="ascii") as lines:
             for line in lines.read().splitlines():
                 fields = line.split()

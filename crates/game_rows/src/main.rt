@@ -2,7 +2,7 @@
 //! hashes of what is shown and heard. The pictures' hashes in `stdout` come from another emulator
 //! (`tools/compare/game_rows.py`), so that a wrong pad, a pad a frame late and pads exchanged are seen.
 //!
-//! The program follows the lines of the files that it is given, as `data/rows.txt`:
+//! The program follows the lines of the files that it is given, as `data/rows.txt` and `data/pads.txt`:
 //!
 //! - `row TITLE` begins a row, whose script is empty, and prints its title.
 //! - `put OFFSET BYTES` puts bytes into the cartridge `hello`, which is 32 KiB of zeros at first; both in hexadecimal.

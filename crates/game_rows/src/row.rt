@@ -72,12 +72,7 @@ fn film_of<R: AllocGlobal + Threads + Clock>(
 }
 
 /// Which of so many frames the words name; all of them, where `all` is set.
-fn wanted(
-    alloc: Global,
-    frames: u32,
-    all: bool,
-    words: SplitWhitespace<'_>,
-) -> Option<Vec<bool>> {
+fn wanted(alloc: Global, frames: u32, all: bool, words: SplitWhitespace<'_>) -> Option<Vec<bool>> {
     let mut wanted = vec![in alloc; all; frames as usize].ok()?;
     for word in words {
         *wanted.get_mut(word.parse::<usize>().ok()?)? = true;
