@@ -22,11 +22,10 @@ mod row;
 use row::Row;
 use std::rt::Files;
 use std::thread::Threads;
-use std::time::Clock;
 use std::{env, fs, io};
 
 /// Follows the lines of a file.
-fn follow<R: Files + Print + AllocGlobal + Threads + Clock>(
+fn follow<R: Files + Print + AllocGlobal + Threads>(
     rt: &R,
     row: &mut Row,
     name: &str,

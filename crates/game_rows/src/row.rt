@@ -7,13 +7,13 @@ use free_files::{free_boot_rom, interpolation_table};
 use free_game::{SIZE, game_cartridge};
 use input_files::read_script;
 use job_player::Console;
-use run_drive::{Host, Player};
+use port_wire::OpenGate;
+use run_drive::Player;
 use snes_defs::Job;
 use std::alloc::Global;
 use std::io;
 use std::str::SplitWhitespace;
 use std::thread::Threads;
-use std::time::Clock;
 
 /// How a job is played.
 #[derive(Clone, Copy, Debug, PartialEq, Eq)]
@@ -52,12 +52,7 @@ fn job_of(alloc: Global, row: &Row, frames: u32) -> Option<Job> {
 }
 
 /// What a job shows and lets hear, with these of its frames hashed.
-fn film_of<R: AllocGlobal + Threads + Clock>(
-    rt: &R,
-    job: &Job,
-    by: By,
-    wanted: Vec<bool>,
-) -> Option<Film> {
+fn film_of<R: AllocGlobal + Threads>(rt: &R, job: &Job, by: By, wanted: Vec<bool>) -> Option<Film> {
     if job.frames > 36_000 {
         return None;
     }
@@ -65,8 +60,8 @@ fn film_of<R: AllocGlobal + Threads + Clock>(
     let player = Console::ready(rt.alloc(), job).ok()?;
     match by {
         By::Serial => player.play_serial(&mut film).ok()?,
-        By::Run => player.play_turns(&Host::new(rt), &mut film).ok()?,
-        By::Lockless => player.play_words(&Host::new(rt), &mut film).ok()?,
+        By::Run => player.play_turns(rt, &OpenGate, &mut film).ok()?,
+        By::Lockless => player.play_words(rt, &OpenGate, &mut film).ok()?,
     }
     Some(film)
 }
@@ -126,7 +121,7 @@ impl Row {
     }
 
     /// A line that plays: its film, and the frames that it names.
-    fn played<'a, R: AllocGlobal + Threads + Clock>(
+    fn played<'a, R: AllocGlobal + Threads>(
         &self,
         rt: &R,
         line: &'a str,
@@ -169,7 +164,7 @@ impl Row {
     }
 
     /// Follows a line.
-    pub fn follow<R: Print + AllocGlobal + Threads + Clock>(
+    pub fn follow<R: Print + AllocGlobal + Threads>(
         &mut self,
         rt: &R,
         line: &str,
