@@ -57,7 +57,9 @@ fn film_of<R: AllocGlobal + Threads>(rt: &R, job: &Job, by: By, wanted: Vec<bool
         return None;
     }
     let mut film = Film::new(rt.alloc(), wanted).ok()?;
-    let player = Console::ready(rt.alloc(), job).ok()?;
+    let Ok(player) = Console::ready(rt.alloc(), job) else {
+        return None;
+    };
     match by {
         By::Serial => player.play_serial(&mut film).ok()?,
         By::Run => player.play_turns(rt, &OpenGate, &mut film).ok()?,
