@@ -33,6 +33,14 @@ fn put<H: Shelf>(shelf: &mut H, out: Out, text: &str) -> Result<(), Failed> {
     shelf.put(out, text.as_bytes())
 }
 
+/// Creates an output under a name of 1 to 4,096 bytes, as callers of a shelf have to.
+fn create<H: Shelf>(shelf: &mut H, out: Out, name: &str) -> Result<(), Failed> {
+    if name.is_empty() || name.len() > 4096 {
+        return Err(Failed);
+    }
+    shelf.create(out, name)
+}
+
 #[test]
 fn real_files_come_back(rt: HostRuntime) -> Result<(), Fail> {
     let mut path = env::temp_dir(&rt)?;
@@ -88,17 +96,17 @@ fn an_output_is_no_file_that_the_shelf_has_to_do_with(rt: HostRuntime) -> Result
     let bytes = load(alloc, &mut shelf, read.as_str(), 3)?;
     assert_eq!(rt; bytes.as_slice(), b"abc".as_slice());
     assert_eq!(rt; shelf.first_fault(), None);
-    assert_eq!(rt; shelf.create(Out::Video, link.as_str()), Err(Failed));
+    assert_eq!(rt; create(&mut shelf, Out::Video, link.as_str()), Err(Failed));
     assert_eq!(rt; shelf.first_fault(), Some(Cause::Same(Clash::Loaded)));
     assert_eq!(rt; fs::read(&rt, read.as_str())?.as_slice(), b"abc".as_slice());
-    assert_eq!(rt; shelf.create(Out::Video, film.as_str()), Ok(()));
+    assert_eq!(rt; create(&mut shelf, Out::Video, film.as_str()), Ok(()));
     assert_eq!(rt; put(&mut shelf, Out::Video, "abc"), Ok(()));
     assert_eq!(rt; shelf.flush(Out::Video), Ok(()));
-    assert_eq!(rt; shelf.create(Out::Sound, again.as_str()), Err(Failed));
+    assert_eq!(rt; create(&mut shelf, Out::Sound, again.as_str()), Err(Failed));
     assert_eq!(rt; fs::read(&rt, film.as_str())?.as_slice(), b"abc".as_slice());
     assert_eq!(rt; shelf.create(Out::Sound, "/dev/null"), Ok(()));
     assert_eq!(rt; shelf.create(Out::Image, "/dev/null"), Ok(()));
-    assert_eq!(rt; shelf.create(Out::Video, film.as_str()), Ok(()));
+    assert_eq!(rt; create(&mut shelf, Out::Video, film.as_str()), Ok(()));
     assert_eq!(rt; fs::read(&rt, film.as_str())?.as_slice(), b"".as_slice());
     fs::remove_dir_all(&rt, folder)?;
     Ok(())
