@@ -1,7 +1,8 @@
 #!/usr/bin/env bash
 # Plants each fault of tools/evidence/row_faults/*.edit in the code, one at a time, and runs rows, which have to tell it: their output has to
 # differ from that in the `stdout` of their crate. With no fault planted it has to be that. A fault of crates/free_files is
-# met by the rows of crates/sound_rows, any other by those of crates/console_rows.
+# met by the rows of crates/sound_rows, one whose name begins with `pads_` by the rows of both pads of crates/game_rows, any
+# other by those of crates/console_rows.
 #
 # Nothing is proved here: `rt try` runs a program as it stands, so that a fault is met by the rows alone and not by a contract.
 # A fault of the free boot ROM changes its definition with its bytes, so it would be proved too.
@@ -27,12 +28,19 @@ take_rows() {
       words=() untitled='^  \|^cycle \|^sample '
       cp "$rows/stdout" "$work/wanted"
       ;;
+    game_rows)
+      words=("$rows/data/pads.txt") untitled='^frame [0-9]\|^sound of \|^the first frame \|^no frame '
+      sed -n "/^the game's first /,\$p" "$rows/stdout" >"$work/wanted"
+      ;;
   esac
 }
 
 # The crate whose rows have to tell a fault.
 rows_of() {
-  if grep -q '^file: crates/free_files/' "$top/tools/evidence/row_faults/$1.edit"; then echo sound_rows; else echo console_rows; fi
+  case $1 in
+    pads_*) echo game_rows ;;
+    *) if grep -q '^file: crates/free_files/' "$top/tools/evidence/row_faults/$1.edit"; then echo sound_rows; else echo console_rows; fi ;;
+  esac
 }
 
 # What the rows print, without the lines that `rt try` adds; nothing where the program didn't end well.
@@ -101,7 +109,7 @@ if [ $# -gt 0 ]; then faults=("$@"); else mapfile -t faults < <(echo none; ls "$
 for fault in "${faults[@]}"; do
   git checkout -q -- crates
   if [ "$fault" = none ]; then
-    { as_they_stand console_rows && as_they_stand sound_rows; } || bad=$((bad + 1))
+    { as_they_stand console_rows && as_they_stand sound_rows && as_they_stand game_rows; } || bad=$((bad + 1))
   else
     tried=$((tried + 1))
     told "$fault" || bad=$((bad + 1))
