@@ -28,52 +28,7 @@ out=$top/crates/$crate/out
 program=$out/$crate
 log=$out/build.log
 
-say() { echo "$tool: $*" >&2; }
-
-give_up() {
-  say "$*"
-  exit 70
-}
-
-# The folders of the crates of such lines of crates.txt, from the top of the repository.
-folders_of() { sed 's/[ :].*//; s,^,crates/,'; }
-
-# Finds the sources of the crates of such lines in the current folder, as `find` is told.
-find_sources() {
-  local folders
-  mapfile -t folders < <(folders_of <<<"$1")
-  shift
-  find "${folders[@]}" -name out -prune -o \( -path '*/src/*.rt' -o -path '*/specs/*.antt' \) "$@"
-}
-
-# The checksum of a text.
-sum() { sha256sum | cut -c 1-64; }
-
-# The checksum of the sources of the crates of such lines, in a tree.
-sum_of_sources() { (cd "$1" && { echo "$2" && find_sources "$2" -print0 | LC_ALL=C sort -z | xargs -0 sha256sum; } | sum); }
-
-# Keeps what a program was built from: the crate and the checksum of its sources.
-keep_sums() {
-  local made=$top/crates/$1/out/$1
-  { echo "$2 $(sum <"$made")" >"$made.sums.new" && mv "$made.sums.new" "$made.sums"; } 2>/dev/null
-}
-
-# Whether the program of a crate stands and was built from the sources as they are.
-is_built() {
-  local made=$top/crates/$1/out/$1 lines sources kept_sources='' kept_program=''
-  [ -f "$made" ] && [ -x "$made" ] || return 1
-  lines=$("$top/tools/lines_below.sh" "$1")
-  sources=$(sum_of_sources "$top" "$lines")
-  [ ! -r "$made.sums" ] || read -r kept_sources kept_program <"$made.sums"
-  if [ "$(sum <"$made")" = "$kept_program" ]; then
-    [ "$sources" = "$kept_sources" ]
-    return
-  fi
-  # The gate has built it, or `rt run`.
-  [ -z "$(cd "$top" && find_sources "$lines" -newer "$made" -print -quit)" ] || return 1
-  keep_sums "$1" "$sources"
-  return 0
-}
+source "$top/tools/built_from.sh" || exit 70
 
 # The crates whose programs are built now: this one, and of the console's and the scene's the other, where it is not built
 # either; the scene's is small, and wanted right after the first build.
@@ -81,15 +36,6 @@ to_build() {
   local name together=("$crate")
   case $crate in snes_run | scene_cart) together=(snes_run scene_cart) ;; esac
   for name in "${together[@]}"; do is_built "$name" || echo "$name"; done
-}
-
-# Copies crates and those below them to a folder, without what was made of them and without their must-fail edits.
-copy_sources() {
-  local work=$1 folders
-  shift
-  "$top/tools/lines_below.sh" "$@" >"$work/crates.txt" && cp "$top/HANDLES" "$work" || return 1
-  mapfile -t folders < <(folders_of <"$work/crates.txt")
-  tar -C "$top" --exclude=out --exclude=must-fail -cf - "${folders[@]}" | tar -C "$work" -xf -
 }
 
 # Tells each crate that is proved, of what the gate has printed since it was looked at last.
@@ -159,7 +105,7 @@ build() {
       touch -r "$work/begun" "$top/crates/$name/out/$name.new" &&
       mv "$top/crates/$name/out/$name.new" "$top/crates/$name/out/$name" ||
       give_up "the program of $name could not be put into $top/crates/$name/out"
-    keep_sums "$name" "$(sum_of_sources "$work" "${lines[$name]}")"
+    keep_sums "$top/crates/$name/out/$name" "$(sum_of_sources "$work" "${lines[$name]}")"
   done
   exec 8>&-
 }
@@ -174,11 +120,7 @@ lock=$out/build.lock
 if ! is_built "$crate"; then
   command -v rt >/dev/null || give_up "rt, the command of the Rattle toolchain, is not on the path (README.md, 'Quick start')"
   mkdir -p "$out" "${lock%/*}" 2>/dev/null && [ -w "$out" ] || give_up "$out can't be written to; take a clone of your own"
-  exec 9>"$lock"
-  if command -v flock >/dev/null && ! flock -n 9; then
-    say "another call is building it"
-    until flock -w 1 9; do :; done
-  fi
+  hold_lock "$lock"
   is_built "$crate" || build
   exec 9>&-
 fi

@@ -28,9 +28,10 @@ class Stage:
         self.top = room.path(name)
         os.makedirs(self.bin)
         os.makedirs(room.path("programs"))
-        os.makedirs(f"{self.top}/tools")
-        for file in ("snes", "look", "scene", "trace", "CHANGELOG.md", "HANDLES", "tools/run_built.sh", "tools/lines_below.sh",
-                     "tools/many_runs.sh", "tools/many_runs.sbatch"):
+        os.makedirs(f"{self.top}/tools/package")
+        for file in ("snes", "look", "scene", "trace", "CHANGELOG.md", "HANDLES", "tools/run_built.sh", "tools/built_from.sh",
+                     "tools/lines_below.sh", "tools/with_progress.sh", "tools/package/scene.help", "tools/many_runs.sh",
+                     "tools/many_runs.sbatch"):
             shutil.copy(f"{lab.TREE}/{file}", f"{self.top}/{file}")
         write(f"{self.top}/crates.txt", "".join(f"{crate}:\n" for crate in TOOLS.values()).encode())
         for tool, crate in TOOLS.items():

@@ -1,0 +1,156 @@
+#!/usr/bin/env bash
+# Tries a package that tools/package.sh made where there is no toolchain and no network: it is installed in a minimal Debian, everything
+# in it is used, and it is removed again.
+#
+#     tools/evidence/try_package.sh PACKAGE.deb [ROOT]
+#
+# ROOT is a folder that `debootstrap --variant=minbase bookworm ROOT` has made; it is copied, not changed. Without it the script makes
+# one, which takes some minutes and a network. The package's tar archive is beside it, by the same name. It needs root (chroot,
+# unshare), dpkg, python3, and cc with pkg-config if the library is part of it. With ROOT it takes a minute. It says each check; its
+# status is 1 if one failed.
+top=$(cd "$(dirname "$(readlink -f "${BASH_SOURCE[0]}")")/../.." && pwd) || exit 2
+[ $# -ge 1 ] && [ -f "$1" ] || { echo 'try_package.sh PACKAGE.deb [ROOT]: installs, uses and removes a package' >&2; exit 2; }
+[ "$(id -u)" -eq 0 ] || { echo 'try_package: chroot and unshare need root' >&2; exit 2; }
+package=$(readlink -f "$1")
+failed=0
+passed=0
+
+# Says whether a check held.
+check() {
+  if [ "$2" = "$3" ]; then
+    passed=$((passed + 1))
+    echo "ok      $1"
+  else
+    failed=$((failed + 1))
+    echo "FAILED  $1: '$2', not '$3'"
+  fi
+}
+
+work=$(mktemp -d) || exit 2
+trap 'rm -rf "$work"' EXIT
+root=$work/root
+if [ -n "${2-}" ]; then
+  cp -a "$2" "$root" || exit 2
+else
+  debootstrap --variant=minbase bookworm "$root" >"$work/log" 2>&1 || { tail -n 3 "$work/log" >&2; exit 2; }
+fi
+# Runs words in the root, without a network. Its environment is that of a login there.
+inside() { unshare -nm sh -c 'mount -t proc proc "$0/proc" && exec chroot "$0" "$@"' "$root" /usr/bin/env -i PATH=/usr/sbin:/usr/bin:/sbin:/bin HOME=/root LC_ALL=C "$@"; }
+# Every file there, but for what the package manager itself notes, and the cache of the linker.
+list_files() {
+  (cd "$root" && find . -xdev \( -path './var/lib/dpkg/status*' -o -path './var/lib/dpkg/lock*' -o -path './var/lib/dpkg/triggers*' \
+    -o -path ./var/log/dpkg.log -o -path ./etc/ld.so.cache -o -path './var/cache/ldconfig*' \) -o -printf '%y %p %l\n' | sort)
+}
+check 'there is no toolchain' "$(inside sh -c 'command -v rt cc gcc clang python3')" ''
+check 'there is no network' "$(inside sh -c 'cut -d : -f 1 /proc/net/dev | sed 1,2d; sed 1d /proc/net/route')" '    lo'
+list_files >"$work/before"
+cp "$package" "$root/tmp/snes.deb"
+inside dpkg -i /tmp/snes.deb >"$work/said" 2>&1
+check 'it is installed' "$? $(inside dpkg-query -W -f '${Status}' snes)" '0 install ok installed'
+rm "$root/tmp/snes.deb"
+
+# The programs.
+mkdir "$root/tmp/try"
+run() { inside sh -c "cd /tmp/try && $*"; }
+check 'demo: its line' "$(run snes demo 7 --frames 60)" 'frames 60 samples 31947 video 1271400168 sound 16274526'
+run snes-scene s >/dev/null
+check 'scene: files' "$(ls "$root/tmp/try/s" | tr '\n' ' ')" 'boot.bin game.sfc scene.sfc script.txt table.bin '
+files='--cart s/scene.sfc --boot s/boot.bin --table s/table.bin --script s/script.txt'
+for command in serial run lockless; do
+  check "$command: its line" "$(run snes $command $files --frames 60 --video $command.video --audio $command.audio)" 'frames 60 samples 31947'
+done
+check 'serial and run: the same bytes' "$(run 'cmp serial.video run.video && cmp serial.audio lockless.audio && echo same')" same
+check 'serial: whole frames' "$(stat -c %s "$root/tmp/try/serial.video")" $((60 * 244736))
+run snes-look png serial.video 59 frame.png >/dev/null
+run snes-look wav serial.audio sound.wav >/dev/null
+python3 - "$root/tmp/try" >"$work/read" <<'P'
+import struct, sys, wave, zlib
+
+png = open(sys.argv[1] + "/frame.png", "rb").read()
+place, lines, size = 8, b"", None
+while place < len(png):
+    length, kind = struct.unpack(">I4s", png[place:place + 8])
+    body = png[place + 8:place + 8 + length]
+    assert zlib.crc32(kind + body) == struct.unpack(">I", png[place + 8 + length:place + 12 + length])[0]
+    if kind == b"IHDR":
+        size = struct.unpack(">II", body[:8])
+    if kind == b"IDAT":
+        lines += body
+    place += 12 + length
+print("picture", *size, "of colours" if len(set(zlib.decompress(lines))) > 20 else "of one colour")
+sound = wave.open(sys.argv[1] + "/sound.wav")
+samples = sound.readframes(sound.getnframes())
+print("sound", sound.getframerate(), sound.getnchannels(), sound.getnframes(), samples == open(sys.argv[1] + "/serial.audio", "rb").read())
+P
+check 'the PNG, read by another program' "$(sed -n 1p "$work/read")" 'picture 512 478 of colours'
+check 'the WAV, read by another program' "$(sed -n 2p "$work/read")" 'sound 32000 2 31947 True'
+check 'trace: instructions of a frame' "$(run "snes-trace $files --frame 1 --instructions --lines 500 | wc -l")" 500
+
+# What the wrapper adds.
+dpkg -x "$package" "$work/tree" || exit 2
+version=$(sed -n '1s/^snes //p' "$work/tree/usr/lib/snes/about")
+for name in snes snes-look snes-trace snes-scene; do
+  check "$name --version" "$(run $name --version)" "$name $version
+$(sed 1d "$work/tree/usr/lib/snes/about")"
+done
+check 'help: the text of the sources' "$(run snes --help)" "$("$top/snes" --help)"
+# Runs words in the root with a terminal as standard error, and prints what came there. A run that says how far it is ends then.
+on_terminal() {
+  python3 - "$root" "$@" <<'P'
+import os, pty, subprocess, sys
+
+master, slave = pty.openpty()
+enter = 'mount -t proc proc "$0/proc" && exec chroot "$0" "$@"'
+running = subprocess.Popen(["unshare", "-nm", "sh", "-c", enter, sys.argv[1], "/usr/bin/env", "-i", "PATH=/usr/bin:/bin", *sys.argv[2:]],
+                           stdin=subprocess.DEVNULL, stdout=subprocess.DEVNULL, stderr=slave)
+os.close(slave)
+said = b""
+try:
+    while some := os.read(master, 4096):
+        said += some
+        # Once a long run has said how far it is, it need not go on.
+        if b" a second" in said:
+            running.terminate()
+except OSError:
+    pass
+running.wait()
+sys.stdout.write(said.decode().replace("\r", "\n"))
+P
+}
+check 'a hint after invalid arguments' "$(on_terminal snes nothing | grep -c 'snes --help says more')" 1
+long=(snes serial --cart /tmp/try/s/scene.sfc --boot /tmp/try/s/boot.bin --table /tmp/try/s/table.bin --script /tmp/try/s/script.txt
+  --frames 9000 --video /tmp/try/long.video --audio /tmp/try/long.audio)
+check 'a long run says how far it is' "$(on_terminal "${long[@]}" | grep -qE 'snes: [0-9]+ of 9000 frames, [0-9]+ a second' && echo said)" said
+rm -f "$root"/tmp/try/long.*
+check 'completion: commands' "$(inside bash -c '. /usr/share/bash-completion/completions/snes; COMP_WORDS=(snes se); COMP_CWORD=1; _snes; echo "${COMPREPLY[@]}"')" serial
+check 'completion: options' "$(inside bash -c '. /usr/share/bash-completion/completions/snes-trace; COMP_WORDS=(snes-trace --ins); COMP_CWORD=1; _snes_trace; echo "${COMPREPLY[@]}"')" --instructions
+check 'completion: values' "$(inside bash -c '. /usr/share/bash-completion/completions/snes-look; COMP_WORDS=(snes-look avi --region p); COMP_CWORD=3; _snes_look; echo "${COMPREPLY[@]}"')" pal
+check 'the sums of PROVED' "$(inside sh -c 'cd /usr && grep -E "^[0-9a-f]{64} " share/doc/snes/PROVED | sha256sum -c --quiet && echo hold')" hold
+
+# The library, if it is part of the package: the C example is linked here, and runs there.
+if [ -f "$work/tree/usr/include/snes.h" ]; then
+  place=$work/tree/usr/lib/x86_64-linux-gnu
+  flags=$(PKG_CONFIG_PATH=$place/pkgconfig pkg-config --cflags --libs snes)
+  cc -o "$root/tmp/try/shared" "$work/tree/usr/share/doc/snes/examples/frame.c" $flags
+  cc -o "$root/tmp/try/static" "$work/tree/usr/share/doc/snes/examples/frame.c" -I"$work/tree/usr/include" "$place/libsnes.a"
+  for kind in shared static; do
+    run "./$kind s/scene.sfc s/boot.bin s/table.bin s/script.txt 60 $kind.frame $kind.sound" >/dev/null
+    check "the C example, $kind: the last frame" "$(run "tail -c 244736 serial.video | cmp - $kind.frame && echo same")" same
+    check "the C example, $kind: all sound" "$(run "cmp serial.audio $kind.sound && echo same")" same
+  done
+else
+  echo '        the library is not part of this package'
+fi
+
+# The archive, in a folder of its own.
+mkdir "$root/tmp/try/opt" && tar -C "$root/tmp/try/opt" --strip-components 1 -xf "${package%.deb}.tar.gz"
+check 'the archive: the same files' "$(diff -r --no-dereference "$work/tree/usr" "$root/tmp/try/opt" | grep -v 'share: lintian$')" ''
+check 'the archive: a demo' "$(run opt/bin/snes demo 7 --frames 60)" 'frames 60 samples 31947 video 1271400168 sound 16274526'
+
+rm -rf "$root/tmp/try"
+inside dpkg -P snes >"$work/said" 2>&1
+check 'it is removed' "$? $(inside dpkg-query -W -f '${Status}' snes 2>/dev/null)" '0 '
+list_files >"$work/after"
+check 'nothing is left behind' "$(diff "$work/before" "$work/after")" ''
+echo "$passed passed, $failed failed"
+[ "$failed" -eq 0 ]

@@ -1,0 +1,43 @@
+#!/bin/bash
+# Runs a program of snes as it is installed: snes, snes-look, snes-trace and snes-scene are this file under four names. The
+# programs are in lib/snes; they run alone too. This adds --version with commit and proof, and on a terminal
+# how far a run is (with_progress.sh, which ./snes of the repository has too).
+name=${0##*/}
+top=$(dirname "$(dirname "$(readlink -f "${BASH_SOURCE[0]}")")") || exit 70
+library=$top/lib/snes
+program=$library/$name
+[ -f "$program" ] && [ -x "$program" ] || { echo "$name: there is no program $program" >&2; exit 70; }
+quiet=no
+case $name in
+  snes)
+    if [ "${1-}" = --quiet ]; then
+      quiet=yes
+      shift
+    fi
+    ;;
+  snes-scene)
+    words=("$@")
+    [ "${1-}" = --version ] || {
+      [ "${1-}" != --measured ] || shift
+      if [ $# -ne 1 ] || [ "$1" = --help ]; then
+        sed 's/^/snes-scene /' "$library/scene.help" >&2
+        [ "${1-}" = --help ] && exit 0
+        exit 1
+      fi
+      set -- "${words[@]}"
+    }
+    ;;
+esac
+if [ "$#,${1-}" = 1,--version ]; then
+  # The program snes says its version itself; the others have none.
+  if [ "$name" = snes ]; then "$program" --version || exit; else sed -n "1s/^snes /$name /p" "$library/about"; fi
+  sed 1d "$library/about"
+  exit
+fi
+if [ "$name" != snes ] || [ ! -t 2 ]; then
+  # A write beyond a limit of file sizes is a fault that the program tells, and does not end it by a signal.
+  trap '' XFSZ
+  exec "$program" "$@"
+fi
+source "$library/with_progress.sh" || exit 70
+run_with_progress "$program" "$@"
