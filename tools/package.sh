@@ -115,13 +115,12 @@ Cflags: -I\${includedir}
 Libs: -L\${libdir} -lsnes
 TEXT
   needs+=("$place/libsnes.so.1")
-  echo "libsnes 1 snes (>= $version)" >"$tree/DEBIAN/shlibs"
+  echo "libsnes 1 snes (>= $full)" >"$tree/DEBIAN/shlibs"
   echo 'activate-noawait ldconfig' >"$tree/DEBIAN/triggers"
   cat >>"$usr/share/lintian/overrides/snes" <<'TEXT'
 # Program and library are one package, since both come from one tree and one proof.
 snes: package-name-doesnt-match-sonames *
 snes: link-to-shared-library-in-wrong-package *
-snes: non-dev-pkg-with-shlib-symlink *
 TEXT
 else
   say "without the library: $library is not there (rt lib in crates/snes_library)"
