@@ -1,4 +1,5 @@
-# What a built program was built from, for the scripts that build one: tools/run_built.sh and tools/package.sh. It is read by `source`, with the repository's folder in $top and the name for messages in $tool.
+# What a built program was built from, for the scripts that build one: tools/run_built.sh, tools/run_unproved.sh and
+# tools/package.sh. It is read by `source`, with the repository's folder in $top and the name for messages in $tool.
 
 say() { echo "$tool: $*" >&2; }
 

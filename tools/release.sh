@@ -5,9 +5,9 @@
 #
 # In this order: the tree has no changes, and CHANGELOG.md has closed the version; CI (.ci/run); everything that is not part of CI
 # (tools/evidence/full_check.sh); the library (rt lib); the package twice, which have to be the same bytes; lintian; the package in a root
-# without the toolchain (tools/evidence/try_package.sh, with ROOT if it is given). OUT then has the package, the
+# without the toolchain (tools/evidence/try_package.sh, with ROOT if it is given); the first look (tools/evidence/try_unproved.sh). OUT then has the package, the
 # archive and SHA256SUMS. It takes hours: CI about one, the full check the rest. What it did is in OUT/release.log.
-# With ONLY set to words of these steps, it makes no release, but tries them: tree ci full library package lint root.
+# With ONLY set to words of these steps, it makes no release, but tries them: tree ci full library package lint root look.
 top=$(cd "$(dirname "$(readlink -f "${BASH_SOURCE[0]}")")/.." && pwd) || exit 2
 [ $# -ge 1 ] && [[ $1 != -* ]] || { echo 'release.sh OUT [ROOT]: tries all, and makes the package' >&2; exit 2; }
 mkdir -p "$1" && out=$(readlink -f "$1") || exit 2
@@ -52,5 +52,6 @@ step library make_library
 step package package_twice
 step lint no_warning
 step root in_root
+step look tools/evidence/try_unproved.sh
 [ -z "${ONLY-}" ] || exit 0
 (cd "$out" && sha256sum snes_*_amd64.deb snes_*_amd64.tar.gz >SHA256SUMS && cat SHA256SUMS)

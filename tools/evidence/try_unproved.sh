@@ -1,0 +1,116 @@
+#!/usr/bin/env bash
+# Tries `--unproved` of ./snes, ./look, ./trace and ./scene: whether the programs that it builds put out what the proved ones do, and
+# whether each of them says that it is not proved.
+#
+#     tools/evidence/try_unproved.sh [FOLDER]
+#
+# FOLDER has the proved programs snes_run, frame_look, snes_trace and scene_cart; without it they are those in crates/NAME/out. The
+# programs without a proof are built first if they are not there: some 50 seconds of a processor each, on a machine
+# of which nothing else wants anything; then the script takes 10 seconds. It says each check; its status is 1 if one failed.
+#
+# This shows for a few frames that a first look sees what the proved program shows. It is no proof of anything.
+top=$(cd "$(dirname "$(readlink -f "${BASH_SOURCE[0]}")")/../.." && pwd) || exit 2
+folder=${1-}
+[ -z "$folder" ] || folder=$(readlink -f "$folder") || exit 2
+failed=0
+passed=0
+note='not proved: built without checking'
+
+# Says whether a check held.
+check() {
+  if [ "$2" = "$3" ]; then
+    passed=$((passed + 1))
+    echo "ok      $1"
+  else
+    failed=$((failed + 1))
+    echo "FAILED  $1: '$2', not '$3'"
+  fi
+}
+
+proved() {
+  local crate=$1
+  shift
+  "${folder:-$top/crates/$crate/out}/$crate" "$@"
+}
+
+for crate in snes_run frame_look snes_trace scene_cart; do
+  [ -x "${folder:-$top/crates/$crate/out}/$crate" ] || { echo "try_unproved: there is no proved program of $crate" >&2; exit 2; }
+done
+work=$(mktemp -d) || exit 2
+trap 'rm -rf "$work"' EXIT
+cd "$work" && mkdir proved unproved || exit 2
+list_built() { (cd "$top" && find crates/*/out -printf '%p %s %T@\n' 2>/dev/null | sort); }
+list_built >built_before
+
+# Builds each first, so that the times that are said are those of the builds.
+for tool in snes look trace scene; do
+  began=${EPOCHREALTIME/[^0-9]/}
+  words=(--help)
+  [ "$tool" != snes ] || words=(demo 7 --frames 1)
+  [ "$tool" != scene ] || words=(scene)
+  "$top/$tool" --unproved "${words[@]}" >/dev/null 2>said
+  now=${EPOCHREALTIME/[^0-9]/}
+  echo "$tool --unproved: $(((now - began) / 1000000)) seconds"
+done
+
+# Runs a command by both, each in a folder of its own, and compares what it prints, its status and every file.
+alike() {
+  local what=$1 tool=$2 crate=$3 status
+  shift 3
+  (cd proved && proved "$crate" "$@" >line 2>faults; echo $? >status)
+  (cd unproved && "$top/$tool" --unproved "$@" >line 2>faults; echo $? >status)
+  status=$(cat proved/status)
+  check "$what: status" "$(cat unproved/status)" "$status"
+  check "$what: says that it is not proved" "$(grep -c "^$tool: $note$" unproved/faults)" 1
+  check "$what: the proved program does not" "$(grep -c 'not proved' proved/faults)" 0
+  grep -v "^$tool: $note$" unproved/faults >rest
+  mv rest unproved/faults
+  check "$what: output" "$(diff -qr proved unproved)" ''
+}
+alike 'scene' scene scene_cart s
+check 'scene: files' "$(ls unproved/s | wc -l)" 5
+files=(--cart s/scene.sfc --boot s/boot.bin --table s/table.bin)
+for command in serial run lockless; do
+  alike "$command" snes snes_run "$command" "${files[@]}" --script s/script.txt --frames 40 --video video.$command --audio audio.$command
+  check "$command: whole frames" "$(stat -c %s unproved/video.$command)" $((40 * 244736))
+done
+alike make snes snes_run make 7 --out image
+alike demo snes snes_run demo 7 --frames 60
+check 'demo: its line' "$(cat unproved/line)" 'frames 60 samples 31947 video 1271400168 sound 16274526'
+for side in proved unproved; do
+  printf 'go 3 0000 0000\nkeep 1\ngo 2 1000 0000\nback 1\ngo 2 0000 0000\n' >$side/plan.txt
+  python3 - $side/tune.spc <<'P'
+import sys
+
+header = b"SNES-SPC700 Sound File Data v0.30\x1a\x1a\x1b\x1e" + bytes(219)
+# At 0200: CLRP, then BRA to itself. One voice is on, its sample at 1000, so that something is to be heard.
+memory = bytearray((3 * i) % 251 for i in range(65536))
+memory[0x200:0x203] = bytes([0x20, 0x2F, 0xFE])
+header = bytearray(header[:256])
+header[0x25:0x27] = (0x200).to_bytes(2, "little")
+registers = bytearray(128)
+registers[0x00:0x08] = bytes([0x7F, 0x7F, 0, 0x10, 0, 0, 0x7F, 0])
+registers[0x0C], registers[0x1C], registers[0x4C], registers[0x5D], registers[0x6C] = 0x7F, 0x7F, 1, 0x10, 0x20
+open(sys.argv[1], "wb").write(bytes(header) + bytes(memory) + bytes(registers) + bytes(128))
+P
+done
+alike rewind snes snes_run rewind "${files[@]}" --plan plan.txt --video rewound --audio rewound.sound
+check 'rewind: status' "$(cat unproved/status)" 0
+alike play snes snes_run play --spc tune.spc --table s/table.bin --samples 3200 --audio tune.raw
+check 'play: samples' "$(stat -c %s unproved/tune.raw)" 12800
+alike 'refused' snes snes_run serial "${files[@]/scene.sfc/boot.bin}" --script s/script.txt --frames 1 --video v --audio a
+check 'refused: status' "$(cat unproved/status)" 3
+alike 'look png' look frame_look png video.serial 39 frame.png
+check 'look png: a picture' "$(head -c 4 unproved/frame.png | tail -c 3)" PNG
+alike 'look sums' look frame_look sums video.serial audio.serial
+alike 'trace' trace snes_trace "${files[@]}" --script s/script.txt --frame 2
+check 'trace: has lines' "$([ "$(wc -l <unproved/line)" -gt 1000 ] && echo many)" many
+
+check 'version: of the wrapper' "$("$top/snes" --unproved --version 2>/dev/null | head -n 1)" "$(proved snes_run --version) (not proved)"
+check 'version: of the program itself' "$("$top/unproved/snes-unproved" --version)" "$(proved snes_run --version) (not proved)"
+check 'help: says that it is not proved' "$("$top/snes" --unproved --help 2>&1 >/dev/null)" "snes: $note"
+list_built >built_after
+check 'nothing in crates/*/out was touched' "$(diff built_before built_after)" ''
+check 'git ignores what was built' "$(cd "$top" && git status --porcelain unproved 2>/dev/null)" ''
+echo "$passed passed, $failed failed"
+[ "$failed" -eq 0 ]
