@@ -6,7 +6,7 @@
 #
 # ROOT is a folder that `debootstrap --variant=minbase bookworm ROOT` has made; it is copied, not changed. Without it the script makes
 # one, which takes some minutes and a network. The package's tar archive is beside it, by the same name. It needs root (chroot,
-# unshare), dpkg, python3, and cc with pkg-config if the library is part of it. With ROOT it takes a minute. It says each check; its
+# unshare), dpkg, python3, man or mandoc, and cc with pkg-config if the library is part of it. With ROOT it takes a minute. It says each check; its
 # status is 1 if one failed.
 top=$(cd "$(dirname "$(readlink -f "${BASH_SOURCE[0]}")")/../.." && pwd) || exit 2
 [ $# -ge 1 ] && [ -f "$1" ] || { echo 'try_package.sh PACKAGE.deb [ROOT]: installs, uses and removes a package' >&2; exit 2; }
@@ -93,6 +93,16 @@ for name in snes snes-look snes-trace snes-scene; do
   check "$name --version" "$(run $name --version)" "$name $version
 $(sed 1d "$work/tree/usr/lib/snes/about")"
 done
+# The pages, by whatever of man and mandoc is here.
+pages() {
+  local page
+  for page in "$work"/tree/usr/share/man/man*/*.gz; do
+    ! command -v man >/dev/null || LC_ALL=C.UTF-8 MANROFFSEQ='' MANWIDTH=80 man --warnings -E UTF-8 -l -Tutf8 -Z "$page" 2>&1 >/dev/null
+    ! command -v mandoc >/dev/null || { gzip -dc "$page" | mandoc -T lint -W warning; }
+  done
+}
+check 'the man pages: no warning' "$(pages)" ''
+check 'the man pages: five' "$(ls "$work"/tree/usr/share/man/man*/*.gz | wc -l)" 5
 check 'help: the text of the sources' "$(run snes --help)" "$("$top/snes" --help)"
 # Runs words in the root with a terminal as standard error, and prints what came there. A run that says how far it is ends then.
 on_terminal() {
