@@ -4,7 +4,8 @@
 #     tools/package.sh [--from FOLDER] OUT
 #
 # OUT gets snes_VERSION_amd64.deb and snes_VERSION_amd64.tar.gz. The programs are those that CI has built, crates/NAME/out/NAME, each
-# of the sources as they are now; else the status is 1 and nothing is made. With --from they are FOLDER/snes_run, frame_look,
+# of the sources as they are now; else the status is 1 and nothing is made. (CI keeps no checksums: of its programs it is seen only that no
+# source is newer. tools/release.sh runs CI itself.) With --from they are FOLDER/snes_run, frame_look,
 # snes_trace and scene_cart, and FOLDER/libsnes_library.a if it is there. Nobody knows then what they were built from: VERSION ends
 # with ~unproved, and PROVED and --version say that a proof is not shown.
 #
@@ -146,7 +147,8 @@ find "$usr/share/man" -type f -exec gzip -9n {} +
   printf 'Package: snes %s\nCommit: %s\nProof: %s\n' "$full" "$commit" "$shown"
   printf 'Time: %s\n' "$(date -d "@$SOURCE_DATE_EPOCH" +'%F %T UTC')"
   if [ -z "$folder" ]; then
-    printf '\nThe toolchain builds a program only after it has proved each crate below it. That was done for:\n\n%s' "$proof"
+    printf '\nThe toolchain builds a program only after it has proved each crate below it. These are the crates:\n\n%s\n' "$proof"
+    echo 'That the programs are of these sources is known by kept checksums, or, of programs that CI has built, by their times.'
     echo 'The library, if it is here, was built by the same toolchain; its C part (heap.c) is not proved.'
   fi
   printf '\nThe sums of the files. In the folder above bin and lib: grep -E "^[0-9a-f]{64} " share/doc/snes/PROVED | sha256sum -c\n\n'

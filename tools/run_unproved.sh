@@ -43,7 +43,7 @@ build() {
   if [ "$crate" = snes_run ]; then
     sed -i 's/^\(const VERSION: &str = "snes [0-9.]*\)\\n";$/\1 (not proved)\\n";/' "$texts" && grep -q '(not proved)\\n' "$texts" || return 1
   fi
-  say "built first, without checking: about a minute (log: $log)"
+  say "built first, without checking: a minute or two (log: $log)"
   mkdir "$work/built"
   # The word is what the program under construction is called with: it does next to nothing.
   set -m
