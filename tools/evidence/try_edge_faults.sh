@@ -1,7 +1,7 @@
 #!/usr/bin/env bash
-# Plants the faults of tools/evidence/edges/*.edit, one at a time, and has the scripts tell each: a program with such a fault is
-# proved as well as the right one, since no clause speaks of what `main` does with the system. tools/evidence/try_edges.py has to
-# fail on it, in a case at least.
+# Plants the faults of tools/evidence/edges/*.edit, one at a time, and has the scripts tell each: they stand
+# where clauses say little of what a program does with the system. tools/evidence/try_edges.py has to fail on each, in a case
+# at least.
 #
 #     tools/evidence/try_edge_faults.sh [FAULT ..]
 #
