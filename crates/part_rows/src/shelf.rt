@@ -6,7 +6,7 @@ use run_io::{
 };
 use std::alloc::Global;
 use std::test::Fail;
-use std::{env, fs};
+use std::{env, fs, io};
 
 fn load<H: Shelf>(
     alloc: Global,
@@ -31,14 +31,6 @@ fn end_of_load<H: Shelf>(
 
 fn put<H: Shelf>(shelf: &mut H, out: Out, text: &str) -> Result<(), Failed> {
     shelf.put(out, text.as_bytes())
-}
-
-/// Creates an output under a name of 1 to 4,096 bytes, as callers of a shelf have to.
-fn create<H: Shelf>(shelf: &mut H, out: Out, name: &str) -> Result<(), Failed> {
-    if name.is_empty() || name.len() > 4096 {
-        return Err(Failed);
-    }
-    shelf.create(out, name)
 }
 
 #[test]
@@ -77,39 +69,71 @@ fn an_output_takes_nothing_before_it_is_created(rt: HostRuntime) {
     assert_eq!(rt; shelf.flush(Out::Video), Ok(()));
 }
 
+const FOLDER: &str = "/tmp/snes-part-rows-names";
+
+const READ: &str = "/tmp/snes-part-rows-names/read";
+
+const LINK: &str = "/tmp/snes-part-rows-names/link";
+
+const FILM: &str = "/tmp/snes-part-rows-names/film";
+
+const AGAIN: &str = "/tmp/snes-part-rows-names/./film";
+
+/// Lays a file under two names, and one that is longer than what is put to it.
+fn lay_names(rt: &HostRuntime) -> io::Result<()> {
+    fs::create_dir_all(rt, FOLDER)?;
+    fs::write(rt, READ, "abc")?;
+    let _ = fs::remove_file(rt, LINK);
+    fs::hard_link(rt, READ, LINK)?;
+    fs::write(rt, FILM, "longer than what is put")
+}
+
+/// Whether a file has these bytes.
+fn has(rt: &HostRuntime, name: &str, wanted: &str) -> bool {
+    match fs::read(rt, name) {
+        Ok(bytes) => bytes.as_slice() == wanted.as_bytes(),
+        Err(_) => false,
+    }
+}
+
+/// A file that was loaded is no output, under whatever name, and keeps its bytes. One end, since a proof reads all that is
+/// dropped anew at each.
+fn refuses_what_was_loaded(rt: &HostRuntime, shelf: &mut FileShelf<'_, HostRuntime>) -> bool {
+    load(rt.alloc(), shelf, READ, 3).is_ok()
+        && shelf.first_fault().is_none()
+        && shelf.create(Out::Video, LINK).is_err()
+        && shelf.first_fault() == Some(Cause::Same(Clash::Loaded))
+        && has(rt, READ, "abc")
+}
+
+/// A longer file ends up with what is put to it, and is no other output under another name.
+fn refuses_the_other_output(rt: &HostRuntime, shelf: &mut FileShelf<'_, HostRuntime>) -> bool {
+    shelf.create(Out::Video, FILM).is_ok()
+        && put(shelf, Out::Video, "abc").is_ok()
+        && shelf.flush(Out::Video).is_ok()
+        && shelf.create(Out::Sound, AGAIN).is_err()
+        && has(rt, FILM, "abc")
+}
+
+/// A device is taken for two outputs, and an output can be created again.
+fn takes_devices(rt: &HostRuntime, shelf: &mut FileShelf<'_, HostRuntime>) -> bool {
+    shelf.create(Out::Sound, "/dev/null").is_ok()
+        && shelf.create(Out::Image, "/dev/null").is_ok()
+        && shelf.create(Out::Video, FILM).is_ok()
+        && has(rt, FILM, "")
+}
+
 /// Two names of one file: an output is refused before anything is lost, and a device never is.
 #[test]
-fn an_output_is_no_file_that_the_shelf_has_to_do_with(rt: HostRuntime) -> Result<(), Fail> {
-    let alloc = rt.alloc();
-    let mut folder = env::temp_dir(&rt)?;
-    folder.push("snes-run-io-names")?;
-    let folder = folder.to_str().ok_or("no text")?;
-    fs::create_dir_all(&rt, folder)?;
-    let read = format!(in alloc; "{folder}/read")?;
-    let link = format!(in alloc; "{folder}/link")?;
-    let film = format!(in alloc; "{folder}/film")?;
-    let again = format!(in alloc; "{folder}/./film")?;
-    fs::write(&rt, read.as_str(), "abc")?;
-    fs::hard_link(&rt, read.as_str(), link.as_str())?;
-    fs::write(&rt, film.as_str(), "longer than what is put")?;
+fn an_output_is_no_file_that_the_shelf_has_to_do_with(rt: HostRuntime) {
+    let is_laid = lay_names(&rt).is_ok();
     let mut shelf = FileShelf::new(&rt);
-    let bytes = load(alloc, &mut shelf, read.as_str(), 3)?;
-    assert_eq!(rt; bytes.as_slice(), b"abc".as_slice());
-    assert_eq!(rt; shelf.first_fault(), None);
-    assert_eq!(rt; create(&mut shelf, Out::Video, link.as_str()), Err(Failed));
-    assert_eq!(rt; shelf.first_fault(), Some(Cause::Same(Clash::Loaded)));
-    assert_eq!(rt; fs::read(&rt, read.as_str())?.as_slice(), b"abc".as_slice());
-    assert_eq!(rt; create(&mut shelf, Out::Video, film.as_str()), Ok(()));
-    assert_eq!(rt; put(&mut shelf, Out::Video, "abc"), Ok(()));
-    assert_eq!(rt; shelf.flush(Out::Video), Ok(()));
-    assert_eq!(rt; create(&mut shelf, Out::Sound, again.as_str()), Err(Failed));
-    assert_eq!(rt; fs::read(&rt, film.as_str())?.as_slice(), b"abc".as_slice());
-    assert_eq!(rt; shelf.create(Out::Sound, "/dev/null"), Ok(()));
-    assert_eq!(rt; shelf.create(Out::Image, "/dev/null"), Ok(()));
-    assert_eq!(rt; create(&mut shelf, Out::Video, film.as_str()), Ok(()));
-    assert_eq!(rt; fs::read(&rt, film.as_str())?.as_slice(), b"".as_slice());
-    fs::remove_dir_all(&rt, folder)?;
-    Ok(())
+    let found = is_laid
+        && refuses_what_was_loaded(&rt, &mut shelf)
+        && refuses_the_other_output(&rt, &mut shelf)
+        && takes_devices(&rt, &mut shelf);
+    let _ = fs::remove_dir_all(&rt, FOLDER);
+    assert!(rt; found);
 }
 
 fn prints(line: &Line, text: &str) -> bool {
