@@ -51,8 +51,12 @@ printf '\xC0\xFF' >>boot
 head -c 1024 /dev/zero >table
 : >script
 
-# The threads that a command starts; nothing where it doesn't end well.
-threads_of() { THREADS_BEGUN=$work/begun LD_PRELOAD=$work/count.so "$program" "$@" >said 2>&1 && od -An -tu8 "$work/begun" | tr -d ' '; }
+# The threads that a command starts; nothing where it doesn't end well. A body whose legs wait for each other in one thread is cut
+# off: what it has started by then counts.
+threads_of() {
+  THREADS_BEGUN=$work/begun LD_PRELOAD=$work/count.so timeout 20 "$program" "$@" >said 2>&1
+  case $? in 0 | 124) od -An -tu8 "$work/begun" | tr -d ' ' ;; esac
+}
 
 bad=0
 for command in serial run lockless demo; do

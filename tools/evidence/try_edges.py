@@ -45,6 +45,7 @@ tools/evidence/edges/*.edit are kept to that end, and tools/evidence/try_edge_fa
 import argparse
 import concurrent.futures
 import os
+import signal
 import sys
 import time
 
@@ -67,6 +68,9 @@ def tried(bench, name, function):
 
 
 def main():
+    # A shell ignores these two for what it runs in the background, and a program inherits that.
+    signal.signal(signal.SIGINT, signal.SIG_DFL)
+    signal.signal(signal.SIGQUIT, signal.SIG_DFL)
     parser = argparse.ArgumentParser(description=__doc__, formatter_class=argparse.RawDescriptionHelpFormatter)
     for tool in lab.TOOLS:
         parser.add_argument(f"--{tool}", default=lab.built(tool), metavar="PROGRAM")
