@@ -1,12 +1,12 @@
 // One time line for two clocks, in each region.
 //
-// The console counts master clocks of 236,250,000/11 Hz (Ntsc) or 21,281,370 Hz (Pal), the sound side
-// cycles of 1,024,000 Hz. A stamp is a moment on the line that both share: multiplied across, a master
-// clock is 5,632 stamps and a sound cycle 118,125 in Ntsc, and 102,400 and 2,128,137 in Pal, so that
-// stamps are exact and compare as moments do.
+// The console counts master clocks of 236,250,000/11 Hz (Ntsc) or 21,281,370 Hz (Pal), the sound side cycles of
+// 1,024,000 Hz. A stamp is a time on the line that both share. A master clock is 5,632 stamps and a sound cycle 118,125
+// in Ntsc, and 102,400 and 2,128,137 in Pal. These are the two rates multiplied across, so stamps are exact and compare
+// as times do.
 //
-// A call without a region is that of Ntsc. The numbers of a region (`least`, `most`, `window`, the
-// stamps of a clock and of a frame) stand in `specs/`, and what a law needs of them in `proofs/Numbers`.
+// A call without a region is for Ntsc. `specs/` has the numbers of a region: `least`, `most`, `window`, the stamps of a
+// clock and of a frame. `proofs/Numbers` has what a law needs of them.
 #![tactic(auto)]
 
 ghost use Rattle.std.specs.Prelude.{◌≡◌, ◌+◌, ◌*◌, ◌^◌, ◌<◌, ◌≤◌, ◌↔◌, ℕ, IsTrue};
@@ -33,7 +33,7 @@ pub const PAL_SOUND_RATE: u64 = 2_128_137;
 /// Stamps of one frame, in Pal: 312 lines of 1,364 master clocks.
 pub const PAL_FRAME_STAMPS: u64 = 43_578_163_200;
 
-/// The stamp of the moment at which a side's clock stands at `clocks`, in Ntsc.
+/// Returns the stamp at which a side's clock reads `clocks`, in Ntsc.
 #[inline(always)]
 pub fn stamp(side: Side, clocks: u64) -> u64
     requires { clocks ≤ most_clocks Ntsc side }
@@ -42,7 +42,7 @@ pub fn stamp(side: Side, clocks: u64) -> u64
     stamp_in(Region::Ntsc, side, clocks)
 }
 
-/// The stamp of the moment at which a side's clock stands at `clocks`.
+/// Returns the stamp at which a side's clock reads `clocks`, in a region.
 #[inline(always)]
 pub fn stamp_in(region: Region, side: Side, clocks: u64) -> u64
     requires { clocks ≤ most_clocks region side }
@@ -56,8 +56,8 @@ pub fn stamp_in(region: Region, side: Side, clocks: u64) -> u64
     }
 }
 
-/// Whether the console is the earlier side, where `c` and `s` are the stamps of the console's and
-/// the sound side's next steps. Ties go to the console.
+/// Whether the console is the earlier side, if `c` and `s` are the stamps of the console's and the sound side's next
+/// steps. Ties go to the console.
 #[inline(always)]
 pub fn console_first(c: u64, s: u64) -> bool
     ensures { IsTrue result ↔ (c ≤ s) }
@@ -65,7 +65,7 @@ pub fn console_first(c: u64, s: u64) -> bool
     c <= s
 }
 
-/// The stamp at which a run of so many frames ends, in Ntsc.
+/// Returns the stamp at which a run of that many frames ends, in Ntsc.
 pub fn end_stamp(frames: u32) -> u64
     requires { frames ≤ 36000 }
     ensures { result ≡ end_stamp_of Ntsc frames }
@@ -73,7 +73,7 @@ pub fn end_stamp(frames: u32) -> u64
     end_stamp_in(Region::Ntsc, frames)
 }
 
-/// The stamp at which a run of so many frames ends.
+/// Returns the stamp at which a run of that many frames ends, in a region.
 pub fn end_stamp_in(region: Region, frames: u32) -> u64
     requires { frames ≤ 36000 }
     ensures { result ≡ end_stamp_of region frames }
@@ -84,7 +84,7 @@ pub fn end_stamp_in(region: Region, frames: u32) -> u64
     }
 }
 
-/// The least number of stamps by which one step of a machine raises its stamp: 6 master clocks.
+/// Returns the least number of stamps by which one step of a machine raises its stamp: 6 master clocks.
 #[inline(always)]
 pub fn least(region: Region) -> u64
     ensures { result ≡ least_of region }
@@ -95,7 +95,8 @@ pub fn least(region: Region) -> u64
     }
 }
 
-/// The greatest number of stamps by which one step raises it: the 40 master clocks of a refresh.
+/// Returns the greatest number of stamps by which one step of a machine raises its stamp: the 40 master clocks of a
+/// refresh.
 #[inline(always)]
 pub fn most(region: Region) -> u64
     ensures { result ≡ most_of region }
@@ -106,7 +107,7 @@ pub fn most(region: Region) -> u64
     }
 }
 
-/// How far one side may run ahead of the other's published clock, in stamps: 16 lines.
+/// Returns how far one side may run ahead of the other's published clock, in stamps: 16 lines.
 #[inline(always)]
 pub fn window(region: Region) -> u64
     ensures { result ≡ window_of region }
@@ -117,7 +118,7 @@ pub fn window(region: Region) -> u64
     }
 }
 
-/// How many samples are emitted before the stamp `end`, in Ntsc.
+/// Returns how many samples are emitted before the stamp `end`, in Ntsc.
 pub fn samples_before(end: u64) -> u64
     requires { end ≤ 2 ^ 63 }
     ensures number { result ≡ samples_before_of Ntsc end }
@@ -126,8 +127,8 @@ pub fn samples_before(end: u64) -> u64
     samples_before_in(Region::Ntsc, end)
 }
 
-/// How many samples are emitted before the stamp `end`. Sample `k` is emitted by the step of cycle
-/// `32 * k + 31`.
+/// Returns how many samples are emitted before the stamp `end`, in a region. The step of cycle `32 * k + 31` emits
+/// sample `k`.
 pub fn samples_before_in(region: Region, end: u64) -> u64
     requires { end ≤ 2 ^ 63 }
     ensures number { result ≡ samples_before_of region end }

@@ -18,10 +18,9 @@ ghost use Rattle.commute_laws.specs.OnRun.{IsOnRun, IsOfRun, StaysBelow};
 
 use side_law::Machine;
 
-/// Two sides ran by themselves from a pair on the serial run, each against the beginning of the
-/// other's list of entries that it had heard by then. What each looked at was settled, by the stamp
-/// up to which it had heard all, and the other side had published that stamp. Then the pair that
-/// they came to is on the serial run.
+/// Law of two sides that ran by themselves from a pair on the serial run: the pair that they reach is on the serial
+/// run. Each ran against the prefix of the other's list of entries that it had heard by then. What each read was
+/// settled, by the stamp up to which it had heard all, and the other side had published that stamp.
 #[tactic(none)]
 pub fn heard_is_serial<C: Machine, S: Machine>()
     ensures { (region : Region) (console : C.State) (sound : S.State) → C.valid region console → S.valid region sound
@@ -34,8 +33,8 @@ pub fn heard_is_serial<C: Machine, S: Machine>()
         → IsOnRun C.moves S.moves console sound after_c after_s }
 {}
 
-/// A run by itself goes on: by a step whose look is settled, and with a longer list, where all that
-/// is added to the list is stamped at or after the stamp up to which was heard.
+/// Law of a run by itself: it continues by a step whose read is settled, and against a longer list. All that is added
+/// to the list is stamped at or after the stamp up to which was heard.
 #[tactic(none)]
 pub fn heard_runs_go_on<M: Machine>()
     ensures begins { (side : Side) (heard : List Entry) (upto : ℕ) (h : History M.State)
@@ -49,8 +48,8 @@ pub fn heard_runs_go_on<M: Machine>()
         → HeardRun side M.moves more later before after }
 {}
 
-/// A leg goes on: by a step below the end whose look is settled, and with a longer list, where all
-/// that is added to the list is stamped at or after the stamp up to which was heard.
+/// Law of a leg: it continues by a step below the end whose read is settled, and against a longer list. All that is
+/// added to the list is stamped at or after the stamp up to which was heard.
 #[tactic(none)]
 pub fn legs_go_on<M: Machine>()
     ensures begins { (side : Side) (heard : List Entry) (upto end : ℕ) (h : History M.State)
@@ -65,8 +64,8 @@ pub fn legs_go_on<M: Machine>()
         → IsLeg side M.moves more later end before after }
 {}
 
-/// Two pairs on the serial run with as many steps of each side are one pair: the same states,
-/// entries and emitted bytes.
+/// Law of step counts: two pairs on the serial run with as many steps of each side are one pair. They have the same
+/// states, entries and emitted bytes.
 #[tactic(none)]
 pub fn as_many_steps_are_one_pair<C: Machine, S: Machine>()
     ensures { (region : Region) (console : C.State) (sound : S.State) → C.valid region console → S.valid region sound
@@ -75,13 +74,13 @@ pub fn as_many_steps_are_one_pair<C: Machine, S: Machine>()
         → c.steps ≡ d.steps → s.steps ≡ t.steps → (c ≡ d) × (s ≡ t) }
 {}
 
-/// The run with its history is the run: the same states and bytes after as many turns.
+/// Law of histories: the run with its history is the run. It has the same states and bytes after as many turns.
 #[tactic(none)]
 pub fn history_is_of_the_run<C: Machine, S: Machine>()
     ensures { (console : C.State) (sound : S.State) (turns : ℕ) → IsOfRun C.moves S.moves console sound turns }
 {}
 
-/// Each run of the serial machine comes to its end, and emits one video and one audio.
+/// Law of serial runs: each one reaches its end, and emits one video and one audio.
 #[tactic(none)]
 pub fn serial_runs_end<C: Machine, S: Machine>()
     ensures ends { (region : Region) (console : C.State) (sound : S.State) → C.valid region console → S.valid region sound → (end : ℕ)
@@ -91,8 +90,8 @@ pub fn serial_runs_end<C: Machine, S: Machine>()
         → (video ≡ other_video) × (audio ≡ other_audio) }
 {}
 
-/// A pair on the serial run stays below an end stamp at each step that is made below it: at a step
-/// of either side, and where both ran by themselves.
+/// Law of end stamps: a pair on the serial run stays below an end stamp at each step below it, of either side. It also
+/// does if both ran by themselves.
 #[tactic(none)]
 pub fn pairs_stay_below<C: Machine, S: Machine>()
     ensures begins { (region : Region) (console : C.State) (sound : S.State) → C.valid region console → S.valid region sound → (end : ℕ)
@@ -120,8 +119,8 @@ pub fn pairs_stay_below<C: Machine, S: Machine>()
         → StaysBelow C.moves S.moves console sound end after_c after_s }
 {}
 
-/// A pair on the serial run of which no step was made at `end` or later, and whose machines have
-/// both come to `end`, has emitted the output of the run.
+/// Law of finished pairs: a pair whose machines have both reached `end` has emitted the output of the run. The pair is
+/// on the serial run, and no step of it was made at `end` or later.
 #[tactic(none)]
 pub fn done_is_output<C: Machine, S: Machine>()
     ensures { (region : Region) (console : C.State) (sound : S.State) → C.valid region console → S.valid region sound
@@ -131,8 +130,8 @@ pub fn done_is_output<C: Machine, S: Machine>()
         → IsOutput C.moves S.moves (serial_of console sound) end c.emitted s.emitted }
 {}
 
-/// A pair on the serial run of which no step was made at `end` or later has emitted first bytes of
-/// the output of the run to `end`.
+/// Law of unfinished pairs: a pair has emitted a prefix of the output of the run to `end`. The pair is on the serial
+/// run, and no step of it was made at `end` or later.
 #[tactic(none)]
 pub fn pairs_emit_first_bytes<C: Machine, S: Machine>()
     ensures { (region : Region) (console : C.State) (sound : S.State) → C.valid region console → S.valid region sound
@@ -142,7 +141,7 @@ pub fn pairs_emit_first_bytes<C: Machine, S: Machine>()
         → ((rest : List ℕ) × (c.emitted ++ rest ≡ video)) × ((rest : List ℕ) × (s.emitted ++ rest ≡ audio)) }
 {}
 
-/// The entries of a pair on the serial run carry bytes.
+/// Law of entries: those of a pair on the serial run carry bytes.
 #[tactic(none)]
 pub fn entries_carry_bytes<C: Machine, S: Machine>()
     ensures { (region : Region) (console : C.State) (sound : S.State) → C.valid region console → S.valid region sound

@@ -14,7 +14,7 @@ use cpu65816::Cpu;
 use dma_hdma::Move;
 use snes_defs::Act;
 
-/// What a read of a place does at the ports.
+/// Returns what a read of a place does at the ports.
 #[inline(always)]
 fn read_act(place: Place) -> Act
     ensures value { result ≡ read_at place }
@@ -36,7 +36,7 @@ fn read_act(place: Place) -> Act
     }
 }
 
-/// What a write of a place does at the ports.
+/// Returns what a write of a place does at the ports.
 #[inline(always)]
 fn write_act(place: Place, v: u8) -> Act
     ensures value { result ≡ write_at place v }
@@ -58,7 +58,7 @@ fn write_act(place: Place, v: u8) -> Act
     }
 }
 
-/// What a byte of a transfer does at the ports.
+/// Returns what a byte of a transfer does at the ports.
 fn transfer_act(bus: &Bus, due: Move) -> Act
     ensures value { result ≡ move_act bus.now due }
     ensures at_ports { IsAtPorts result }
@@ -77,7 +77,7 @@ fn transfer_act(bus: &Bus, due: Move) -> Act
     }
 }
 
-/// What a read of an address does at the ports: nothing, where its page is memory.
+/// Returns what a read of an address does at the ports: nothing, if its page is memory.
 #[inline(always)]
 fn read_act_at(bus: &Bus, addr: u32) -> Act
     requires { addr < 2 ^ 24 }
@@ -90,7 +90,7 @@ fn read_act_at(bus: &Bus, addr: u32) -> Act
     }
 }
 
-/// What a write of an address does at the ports.
+/// Returns what a write of an address does at the ports.
 #[inline(always)]
 fn write_act_at(bus: &Bus, addr: u32, v: u8) -> Act
     requires { addr < 2 ^ 24 }
@@ -103,7 +103,7 @@ fn write_act_at(bus: &Bus, addr: u32, v: u8) -> Act
     }
 }
 
-/// What the step that is due does at the ports.
+/// Returns what the step that is due does at the ports.
 #[inline(always)]
 pub(crate) fn due_act(cpu: &Cpu, bus: &Bus) -> Act
     ensures value { (s : CpuState) → Stands cpu.now s → result ≡ act_of bus.now (due_from s bus.now) }

@@ -1,6 +1,6 @@
-// Accesses of an instruction one after another, where the one before says which comes next: its fetches, its data. Each
-// function makes as many as the memory and the clocks to the next place of the beam allow, and answers whether it
-// came to its end. The place in the instruction's order is given along with each access.
+// The accesses of an instruction one after another, where each one says which comes next: its fetches, then its data.
+// Each function makes as many as memory and the clocks to the next beam event allow, and returns whether it finished.
+// Each access is given along with its place in the instruction's order.
 ghost use Rattle.std.specs.Prelude.{◌≡◌};
 ghost use Rattle.cpu_modes.specs.declared.place.Place.TheVariants.{OperandLow, ImmediateLow, LoadLow, StoreLow, ChangeReadLow, PushHigh, PullLow, PullFirstCycle, ReturnFirstCycle, ReturnLow, DirectOffset, Ended};
 ghost use Rattle.console_machine.specs.Follows.{Follows};

@@ -1,10 +1,10 @@
-//! The console side as a machine: one access or internal cycle of the 65C816, one refresh, one byte of a
-//! transfer or one reset a step.
+//! The console side as a machine. A step is one access or internal cycle of the 65C816, one refresh, one byte of a
+//! transfer or one reset.
 //!
-//! Stands on `console_steps`, whose halves of a step are joined here in the order in which they are due,
-//! behind the trait `Machine`. What a step means is `console_steps/specs/ConsoleState.antt`; that its moves are
-//! those of a machine of either region (a step lasts 6 to 40 clocks, emits at most one row, acts at ports
-//! below 4 with bytes) is `console_is_lawful` of `specs/SideLaws.antt`.
+//! Builds on `console_steps`. The halves of a step are joined here in the order in which they are due, behind the trait
+//! `Machine`. What a step means is `console_steps/specs/ConsoleState.antt`. `console_is_lawful` of
+//! `specs/SideLaws.antt` says that its moves are those of a machine of either region. A step lasts 6 to 40 clocks,
+//! emits at most one row, and acts at ports below 4 with bytes.
 #![tactic(auto)]
 
 mod acts;

@@ -1,6 +1,7 @@
-// Many steps of the console in one call: accesses of the processor to the memory and internal cycles, up to the next place
-// of the beam at which something may happen. A loop that only looks, as one that waits for an interrupt, and a
-// processor that waits, come back to the state that they were in: then the whole rounds that still fit are passed at once.
+// Many steps of the console in one call, up to the next beam event: accesses to memory, internal cycles and writes of
+// B-bus registers. An idle loop only reads, as one that waits for an interrupt does. It returns to the state that it
+// started from, and so does a processor that waits. The whole iterations (*rounds*) that still fit are then skipped
+// together.
 ghost use Rattle.std.specs.Prelude.{◌≡◌, ℕ, ◌+◌, ◌-◌, ◌<◌, ◌≤◌, [], None, IsTrue, IfSome};
 ghost use Rattle.cpu65816.specs.Instruction.{CpuState};
 ghost use Rattle.cpu65816.specs.Stands.{Stands, access_of};
@@ -25,16 +26,16 @@ use cpu65816::Cpu;
 /// More accesses than a line has room for.
 const MOST_ACCESSES: u16 = 256;
 
-/// How many steps to the end of an instruction are made where a round is looked for.
+/// How many steps to the end of an instruction are made before the search for an idle loop.
 const MOST_TO_END: u16 = 8;
 
-/// How many steps a round may have.
+/// The most steps that one iteration (*round*) of an idle loop may have.
 const MOST_OF_ROUND: u16 = 32;
 
-/// With fewer clocks to the next place than these no round is looked for.
+/// With fewer clocks than these to the next beam event, no idle loop is searched for.
 const FEW_CLOCKS: u16 = 128;
 
-/// The master clocks of a line, and of the longest run of steps that is made at once.
+/// The master clocks of a line, and of the longest run of steps that is made in one call.
 const LINE: u16 = 1364;
 
 /// How many places at most a round goes past.
@@ -58,7 +59,7 @@ fn make_one(cpu: &mut Cpu, bus: &mut Bus) -> bool
     }
 }
 
-/// The accesses of an instruction that begins, else one access. Answers whether another may follow.
+/// Makes the accesses of an instruction that begins, else one access. Returns whether another may follow.
 #[inline(always)]
 fn make_some(cpu: &mut Cpu, bus: &mut Bus) -> bool
     ensures { Follows cpu.old cpu.new bus.old bus.new }
@@ -69,7 +70,7 @@ fn make_some(cpu: &mut Cpu, bus: &mut Bus) -> bool
     make_one(cpu, bus)
 }
 
-/// The clocks since so many were left.
+/// Returns the clocks since `left` were left.
 #[inline(always)]
 fn clocks_since(left: u16, bus: &Bus) -> u16
     requires { clocks_left bus.now.beam ≤ left }
@@ -78,8 +79,8 @@ fn clocks_since(left: u16, bus: &Bus) -> u16
     left - bus.clocks_left()
 }
 
-/// Makes the processor's accesses one after another, as long as they are of the memory or internal cycles and nothing
-/// else happens in their clocks, and answers how many clocks they last together.
+/// Makes the processor's accesses one after another, as long as `try_plain` makes them: nothing else happens in their
+/// clocks. Returns how many clocks they last together.
 fn make_accesses(cpu: &mut Cpu, bus: &mut Bus) -> u16
     ensures run { (w : ConsoleState) → IsAt cpu.old bus.old w → w.rest.beam.h < 1364 → HasRun cpu.new bus.new w result }
     ensures left { result + clocks_left bus.new.beam ≡ clocks_left bus.old.beam }
@@ -99,7 +100,7 @@ fn make_accesses(cpu: &mut Cpu, bus: &mut Bus) -> u16
     clocks_since(left, bus)
 }
 
-/// One access that only looks.
+/// Makes one access that only reads, or an internal cycle.
 #[inline(never)]
 fn look_once(cpu: &mut Cpu, bus: &mut Bus) -> Option<u8>
     ensures made { IsWired cpu.old bus.old → IfSome result (λ clocks. IsMadeAtOnce cpu.old cpu.new bus.old bus.new (access_of cpu.old) clocks) }
@@ -113,7 +114,7 @@ fn look_once(cpu: &mut Cpu, bus: &mut Bus) -> Option<u8>
     try_look(cpu, bus)
 }
 
-/// Makes accesses that only look up to the end of an instruction, and answers how many clocks they last.
+/// Makes accesses that only read up to the end of an instruction, and returns how many clocks they last.
 fn finish_instruction(cpu: &mut Cpu, bus: &mut Bus) -> u16
     ensures run { (w : ConsoleState) → IsAt cpu.old bus.old w → w.rest.beam.h < 1364 → HasRun cpu.new bus.new w result }
     ensures left { result + clocks_left bus.new.beam ≡ clocks_left bus.old.beam }
@@ -160,7 +161,8 @@ fn is_like_first(cpu: &Cpu, bus: &mut Bus, first: &Cpu, byte: u8) -> bool
     last_byte(bus) == byte
 }
 
-/// The same, seen at once where no instruction has ended.
+/// Whether the processor does what another one does, and a byte is the last on the data bus. It returns false
+/// immediately in the middle of an instruction.
 #[inline(always)]
 fn is_back(cpu: &Cpu, bus: &mut Bus, first: &Cpu, byte: u8) -> bool
     ensures processor { IsTrue result → (s : CpuState) → Stands cpu.now s → Stands first.now s }
@@ -187,7 +189,7 @@ fn rounds_before(round: u16, left: u16) -> u16
     (left - 1) / round * round
 }
 
-/// The beam goes on by the whole rounds, of so many clocks each, that end before the next place.
+/// Advances the beam by the whole rounds, of the given clocks each, that end before the next beam event.
 #[inline(always)]
 fn go_rounds(bus: &mut Bus, round: u16) -> u16
     ensures times { IsRounds round result }
@@ -200,7 +202,7 @@ fn go_rounds(bus: &mut Bus, round: u16) -> u16
     more
 }
 
-/// The clocks of a refresh that is due or not.
+/// Returns the clocks of a refresh, or 0 if none is due.
 #[inline(always)]
 fn refresh_clocks(due: bool) -> u16
     ensures clocks { result ≡ refresh_clocks due }
@@ -293,7 +295,7 @@ fn make_rounds(cpu: &mut Cpu, bus: &mut Bus, patience: &mut Patience, before: u1
     gone
 }
 
-/// Looks for a round where the next place is far enough and it is time for it.
+/// Searches for an idle loop if the next beam event is far enough and it is time for it.
 fn look_for_rounds(cpu: &mut Cpu, bus: &mut Bus, patience: &mut Patience) -> u16
     ensures run { (w : ConsoleState) → IsAt cpu.old bus.old w → w.rest.beam.h < 1364 → HasRun cpu.new bus.new w result }
     ensures few { result ≤ 1364 }
@@ -310,8 +312,8 @@ fn look_for_rounds(cpu: &mut Cpu, bus: &mut Bus, patience: &mut Patience) -> u16
     first + rounds
 }
 
-/// Makes quiet steps that emit nothing, up to the next place of the beam, or with rounds past some, for a line's clocks at most.
-/// Answers how many clocks they last.
+/// Runs quiet steps that emit nothing, up to the next beam event, for a line's clocks at most. Iterations of an idle
+/// loop may go past some events. Returns how many clocks the steps last.
 pub(crate) fn make_plain_steps(cpu: &mut Cpu, bus: &mut Bus, patience: &mut Patience) -> u16
     ensures run { (w : ConsoleState) → IsAt cpu.old bus.old w → w.rest.beam.h < 1364 → HasRun cpu.new bus.new w result }
     ensures few { result ≤ 1364 }

@@ -24,21 +24,24 @@ use snes_defs::{Act, Region};
 /// The master clocks of a line.
 const LINE: u16 = 1364;
 
-/// The parts of a console side.
+/// The parts of a console side: processor, bus, region, stamp and emitted bytes.
 #[derive(Drop)]
 pub struct Parts {
+    /// The processor.
     pub cpu: Cpu,
+    /// All else on its bus.
     pub bus: Bus,
+    /// The television standard.
     pub region: Region,
     /// The stamp of the next step.
     pub stamp: u64,
-    /// The emitted bytes that wait.
+    /// The emitted bytes that are buffered.
     pub waiting: HeapCircularBuffer<u8>,
-    /// When a round is looked for.
+    /// When to search for an idle loop.
     pub patience: Patience,
 }
 
-/// The stamps of a step's master clocks.
+/// Returns the stamps of a step's master clocks.
 #[inline(always)]
 fn stamps(region: Region, clocks: u8) -> u64
     requires least { 6 ≤ clocks }
@@ -54,7 +57,7 @@ fn stamps(region: Region, clocks: u8) -> u64
     }
 }
 
-/// The stamps of a line's clocks, or of fewer.
+/// Returns the stamps of at most a line's master clocks.
 #[inline(always)]
 fn line_stamps(region: Region, clocks: u16) -> u64
     requires { clocks ≤ 1364 }
@@ -84,7 +87,7 @@ fn is_quiet(act: Act) -> bool
 impl Parts {
     ghost use Rattle.console_machine.specs.Parts.{value_of};
 
-    /// What the next step does at the ports.
+    /// Returns what the next step does at the ports.
     #[inline(always)]
     pub fn act(&self) -> Act
         ensures at_ports { IsAtPorts result }
@@ -93,7 +96,7 @@ impl Parts {
         due_act(&self.cpu, &self.bus)
     }
 
-    /// A step.
+    /// Runs the next step. `got` is the incoming byte of the port if the step reads one.
     #[inline(always)]
     pub fn step(&mut self, got: u8)
         requires room { length self.old.waiting.items + 1024 ≤ self.old.waiting.capacity }
@@ -112,7 +115,8 @@ impl Parts {
         self.stamp += stamps(self.region, clocks);
     }
 
-    /// The same, for a step that is likely to be an access of a port.
+    /// Runs the next step, for a caller that expects an access of a port: it checks for one first. `got` is the
+    /// incoming byte of the port if the step reads one.
     #[inline(always)]
     pub fn step_at_port(&mut self, got: u8)
         requires room { length self.old.waiting.items + 1024 ≤ self.old.waiting.capacity }
@@ -131,7 +135,7 @@ impl Parts {
         self.stamp += stamps(self.region, clocks);
     }
 
-    /// Makes the step where it is seen at once that it is quiet and emits nothing, and answers whether it did.
+    /// Runs the next step if a fast check shows that it is quiet and emits nothing, and returns whether it did.
     /// Otherwise nothing has changed.
     #[inline(always)]
     pub fn try_step(&mut self) -> bool
@@ -155,8 +159,8 @@ impl Parts {
         }
     }
 
-    /// The same of a step that is a byte of a transfer or an access of a register of the B bus. What came of it is
-    /// answered, with the act of an access of a port.
+    /// Runs the next step if it is a byte of a transfer or an access of the B bus, is quiet and emits nothing. Returns
+    /// what came of it, with the act if it is an access of a port.
     #[inline(always)]
     fn try_other_step(&mut self) -> Tried
         requires early { self.old.stamp ≤ 2 ^ 62 }
@@ -182,7 +186,8 @@ impl Parts {
         }
     }
 
-    /// Makes the steps, each begun before a stamp, that are seen at once to be quiet and to emit nothing, one by one.
+    /// Runs steps one by one, each begun before a stamp, as long as a fast check shows that they are quiet and emit
+    /// nothing.
     #[inline(never)]
     fn creep(&mut self, before: u64)
         requires early { before ≤ 2 ^ 62 }
@@ -199,8 +204,9 @@ impl Parts {
         }
     }
 
-    /// The same steps up to the next place of the beam, which comes before that stamp, all at once. Out of line: with
-    /// two copies of it in one function the processor's transitions would not be built into the loop.
+    /// Runs, in one call, quiet steps that emit nothing, for a line's clocks at most. The stamp `before` is at least
+    /// that far away, so each step begins before it. Out of line: with two copies of it in one function the processor's
+    /// transitions would not be inlined into the loop.
     #[inline(never)]
     fn rush(&mut self, before: u64)
         requires far { self.old.stamp + rate_of self.old.region Console * 1364 ≤ before }
@@ -215,7 +221,8 @@ impl Parts {
         self.stamp += line_stamps(self.region, clocks);
     }
 
-    /// The same: all at once, or near the stamp one by one.
+    /// Runs quiet steps that emit nothing, each begun before a stamp. Many are run in one call, or one by one if the
+    /// stamp is less than a line away.
     #[inline(always)]
     fn hurry(&mut self, before: u64)
         requires early { before ≤ 2 ^ 62 }
@@ -232,7 +239,8 @@ impl Parts {
         self.rush(before);
     }
 
-    /// The same where no transfer, refresh or reset is due, and else none.
+    /// Runs quiet steps that emit nothing, each begun before a stamp, if no transfer, refresh or reset is due.
+    /// Otherwise it runs none.
     #[inline(always)]
     fn hurry_on(&mut self, before: u64)
         requires early { before ≤ 2 ^ 62 }
@@ -248,8 +256,8 @@ impl Parts {
         self.hurry(before);
     }
 
-    /// The same with bytes of transfers and accesses of the registers of the B bus between them. Where it came to an
-    /// access of a port, its act is answered.
+    /// Runs quiet steps that emit nothing, each begun before a stamp, bytes of transfers and accesses of the B bus
+    /// included. If it stops before an access of a port, it returns the act of that access.
     #[inline(never)]
     fn hasten(&mut self, before: u64) -> Option<Act>
         requires early { before ≤ 2 ^ 62 }
@@ -273,8 +281,7 @@ impl Parts {
         None
     }
 
-    /// Makes quiet steps, each begun before a stamp, up to the first that emits bytes, and answers where it stands
-    /// then.
+    /// Runs quiet steps, each begun before a stamp, up to the first that emits bytes, and returns where it stops.
     #[inline(always)]
     pub fn quiet(&mut self, before: u64) -> Pause
         requires room { length self.old.waiting.items + 1024 ≤ self.old.waiting.capacity }

@@ -1,27 +1,28 @@
 ghost use Rattle.std.specs.Prelude.{◌≡◌, false};
 
-/// The most runs in which no round is looked for.
+/// The most runs of steps between two searches for an idle loop.
 const MOST_RUNS: u8 = 63;
 
-/// When a round is looked for. Each search in vain makes the next one wait twice as long, so a program that works or talks
-/// pays for few of them; one that finds a round is followed by the next at once. What a run does, it doesn't change.
+/// When to search for an idle loop (a *round* is one iteration of it). A search that finds none makes the next one wait
+/// about twice as long. So a program that works or talks pays for few of them. After a search that finds one, the next
+/// run searches again. It never changes what a run does.
 #[derive(Clone, Copy, Debug, PartialEq, Eq)]
 pub struct Patience {
-    /// How many runs go by before the next search.
+    /// How many runs are left before the next search.
     left: u8,
-    /// How many went by after the last search in vain.
+    /// How many runs were skipped after the last search that found nothing.
     last: u8,
 }
 
 impl Patience {
-    /// Before any search.
+    /// Returns the state before any search: the next run searches.
     pub fn full() -> Patience
         ensures { result.left ≡ 0 }
     {
         Patience { left: 0, last: 0 }
     }
 
-    /// Whether this run is to look for a round.
+    /// Returns whether this run is to search for an idle loop, and counts the run if not.
     #[inline(always)]
     pub fn asks(&mut self) -> bool
         ensures { result ≡ false → self.new.last ≡ self.old.last }
@@ -33,7 +34,7 @@ impl Patience {
         false
     }
 
-    /// A search begins, which may be in vain.
+    /// Records that a search begins, and counts it as one that finds nothing until `found` is called.
     #[inline(always)]
     pub fn begins(&mut self)
         ensures { self.new.left ≡ self.new.last }
@@ -46,7 +47,7 @@ impl Patience {
         self.left = self.last;
     }
 
-    /// A round was found.
+    /// Records that the search found an idle loop: the next run searches again.
     #[inline(always)]
     pub fn found(&mut self)
         ensures { self.new.left ≡ 0 }

@@ -1,4 +1,4 @@
-// The access of a port to the sound side as the processor's next step, where nothing else happens in its clocks.
+// The processor's next step as an access of a port to the sound side, if nothing else happens in its clocks.
 ghost use Rattle.std.specs.Prelude.{◌≡◌, ◌<◌, [], false, IsTrue};
 ghost use Rattle.cpu_tables.specs.declared.access.Access.TheVariants.{Read, Write};
 ghost use Rattle.cpu_modes.specs.Plan.{gets_byte, is_write};
@@ -57,7 +57,7 @@ fn give_port(cpu: &mut Cpu, bus: &mut Bus, v: u8)
     bus.go_on(PORT_CLOCKS as u16);
 }
 
-/// The processor reads a port, where one lies at the address. Answers whether it did.
+/// Lets the processor read a port, if one is at the address, and returns whether it did. Otherwise nothing has changed.
 #[inline(always)]
 fn read_port(cpu: &mut Cpu, bus: &mut Bus, addr: u32, got: u8) -> bool
     requires gets { IsTrue (gets_byte (access_of cpu.old)) }
@@ -76,7 +76,8 @@ fn read_port(cpu: &mut Cpu, bus: &mut Bus, addr: u32, got: u8) -> bool
     true
 }
 
-/// The same of a write.
+/// Lets the processor write a port, if one is at the address, and returns whether it did. Otherwise nothing has
+/// changed.
 #[inline(always)]
 fn write_port(cpu: &mut Cpu, bus: &mut Bus, addr: u32, v: u8, got: u8) -> bool
     requires writes { IsTrue (is_write (access_of cpu.old)) }
@@ -96,8 +97,8 @@ fn write_port(cpu: &mut Cpu, bus: &mut Bus, addr: u32, v: u8, got: u8) -> bool
     true
 }
 
-/// Makes the step that is due where it is the processor's access of a port, 6 clocks long, and nothing else happens in them,
-/// and answers whether it did. Otherwise nothing has changed. `got` is the incoming byte of that port.
+/// Runs the step that is due if it is the processor's access of a port and nothing else happens in its 6 clocks.
+/// Returns whether it did. Otherwise nothing has changed. `got` is the incoming byte of that port.
 pub(crate) fn try_port(cpu: &mut Cpu, bus: &mut Bus, got: u8) -> bool
     ensures made { IsTrue result → IsPortMade cpu.old cpu.new bus.old bus.new (access_of cpu.old) got }
     ensures calm { IsTrue result → IsCalm bus.old }

@@ -14,10 +14,10 @@ use std::marker::Model;
 
 mod copy;
 
-/// How many emitted bytes can wait.
+/// How many emitted bytes the buffer holds.
 const ROOM: usize = 65_536;
 
-/// The console side of a console.
+/// The console side: the 65C816, the PPU, the cartridge and the transfers, as one machine of the two.
 #[derive(Drop)]
 pub struct ConsoleSide {
     parts: Parts,
@@ -36,8 +36,8 @@ impl Model for ConsoleSide {
 }
 
 impl ConsoleSide {
-    /// The console side of a job before its first step. It takes all its memory here, and refuses only for
-    /// want of it.
+    /// Returns the console side of a job before its first step. Allocates all its memory here, and fails only if
+    /// allocation fails.
     pub fn new(alloc: Global, job: &Job) -> Result<ConsoleSide, NoMemory>
         ensures starts { IfOk result (λ c. StandsAt c (console_start job.now.cart job.now.script job.now.region)) }
         ensures empty { IfOk result (λ c. c.waiting ≡ []) }
@@ -58,14 +58,14 @@ impl ConsoleSide {
         })
     }
 
-    /// The processor, to look at what it is about to do.
+    /// Returns the processor, for reading what it does next.
     pub fn processor(&self) -> &Cpu
         ensures { result.now ≡ self.now.cpu }
     {
         &self.parts.cpu
     }
 
-    /// All else on its bus, to look at what is due there.
+    /// Returns all else on the processor's bus, for reading what is due there.
     pub fn bus(&self) -> &Bus
         ensures { result.now ≡ self.now.rest }
     {
@@ -130,7 +130,7 @@ impl Machine for ConsoleSide {
 
     #[inline(always)]
     fn step(&mut self, got: u8) {
-        // Quiet steps are mostly made by other calls, so this one is likely to be at a port.
+        // Other calls run most quiet steps, so this one is likely to be at a port.
         self.parts.step_at_port(got);
     }
 

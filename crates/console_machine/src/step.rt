@@ -37,7 +37,7 @@ const INNER_CLOCKS: u8 = 6;
 /// Master clocks of an access of the B bus.
 const REGISTER_CLOCKS: u8 = 6;
 
-/// How many clocks an access at an address lasts.
+/// Returns how many master clocks an access at an address lasts.
 #[inline(always)]
 #[tactic(auto, using(crate::proofs::Few::few_clocks, crate::proofs::Few::least_clocks))]
 fn lasts(bus: &Bus, addr: u32) -> u8
@@ -52,7 +52,7 @@ fn lasts(bus: &Bus, addr: u32) -> u8
     }
 }
 
-/// Makes the processor's next access, and answers how many clocks it lasts.
+/// Makes the processor's next access, and returns how many clocks it lasts.
 #[inline(always)]
 fn make_access(cpu: &mut Cpu, bus: &mut Bus, got: u8) -> u8
     ensures rest { bus.new ≡ rest_after bus.old (Accesses (access_of cpu.old)) got }
@@ -84,7 +84,7 @@ fn make_access(cpu: &mut Cpu, bus: &mut Bus, got: u8) -> u8
     }
 }
 
-/// Makes the effect of the step that is due, and answers how many clocks the step lasts.
+/// Makes the effect of the step that is due, and returns how many clocks the step lasts.
 #[inline(always)]
 fn make_effect(cpu: &mut Cpu, bus: &mut Bus, got: u8) -> u8
     ensures rest { (s : CpuState) → Stands cpu.old s → bus.new ≡ rest_after bus.old (due_from s bus.old) got }
@@ -110,8 +110,8 @@ fn make_effect(cpu: &mut Cpu, bus: &mut Bus, got: u8) -> u8
     make_access(cpu, bus, got)
 }
 
-/// Makes the step that is due where it is seen at once that it is quiet and that nothing else happens in its
-/// clocks, and answers how many these are. Otherwise nothing has changed.
+/// Runs the step that is due if a fast check shows that it is quiet and that nothing else happens in its clocks.
+/// Returns how many clocks it lasts. Otherwise nothing has changed.
 #[inline(always)]
 pub(crate) fn try_make(cpu: &mut Cpu, bus: &mut Bus) -> Option<u8>
     ensures quiet { IfSome result (λ clocks. (w : ConsoleState) → IsAt cpu.old bus.old w → act_of w.rest (due_of w) ≡ Quiet) }
@@ -129,7 +129,7 @@ pub(crate) fn try_make(cpu: &mut Cpu, bus: &mut Bus) -> Option<u8>
     try_access(cpu, bus)
 }
 
-/// Moves the byte of a transfer that is due where it touches no port and nothing else happens in its clocks.
+/// Moves the byte of a transfer that is due, if it touches no port and nothing else happens in its clocks.
 #[inline(always)]
 fn try_haul(cpu: &mut Cpu, bus: &mut Bus, due: Move) -> Tried
     requires { transfer_of bus.old.channels ≡ Some due }
@@ -154,9 +154,9 @@ fn is_held(bus: &Bus) -> bool
     bus.resets() || bus.refreshes()
 }
 
-/// Makes the step that is due where it is a byte of a transfer or an access of a register of the B bus, touches no port,
-/// and nothing else happens in its clocks, and answers how many these are. Otherwise nothing has changed; where it is an
-/// access of a port, its act is answered.
+/// Runs the step that is due if it is a byte of a transfer or an access of a B-bus register. It may touch no port, and
+/// nothing else may happen in its clocks. Then returns how many these are. Otherwise nothing has changed; for an access
+/// of a port its act is returned.
 #[inline(always)]
 pub(crate) fn try_other(cpu: &mut Cpu, bus: &mut Bus) -> Tried
     ensures quiet { IfMade result (λ clocks. (w : ConsoleState) → IsAt cpu.old bus.old w → act_of w.rest (due_of w) ≡ Quiet) }
@@ -179,8 +179,8 @@ pub(crate) fn try_other(cpu: &mut Cpu, bus: &mut Bus) -> Tried
     }
 }
 
-/// Makes the step that is due, and answers how many master clocks it lasts. `got` is the incoming byte of the
-/// port where the step reads one. A row that is finished on the way joins the bytes that wait.
+/// Runs the step that is due, and returns how many master clocks it lasts. `got` is the incoming byte of the port if
+/// the step reads one. A row that is finished on the way is appended to the buffered bytes.
 #[inline(always)]
 pub(crate) fn make_step(
     cpu: &mut Cpu,
@@ -202,7 +202,9 @@ pub(crate) fn make_step(
     clocks
 }
 
-/// The same, for a step that is likely to be an access of a port: that is looked for first, and made at once.
+/// Runs the step that is due, for a caller that expects an access of a port: it checks for one first. Returns how many
+/// master clocks the step lasts. `got` is the incoming byte of the port if the step reads one. A row that is finished
+/// on the way is appended to the buffered bytes.
 #[inline(always)]
 pub(crate) fn make_likely_port_step(
     cpu: &mut Cpu,

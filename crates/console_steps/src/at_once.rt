@@ -1,5 +1,4 @@
-// An access of the processor to the memory, or an internal cycle, with its clocks, where nothing else happens
-// in these.
+// An access of the processor to memory, or an internal cycle, with its clocks, if nothing else happens in these.
 ghost use Rattle.std.specs.Prelude.{◌≡◌, ◌+◌, ◌<◌, ◌^◌, ℕ, [], None, IsTrue, IfSome, slice_index};
 ghost use Rattle.snes_defs.specs.declared.ports.Act.TheVariants.{Quiet};
 ghost use Rattle.cpu_tables.specs.declared.access.Access.TheVariants.{Read, Write, Inner};
@@ -63,7 +62,7 @@ fn give_memory(cpu: &mut Cpu, bus: &mut Bus, at: usize, v: u8, clocks: u16)
     bus.go_on(clocks);
 }
 
-/// The processor reads a byte of the memory.
+/// Lets the processor read a byte of memory, if nothing else happens in its clocks.
 #[inline(always)]
 fn try_read(cpu: &mut Cpu, bus: &mut Bus, addr: u32) -> Option<u8>
     requires gets { IsTrue (gets_byte (access_of cpu.old)) }
@@ -80,7 +79,7 @@ fn try_read(cpu: &mut Cpu, bus: &mut Bus, addr: u32) -> Option<u8>
     Some(access.clocks as u8)
 }
 
-/// The processor writes a byte of the memory.
+/// Lets the processor write a byte of memory, if nothing else happens in its clocks.
 #[inline(always)]
 fn try_write(cpu: &mut Cpu, bus: &mut Bus, addr: u32, v: u8) -> Option<u8>
     requires writes { IsTrue (is_write (access_of cpu.old)) }
@@ -97,7 +96,7 @@ fn try_write(cpu: &mut Cpu, bus: &mut Bus, addr: u32, v: u8) -> Option<u8>
     Some(access.clocks as u8)
 }
 
-/// The processor makes an internal cycle.
+/// Lets the processor make an internal cycle, if nothing else happens in its clocks.
 #[inline(always)]
 fn try_inner(cpu: &mut Cpu, bus: &mut Bus) -> Option<u8>
     requires inner { IsTrue (is_inner (access_of cpu.old)) }
@@ -114,9 +113,8 @@ fn try_inner(cpu: &mut Cpu, bus: &mut Bus) -> Option<u8>
     Some(6)
 }
 
-/// Makes the processor's next access, and lets its clocks pass, where it is one of the memory or an internal
-/// cycle and nothing else happens in these clocks, and answers how many these are. Otherwise nothing has
-/// changed.
+/// Makes the processor's next access, with its clocks, if it is to memory or an internal cycle and nothing else happens
+/// in these. Returns how many they are. Otherwise nothing has changed.
 #[inline(always)]
 pub fn try_access(cpu: &mut Cpu, bus: &mut Bus) -> Option<u8>
     ensures made { IfSome result (λ clocks. IsMadeAtOnce cpu.old cpu.new bus.old bus.new (access_of cpu.old) clocks) }

@@ -11,7 +11,7 @@ use circular_buffer::HeapCircularBuffer;
 use console_bus::Bus;
 use cpu65816::Cpu;
 
-/// Draws the row above the line where the beam stands, and appends it to the bytes that wait.
+/// Draws the row above the beam's line, and appends it to the buffered bytes.
 #[inline(never)]
 fn draw_row(bus: &mut Bus, waiting: &mut HeapCircularBuffer<u8>)
     requires first { 1 ≤ bus.old.beam.v }
@@ -26,7 +26,7 @@ fn draw_row(bus: &mut Bus, waiting: &mut HeapCircularBuffer<u8>)
     emit_row(waiting, &dots);
 }
 
-/// A row is drawn, and the processor is given the levels again.
+/// Draws the row above the beam's line, appends it to the buffered bytes, and gives the processor its levels again.
 pub fn make_row(cpu: &mut Cpu, bus: &mut Bus, waiting: &mut HeapCircularBuffer<u8>)
     requires first { 1 ≤ bus.old.beam.v }
     requires last { bus.old.beam.v ≤ 239 }

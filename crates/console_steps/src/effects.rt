@@ -14,7 +14,7 @@ use console_bus::Bus;
 use cpu65816::Cpu;
 use dma_hdma::Move;
 
-/// The processor is given the levels of its lines.
+/// Gives the processor the levels of its NMI and IRQ lines.
 #[inline(always)]
 pub fn give_interrupt_levels(cpu: &mut Cpu, bus: &Bus)
     ensures { (s : CpuState) → Stands cpu.old s → Stands cpu.new (with_interrupt_levels s bus.now) }
@@ -23,13 +23,13 @@ pub fn give_interrupt_levels(cpu: &mut Cpu, bus: &Bus)
     cpu.signal(nmi, irq);
 }
 
-/// A byte is read at an address, and goes over the data bus.
+/// Reads a byte at an address, and puts it on the data bus.
 #[inline(always)]
 fn take_byte(bus: &mut Bus, addr: u32, got: u8) -> u8
     ensures byte { result ≡ place_byte bus.old (place_at bus.old.board addr) got }
     ensures rest { bus.new ≡ after_read bus.old (place_at bus.old.board addr) result }
 {
-    // A register of the B bus first: most steps that are not made at once are at the ports.
+    // A register of the B bus first: most steps that the fast paths leave are at the ports.
     if let Some(register) = bus_register(addr) {
         let byte = bus.read_register(register, got);
         bus.put(byte);
@@ -46,7 +46,7 @@ fn take_byte(bus: &mut Bus, addr: u32, got: u8) -> u8
     byte
 }
 
-/// A byte is written to a register of the B bus, and goes over the data bus. A port keeps nothing on this side.
+/// Writes a byte to a register of the B bus, and puts it on the data bus. A port keeps nothing on this side.
 #[inline(always)]
 #[tactic(auto, using(crate::proofs::RegisterPlaces::port_stays))]
 fn put_register(bus: &mut Bus, register: u8, v: u8)
@@ -60,7 +60,7 @@ fn put_register(bus: &mut Bus, register: u8, v: u8)
     bus.put(v);
 }
 
-/// A byte is written at an address, wherever it is, and goes over the data bus.
+/// Writes a byte at an address, wherever it is, and puts it on the data bus.
 #[inline(always)]
 fn put_elsewhere(bus: &mut Bus, addr: u32, v: u8)
     ensures { bus.new ≡ after_write bus.old (place_at bus.old.board addr) v }
@@ -70,7 +70,7 @@ fn put_elsewhere(bus: &mut Bus, addr: u32, v: u8)
     bus.put(v);
 }
 
-/// A byte is written at an address, and goes over the data bus.
+/// Writes a byte at an address, and puts it on the data bus.
 #[inline(always)]
 fn put_byte(bus: &mut Bus, addr: u32, v: u8)
     ensures { bus.new ≡ after_write bus.old (place_at bus.old.board addr) v }
@@ -81,7 +81,7 @@ fn put_byte(bus: &mut Bus, addr: u32, v: u8)
     }
 }
 
-/// The processor reads a byte, as an opcode or not.
+/// Makes the processor read a byte, as an opcode or not.
 #[inline(always)]
 pub fn make_read(cpu: &mut Cpu, bus: &mut Bus, addr: u32, got: u8)
     requires { IsTrue (gets_byte (access_of cpu.old)) }
@@ -93,7 +93,7 @@ pub fn make_read(cpu: &mut Cpu, bus: &mut Bus, addr: u32, got: u8)
     give_interrupt_levels(cpu, bus);
 }
 
-/// The processor writes a byte.
+/// Makes the processor write a byte.
 #[inline(always)]
 pub fn make_write(cpu: &mut Cpu, bus: &mut Bus, addr: u32, v: u8)
     requires { IsTrue (is_write (access_of cpu.old)) }
@@ -105,7 +105,7 @@ pub fn make_write(cpu: &mut Cpu, bus: &mut Bus, addr: u32, v: u8)
     give_interrupt_levels(cpu, bus);
 }
 
-/// The processor makes an internal cycle.
+/// Makes the processor take an internal cycle.
 #[inline(always)]
 pub fn make_inner(cpu: &mut Cpu, bus: &Bus)
     requires { IsTrue (is_inner (access_of cpu.old)) }
@@ -115,7 +115,7 @@ pub fn make_inner(cpu: &mut Cpu, bus: &Bus)
     give_interrupt_levels(cpu, bus);
 }
 
-/// The byte that a transfer takes from the A side, looked up by its page where that is memory.
+/// Returns the byte that a transfer takes from the A side, looked up by its page if that is memory.
 #[inline(always)]
 fn taken(bus: &Bus, addr: u32) -> u8
     ensures { result ≡ taken_from bus.now addr }
@@ -126,7 +126,7 @@ fn taken(bus: &Bus, addr: u32) -> u8
     }
 }
 
-/// A byte of a transfer goes from the A side to a register of the B bus.
+/// Moves a byte of a transfer from the A side to a register of the B bus.
 #[inline(always)]
 fn move_to_b(bus: &mut Bus, from: u32, port: u8)
     requires { IsSome (transfer_of bus.old.channels) }
@@ -138,7 +138,7 @@ fn move_to_b(bus: &mut Bus, from: u32, port: u8)
     bus.transferred(byte);
 }
 
-/// A byte of a transfer goes from a register of the B bus to the A side.
+/// Moves a byte of a transfer from a register of the B bus to the A side.
 fn move_to_a(bus: &mut Bus, port: u8, to: u32, got: u8)
     requires { IsSome (transfer_of bus.old.channels) }
     ensures { bus.new ≡ after_move bus.old (Move.ToA port to) got }
@@ -149,7 +149,7 @@ fn move_to_a(bus: &mut Bus, port: u8, to: u32, got: u8)
     bus.transferred(byte);
 }
 
-/// A byte of a table is taken from the A side.
+/// Loads a byte of an HDMA table from the A side.
 fn move_load(bus: &mut Bus, from: u32)
     requires { IsSome (transfer_of bus.old.channels) }
     ensures { (got : ℕ) → bus.new ≡ after_move bus.old (Move.Load from) got }
@@ -159,7 +159,7 @@ fn move_load(bus: &mut Bus, from: u32)
     bus.transferred(byte);
 }
 
-/// The byte of a transfer that is due is moved.
+/// Moves the byte of a transfer that is due.
 #[inline(always)]
 pub fn make_move(bus: &mut Bus, due: Move, got: u8)
     requires { transfer_of bus.old.channels ≡ Some due }
@@ -172,7 +172,7 @@ pub fn make_move(bus: &mut Bus, due: Move, got: u8)
     }
 }
 
-/// The reset that was due is made.
+/// Makes the reset that is due.
 pub fn make_reset(cpu: &mut Cpu, bus: &mut Bus)
     ensures rest { bus.new ≡ was_reset bus.old }
     ensures processor { Stands cpu.new (with_interrupt_levels at_reset bus.new) }

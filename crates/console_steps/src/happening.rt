@@ -37,7 +37,8 @@ fn happen_on_bus(bus: &mut Bus, event: Event)
     }
 }
 
-/// An event has happened, and the processor is given the levels again.
+/// Makes an event of the beam happen, other than a row being drawn, and gives the processor the levels of its lines
+/// again.
 #[inline(always)]
 pub fn happen(cpu: &mut Cpu, bus: &mut Bus, event: Event)
     requires { event ≢ events.Draw }

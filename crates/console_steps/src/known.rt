@@ -1,5 +1,5 @@
 // An access of the processor with its clocks, as `try_plain` makes it, for a caller that knows the place in the
-// instruction's order. Where the next access is of another kind, or can't be made at once, nothing has changed.
+// instruction's order. If the next access is of another kind, or can't be made so, nothing has changed.
 ghost use Rattle.std.specs.Prelude.{◌≡◌, ◌-◌, ◌<◌, None, IfSome};
 ghost use Rattle.cpu65816.specs.Stands.{access_of};
 ghost use Rattle.beam.specs.Places.{clocks_left};
@@ -11,7 +11,8 @@ use console_bus::Bus;
 use cpu_modes::Place;
 use cpu65816::Cpu;
 
-/// A fetch or a read.
+/// Makes the processor's next access if it is a fetch or a read of memory and nothing else happens in its clocks, and
+/// returns these.
 #[tactic(auto, using(crate::proofs::AtOnce::gets_where_read))]
 #[inline(always)]
 pub fn try_read_at(cpu: &mut Cpu, bus: &mut Bus, place: Place) -> Option<u8>
@@ -29,7 +30,7 @@ pub fn try_read_at(cpu: &mut Cpu, bus: &mut Bus, place: Place) -> Option<u8>
     }
 }
 
-/// A write.
+/// Makes the processor's next access if it is a write and nothing else happens in its clocks, and returns these.
 #[inline(always)]
 pub fn try_write_at(cpu: &mut Cpu, bus: &mut Bus, place: Place) -> Option<u8>
     requires known { cpu.old.micro.place ≡ place }
@@ -46,7 +47,8 @@ pub fn try_write_at(cpu: &mut Cpu, bus: &mut Bus, place: Place) -> Option<u8>
     }
 }
 
-/// An internal cycle.
+/// Makes the processor's next access if it is an internal cycle and nothing else happens in its clocks, and returns
+/// these.
 #[inline(always)]
 pub fn try_idle_at(cpu: &mut Cpu, bus: &mut Bus, place: Place) -> Option<u8>
     requires known { cpu.old.micro.place ≡ place }

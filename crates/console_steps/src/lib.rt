@@ -1,10 +1,10 @@
-//! What the console does in a step, and what comes while its clocks pass.
+//! What the console does in a step, and what happens while the step's clocks pass.
 //!
-//! Stands on the processor and on the bus with all its parts. `specs/ConsoleState.antt` says what the console is as
-//! a machine: which step is due, what it does, what it emits. The functions here are the halves of a step:
-//! its effect (an access or internal cycle of the processor, a byte of a transfer, a reset), and the clocks
-//! that pass after it, with the events of the beam and the rows that these emit. Each is exact for every
-//! console state that processor and bus are at. A caller puts the two together in the order of `due_of`.
+//! Builds on the processor and on the bus with all its parts. `specs/ConsoleState.antt` says what the console is as a
+//! machine: which step is due, what it does, what it emits. The functions here are the halves of a step. The first is
+//! its effect: an access or internal cycle of the processor, a byte of a transfer, a reset. The second is the clocks
+//! that pass after it, with the events of the beam and the rows that these emit. Each is exact for every console state
+//! that processor and bus are at. A caller puts the two together in the order of `due_of`.
 #![tactic(auto)]
 
 mod at_once;

@@ -1,5 +1,5 @@
-// Steps that are no access of the memory, with their clocks, where they touch no port and nothing else happens in these:
-// a byte of a transfer, and an access of a register of the B bus.
+// Steps other than accesses of memory: a byte of a transfer, and an access of a register of the B bus. Each is made
+// with its clocks, if it touches no port and nothing else happens in these.
 ghost use Rattle.std.specs.Prelude.{◌≡◌, ◌<◌, [], true, false, Some, IsTrue};
 ghost use Rattle.snes_defs.specs.declared.ports.Act.TheVariants.{Quiet};
 ghost use Rattle.cpu_tables.specs.declared.access.Access.TheVariants.{Read, Write};
@@ -39,7 +39,7 @@ pub(crate) fn is_port(register: u8) -> bool
     0x40 <= register && register < 0x80
 }
 
-/// What a read of a port is at the ports.
+/// Returns the act of a read of a port.
 #[inline(always)]
 fn port_read(register: u8) -> Act
     requires { is_port register ≡ true }
@@ -49,7 +49,7 @@ fn port_read(register: u8) -> Act
     Act::Read(register % 4)
 }
 
-/// What a write of a port is at the ports.
+/// Returns the act of a write of a port.
 #[inline(always)]
 fn port_write(register: u8, v: u8) -> Act
     requires { is_port register ≡ true }
@@ -71,7 +71,7 @@ fn is_at_port(due: Move) -> bool
     }
 }
 
-/// The byte of a transfer that is due is moved.
+/// Moves the byte of a transfer that is due.
 #[inline(always)]
 fn move_byte(bus: &mut Bus, due: Move)
     requires { transfer_of bus.old.channels ≡ Some due }
@@ -81,7 +81,7 @@ fn move_byte(bus: &mut Bus, due: Move)
     make_move(bus, due, 0);
 }
 
-/// It is moved, and the beam goes on.
+/// Moves the byte of a transfer that is due, and advances the beam by its clocks.
 #[inline(always)]
 fn haul(cpu: &mut Cpu, bus: &mut Bus, due: Move)
     requires due { transfer_of bus.old.channels ≡ Some due }
@@ -95,8 +95,8 @@ fn haul(cpu: &mut Cpu, bus: &mut Bus, due: Move)
     bus.go_on(MOVE_CLOCKS);
 }
 
-/// Moves the byte of a transfer that is due, and lets its clocks pass, where it touches no port and nothing else happens
-/// in these, and answers whether it did. Otherwise nothing has changed.
+/// Moves the byte of a transfer that is due, with its clocks, if it touches no port and nothing else happens in these.
+/// Returns whether it did. Otherwise nothing has changed.
 #[inline(always)]
 pub fn try_move(cpu: &mut Cpu, bus: &mut Bus, due: Move) -> bool
     requires { transfer_of bus.old.channels ≡ Some due }
@@ -210,9 +210,8 @@ fn write_register(cpu: &mut Cpu, bus: &mut Bus, addr: u32, v: u8) -> Tried
     Tried::Made(REGISTER_CLOCKS)
 }
 
-/// Makes the processor's next access, and lets its clocks pass, where it is one of a register of the B bus that is no
-/// port and nothing else happens in these clocks, and answers how many these are. Otherwise nothing has changed; where it is one
-/// of a port, its act is answered.
+/// Makes the processor's next access if it is to a B-bus register other than a port, and nothing else happens in its
+/// clocks. Then returns how many these are. Otherwise nothing has changed; for an access of a port its act is returned.
 #[inline(always)]
 pub fn try_register(cpu: &mut Cpu, bus: &mut Bus) -> Tried
     ensures made { IfMade result (λ clocks. IsMadeAtOnce cpu.old cpu.new bus.old bus.new (access_of cpu.old) clocks) }

@@ -82,7 +82,7 @@ fn pass_place(cpu: &mut Cpu, bus: &mut Bus, waiting: &mut HeapCircularBuffer<u8>
     pass_last(cpu, bus, happens);
 }
 
-/// Lets so many clocks pass, place by place.
+/// Lets that many clocks pass, event by event of the beam.
 #[inline(never)]
 fn pass_places(cpu: &mut Cpu, bus: &mut Bus, waiting: &mut HeapCircularBuffer<u8>, clocks: u16)
     requires step { clocks ≤ 40 }
@@ -103,7 +103,7 @@ fn pass_places(cpu: &mut Cpu, bus: &mut Bus, waiting: &mut HeapCircularBuffer<u8
     pass_places(cpu, bus, waiting, clocks - left);
 }
 
-/// Lets so many clocks pass, with the events of the beam that they bring and the rows that these emit.
+/// Lets that many clocks pass, with the events of the beam that they bring and the rows that these emit.
 #[inline(always)]
 pub fn pass(cpu: &mut Cpu, bus: &mut Bus, waiting: &mut HeapCircularBuffer<u8>, clocks: u16)
     requires step { clocks ≤ 40 }

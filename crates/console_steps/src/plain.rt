@@ -1,6 +1,6 @@
-// An access of the processor with its clocks, where nothing else happens in these, as `at_once` makes it; but
-// the levels of the processor's lines are not given again, since they are what they were. A caller that
-// makes many asks once whether a transfer is due and whether the levels are those that were given.
+// An access of the processor with its clocks, if nothing else happens in these, as `at_once` makes it. The levels of
+// the processor's lines are not given again, since they have not changed. A caller that makes many accesses checks once
+// whether a transfer is due and whether the levels are those that were given.
 ghost use Rattle.std.specs.Prelude.{◌≡◌, ◌+◌, ◌-◌, ◌<◌, ◌^◌, ℕ, [], None, IsTrue, IfSome, slice_index};
 ghost use Rattle.cpu_tables.specs.declared.access.Access.TheVariants.{Read, Write, Inner};
 ghost use Rattle.cpu_modes.specs.Plan.{gets_byte, is_write, is_inner};
@@ -23,7 +23,7 @@ use cpu65816::Cpu;
 /// Master clocks of an access of the B bus.
 const REGISTER_CLOCKS: u8 = 6;
 
-/// Whether the processor was given the levels that its lines have now.
+/// Whether the processor was given the levels that its interrupt lines have now.
 #[inline(always)]
 pub fn is_wired(cpu: &Cpu, bus: &Bus) -> bool
     ensures { IsTrue result → IsWired cpu.now bus.now }
@@ -127,7 +127,7 @@ fn give_register_plainly(cpu: &mut Cpu, bus: &mut Bus, place: Place, register: u
     cpu.wrote_at(place);
 }
 
-/// The processor writes a register of the B bus that is no port; else nothing has changed.
+/// Lets the processor write a register of the B bus other than a port; otherwise nothing has changed.
 fn write_register_plainly(
     cpu: &mut Cpu,
     bus: &mut Bus,
@@ -215,9 +215,8 @@ pub(crate) fn idle_plainly(cpu: &mut Cpu, bus: &mut Bus, place: Place) -> Option
     Some(6)
 }
 
-/// Makes the processor's next access, and lets its clocks pass, where it is one of the memory or an internal
-/// cycle and nothing else happens in these clocks, and answers how many these are. Otherwise nothing has
-/// changed.
+/// Makes the processor's next access, with its clocks, if it is to memory, an internal cycle or a write of a B-bus
+/// register. Nothing else may happen in these clocks. Returns how many they are. Otherwise nothing has changed.
 #[inline(never)]
 pub fn try_plain(cpu: &mut Cpu, bus: &mut Bus) -> Option<u8>
     ensures made { IsWired cpu.old bus.old → IfSome result (λ clocks. IsMadeAtOnce cpu.old cpu.new bus.old bus.new (access_of cpu.old) clocks) }
@@ -236,7 +235,8 @@ pub fn try_plain(cpu: &mut Cpu, bus: &mut Bus) -> Option<u8>
     }
 }
 
-/// The same of an access that only looks: a write it does not make.
+/// Makes the processor's next access, with its clocks, if it is a read of memory or an internal cycle and nothing else
+/// happens in these. Returns how many they are. Otherwise, and for every write, nothing has changed.
 #[inline(always)]
 pub fn try_look(cpu: &mut Cpu, bus: &mut Bus) -> Option<u8>
     ensures made { IsWired cpu.old bus.old → IfSome result (λ clocks. IsMadeAtOnce cpu.old cpu.new bus.old bus.new (access_of cpu.old) clocks) }

@@ -1,5 +1,5 @@
-// Places of the beam where nothing comes but a refresh or the next line: all else on the bus stays what it is without the
-// place, but for the refresh that is due then.
+// Places of the beam at which nothing happens but a refresh or the next line. Except for that refresh, they leave
+// everything on the bus as it was.
 ghost use Rattle.std.specs.Prelude.{◌≡◌, ◌≤◌, IsTrue};
 ghost use Rattle.beam.specs.Places.{clocks_left};
 ghost use Rattle.console_steps.specs.PlainPlaces.{IsPlainAhead, IsPlainlyThere};
@@ -15,7 +15,7 @@ const LINE_END: u16 = 1364;
 /// The last line whose end brings nothing but the next line, with overscan or without.
 const LAST_PLAIN_LINE: u16 = 223;
 
-/// Whether nothing comes at the next place but a refresh or the next line.
+/// Whether nothing happens at the next place of the beam but a refresh or the next line.
 #[inline(always)]
 pub fn is_plain_ahead(bus: &Bus) -> bool
     ensures { IsTrue result → IsPlainAhead bus.now.beam }
@@ -27,7 +27,8 @@ pub fn is_plain_ahead(bus: &Bus) -> bool
     place == REFRESH_PLACE || (place == LINE_END && bus.scanline() <= LAST_PLAIN_LINE)
 }
 
-/// The beam goes on to such a place, and it is answered whether a refresh is due there.
+/// Advances the beam to a place at which nothing happens but a refresh or the next line. Returns whether a refresh is
+/// due there.
 #[inline(always)]
 pub fn reach_plain_place(bus: &mut Bus) -> bool
     requires plain { IsPlainAhead bus.old.beam }

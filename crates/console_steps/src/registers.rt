@@ -1,4 +1,4 @@
-// The registers of the B bus, found first among the places of an address.
+// The registers of the B bus, checked first among the places of an address.
 ghost use Rattle.std.specs.Prelude.{◌≡◌, Bool, IfSome};
 ghost use Rattle.cart_map.specs.declared.places.Place.TheVariants.{BBus};
 ghost use Rattle.cart_map.specs.Clocks.{clocks_of};
@@ -9,7 +9,7 @@ ghost use Rattle.console_bus.specs.Places.{place_at};
 use cart_map::Place;
 use console_bus::Bus;
 
-/// The register of the B bus, 2100 plus the answer, that lies at a 24-bit address, where one does.
+/// Returns the register of the B bus at a 24-bit address, if there is one: its number from 2100 on.
 #[inline(always)]
 #[tactic(auto, using(crate::proofs::BusRegisters::register_place, crate::proofs::BusRegisters::register_clocks))]
 pub fn bus_register(addr: u32) -> Option<u8>
@@ -22,7 +22,7 @@ pub fn bus_register(addr: u32) -> Option<u8>
     None
 }
 
-/// What lies at a 24-bit address.
+/// Returns what is at a 24-bit address.
 #[inline(always)]
 pub fn place_of(bus: &Bus, addr: u32) -> Place
     ensures place { result ≡ place_at bus.now.board addr }

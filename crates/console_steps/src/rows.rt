@@ -4,7 +4,7 @@ ghost use Rattle.console_bus.specs.Happenings.{list_of, byte_of_dots};
 use byteorder::{ByteOrder, LittleEndian};
 use circular_buffer::HeapCircularBuffer;
 
-/// Appends a row of dots, two bytes each, the low one first.
+/// Appends a row of 512 hi-res pixels (*dots*), two bytes each, the low byte first.
 pub fn emit_row(waiting: &mut HeapCircularBuffer<u8>, dots: &[u16; 512])
     requires room { length waiting.old.items + 1024 ≤ waiting.old.capacity }
     ensures row { waiting.new.items ≡ waiting.old.items ++ list_of 1024 (byte_of_dots (slice_index dots.now)) }

@@ -1,12 +1,12 @@
 use snes_defs::Act;
 
-/// What came of a step that was to be made at once.
+/// What came of an attempt to run a step by a fast path.
 #[derive(Clone, Copy, Debug, PartialEq, Eq)]
 pub enum Tried {
-    /// It was made, and lasts so many clocks.
+    /// The step was made, and lasts this many master clocks.
     Made(u8),
-    /// It is an access of a port, which this is at the ports, and was not made.
+    /// The step is an access of a port, with this act, and was not made.
     AtPort(Act),
-    /// It was not made.
+    /// The step was not made.
     Left,
 }

@@ -1,4 +1,4 @@
-// Whether two processors between two instructions leave the same to do.
+// Whether two processors between two instructions have the same left to do.
 ghost use Rattle.std.specs.Prelude.{◌≡◌, IsTrue};
 ghost use Rattle.cpu_modes.specs.Remaining.{remaining};
 

@@ -27,7 +27,7 @@ impl Cpu {
     ghost use Rattle.cpu_tables.specs.declared.access.Access.TheVariants.{Inner, Write};
     ghost use Rattle.cpu65816.specs.Stands.{Stands, TakesUp, access_of, gets_at};
 
-    /// A processor after a reset.
+    /// Returns a processor after a reset.
     pub fn new() -> Cpu
         ensures { Stands result at_reset }
     {
@@ -60,7 +60,7 @@ impl Cpu {
         }
     }
 
-    /// A processor before the first access of an instruction, with registers of the caller's.
+    /// Returns a processor before the first access of an instruction, with registers of the caller's.
     pub fn between(registers: Regs) -> Cpu
         ensures { Stands result (between_instructions registers) }
     {
@@ -80,7 +80,7 @@ impl Cpu {
         }
     }
 
-    /// The next access.
+    /// Returns the next access.
     #[inline(always)]
     pub fn next(&self) -> Access
         ensures now { result ≡ access_of self.now }
@@ -90,8 +90,8 @@ impl Cpu {
         self.micro.access
     }
 
-    /// Where the next access gets a byte, if it is a fetch or a read. The access isn't copied as one value: it was
-    /// written in parts, and a processor waits where it reads as one what it has just written in parts.
+    /// Returns the address that the next access reads, if it is a fetch or a read. The access isn't copied as one
+    /// value. It was written in parts, and a processor stalls if it reads as one what it has just written in parts.
     #[inline(always)]
     pub fn reads_at(&self) -> Option<u32>
         ensures gets { IfSome result (λ at. gets_at (access_of self.now) at) }
@@ -106,7 +106,7 @@ impl Cpu {
         }
     }
 
-    /// Where the next access writes which byte, if it is a write.
+    /// Returns the address and the byte of the next access, if it is a write.
     #[inline(always)]
     pub fn writes_at(&self) -> Option<(u32, u8)>
         ensures writes { IfSome result (λ to. access_of self.now ≡ Write to.0 to.1) }
@@ -143,7 +143,7 @@ impl Cpu {
         self.kept || self.irq_level
     }
 
-    /// An interrupt begins, where the last instruction has ended and the next access is no fetch.
+    /// Begins an interrupt, if the last instruction has ended and the next access is an internal cycle.
     fn begin_interrupt(&mut self)
         requires ended { finished (self.old.kept || self.old.irq_level) (remaining self.old.micro) ≡ Some self.old.micro.here }
         requires inner { IsTrue (is_inner (access_of self.old)) }
@@ -159,7 +159,7 @@ impl Cpu {
         self.micro.enter();
     }
 
-    /// The instruction is in hand that an internal cycle belongs to.
+    /// Begins the interrupt that an internal cycle belongs to, if the last instruction has ended.
     #[inline(always)]
     fn take_up(&mut self)
         requires { IsTrue (is_inner (access_of self.old)) }
@@ -170,7 +170,7 @@ impl Cpu {
         }
     }
 
-    /// The next access, a fetch or a read, got a byte.
+    /// Completes the next access, a fetch or a read, with the byte that it got.
     #[inline(always)]
     pub fn took(&mut self, byte: u8)
         requires { IsTrue (gets_byte (access_of self.old)) }
@@ -180,7 +180,7 @@ impl Cpu {
         settle(&mut self.micro, has_ended, self.kept, self.irq_level);
     }
 
-    /// The place of the next access in its instruction's order.
+    /// Returns the place of the next access in its instruction's order.
     #[inline(always)]
     pub fn place(&self) -> Place
         ensures { result ≡ self.now.micro.place }
@@ -188,7 +188,8 @@ impl Cpu {
         self.micro.place
     }
 
-    /// The same as `took`, for a caller that knows the place.
+    /// Completes the next access, a fetch or a read, with the byte that it got, for a caller that knows the place. It
+    /// does what `took` does.
     #[inline(always)]
     pub fn took_at(&mut self, place: Place, byte: u8)
         requires known { self.old.micro.place ≡ place }
@@ -199,7 +200,7 @@ impl Cpu {
         settle(&mut self.micro, has_ended, self.kept, self.irq_level);
     }
 
-    /// The next access, a write, was made.
+    /// Completes the next access, a write.
     #[inline(always)]
     pub fn wrote(&mut self)
         requires { IsTrue (is_write (access_of self.old)) }
@@ -209,7 +210,7 @@ impl Cpu {
         settle(&mut self.micro, has_ended, self.kept, self.irq_level);
     }
 
-    /// The same as `wrote`, for a caller that knows the place.
+    /// Completes the next access, a write, for a caller that knows the place. It does what `wrote` does.
     #[inline(always)]
     pub fn wrote_at(&mut self, place: Place)
         requires known { self.old.micro.place ≡ place }
@@ -220,7 +221,7 @@ impl Cpu {
         settle(&mut self.micro, has_ended, self.kept, self.irq_level);
     }
 
-    /// The next access, an internal cycle, was made.
+    /// Completes the next access, an internal cycle.
     #[inline(always)]
     pub fn idle(&mut self)
         requires { IsTrue (is_inner (access_of self.old)) }
@@ -231,7 +232,7 @@ impl Cpu {
         settle(&mut self.micro, has_ended, self.kept, self.irq_level);
     }
 
-    /// The same as `idle`, out of line.
+    /// Completes the next access, an internal cycle, out of line. It does what `idle` does.
     #[inline(never)]
     fn idle_between(&mut self)
         requires { IsTrue (is_inner (access_of self.old)) }
@@ -240,7 +241,8 @@ impl Cpu {
         self.idle();
     }
 
-    /// The same as `idle`, for a caller that knows the place. What begins between two instructions is out of line.
+    /// Completes the next access, an internal cycle, for a caller that knows the place. It does what `idle` does. What
+    /// begins between two instructions is out of line.
     #[inline(always)]
     pub fn idle_at(&mut self, place: Place)
         requires known { self.old.micro.place ≡ place }
@@ -255,7 +257,7 @@ impl Cpu {
         settle(&mut self.micro, has_ended, self.kept, self.irq_level);
     }
 
-    /// The lines are given.
+    /// Sets the levels of the NMI and IRQ lines.
     #[inline(always)]
     pub fn signal(&mut self, nmi: bool, irq: bool)
         ensures { (s : CpuState) → Stands self.old s → Stands self.new (signalled s nmi irq) }
@@ -272,7 +274,7 @@ impl Cpu {
         settle(&mut self.micro, is_between, self.kept, self.irq_level);
     }
 
-    /// The levels of the NMI and IRQ lines, as they were last given.
+    /// Returns the levels of the NMI and IRQ lines, as they were last given.
     #[inline(always)]
     pub fn levels(&self) -> (bool, bool)
         ensures nmi { result.0 ≡ self.now.nmi_level }
@@ -281,7 +283,7 @@ impl Cpu {
         (self.nmi_level, self.irq_level)
     }
 
-    /// Whether an instruction has ended, or waits for an interrupt.
+    /// Whether the instruction has ended, or waits for an interrupt.
     #[inline(always)]
     pub fn is_between(&self) -> bool
         ensures { MatchBool result
@@ -291,8 +293,8 @@ impl Cpu {
         self.micro.has_ended(true)
     }
 
-    /// Whether another processor stands for whatever this one stands for. It is seen between two instructions and
-    /// where both wait for an interrupt; elsewhere the answer is no.
+    /// Whether another processor stands for every state that this one stands for. It can be true between two
+    /// instructions and while both wait for an interrupt; otherwise it is false.
     #[tactic(auto, using(crate::proofs::Alike::stands_alike))]
     #[inline(always)]
     pub fn is_like(&self, other: &Cpu) -> bool
@@ -309,7 +311,7 @@ impl Cpu {
             && self.irq_level == other.irq_level
     }
 
-    /// The registers at the start of the instruction in hand.
+    /// Returns the registers at the start of the current instruction.
     #[inline(always)]
     pub fn regs(&self) -> Regs
         ensures { (s : CpuState) → Stands self.now s → result ≡ registers_of s }

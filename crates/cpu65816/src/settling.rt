@@ -31,7 +31,7 @@ fn following(micro: &Micro, kept: bool, irq_level: bool) -> Access
     }
 }
 
-/// The next access is kept also where the instruction has ended or waits.
+/// Keeps the next access, also if the instruction has ended or waits.
 #[inline(always)]
 pub(crate) fn settle(micro: &mut Micro, has_ended: bool, kept: bool, irq_level: bool)
     requires { Keeps has_ended micro.old }

@@ -143,7 +143,7 @@ pub fn bits_cleared(a: u16, p: u8, m: u16) -> Changed
     }
 }
 
-/// The operand of a change: A itself, or what was read.
+/// Returns the operand of a change: A itself, or what was read.
 #[inline(always)]
 pub fn change_operand(on_a: bool, regs: Regs, word: u16) -> u32
     ensures { result ≡ operand on_a regs word }
@@ -155,7 +155,7 @@ pub fn change_operand(on_a: bool, regs: Regs, word: u16) -> u32
     }
 }
 
-/// The registers after a change: the status, and A where it was the operand.
+/// Returns the registers after a change: the status, and A if it was the operand.
 #[tactic(auto, unfolding(crate::specs::Changes::with_change))]
 #[inline(always)]
 pub fn with_changed(on_a: bool, regs: Regs, changed: Changed) -> Regs

@@ -16,7 +16,7 @@ use crate::width::index_numbers;
 use cpu_tables::{CARRY, DECIMAL, IRQ_DISABLE, NEGATIVE, OVERFLOW, Op, Regs, ZERO};
 use status_bits::{is_set, with_bit};
 
-/// Whether a branch is taken, by the status byte. No other operation branches.
+/// Whether a branch is taken, by the status byte. No operation but a branch is.
 #[tactic(auto, unfolding(crate::specs::Flow::taken))]
 #[inline(always)]
 pub fn is_taken(op: Op, p: u8) -> bool
@@ -36,7 +36,7 @@ pub fn is_taken(op: Op, p: u8) -> bool
     }
 }
 
-/// The place at a signed byte's distance from the program counter, in its bank.
+/// Returns the address at a signed byte's distance from the program counter, in its bank.
 #[tactic(auto, unfolding(crate::specs::Flow::relative))]
 #[inline(always)]
 pub fn relative(pc: u16, byte: u8) -> u16
@@ -46,7 +46,7 @@ pub fn relative(pc: u16, byte: u8) -> u16
     ((pc as u32 + byte as u32 + sign) % 65536) as u16
 }
 
-/// The place at a distance of two bytes.
+/// Returns the address at a distance of two bytes from the program counter, in its bank.
 #[inline(always)]
 pub fn far_place(pc: u16, word: u16) -> u16
     ensures { result ≡ far_relative pc word }
@@ -54,7 +54,7 @@ pub fn far_place(pc: u16, word: u16) -> u16
     ((pc as u32 + word as u32) % 65536) as u16
 }
 
-/// The program goes on elsewhere in its bank.
+/// Returns the registers after a jump within the program bank.
 #[inline(always)]
 pub fn jumped(regs: Regs, target: u16) -> Regs
     ensures { result ≡ jump regs target }
@@ -62,7 +62,7 @@ pub fn jumped(regs: Regs, target: u16) -> Regs
     Regs { pc: target, ..regs }
 }
 
-/// A branch by a byte.
+/// Returns the registers after a branch by a signed byte, taken or not.
 #[inline(always)]
 pub fn branched(op: Op, regs: Regs, word: u16) -> Regs
     ensures { result ≡ branch op regs word }
@@ -74,7 +74,7 @@ pub fn branched(op: Op, regs: Regs, word: u16) -> Regs
     }
 }
 
-/// RTI: the pulled status and the pulled place.
+/// RTI: returns the registers with the pulled status and the pulled program counter.
 #[tactic(auto, unfolding(crate::specs::Flow::return_from_interrupt))]
 #[inline(always)]
 pub fn returned_from_interrupt(regs: Regs, target: u16) -> Regs
@@ -83,7 +83,8 @@ pub fn returned_from_interrupt(regs: Regs, target: u16) -> Regs
     jumped(status_set(regs, regs.p), target)
 }
 
-/// BRK, COP and the interrupts: at the vector, in bank 0, with interrupts and decimal off.
+/// BRK, COP and the interrupts: returns the registers at the vector, in bank 0, with interrupts disabled and decimal
+/// off.
 #[tactic(auto, unfolding(crate::specs::Flow::interrupt))]
 #[inline(always)]
 pub fn interrupted(regs: Regs, target: u16) -> Regs
@@ -98,7 +99,7 @@ pub fn interrupted(regs: Regs, target: u16) -> Regs
     }
 }
 
-/// The registers after a reset, at its vector.
+/// Returns the registers after a reset, at its vector.
 #[tactic(auto, unfolding(crate::specs::Flow::reset))]
 #[inline(always)]
 pub fn after_reset(target: u16) -> Regs
@@ -118,7 +119,7 @@ pub fn after_reset(target: u16) -> Regs
     }
 }
 
-/// MVN and MVP: one byte of a block has moved.
+/// MVN and MVP: returns the registers after one byte of a block has moved.
 #[tactic(auto, unfolding(crate::specs::Flow::moved_block))]
 #[inline(always)]
 pub fn block_moved(step: u16, regs: Regs) -> Regs

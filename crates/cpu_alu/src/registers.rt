@@ -18,7 +18,8 @@ use crate::width::with_result;
 use cpu_tables::{CARRY, INDEX_8, MEMORY_8, Op, Regs};
 use status_bits::{is_set, with_bit};
 
-/// A new status byte: in emulation mode both widths stay 8 bits, and 8-bit indexes have no high byte.
+/// Returns the registers with a new status byte. In emulation mode both widths stay 8 bits, and 8-bit indexes have no
+/// high byte.
 #[tactic(auto, unfolding(crate::specs::Registers::with_status))]
 #[inline(always)]
 pub fn status_set(regs: Regs, p: u8) -> Regs
@@ -41,8 +42,8 @@ pub fn status_set(regs: Regs, p: u8) -> Regs
     }
 }
 
-/// The status byte as an operation or an interrupt pushes it. In emulation mode bit 5 is set, and bit
-/// 4 tells software (BRK, COP, PHP), where it is set, from an interrupt of the hardware.
+/// Returns the status byte as an operation or an interrupt pushes it. In emulation mode bit 5 is set. Bit 4 is then set
+/// by software (BRK, COP, PHP) and clear by an interrupt of the hardware.
 #[tactic(auto, unfolding(crate::specs::Registers::pushed_status))]
 #[inline(always)]
 pub fn pushed_status(op: Op, regs: Regs) -> u8
@@ -56,7 +57,7 @@ pub fn pushed_status(op: Op, regs: Regs) -> u8
     }
 }
 
-/// REP: the flags of a mask off.
+/// REP: returns the registers with the flags of a mask cleared.
 #[tactic(auto, unfolding(crate::specs::Registers::clear_flags))]
 #[inline(always)]
 pub fn flags_cleared(regs: Regs, mask: u16) -> Regs
@@ -66,7 +67,7 @@ pub fn flags_cleared(regs: Regs, mask: u16) -> Regs
     status_set(regs, regs.p - (regs.p & mask))
 }
 
-/// SEP: the flags of a mask on.
+/// SEP: returns the registers with the flags of a mask set.
 #[tactic(auto, unfolding(crate::specs::Registers::set_flags))]
 #[inline(always)]
 pub fn flags_set(regs: Regs, mask: u16) -> Regs
@@ -76,7 +77,7 @@ pub fn flags_set(regs: Regs, mask: u16) -> Regs
     status_set(regs, regs.p | mask)
 }
 
-/// A flag on or off.
+/// Returns the registers with the flag of a weight set or cleared.
 #[inline(always)]
 pub fn flag_set(regs: Regs, weight: u8, on: bool) -> Regs
     requires { IsTrue (is_weight weight) }
@@ -88,7 +89,7 @@ pub fn flag_set(regs: Regs, weight: u8, on: bool) -> Regs
     }
 }
 
-/// XCE: carry and emulation mode change places.
+/// XCE: returns the registers with the carry and emulation mode exchanged.
 #[tactic(auto, unfolding(crate::specs::Registers::exchange_modes))]
 #[inline(always)]
 pub fn modes_exchanged(regs: Regs) -> Regs
@@ -99,7 +100,7 @@ pub fn modes_exchanged(regs: Regs) -> Regs
     status_set(Regs { e: into, s, ..regs }, with_bit(regs.p, CARRY, regs.e))
 }
 
-/// A register into S: in emulation mode its low byte alone.
+/// Returns the registers with a value in S: in emulation mode only its low byte changes.
 #[tactic(auto, unfolding(crate::specs::Registers::set_stack))]
 #[inline(always)]
 pub fn stack_set(regs: Regs, value: u16) -> Regs
@@ -113,7 +114,7 @@ pub fn stack_set(regs: Regs, value: u16) -> Regs
     Regs { s, ..regs }
 }
 
-/// All 16 bits of A, with N and Z.
+/// Returns the registers with a value in all 16 bits of A, and N and Z by it.
 #[tactic(auto, unfolding(crate::specs::Registers::load_a_wide))]
 #[inline(always)]
 pub fn with_a_wide(regs: Regs, value: u16) -> Regs
@@ -126,7 +127,7 @@ pub fn with_a_wide(regs: Regs, value: u16) -> Regs
     }
 }
 
-/// D, with N and Z.
+/// Returns the registers with a value in D, and N and Z by it.
 #[tactic(auto, unfolding(crate::specs::Registers::load_d))]
 #[inline(always)]
 pub fn with_d(regs: Regs, value: u16) -> Regs
@@ -139,7 +140,7 @@ pub fn with_d(regs: Regs, value: u16) -> Regs
     }
 }
 
-/// The data bank, with N and Z.
+/// Returns the registers with a value in the data bank, and N and Z by it.
 #[tactic(auto, unfolding(crate::specs::Registers::load_bank))]
 #[inline(always)]
 pub fn with_bank(regs: Regs, value: u16) -> Regs
@@ -153,7 +154,7 @@ pub fn with_bank(regs: Regs, value: u16) -> Regs
     }
 }
 
-/// XBA: the bytes of A change places, with N and Z of the new low byte.
+/// XBA: returns the registers with the bytes of A exchanged, and N and Z by the new low byte.
 #[tactic(auto, unfolding(crate::specs::Registers::swap_bytes))]
 #[inline(always)]
 pub fn bytes_swapped(regs: Regs) -> Regs

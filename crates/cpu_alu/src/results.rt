@@ -35,8 +35,8 @@ use crate::sums::{add, bits_tested, compared, subtract};
 use crate::width::{accumulator_value, index_numbers, memory_numbers, with_a, with_x, with_y};
 use cpu_tables::{CARRY, DECIMAL, IRQ_DISABLE, Mode, OVERFLOW, Op, Regs, Row};
 
-/// The registers after an instruction, and the operand that it writes or pushes (0 where there is
-/// none). See the head of the crate for what `regs` and `word` are.
+/// Returns the registers after an instruction, and the operand that it writes or pushes (0 if there is none). The head
+/// of the crate says what `regs` and `word` are.
 #[inline(always)]
 pub fn apply(row: Row, regs: Regs, word: u16) -> (Regs, u16)
     ensures registers { result.0 ≡ (apply_of row regs word).0 }
@@ -48,7 +48,7 @@ pub fn apply(row: Row, regs: Regs, word: u16) -> (Regs, u16)
     )
 }
 
-/// The registers after an instruction.
+/// Returns the registers after an instruction.
 #[inline(always)]
 pub fn registers_after(row: Row, regs: Regs, word: u16) -> Regs
     ensures { result ≡ registers_after row.op row.mode regs word }
@@ -58,8 +58,8 @@ pub fn registers_after(row: Row, regs: Regs, word: u16) -> Regs
     after
 }
 
-/// An instruction ends: the registers become those after it. One copy for all ends of instructions,
-/// which writes the registers in place, and of them those that the operation changes.
+/// Ends an instruction: the registers become those after it. One copy serves all ends of instructions. It writes the
+/// registers in place, and of them only those that the operation changes.
 #[tactic(auto, unfolding(crate::specs::Results::registers_after))]
 #[inline(never)]
 pub fn finish(regs: &mut Regs, row: Row, word: u16)
@@ -174,7 +174,7 @@ pub fn finish(regs: &mut Regs, row: Row, word: u16)
     }
 }
 
-/// The operand that an instruction writes or pushes; 0 where there is none.
+/// Returns the operand that an instruction writes or pushes, or 0 if there is none.
 #[tactic(auto, unfolding(crate::specs::Results::operand_written))]
 #[inline(always)]
 pub fn operand_written(row: Row, regs: Regs, word: u16) -> u16

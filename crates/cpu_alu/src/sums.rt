@@ -20,7 +20,7 @@ use crate::width::{
 use cpu_tables::{CARRY, DECIMAL, NEGATIVE, OVERFLOW, Regs, ZERO};
 use status_bits::{is_set, with_bit};
 
-/// A sum at a width, what was carried out of it, and whether its sign is wrong.
+/// A sum at a width, its carry, and whether the signed sum did not fit.
 #[derive(Clone, Copy)]
 pub struct Sum {
     /// The sum, at the width.
@@ -31,7 +31,7 @@ pub struct Sum {
     pub overflow: bool,
 }
 
-/// Some decimal digits, with a carry out of the top one.
+/// Decimal digits, with a carry out of the top one.
 #[derive(Clone, Copy)]
 pub struct Digits {
     /// The digits, four bits each.
@@ -194,8 +194,8 @@ fn with_sum(regs: Regs, sum: Sum) -> Regs
     Regs { p, ..loaded }
 }
 
-/// ADC: A plus the operand plus the carry. Out of line, so that no other operation pays for the
-/// registers that the decimal digits need.
+/// ADC: adds the operand and the carry to A. Out of line, so that no other operation pays for the registers that the
+/// decimal digits need.
 #[tactic(auto, unfolding(crate::specs::Sums::add))]
 #[inline(never)]
 pub fn add(regs: &mut Regs, word: u16)
@@ -205,7 +205,7 @@ pub fn add(regs: &mut Regs, word: u16)
     *regs = with_sum(*regs, sum_with_a(Direction::Addition, *regs, m));
 }
 
-/// SBC: A plus the complement of the operand plus the carry.
+/// SBC: adds the complement of the operand and the carry to A.
 #[tactic(auto, unfolding(crate::specs::Sums::subtract))]
 #[inline(never)]
 pub fn subtract(regs: &mut Regs, word: u16)
@@ -216,7 +216,7 @@ pub fn subtract(regs: &mut Regs, word: u16)
     *regs = with_sum(*regs, sum_with_a(Direction::Subtraction, *regs, m));
 }
 
-/// CMP, CPX and CPY: a register's value is compared with the operand.
+/// CMP, CPX and CPY: returns the registers after a register's value is compared with the operand.
 #[tactic(auto, unfolding(crate::specs::Sums::compare))]
 #[inline(always)]
 pub fn compared(size: u32, value: u16, regs: Regs, word: u16) -> Regs
@@ -232,7 +232,8 @@ pub fn compared(size: u32, value: u16, regs: Regs, word: u16) -> Regs
     }
 }
 
-/// BIT: the operand's bits are tested against A, and its top two bits shown but for an immediate one.
+/// BIT: returns the registers after the operand's bits are tested against A. Unless the operand is immediate, N and V
+/// are its top two bits.
 #[tactic(auto, unfolding(crate::specs::Sums::test_bits))]
 #[inline(always)]
 pub fn bits_tested(is_immediate: bool, regs: Regs, word: u16) -> Regs

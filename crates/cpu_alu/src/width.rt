@@ -5,7 +5,7 @@ ghost use Rattle.cpu_alu.specs.Width.{accumulator, bit_of, load_a, load_x, load_
 use cpu_tables::{INDEX_8, MEMORY_8, NEGATIVE, Regs, ZERO};
 use status_bits::{is_set, with_bit};
 
-/// How many numbers A and a memory operand can be: 256 or 65536.
+/// Returns how many values A and a memory operand can have: 256 or 65536.
 #[inline(always)]
 pub fn memory_numbers(regs: Regs) -> u32
     ensures value { result ≡ memory_size regs }
@@ -14,7 +14,7 @@ pub fn memory_numbers(regs: Regs) -> u32
     if is_set(regs.p, MEMORY_8) { 256 } else { 65536 }
 }
 
-/// How many numbers an index register can be: 256 or 65536.
+/// Returns how many values an index register can have: 256 or 65536.
 #[inline(always)]
 pub fn index_numbers(regs: Regs) -> u32
     ensures value { result ≡ index_size regs }
@@ -23,7 +23,7 @@ pub fn index_numbers(regs: Regs) -> u32
     if is_set(regs.p, INDEX_8) { 256 } else { 65536 }
 }
 
-/// A flag as a number.
+/// Returns a flag as a number, 0 or 1.
 #[inline(always)]
 pub fn bit_number(on: bool) -> u32
     ensures value { result ≡ bit_of on }
@@ -32,7 +32,7 @@ pub fn bit_number(on: bool) -> u32
     if on { 1 } else { 0 }
 }
 
-/// The top bit of a number at a width.
+/// Returns the top bit of a number at a width.
 #[inline(always)]
 pub fn top_bit_at(size: u32, value: u32) -> u32
     requires { (size ≡ 256) ⊎ ((size ≡ 65536) ⊎ (size ≡ 16)) }
@@ -41,7 +41,7 @@ pub fn top_bit_at(size: u32, value: u32) -> u32
     value / (size / 2) % 2
 }
 
-/// The status byte with N and Z from a result.
+/// Returns the status byte with N and Z by a result.
 #[tactic(auto, unfolding(crate::specs::Width::with_nz))]
 #[inline(always)]
 pub fn with_result(size: u32, value: u32, p: u8) -> u8
@@ -55,7 +55,7 @@ pub fn with_result(size: u32, value: u32, p: u8) -> u8
     )
 }
 
-/// A at its width.
+/// Returns A at its width.
 #[inline(always)]
 pub fn accumulator_value(regs: Regs) -> u32
     ensures { result ≡ accumulator regs }
@@ -63,7 +63,7 @@ pub fn accumulator_value(regs: Regs) -> u32
     regs.a as u32 % memory_numbers(regs)
 }
 
-/// A with a new value at its width: at 8 bits the high byte stays.
+/// Returns A with a new value at its width: at 8 bits the high byte stays.
 #[tactic(auto, unfolding(crate::specs::Width::put_a))]
 #[inline(always)]
 pub fn a_with(regs: Regs, value: u32) -> u16
@@ -73,7 +73,7 @@ pub fn a_with(regs: Regs, value: u32) -> u16
     (regs.a as u32 / size * size + value % size) as u16
 }
 
-/// A value is loaded into A, and sets N and Z.
+/// Returns the registers with a value in A at its width, and N and Z by it.
 #[tactic(auto, unfolding(crate::specs::Width::load_a))]
 #[inline(always)]
 pub fn with_a(regs: Regs, value: u32) -> Regs
@@ -87,7 +87,7 @@ pub fn with_a(regs: Regs, value: u32) -> Regs
     }
 }
 
-/// A value is loaded into X, and sets N and Z.
+/// Returns the registers with a value in X, and N and Z by it.
 #[tactic(auto, unfolding(crate::specs::Width::load_x))]
 #[inline(always)]
 pub fn with_x(regs: Regs, value: u32) -> Regs
@@ -102,7 +102,7 @@ pub fn with_x(regs: Regs, value: u32) -> Regs
     }
 }
 
-/// A value is loaded into Y, and sets N and Z.
+/// Returns the registers with a value in Y, and N and Z by it.
 #[tactic(auto, unfolding(crate::specs::Width::load_y))]
 #[inline(always)]
 pub fn with_y(regs: Regs, value: u32) -> Regs

@@ -6,7 +6,7 @@ ghost use Rattle.cpu_alu_laws.specs.Numbers.{IsDecimal, digit_count, number};
 
 use cpu_tables::{CARRY, DECIMAL, Mode, Op, Regs};
 
-/// In decimal mode ADC of valid digits gives the digits of the sum: two at 8 bits, four at 16, with the
+/// Law of decimal ADC: of valid digits it gives the digits of the sum. These are two at 8 bits and four at 16, with the
 /// carry as the next digit.
 pub fn decimal_addition(mode: Mode, regs: Regs, word: u16)
     requires decimal { flag regs.p DECIMAL ≡ true }
@@ -19,9 +19,8 @@ pub fn decimal_addition(mode: Mode, regs: Regs, word: u16)
         ≡ number n regs.a + number n word + bit_of (flag regs.p CARRY) }
 {}
 
-/// In decimal mode SBC of valid digits gives the digits of the difference. A clear carry is a borrow:
-/// one more is taken off where it was clear before, and the difference is 100 or 10000 too large where it
-/// is clear after.
+/// Law of decimal SBC: of valid digits it gives the digits of the difference. A clear carry is a borrow. If it was
+/// clear before, one more is subtracted; if it is clear after, the difference is 100 or 10000 too large.
 pub fn decimal_subtraction(mode: Mode, regs: Regs, word: u16)
     requires decimal { flag regs.p DECIMAL ≡ true }
     requires digits_of_a { IsDecimal (digit_count regs) regs.a }

@@ -7,8 +7,8 @@ ghost use Rattle.cpu_alu.specs.Width.{accumulator};
 
 use cpu_tables::{DECIMAL, Mode, Op, Regs};
 
-/// After CMP a branch on the carry is taken where the operand is at most A, and a branch on zero where
-/// they are equal.
+/// Law of CMP: a later branch on the carry is taken if the operand is at most A. A branch on zero is taken if they are
+/// equal.
 pub fn comparison_tells_the_order(mode: Mode, regs: Regs, word: u16)
     ensures carry { taken Op.Bcs (registers_after Op.Cmp mode regs word).p
         ≡ nat_le (word % memory_size regs) (accumulator regs) }
@@ -16,7 +16,7 @@ pub fn comparison_tells_the_order(mode: Mode, regs: Regs, word: u16)
         ≡ (accumulator regs == word % memory_size regs) }
 {}
 
-/// In binary, with no carry in and no borrow in, SBC takes back what ADC of the same operand added.
+/// Law of binary ADC and SBC: with no carry in and no borrow in, SBC undoes ADC of the same operand.
 pub fn subtraction_takes_back_addition(mode: Mode, regs: Regs, word: u16)
     requires binary { flag regs.p DECIMAL ≡ false }
     ensures { let cleared = registers_after Op.Clc Mode.Implied regs 0 in

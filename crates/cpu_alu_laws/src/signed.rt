@@ -7,8 +7,7 @@ ghost use Rattle.cpu_alu_laws.specs.Signed.{signed};
 
 use cpu_tables::{CARRY, DECIMAL, Mode, OVERFLOW, Op, Regs};
 
-/// After ADC in binary V is clear exactly where A, as a signed number of its width, is the sum of the
-/// signed numbers and the carry.
+/// Law of V after binary ADC: it is clear exactly when signed A is the sum of the signed numbers and the carry.
 pub fn overflow_tells_of_the_signed_sum(mode: Mode, regs: Regs, word: u16)
     requires binary { flag regs.p DECIMAL ≡ false }
     ensures right { let size = memory_size regs in
@@ -21,8 +20,8 @@ pub fn overflow_tells_of_the_signed_sum(mode: Mode, regs: Regs, word: u16)
         ≢ (signed size (regs.a % size) +ℤ signed size (word % size) +ℤ pos (bit_of (flag regs.p CARRY))) }
 {}
 
-/// After SBC in binary V is clear exactly where A, as a signed number of its width, is the difference of
-/// the signed numbers, less one where the carry was clear.
+/// Law of V after binary SBC: it is clear exactly when signed A is the difference of the signed numbers. One more is
+/// subtracted if the carry was clear.
 pub fn overflow_tells_of_the_signed_difference(mode: Mode, regs: Regs, word: u16)
     requires binary { flag regs.p DECIMAL ≡ false }
     ensures right { let size = memory_size regs in

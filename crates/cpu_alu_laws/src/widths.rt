@@ -5,7 +5,7 @@ ghost use Rattle.cpu_alu_laws.specs.Wide.{takes_all_of_a};
 
 use cpu_tables::{MEMORY_8, Mode, Op, Regs};
 
-/// At 8 bits an operation leaves the high byte of A, but for the few that are about all of A.
+/// Law of 8-bit operations: they leave the high byte of A, except for the few that use all of A.
 pub fn high_byte_stays(op: Op, mode: Mode, regs: Regs, word: u16)
     requires narrow { flag regs.p MEMORY_8 ≡ true }
     requires not_wide { takes_all_of_a op ≡ false }

@@ -6,8 +6,8 @@ ghost use Rattle.cpu_modes.specs.Orders.{instruction};
 ghost use Rattle.cpu_laws.specs.Outcomes.{IsPossible, Memory, Outcome, outcome};
 ghost use Rattle.cpu_laws.specs.Calls.{GoesOnAfter, KeepsFarStack, KeepsStack};
 
-/// A JSR, opcode 20, at some registers and memory, then whatever comes to an RTS, opcode 60, in the
-/// same bank and with the stack as it was after the call: the program goes on after the JSR.
+/// Law of JSR and RTS: the program continues after the JSR. A JSR, opcode 20, comes first, then anything that leads to
+/// an RTS, opcode 60. That must be in the same bank, with the stack as after the call.
 pub fn return_goes_on_after_call()
     ensures { (r : Regs) (m : Memory) (called : Outcome) (there : Regs) (then_ : Memory)
         → IsPossible r → m (code r) ≡ 0x20 → outcome (instruction r) m ≡ Some called
@@ -15,8 +15,8 @@ pub fn return_goes_on_after_call()
         → IsSomeAnd (outcome (instruction there) then_) (λ back. GoesOnAfter 3 r back.registers) }
 {}
 
-/// A JSL, opcode 22, then whatever comes to an RTL, opcode 6B, in any bank, with the stack as it was
-/// after the call: the program goes on after the JSL, in its bank.
+/// Law of JSL and RTL: the program continues after the JSL, in its bank. A JSL, opcode 22, comes first, then anything
+/// that leads to an RTL, opcode 6B. That may be in any bank, with the stack as after the call.
 pub fn far_return_goes_on_after_far_call()
     ensures { (r : Regs) (m : Memory) (called : Outcome) (there : Regs) (then_ : Memory)
         → IsPossible r → m (code r) ≡ 0x22 → outcome (instruction r) m ≡ Some called

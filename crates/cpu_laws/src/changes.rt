@@ -6,7 +6,7 @@ ghost use Rattle.cpu_modes.specs.Orders.{order};
 ghost use Rattle.cpu_laws.specs.Changes.{changes, is_memory, places_read, places_written};
 ghost use Rattle.cpu_laws.specs.Outcomes.{Memory};
 
-/// An instruction that changes memory writes just the places that it read, the last one first.
+/// Law of an instruction that changes memory: it writes just the places that it read, the last one first.
 pub fn change_writes_the_places_read()
     ensures { (op : Op) (mode : Mode) (r : Regs) (m : Memory)
         → changes op ≡ true → is_memory mode ≡ true

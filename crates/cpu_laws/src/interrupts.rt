@@ -8,8 +8,9 @@ ghost use Rattle.cpu_modes.specs.Orders.{instruction, order};
 ghost use Rattle.cpu_laws.specs.Interrupts.{KeepsFrame, brought_back};
 ghost use Rattle.cpu_laws.specs.Outcomes.{IsPossible, Memory, Outcome, outcome};
 
-/// In native mode an interrupt by the line that can't be masked, then whatever comes to an RTI, opcode
-/// 40, with the stack as it got it: the program goes on where it was, with its flags.
+/// Law of NMI and RTI in native mode: the program continues where it was, with its flags. An interrupt by the line that
+/// can't be masked comes first, then anything that leads to an RTI, opcode 40. The stack must be there as the interrupt
+/// left it.
 pub fn return_brings_back_from_nmi()
     ensures { (r : Regs) (m : Memory) (taken : Outcome) (there : Regs) (then_ : Memory)
         → IsPossible r → r.e ≡ false → outcome (order (record { op = Nmi; mode = Stack }) r) m ≡ Some taken
@@ -17,7 +18,9 @@ pub fn return_brings_back_from_nmi()
         → IsSomeAnd (outcome (instruction there) then_) (λ back. back.registers ≡ brought_back r there) }
 {}
 
-/// The same for an interrupt by the line that can be masked.
+/// Law of IRQ and RTI in native mode: the program continues where it was, with its flags. An interrupt by the line that
+/// can be masked comes first, then anything that leads to an RTI, opcode 40. The stack must be there as the interrupt
+/// left it.
 pub fn return_brings_back_from_irq()
     ensures { (r : Regs) (m : Memory) (taken : Outcome) (there : Regs) (then_ : Memory)
         → IsPossible r → r.e ≡ false → outcome (order (record { op = Irq; mode = Stack }) r) m ≡ Some taken

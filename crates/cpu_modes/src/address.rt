@@ -7,7 +7,7 @@ use crate::uses::Width;
 use cpu_tables::{INDEX_8, MEMORY_8, Regs};
 use status_bits::is_set;
 
-/// Where the next byte of the program is.
+/// Returns the 24-bit address of the next byte of the program.
 #[inline(always)]
 pub fn code_address(r: &Regs) -> u32
     ensures exact { result ≡ code r.now }
@@ -16,7 +16,7 @@ pub fn code_address(r: &Regs) -> u32
     65536 * r.pbr as u32 + r.pc as u32
 }
 
-/// Where the stack pointer points: in emulation mode always into page 1.
+/// Returns the address that the stack pointer points to, in bank 0: in emulation mode always in page 1.
 #[inline(always)]
 pub fn stack_address(r: &Regs) -> u32
     ensures exact { result ≡ stack r.now }
@@ -29,7 +29,7 @@ pub fn stack_address(r: &Regs) -> u32
     }
 }
 
-/// The stack pointer at the byte that a pull reads.
+/// Returns the stack pointer at the byte that a pull reads.
 #[inline(always)]
 pub fn pulled_stack(r: &Regs) -> u16
     ensures { result ≡ (pulled r.now).s }
@@ -41,7 +41,7 @@ pub fn pulled_stack(r: &Regs) -> u16
     }
 }
 
-/// The stack pointer after a push.
+/// Returns the stack pointer after a push.
 #[inline(always)]
 pub fn pushed_stack(r: &Regs) -> u16
     ensures { result ≡ (pushed r.now).s }
@@ -53,7 +53,7 @@ pub fn pushed_stack(r: &Regs) -> u16
     }
 }
 
-/// Where the byte is that a pull reads.
+/// Returns the address of the byte that a pull reads.
 #[inline(always)]
 pub fn pull_address(r: &Regs) -> u32
     ensures exact { result ≡ stack (pulled r.now) }
@@ -63,7 +63,7 @@ pub fn pull_address(r: &Regs) -> u32
     if r.e { 256 + s as u32 % 256 } else { s as u32 }
 }
 
-/// Where the high byte of data is.
+/// Returns the address of the high byte of data whose low byte is at `at`.
 #[inline(always)]
 pub fn second_address(reach: Reach, at: u32) -> u32
     ensures exact { result ≡ second reach at }
@@ -75,7 +75,7 @@ pub fn second_address(reach: Reach, at: u32) -> u32
     }
 }
 
-/// The next address in the same bank.
+/// Returns the next address in the same bank.
 #[inline(always)]
 pub fn next_in_bank(at: u32) -> u32
     requires { at < 2 ^ 24 }
@@ -85,7 +85,7 @@ pub fn next_in_bank(at: u32) -> u32
     at / 65536 * 65536 + (at % 65536 + 1) % 65536
 }
 
-/// A word of two bytes.
+/// Returns the word of a low byte and a high byte.
 #[inline(always)]
 pub(crate) fn join(low: u16, high: u8) -> u16
     ensures { result ≡ join low high }
@@ -93,7 +93,7 @@ pub(crate) fn join(low: u16, high: u8) -> u16
     low % 256 + 256 * high as u16
 }
 
-/// The low byte of a word.
+/// Returns the low byte of a word.
 #[inline(always)]
 pub fn low_byte(word: u32) -> u8
     ensures { result ≡ word % 256 }
@@ -101,7 +101,7 @@ pub fn low_byte(word: u32) -> u8
     (word % 256) as u8
 }
 
-/// The high byte of a word.
+/// Returns the high byte of a word.
 #[inline(always)]
 pub fn high_byte(word: u32) -> u8
     ensures { result ≡ word / 256 % 256 }
@@ -122,7 +122,7 @@ pub fn is_wide(width: Width, r: &Regs) -> bool
     }
 }
 
-/// The place in bank 0 at an offset and an index from the direct register.
+/// Returns the address in bank 0 at an offset and an index from the direct register.
 #[inline(always)]
 pub fn direct_address(r: &Regs, offset: u16, index: u16) -> u32
     ensures exact { result ≡ direct r.now offset index }
@@ -135,7 +135,7 @@ pub fn direct_address(r: &Regs, offset: u16, index: u16) -> u32
     }
 }
 
-/// The place in bank 0 at an offset from the direct register, whatever the mode.
+/// Returns the address in bank 0 at an offset from the direct register, in either mode.
 #[inline(always)]
 pub fn direct_always(r: &Regs, offset: u16) -> u32
     ensures exact { result ≡ direct_always r.now offset }
@@ -144,7 +144,7 @@ pub fn direct_always(r: &Regs, offset: u16) -> u32
     (r.d as u32 + offset as u32) % 65536
 }
 
-/// The place of a pointer's second byte.
+/// Returns the address of a pointer's second byte.
 #[inline(always)]
 pub fn pointer_next(kind: PointerKind, r: &Regs, at: u32) -> u32
     requires { at < 2 ^ 24 }
@@ -165,7 +165,7 @@ pub fn pointer_next(kind: PointerKind, r: &Regs, at: u32) -> u32
     }
 }
 
-/// Whether an indexed address has a cycle of its own.
+/// Whether an indexed address takes an internal cycle of its own.
 #[inline(always)]
 pub fn has_index_cycle(traffic: Traffic, r: &Regs, at: u32, index: u16) -> bool
     requires { at < 2 ^ 24 }

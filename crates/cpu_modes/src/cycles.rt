@@ -41,7 +41,7 @@ impl Micro {
         self.push_written();
     }
 
-    /// The next access, an internal cycle, was made. Answers whether the instruction has ended or waits.
+    /// Completes the next access, an internal cycle. Returns whether the instruction has ended or waits.
     #[inline(always)]
     pub fn idle(&mut self) -> bool
         requires { IsTrue (is_inner (first_access (remaining self.old))) }
@@ -53,7 +53,8 @@ impl Micro {
         self.idle_at(place)
     }
 
-    /// The same for a caller that knows the place: built into that caller, it is that place's transition alone.
+    /// Completes the next access, an internal cycle, for a caller that knows the place. Returns whether the instruction
+    /// has ended or waits. Inlined into that caller, it is that place's transition alone.
     #[inline(always)]
     pub fn idle_at(&mut self, place: Place) -> bool
         requires known { self.old.place ≡ place }

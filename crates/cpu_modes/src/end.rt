@@ -8,7 +8,7 @@ impl Micro {
     ghost use Rattle.cpu_modes.specs.Plan.{ends, finished};
     ghost use Rattle.cpu_modes.specs.Remaining.{remaining};
 
-    /// An instruction that has ended.
+    /// Returns an instruction that has ended, with its registers and its row.
     pub fn ended(registers: Regs, row: Row) -> Micro
         ensures left { remaining result ≡ ends registers }
         ensures start { result.start ≡ registers }
@@ -30,7 +30,8 @@ impl Micro {
         }
     }
 
-    /// Whether the instruction has ended; a waiting one has where it is woken. Its registers are then those here.
+    /// Whether the instruction has ended; one that waits has if `awake` is true. Its registers are then those in
+    /// `here`.
     #[inline(always)]
     pub fn has_ended(&self, awake: bool) -> bool
         ensures { MatchBool result
@@ -40,7 +41,8 @@ impl Micro {
         self.has_ended_at(self.place, awake)
     }
 
-    /// The same for a caller that knows the place.
+    /// Whether the instruction has ended, for a caller that knows the place; one that waits has if `awake` is true. Its
+    /// registers are then those in `here`.
     #[inline(always)]
     pub fn has_ended_at(&self, place: Place, awake: bool) -> bool
         requires known { self.now.place ≡ place }

@@ -7,7 +7,7 @@ use crate::place::{DirectKind, Direction, OperandKind, Place, ReturnKind, Target
 use crate::uses::{Cause, Use, Width, use_of};
 use cpu_tables::Mode;
 
-/// The place of a cause's vector in bank 0.
+/// Returns the address of a cause's vector, in bank 0.
 #[inline(always)]
 fn vector(cause: Cause, e: bool) -> u32
     ensures exact { result ≡ vector cause e }
@@ -103,7 +103,7 @@ impl Micro {
         self.traffic = Traffic { direction, wide };
     }
 
-    /// The row's accesses after the opcode begin.
+    /// Begins the accesses that follow the opcode, as the row has them.
     #[inline(always)]
     pub fn enter(&mut self)
         ensures left { remaining self.new ≡ order self.old.row self.old.here }

@@ -1,4 +1,4 @@
-// What each place in an instruction's order comes to when its access, a fetch, has got its byte.
+// What each place in an instruction's order becomes once its access, a fetch, has got its byte.
 ghost use Rattle.std.specs.Prelude.{◌≡◌, ◌==◌, ◌+◌, ◌*◌, ◌%◌, false, not};
 ghost use Rattle.cpu_modes.specs.declared.place.Place.TheVariants.{OperandByte, StatusOperand, ImmediateLow, ImmediateHigh, DirectOffset, StackOffset, StackPointerOffset, OperandLow, OperandHigh, OperandBank, CallBank, CallPointerLow, CallPointerHigh, BranchOffset, BreakOperand, BlockDestination, BlockSource};
 
@@ -64,7 +64,7 @@ impl Micro {
         self.to_fetch(Place::ImmediateHigh);
     }
 
-    /// Its high byte was fetched: the instruction has ended.
+    /// The high byte of an immediate operand was fetched: the instruction has ended.
     #[inline(always)]
     pub(crate) fn took_immediate_high(&mut self, got: u8) -> bool
         requires { self.old.place ≡ ImmediateHigh }
@@ -158,7 +158,7 @@ impl Micro {
         self.to_fetch(Place::OperandHigh(kind));
     }
 
-    /// Its high byte was fetched. Answers whether the instruction has ended.
+    /// The high byte of an operand was fetched. Returns whether the instruction has ended.
     #[inline]
     pub(crate) fn took_operand_high(&mut self, kind: OperandKind, got: u8) -> bool
         requires { self.old.place ≡ OperandHigh kind }
@@ -206,7 +206,7 @@ impl Micro {
         self.reach_absolute_indexed(join(self.word, got), self.here.y);
     }
 
-    /// Its bank was fetched. Answers whether the instruction has ended.
+    /// The bank of an operand was fetched. Returns whether the instruction has ended.
     #[inline]
     pub(crate) fn took_operand_bank(&mut self, kind: BankKind, got: u8) -> bool
         requires { self.old.place ≡ OperandBank kind }
@@ -259,7 +259,7 @@ impl Micro {
         self.to_idle(Place::TargetCycle);
     }
 
-    /// A branch's distance was fetched. Answers whether the instruction has ended.
+    /// A branch's distance was fetched. Returns whether the instruction has ended.
     #[inline(always)]
     pub(crate) fn took_branch_offset(&mut self, got: u8) -> bool
         requires { self.old.place ≡ BranchOffset }

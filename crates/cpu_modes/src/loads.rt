@@ -1,4 +1,4 @@
-// What each place in an instruction's order comes to when its access, a read, has got its byte.
+// What each place in an instruction's order becomes once its access, a read, has got its byte.
 ghost use Rattle.std.specs.Prelude.{◌≡◌, ◌+◌, ◌*◌, ◌%◌, false};
 ghost use Rattle.cpu_modes.specs.declared.place.Place.TheVariants.{PointerLow, PointerHigh, PointerBank, PointerBankY, LoadByte, LoadLow, LoadHigh, ChangeReadLow, ChangeReadHigh, TargetLow, TargetHigh, TargetBank, BlockRead};
 
@@ -23,7 +23,7 @@ impl Micro {
         self.to_read(Place::PointerHigh(kind));
     }
 
-    /// Its high byte was read.
+    /// A pointer's high byte was read.
     #[inline]
     pub(crate) fn took_pointer_high(&mut self, kind: PointerKind, got: u8)
         requires { self.old.place ≡ PointerHigh kind }
@@ -84,7 +84,7 @@ impl Micro {
         self.to_read(Place::LoadHigh);
     }
 
-    /// Its high byte was read: the instruction has ended.
+    /// The high byte of data of 16 bits was read: the instruction has ended.
     #[inline(always)]
     pub(crate) fn took_load_high(&mut self, got: u8) -> bool
         requires { self.old.place ≡ LoadHigh }
@@ -137,7 +137,7 @@ impl Micro {
         self.to_read(Place::TargetHigh(kind));
     }
 
-    /// Its high byte was read. Answers whether the instruction has ended.
+    /// A target's high byte was read. Returns whether the instruction has ended.
     #[inline]
     pub(crate) fn took_target_high(&mut self, kind: TargetKind, got: u8) -> bool
         requires { self.old.place ≡ TargetHigh kind }
@@ -148,7 +148,7 @@ impl Micro {
         self.pass_target(kind, self.base, join(self.word, got))
     }
 
-    /// Its bank was read: the instruction has ended.
+    /// A target's bank was read: the instruction has ended.
     #[inline]
     pub(crate) fn took_target_bank(&mut self, got: u8) -> bool
         requires { self.old.place ≡ TargetBank }

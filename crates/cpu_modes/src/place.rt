@@ -1,24 +1,24 @@
 /// Whether the data of an instruction is read, written, or both.
 #[derive(Clone, Copy, PartialEq, Eq, Debug)]
 pub enum Direction {
-    /// Read.
+    /// The data is read.
     Load,
-    /// Written.
+    /// The data is written.
     Store,
-    /// Read, changed and written back.
+    /// The data is read, changed and written back.
     Change,
 }
 
-/// How the data of an instruction moves.
+/// How the data of an instruction moves, and how wide it is.
 #[derive(Clone, Copy, PartialEq, Eq, Debug)]
 pub struct Traffic {
-    /// Whether it is read or written.
+    /// Whether the data is read, written, or both.
     pub direction: Direction,
-    /// Whether it has 16 bits.
+    /// Whether the data has 16 bits.
     pub wide: bool,
 }
 
-/// Where the high byte of data stands.
+/// Where the high byte of data is.
 #[derive(Clone, Copy, PartialEq, Eq, Debug)]
 pub enum Reach {
     /// At the next 24-bit address.
@@ -30,7 +30,7 @@ pub enum Reach {
 /// What an offset from the direct register is for.
 #[derive(Clone, Copy, PartialEq, Eq, Debug)]
 pub enum DirectKind {
-    /// `d`
+    /// `d`: the data in the direct page.
     Plain,
     /// `d,X`
     X,
@@ -46,7 +46,7 @@ pub enum DirectKind {
     LongPointer,
     /// `[d],Y`
     LongPointerY,
-    /// PEI
+    /// PEI: the word that is pushed.
     Pushed,
 }
 
@@ -63,7 +63,7 @@ pub enum PointerKind {
     Long,
     /// `[d],Y`
     LongY,
-    /// PEI
+    /// PEI: the word that is pushed.
     Pushed,
 }
 
@@ -116,13 +116,13 @@ pub enum BankKind {
 /// How many bytes the target of a jump has in memory.
 #[derive(Clone, Copy, PartialEq, Eq, Debug)]
 pub enum TargetKind {
-    /// Two.
+    /// Two bytes: the bank is given.
     Near,
-    /// Three: the last is the bank.
+    /// Three bytes: the last is the bank.
     Far,
 }
 
-/// What is returned from.
+/// What a return instruction returns from.
 #[derive(Clone, Copy, PartialEq, Eq, Debug)]
 pub enum ReturnKind {
     /// A subroutine: RTS.
@@ -133,7 +133,7 @@ pub enum ReturnKind {
     Interrupt,
 }
 
-/// The next access of an instruction.
+/// The place of an instruction's next access in its order.
 #[derive(Clone, Copy, PartialEq, Eq, Debug)]
 pub enum Place {
     /// The fetch of the only operand byte, the last access.
@@ -142,7 +142,7 @@ pub enum Place {
     StatusOperand,
     /// The fetch of the low byte of an immediate operand of 16 bits.
     ImmediateLow,
-    /// The fetch of its high byte.
+    /// The fetch of the high byte of an immediate operand of 16 bits.
     ImmediateHigh,
     /// The fetch of an offset from the direct register.
     DirectOffset(DirectKind),
@@ -154,15 +154,15 @@ pub enum Place {
     StackPointerOffset,
     /// The fetch of the low byte of an operand.
     OperandLow(OperandKind),
-    /// The fetch of its high byte.
+    /// The fetch of the high byte of an operand.
     OperandHigh(OperandKind),
-    /// The fetch of its bank.
+    /// The fetch of the bank of an operand.
     OperandBank(BankKind),
     /// A cycle before a pointer is read.
     PointerCycle(PointerKind),
     /// The read of a pointer's low byte.
     PointerLow(PointerKind),
-    /// The read of its high byte.
+    /// The read of a pointer's high byte.
     PointerHigh(PointerKind),
     /// The read of the bank of a pointer `[d]`.
     PointerBank,
@@ -174,21 +174,21 @@ pub enum Place {
     LoadByte,
     /// The read of the low byte of data of 16 bits.
     LoadLow(Reach),
-    /// The read of its high byte.
+    /// The read of the high byte of data of 16 bits.
     LoadHigh,
-    /// The write of data, of its low byte first.
+    /// The write of data: of its only byte, or of its low byte first.
     StoreLow(Reach),
-    /// The write of its high byte.
+    /// The write of the high byte of data.
     StoreHigh,
-    /// The read of data that is to be changed.
+    /// The read of data that is to be changed: of its only byte, or of its low byte.
     ChangeReadLow(Reach),
-    /// The read of its high byte.
+    /// The read of the high byte of data that is to be changed.
     ChangeReadHigh(Reach),
-    /// The cycle in which it is changed.
+    /// The cycle in which data is changed.
     ChangeCycle(Reach),
-    /// The write of its high byte.
+    /// The write of the high byte of changed data.
     ChangeWriteHigh(Reach),
-    /// The write of its low byte.
+    /// The write of the low byte of changed data, or of its only one.
     ChangeWriteLow,
     /// The last two cycles.
     TwoCycles,
@@ -200,39 +200,39 @@ pub enum Place {
     PushWordCycle,
     /// The push of a high byte.
     PushHigh,
-    /// The push of a low byte, or of the only one.
+    /// The push of a low byte, or of a register's only byte.
     PushLow,
     /// The first cycle of a pull.
     PullFirstCycle,
     /// The second cycle of a pull.
     PullCycle,
-    /// The pull of the only byte.
+    /// The pull of a register's only byte.
     PullByte,
-    /// The pull of the low byte.
+    /// The pull of a register's low byte.
     PullLow,
-    /// The pull of the high byte.
+    /// The pull of a register's high byte.
     PullHigh,
     /// JSL: the push of the program bank.
     CallBankPush,
-    /// JSL: the cycle after that push.
+    /// JSL: the cycle after the push of the program bank.
     CallBankCycle,
-    /// JSL: the fetch of the bank.
+    /// JSL: the fetch of the target's bank.
     CallBank,
-    /// JSR `(a,X)`: the fetch of the low byte.
+    /// JSR `(a,X)`: the fetch of the pointer's low byte.
     CallPointerLow,
-    /// JSR `(a,X)`: the push of the high byte of the address to return to.
+    /// JSR `(a,X)`: the push of the high byte of the return address.
     CallPointerPushHigh,
-    /// JSR `(a,X)`: the push of its low byte.
+    /// JSR `(a,X)`: the push of the low byte of the return address.
     CallPointerPushLow,
-    /// JSR `(a,X)`: the fetch of the high byte.
+    /// JSR `(a,X)`: the fetch of the pointer's high byte.
     CallPointerHigh,
     /// The cycle before a target is read.
     TargetCycle,
     /// The read of a target's low byte.
     TargetLow(TargetKind),
-    /// The read of its high byte.
+    /// The read of a target's high byte.
     TargetHigh(TargetKind),
-    /// The read of its bank.
+    /// The read of a target's bank.
     TargetBank,
     /// The first cycle of a return.
     ReturnFirstCycle(ReturnKind),
@@ -242,7 +242,7 @@ pub enum Place {
     ReturnStatus,
     /// The pull of the program counter's low byte.
     ReturnLow(ReturnKind),
-    /// The pull of its high byte.
+    /// The pull of the program counter's high byte.
     ReturnHigh(ReturnKind),
     /// The pull of the program bank.
     ReturnBank,
@@ -254,13 +254,13 @@ pub enum Place {
     InterruptFirstCycle,
     /// The second cycle of an interrupt.
     InterruptCycle,
-    /// The push of the program bank, in native mode.
+    /// An interrupt's push of the program bank, in native mode.
     InterruptBank,
-    /// The push of the program counter's high byte.
+    /// An interrupt's push of the program counter's high byte.
     InterruptHigh,
-    /// The push of its low byte.
+    /// An interrupt's push of the program counter's low byte.
     InterruptLow,
-    /// The push of the status byte.
+    /// An interrupt's push of the status byte.
     InterruptStatus,
     /// MVN and MVP: the fetch of the destination's bank.
     BlockDestination,
@@ -268,7 +268,7 @@ pub enum Place {
     BlockSource,
     /// MVN and MVP: the read of a byte.
     BlockRead,
-    /// MVN and MVP: the write of that byte.
+    /// MVN and MVP: the write of the byte that was read.
     BlockWrite,
     /// WAI: the first cycle.
     WaitFirstCycle,
@@ -276,8 +276,8 @@ pub enum Place {
     WaitCycle,
     /// WAI: a cycle of waiting.
     Waiting,
-    /// STP: a cycle of standing still.
+    /// STP: a cycle in which the processor is stopped.
     Stopped,
-    /// None: the last access was made.
+    /// No access of this instruction: the last one was made.
     Ended,
 }

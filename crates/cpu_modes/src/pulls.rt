@@ -1,4 +1,4 @@
-// What each place in an instruction's order comes to when its access, a pull, has got its byte.
+// What each place in an instruction's order becomes once its access, a pull, has got its byte.
 ghost use Rattle.std.specs.Prelude.{◌≡◌, ◌+◌, ◌*◌, ◌%◌, false};
 ghost use Rattle.cpu_modes.specs.declared.place.Place.TheVariants.{PullByte, PullLow, PullHigh, ReturnStatus, ReturnLow, ReturnHigh, ReturnBank};
 
@@ -75,7 +75,7 @@ impl Micro {
         self.to_pull(Place::ReturnHigh(kind));
     }
 
-    /// Its high byte was pulled. Answers whether the instruction has ended.
+    /// The program counter's high byte was pulled. Returns whether the instruction has ended.
     #[inline(always)]
     pub(crate) fn took_return_high(&mut self, kind: ReturnKind, got: u8) -> bool
         requires { self.old.place ≡ ReturnHigh kind }

@@ -7,8 +7,8 @@ impl Micro {
     ghost use Rattle.cpu_modes.specs.Plan.{after, finished, first_access, gets_byte};
     ghost use Rattle.cpu_modes.specs.Remaining.{Keeps, onward, remaining};
 
-    /// The next access, a fetch or a read, got a byte; where the last instruction has ended or was
-    /// woken, it is the opcode fetch of the next one. Answers whether the instruction has ended.
+    /// Completes the next access, a fetch or a read, with the byte that it got. Returns whether the instruction has
+    /// ended. If the last instruction has ended or was woken, the access is the opcode fetch of the next one.
     #[inline(always)]
     pub fn took(&mut self, got: u8) -> bool
         requires { IsTrue (gets_byte (first_access (onward (remaining self.old)))) }
@@ -20,7 +20,8 @@ impl Micro {
         self.took_at(place, got)
     }
 
-    /// The same for a caller that knows the place: built into that caller, it is that place's transition alone.
+    /// Completes the next access, a fetch or a read, with the byte that it got, for a caller that knows the place.
+    /// Returns whether the instruction has ended. Inlined into that caller, it is that place's transition alone.
     #[inline(always)]
     pub fn took_at(&mut self, place: Place, got: u8) -> bool
         requires known { self.old.place ≡ place }

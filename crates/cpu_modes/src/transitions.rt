@@ -19,7 +19,7 @@ impl Micro {
     ghost use Rattle.cpu_modes.specs.Orders.{done, immediate, load, pull_data, push_low, push_word, store, write_back, written_of};
     ghost use Rattle.cpu_modes.specs.Remaining.{Keeps, remaining};
 
-    /// A byte of the program was fetched.
+    /// Advances the program counter past a fetched byte.
     #[inline(always)]
     pub(crate) fn pass_fetch(&mut self)
         ensures here { self.new ≡ record self.old { here = fetched self.old.here } }
@@ -27,7 +27,7 @@ impl Micro {
         self.here.pc = self.here.pc.wrapping_add(1);
     }
 
-    /// A byte was pushed.
+    /// Moves the stack pointer past a pushed byte.
     #[inline(always)]
     pub(crate) fn pass_push(&mut self)
         ensures here { self.new ≡ record self.old { here = pushed self.old.here } }
@@ -35,7 +35,7 @@ impl Micro {
         self.here.s = pushed_stack(&self.here);
     }
 
-    /// A byte was pulled.
+    /// Moves the stack pointer to a pulled byte.
     #[inline(always)]
     pub(crate) fn pass_pull(&mut self)
         ensures here { self.new ≡ record self.old { here = pulled self.old.here } }
@@ -114,7 +114,7 @@ impl Micro {
         self.access = Access::Inner;
     }
 
-    /// The last access was made, and the results come. Answers that the instruction has ended.
+    /// Ends the instruction after its last access, with its results, and returns true.
     #[inline(always)]
     pub(crate) fn finish(&mut self) -> bool
         ensures last { result ≡ true }

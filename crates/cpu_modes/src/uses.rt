@@ -6,9 +6,9 @@ use cpu_tables::Op;
 /// How many bits the data of an operation has.
 #[derive(Clone, Copy, PartialEq, Eq, Debug)]
 pub enum Width {
-    /// 8 bits where M is set, else 16.
+    /// 8 bits if M is set, else 16.
     Memory,
-    /// 8 bits where X is set, else 16.
+    /// 8 bits if X is set, else 16.
     Index,
     /// Always 8 bits.
     Byte,
@@ -23,9 +23,9 @@ pub enum Cause {
     Coprocessor,
     /// BRK
     Break,
-    /// The line that can't be masked.
+    /// NMI, the line that can't be masked.
     Nmi,
-    /// The line that can be.
+    /// IRQ, the line that can be masked.
     Irq,
 }
 
@@ -86,7 +86,7 @@ pub enum Use {
     Reset,
 }
 
-/// What an operation does on the bus.
+/// Returns what an operation does on the bus.
 #[inline(always)]
 #[tactic(auto, unfolding(crate::specs::Uses::use_of))]
 pub fn use_of(op: Op) -> Use

@@ -10,7 +10,7 @@ impl Micro {
     ghost use Rattle.cpu_modes.specs.Plan.{after, finished, first_access, is_write};
     ghost use Rattle.cpu_modes.specs.Remaining.{Keeps, onward, remaining};
 
-    /// The low byte of data was written, or its only one. Answers whether the instruction has ended.
+    /// The low byte of data was written, or its only one. Returns whether the instruction has ended.
     #[inline(always)]
     fn wrote_store_low(&mut self, reach: Reach) -> bool
         requires { self.old.place ≡ StoreLow reach }
@@ -41,7 +41,7 @@ impl Micro {
         self.to_write(Place::ChangeWriteLow, self.base, low_byte(written as u32));
     }
 
-    /// The next access, a write, was made. Answers whether the instruction has ended.
+    /// Completes the next access, a write. Returns whether the instruction has ended.
     #[inline(always)]
     pub fn wrote(&mut self) -> bool
         requires { IsTrue (is_write (first_access (onward (remaining self.old)))) }
@@ -53,7 +53,8 @@ impl Micro {
         self.wrote_at(place)
     }
 
-    /// The same for a caller that knows the place: built into that caller, it is that place's transition alone.
+    /// Completes the next access, a write, for a caller that knows the place. Returns whether the instruction has
+    /// ended. Inlined into that caller, it is that place's transition alone.
     #[inline(always)]
     pub fn wrote_at(&mut self, place: Place) -> bool
         requires known { self.old.place ≡ place }

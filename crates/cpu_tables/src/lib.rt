@@ -1,9 +1,9 @@
 //! What the 65C816 is made of: operations, addressing modes, opcodes, registers and accesses.
 //!
-//! The crate stands on `status_bits`. It promises that `row` is the data sheet's opcode matrix, and
-//! gives the layers above their types: a `Row` is what an opcode means, `Regs` are the registers
-//! that a program sees, an `Access` is one cycle of the processor. The words for flags and widths
-//! that the results and the access orders share stand in `specs/Status.antt`.
+//! The crate builds on `status_bits`. It promises that `row` is the data sheet's opcode matrix, and gives the layers
+//! above their types. A `Row` is what an opcode means, `Regs` are the registers that a program sees, an `Access` is one
+//! cycle of the processor. `specs/Status.antt` has the names for flags and widths that the results and the access
+//! orders share.
 #![tactic(auto)]
 
 pub mod access;

@@ -6,9 +6,9 @@ pub enum Mode {
     Immediate,
     /// `d`: bank 0, at the direct register plus the offset.
     Direct,
-    /// `d,X`
+    /// `d,X`: bank 0, at the direct register plus the offset and X.
     DirectX,
-    /// `d,Y`
+    /// `d,Y`: bank 0, at the direct register plus the offset and Y.
     DirectY,
     /// `(d)`: a pointer of two bytes, in the data bank.
     DirectPointer,
@@ -18,21 +18,21 @@ pub enum Mode {
     DirectPointerY,
     /// `[d]`: a pointer of three bytes.
     DirectLongPointer,
-    /// `[d],Y`
+    /// `[d],Y`: Y is added to a pointer of three bytes.
     DirectLongPointerY,
-    /// `a`: in the data bank; of JMP and JSR in the program bank.
+    /// `a`: in the data bank; for JMP and JSR in the program bank.
     Absolute,
-    /// `a,X`
+    /// `a,X`: in the data bank, with X added to the address.
     AbsoluteX,
-    /// `a,Y`
+    /// `a,Y`: in the data bank, with Y added to the address.
     AbsoluteY,
-    /// `al`
+    /// `al`: an address with its bank.
     Long,
-    /// `al,X`
+    /// `al,X`: an address with its bank, with X added.
     LongX,
     /// `d,S`: bank 0, at the stack pointer plus the offset.
     StackRelative,
-    /// `(d,S),Y`
+    /// `(d,S),Y`: Y is added to a pointer on the stack.
     StackPointerY,
     /// `(a)`: JMP by a pointer of two bytes in bank 0.
     AbsolutePointer,
@@ -46,9 +46,9 @@ pub enum Mode {
     RelativeLong,
     /// The operand is A.
     Accumulator,
-    /// No operand but the registers that the operation names.
+    /// No operand except the registers that the operation names.
     Implied,
-    /// Pushes, pulls, returns and whatever else lives on the stack: BRK, COP, PEA, PEI, interrupts.
+    /// Pushes, pulls, returns and other operations on the stack: BRK, COP, PEA, PEI, interrupts.
     Stack,
     /// MVN and MVP: two banks follow the opcode.
     BlockMove,

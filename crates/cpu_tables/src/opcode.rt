@@ -1,11 +1,11 @@
 use crate::mode::Mode;
 use crate::operation::Op;
 
-/// What an opcode means: what is done, and where the operand is.
+/// What an opcode means: an operation and an addressing mode.
 #[derive(Clone, Copy, PartialEq, Eq, Debug)]
 pub struct Row {
-    /// What is done.
+    /// The operation.
     pub op: Op,
-    /// Where the operand is.
+    /// The addressing mode: where the operand is.
     pub mode: Mode,
 }

@@ -1,65 +1,65 @@
-/// The operations, one for each mnemonic, and the three beginnings that no opcode has.
+/// The operations, one for each mnemonic, and the three (NMI, IRQ, reset) that no opcode has.
 #[derive(Clone, Copy, PartialEq, Eq, Debug)]
 pub enum Op {
-    /// A plus the operand plus the carry.
+    /// Adds the operand and the carry to A.
     Adc,
-    /// A and the operand.
+    /// Bitwise AND of A and the operand, into A.
     And,
     /// A shift to the left.
     Asl,
-    /// A branch where the carry is clear.
+    /// A branch if the carry is clear.
     Bcc,
-    /// A branch where the carry is set.
+    /// A branch if the carry is set.
     Bcs,
-    /// A branch where the last result was zero.
+    /// A branch if the last result was zero.
     Beq,
     /// A test of the operand's bits against A.
     Bit,
-    /// A branch where the last result was negative.
+    /// A branch if the last result was negative.
     Bmi,
-    /// A branch where the last result was not zero.
+    /// A branch if the last result was not zero.
     Bne,
-    /// A branch where the last result was not negative.
+    /// A branch if the last result was not negative.
     Bpl,
     /// A branch that is always taken.
     Bra,
     /// A break, a software interrupt.
     Brk,
-    /// A branch by two bytes, always taken.
+    /// A branch by a distance of two bytes, always taken.
     Brl,
-    /// A branch where the overflow flag is clear.
+    /// A branch if the overflow flag is clear.
     Bvc,
-    /// A branch where the overflow flag is set.
+    /// A branch if the overflow flag is set.
     Bvs,
-    /// Carry off.
+    /// Clears the carry.
     Clc,
-    /// Decimal off.
+    /// Clears the decimal flag.
     Cld,
-    /// Interrupt disable off.
+    /// Clears the interrupt disable flag.
     Cli,
-    /// Overflow off.
+    /// Clears the overflow flag.
     Clv,
-    /// A compared with the operand.
+    /// Compares A with the operand.
     Cmp,
     /// A coprocessor call, a software interrupt.
     Cop,
-    /// X compared with the operand.
+    /// Compares X with the operand.
     Cpx,
-    /// Y compared with the operand.
+    /// Compares Y with the operand.
     Cpy,
-    /// The operand minus 1.
+    /// Subtracts 1 from the operand.
     Dec,
-    /// X minus 1.
+    /// Subtracts 1 from X.
     Dex,
-    /// Y minus 1.
+    /// Subtracts 1 from Y.
     Dey,
-    /// A exclusive or the operand.
+    /// Exclusive OR of A and the operand, into A.
     Eor,
-    /// The operand plus 1.
+    /// Adds 1 to the operand.
     Inc,
-    /// X plus 1.
+    /// Adds 1 to X.
     Inx,
-    /// Y plus 1.
+    /// Adds 1 to Y.
     Iny,
     /// A jump, within the program bank or to another.
     Jmp,
@@ -67,11 +67,11 @@ pub enum Op {
     Jsl,
     /// A call of a subroutine.
     Jsr,
-    /// A from the operand.
+    /// Loads A.
     Lda,
-    /// X from the operand.
+    /// Loads X.
     Ldx,
-    /// Y from the operand.
+    /// Loads Y.
     Ldy,
     /// A shift to the right.
     Lsr,
@@ -79,9 +79,9 @@ pub enum Op {
     Mvn,
     /// One byte of a block, with both indexes going down.
     Mvp,
-    /// Nothing.
+    /// Does nothing.
     Nop,
-    /// A or the operand.
+    /// Bitwise OR of A and the operand, into A.
     Ora,
     /// Pushes the two bytes after the opcode.
     Pea,
@@ -115,7 +115,7 @@ pub enum Op {
     Plx,
     /// Pulls Y.
     Ply,
-    /// The named flags off.
+    /// Clears the flags of a mask.
     Rep,
     /// A rotation to the left through the carry.
     Rol,
@@ -127,61 +127,61 @@ pub enum Op {
     Rtl,
     /// A return from a subroutine.
     Rts,
-    /// A minus the operand minus the borrow.
+    /// Subtracts the operand and the borrow from A.
     Sbc,
-    /// Carry on.
+    /// Sets the carry.
     Sec,
-    /// Decimal on.
+    /// Sets the decimal flag.
     Sed,
-    /// Interrupt disable on.
+    /// Sets the interrupt disable flag.
     Sei,
-    /// The named flags on.
+    /// Sets the flags of a mask.
     Sep,
-    /// A to memory.
+    /// Stores A.
     Sta,
-    /// The processor stops.
+    /// Stops the processor.
     Stp,
-    /// X to memory.
+    /// Stores X.
     Stx,
-    /// Y to memory.
+    /// Stores Y.
     Sty,
-    /// Zero to memory.
+    /// Stores zero.
     Stz,
-    /// A to X.
+    /// Copies A to X.
     Tax,
-    /// A to Y.
+    /// Copies A to Y.
     Tay,
-    /// A, all 16 bits, to the direct register.
+    /// Copies all 16 bits of A to the direct register.
     Tcd,
-    /// A, all 16 bits, to the stack pointer.
+    /// Copies all 16 bits of A to the stack pointer.
     Tcs,
-    /// The direct register to A, all 16 bits.
+    /// Copies the direct register to all 16 bits of A.
     Tdc,
-    /// The operand without the bits of A.
+    /// Clears the bits of A in the operand.
     Trb,
-    /// The operand with the bits of A.
+    /// Sets the bits of A in the operand.
     Tsb,
-    /// The stack pointer to A, all 16 bits.
+    /// Copies the stack pointer to all 16 bits of A.
     Tsc,
-    /// The stack pointer to X.
+    /// Copies the stack pointer to X.
     Tsx,
-    /// X to A.
+    /// Copies X to A.
     Txa,
-    /// X to the stack pointer.
+    /// Copies X to the stack pointer.
     Txs,
-    /// X to Y.
+    /// Copies X to Y.
     Txy,
-    /// Y to A.
+    /// Copies Y to A.
     Tya,
-    /// Y to X.
+    /// Copies Y to X.
     Tyx,
     /// Waits for an interrupt.
     Wai,
-    /// Reserved: an operand is fetched and nothing done.
+    /// Reserved: fetches an operand and does nothing.
     Wdm,
-    /// The two bytes of A change places.
+    /// Exchanges the two bytes of A.
     Xba,
-    /// Carry and emulation mode change places.
+    /// Exchanges the carry and emulation mode.
     Xce,
     /// An interrupt that can't be masked.
     Nmi,

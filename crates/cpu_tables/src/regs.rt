@@ -3,9 +3,9 @@
 pub struct Regs {
     /// A, the accumulator: at 8 bits its high byte stays, and is named B.
     pub a: u16,
-    /// X, an index register: its high byte is 0 where indexes have 8 bits.
+    /// X, an index register: its high byte is 0 if indexes have 8 bits.
     pub x: u16,
-    /// Y, an index register: its high byte is 0 where indexes have 8 bits.
+    /// Y, an index register: its high byte is 0 if indexes have 8 bits.
     pub y: u16,
     /// S, the stack pointer, in bank 0: its high byte is 01 in emulation mode.
     pub s: u16,

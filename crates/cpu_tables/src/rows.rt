@@ -5,7 +5,7 @@ use crate::mode::Mode;
 use crate::opcode::Row;
 use crate::operation::Op;
 
-/// What an opcode means, for all 256, by the opcode matrix of the W65C816S data sheet.
+/// Returns what an opcode means, for all 256, by the opcode matrix of the W65C816S data sheet.
 #[inline(always)]
 pub fn row(op: u8) -> Row
     ensures { row_of op ≡ Some result }

@@ -14,7 +14,7 @@ use port_wire::{PassLate, Wire};
 use side_law::Machine;
 use std::thread::yield_now;
 
-/// How often a side tries to publish its clock where the ports are held.
+/// How often a side tries to publish its clock if the ports are held.
 const TELLS: u32 = 64;
 
 /// The most yields between two tries of a step.
@@ -28,7 +28,7 @@ fn wait(tried: u32) {
     }
 }
 
-/// Tries once to publish a clock, and answers whether it is published.
+/// Tries once to publish a clock, and returns whether it is published.
 #[inline(always)]
 #[tactic(auto, using(crate::proofs::Refusals::advance_counts, crate::proofs::Refusals::refusal_counts))]
 fn tell<W: Wire>(wire: &W, pass: &mut W::Pass, at: u64) -> bool
@@ -109,8 +109,8 @@ fn insist<W: Wire, M: Machine>(
     attempt(wire, pass, machine)
 }
 
-/// Makes the next step of a machine by the call of its act. Where it is refused at first, the own clock is
-/// published, which the other side may be waiting for, and the step is tried `tries` times in a row at most.
+/// Makes the next step of a machine by the call of its act. If it is refused at first, the own clock is published,
+/// which the other side may be waiting for. The step is then tried at most `tries` times in a row.
 #[inline(always)]
 #[tactic(auto, using(crate::proofs::LegGoesOn::hears_then))]
 pub(crate) fn step_by_call<W: Wire, M: Machine>(

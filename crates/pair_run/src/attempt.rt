@@ -19,8 +19,8 @@ fn is_ahead(at: u64, other: u64, window: u64) -> bool
     at > other && at - other > window
 }
 
-/// Publishes the clock of a side that stands before a quiet step, and answers whether it may make it: by the
-/// other side's clock that it was told, or by the one that it knew where the ports were held.
+/// Publishes the clock of a side before a quiet step, and returns whether it may make that step. The other side's clock
+/// decides: the one that it was given, or the one that it knew if the ports were held.
 #[inline(always)]
 #[tactic(auto, using(crate::proofs::Refusals::advance_counts, crate::proofs::Refusals::refusal_counts))]
 fn tell_before<W: Wire>(wire: &W, pass: &mut W::Pass, at: u64) -> Result<(), PassLate>
@@ -53,7 +53,7 @@ fn tell_before<W: Wire>(wire: &W, pass: &mut W::Pass, at: u64) -> Result<(), Pas
     Ok(())
 }
 
-/// A quiet step, where the clock that an advance tells, or that was known, is not too early for it.
+/// Makes a quiet step, if the clock that an advance returns, or the one known, is not too early for it.
 #[inline(always)]
 fn try_quiet<W: Wire, M: Machine>(
     wire: &W,
@@ -201,7 +201,7 @@ fn try_write<W: Wire, M: Machine>(
     Ok(())
 }
 
-/// Tries the next step of a machine once, by the call of its act, and makes it where the call is answered.
+/// Tries the next step of a machine once, by the call of its act, and makes it if the call isn't refused.
 #[inline(always)]
 pub(crate) fn attempt<W: Wire, M: Machine>(
     wire: &W,

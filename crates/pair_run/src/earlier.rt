@@ -1,4 +1,4 @@
-// The step of the earlier side, over a whole: the other side's clock settles its look, so no call is refused.
+// The step of the earlier side, over a whole: the other side's clock settles what it reads, so no call is refused.
 ghost use Rattle.std.specs.Prelude.{◌≡◌, ◌+◌, ◌^◌, ◌<◌, ◌≤◌, ℕ, length};
 ghost use Rattle.clock_ratio.specs.Stamp.{least_of, most_of, window_of};
 ghost use Rattle.port_entries.specs.Window.{IsSettled};

@@ -7,9 +7,9 @@ use snes_defs::Side;
 /// How a leg has ended.
 #[derive(Clone, Copy, Debug, PartialEq, Eq)]
 pub enum LegEnd {
-    /// The machine has come to the end stamp.
+    /// The machine has reached the end stamp.
     Done,
-    /// It has not, and there is no room for the bytes of two more steps.
+    /// The machine has not reached it, and there is no room for the bytes of two more steps.
     Drain,
     /// The last tries were all refused, the last of them as `PassLate::Behind`.
     Behind { need: u64, other: u64 },
@@ -19,7 +19,7 @@ pub enum LegEnd {
     Held { by: Side },
 }
 
-/// The end of a leg that was held back for too long.
+/// Returns the end of a leg whose last tries were all refused.
 #[inline(always)]
 pub fn held_back(late: PassLate) -> LegEnd
     ensures { result ≡ end_of late }

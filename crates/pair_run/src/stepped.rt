@@ -15,11 +15,11 @@ use snes_defs::Side;
 pub enum Stepped {
     /// One step of this side, the earlier one.
     Made(Side),
-    /// Nothing: both sides have come to the end.
+    /// No step: both sides have reached the end.
     Ended,
 }
 
-/// Makes one step of the earlier side, where it stands before `end`. Both clocks are published.
+/// Makes one step of the earlier side, if it is before `end`. Both clocks are published.
 pub(crate) fn step_earlier<W: Wire, C: Machine, S: Machine>(
     wire: &W,
     whole: &mut W::Whole,

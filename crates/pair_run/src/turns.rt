@@ -17,7 +17,7 @@ use side_law::Machine;
 use snes_defs::Side;
 use std::thread::{Threads, join_mut};
 
-/// What a turn leaves beside the two machines.
+/// What a turn returns besides the two machines.
 pub struct Turned<T> {
     /// The ports, whole again.
     pub whole: T,
@@ -29,7 +29,7 @@ pub struct Turned<T> {
     pub stepped: Stepped,
 }
 
-/// Two legs at once, each in a thread of its own.
+/// Runs two legs, each in a thread of its own.
 fn both_legs<R: Threads, W: Wire, C: Machine, S: Machine, G: Gate>(
     rt: &R,
     wire: &W,
@@ -87,7 +87,7 @@ fn both_legs<R: Threads, W: Wire, C: Machine, S: Machine, G: Gate>(
     (console_end, sound_end)
 }
 
-/// Publishes the clocks of both sides and tells each the other's: the console is asked again for what the sound
+/// Publishes the clocks of both sides and gives each the other's. The console advances a second time for what the sound
 /// side has published.
 fn publish_both<W: Wire>(wire: &W, whole: &mut W::Whole, console_at: u64, sound_at: u64)
     requires of { W.is_whole_of wire.now whole.old }
@@ -112,8 +112,8 @@ fn publish_both<W: Wire>(wire: &W, whole: &mut W::Whole, console_at: u64, sound_
     let _sound_clock = wire.advance_whole(whole, Side::Console, console_at);
 }
 
-/// Lets both machines run at once, each by itself over its pass, until each has come to `end` or can go on
-/// no further; then their passes are reunited, both clocks published, and the earlier side makes a step.
+/// Lets both machines run by themselves, each over its pass, until each has reached `end` or can't advance. Then their
+/// passes are reunited, both clocks published, and the earlier side makes a step.
 pub fn turn<R: Threads, W: Wire, C: Machine, S: Machine, G: Gate>(
     rt: &R,
     wire: &W,

@@ -3,7 +3,7 @@
 /// What a call adds to its side's list.
 #[derive(Clone, Copy)]
 pub enum Event {
-    /// Nothing: a read, a clock, or a call that was refused.
+    /// No entry: a read, a clock, or a call that was refused.
     Nothing,
     /// A write of a byte to an outgoing port.
     Wrote {
@@ -11,14 +11,14 @@ pub enum Event {
         at: u64,
         /// The port, 0 to 3.
         port: u8,
-        /// What it wrote.
+        /// The byte that the step wrote.
         byte: u8,
     },
     /// A clear of incoming ports.
     Cleared {
         /// The stamp of the step.
         at: u64,
-        /// Bit `p` for port `p`.
+        /// The mask of the ports: bit `p` for port `p`.
         mask: u8,
     },
 }

@@ -1,14 +1,16 @@
-// What lies in the slot of the lock table.
+// What is in the slot of the lock table.
 use crate::views::ListView;
 use atomic_table::Badge;
 use port_log::PortLog;
 use std::marker::Model;
 
-/// The log, and a note: a seat of the list table that knows the book. The log stands for the two lists
-/// of the book. It lies behind a pointer, so that taking it out of the slot moves few bytes.
+/// The log, and a note: a seat of the list table that knows the book. The log stands for the two lists of the book. It
+/// is behind a pointer, so that taking it out of the slot moves few bytes.
 #[derive(Drop)]
 pub struct Kept {
+    /// The log of the ports.
     pub log: Box<PortLog>,
+    /// The note that knows the book.
     pub note: Badge<ListView>,
 }
 

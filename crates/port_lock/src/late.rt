@@ -1,4 +1,4 @@
-// Refusals of the log, and of a call over a pass.
+// Refusals of the log as refusals of a call over a pass, and back.
 ghost use Rattle.std.specs.Prelude.{◌≡◌};
 ghost use Rattle.port_lock.specs.PassCalls.{IfHeld};
 ghost use Rattle.port_lock.specs.Lateness.{over_pass_of, IsAsOfLog};
@@ -6,7 +6,7 @@ ghost use Rattle.port_lock.specs.Lateness.{over_pass_of, IsAsOfLog};
 use port_log::Late;
 use port_wire::PassLate;
 
-/// A refusal of the log, as that of a call over a pass.
+/// Returns a refusal of the log as a refusal of a call over a pass.
 #[inline(always)]
 pub fn over_pass(late: Late) -> PassLate
     ensures { result ≡ over_pass_of late }
@@ -17,7 +17,7 @@ pub fn over_pass(late: Late) -> PassLate
     }
 }
 
-/// The answer of a call that was not held, as the log gave it.
+/// Returns the result of a call over a pass, which was not held, as a result of the log.
 #[inline(always)]
 pub fn as_of_log<T>(answer: Result<T, PassLate>) -> Result<T, Late>
     requires { IfHeld answer (λ _. ⊥) }

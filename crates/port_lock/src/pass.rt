@@ -1,4 +1,4 @@
-// A pass: one side's way to the ports.
+// A pass: one side's access to the ports.
 ghost use Rattle.std.specs.Prelude.{◌≡◌, ◌+◌, ◌<◌, ◌≤◌};
 ghost use Rattle.clock_ratio.specs.Stamp.{least_of, window_of};
 ghost use Rattle.port_wire.specs.Answers.{HearsOn, EndsRead, EndsClear, EndsWrite, EndsAdvance};
@@ -11,8 +11,7 @@ use port_wire::{CallName, Counts, PassLate, counted};
 use snes_defs::Side;
 use std::marker::Model;
 
-/// One side's way to the ports, with the tally of its refused calls. A thread holds it and needs nothing
-/// else.
+/// One side's access to the ports, with the tally of its refused calls. A thread holds it and needs nothing else.
 #[derive(Drop)]
 pub struct Pass {
     pub(crate) side: Side,
@@ -31,7 +30,7 @@ impl Model for Pass {
 }
 
 impl Pass {
-    /// The side whose pass it is.
+    /// Returns the side whose pass it is.
     #[inline(always)]
     pub fn side(&self) -> Side
         ensures { result ≡ self.now.side }
@@ -39,7 +38,7 @@ impl Pass {
         self.side
     }
 
-    /// The clock that the side has published.
+    /// Returns the clock that the side has published.
     #[inline(always)]
     pub fn clock(&self) -> u64
         ensures { result ≡ self.now.half.at }
@@ -47,7 +46,7 @@ impl Pass {
         self.seats.clocks.own
     }
 
-    /// The latest clock of the other side that the pass was told.
+    /// Returns the latest clock of the other side that the pass knows.
     #[inline(always)]
     pub fn known(&self) -> u64
         ensures { result ≡ self.now.half.known }
@@ -59,7 +58,7 @@ impl Pass {
 // Each call tries once to take the log. Where it finds the other side's number in the turn word it is
 // refused as `Held`; else it is answered or refused as the log call of its name is, on what it was told.
 impl Ports {
-    /// The byte that the side of the pass finds at its incoming port at the stamp `at`.
+    /// Returns the byte that the side of the pass finds at its incoming port at the stamp `at`.
     #[inline(always)]
     pub fn read(&self, pass: &mut Pass, at: u64, port: u8) -> Result<u8, PassLate>
         requires of { IsPassOf self.now pass.old }
@@ -77,7 +76,7 @@ impl Ports {
         answer
     }
 
-    /// Zeroes the incoming ports of the mask of the side of the pass, at the stamp `at`.
+    /// Zeroes the incoming ports of the mask, of the side of the pass, at the stamp `at`.
     #[inline(always)]
     pub fn clear(&self, pass: &mut Pass, at: u64, mask: u8) -> Result<(), PassLate>
         requires of { IsPassOf self.now pass.old }
@@ -122,8 +121,8 @@ impl Ports {
         answer
     }
 
-    /// Publishes that each step of the side of the pass to come is at `at` or later, and answers the
-    /// other side's clock. Where that is too early for a step at `at`, it counts as refused too.
+    /// Publishes that each later step of the side of the pass is at `at` or later, and returns the other side's clock.
+    /// If that is too early for a step at `at`, it counts as refused too.
     #[inline(always)]
     pub fn advance(&self, pass: &mut Pass, at: u64) -> Result<u64, PassLate>
         requires of { IsPassOf self.now pass.old }

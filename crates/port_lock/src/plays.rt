@@ -15,18 +15,22 @@ use atomic_table::{Join, Play, Seat, Split, TableRule};
 use snes_defs::Region;
 use std::marker::{Brand, PhantomData};
 
+/// A seat of the lock table, whose slot holds the log.
 pub type LockSeat = Seat<Option<Kept>, LockView>;
 
+/// A seat of the list table, which has no slot.
 pub type ListSeat = Seat<(), ListView>;
 
-/// What the lock table is told as it is made: a seat of the list table, which names that table, and the
-/// region of the log.
+/// What the lock table is made with: a seat of the list table, which names that table, and the region of the log.
 #[derive(Drop)]
 pub struct LockKey {
+    /// The seat of the list table.
     pub list: ListSeat,
+    /// The region of the log.
     pub region: Region,
 }
 
+/// The rule of the lock table: one side at most holds the log, and the turn word says which.
 pub struct LockRule;
 
 impl TableRule<Option<Kept>, LockView, LockKey> for LockRule {
@@ -41,21 +45,21 @@ impl TableRule<Option<Kept>, LockView, LockKey> for LockRule {
     } };
 }
 
-/// The turn word becomes a side's number if it was 0, and then the slot leaves its home.
+/// The step that takes the log: if the turn word is 0, it becomes a side's number, and the slot leaves its home.
 pub struct Take;
 
 impl Play<Option<Kept>, LockView> for Take {
     ghost then = { λ st m r n. Tries st.second m.0 r n };
 }
 
-/// The turn word becomes 0, and the slot returns.
+/// The step that gives the log back: the turn word becomes 0, and the slot returns.
 pub struct Give;
 
 impl Play<Option<Kept>, LockView> for Give {
     ghost then = { λ st m r n. n ≡ (given_back m.0, []) };
 }
 
-/// A seat of both sides is cut by sides, and made whole again.
+/// The split of a seat of both sides into one seat for each side, and its join.
 pub struct BySide;
 
 impl Split<LockView> for BySide {
@@ -70,6 +74,7 @@ impl Join<LockView> for BySide {
     ghost spent = { spent_lock };
 }
 
+/// The rule of the list table: one book of both sides' entries and clocks.
 pub struct ListRule;
 
 impl TableRule<(), ListView, ()> for ListRule {
@@ -78,14 +83,14 @@ impl TableRule<(), ListView, ()> for ListRule {
     ghost first = { λ _. first_view };
 }
 
-/// A load that changes nothing, and tells what the book is to the seat.
+/// The step that only loads: it changes nothing, and shows the seat what the book is.
 pub struct Look;
 
 impl Play<(), ListView> for Look {
     ghost then = { λ st m r n. (n ≡ m) × ((b : Book) × IsTrueTo b m.0 × IsOrderly b) };
 }
 
-/// What a step tells the book: entries of the side of its word, and a clock of that side.
+/// What a step adds to the book: entries of the side of its word, and a clock of that side.
 pub trait Telling {
     ghost entries: { List Entry };
 
@@ -98,6 +103,7 @@ impl Telling for Brand {
     ghost clock = { 0 };
 }
 
+/// The step that adds a call's entries and clock to the book.
 pub struct Tell<T> {
     marker: PhantomData<T>,
 }
@@ -107,7 +113,7 @@ impl<T: Telling> Play<(), ListView> for Tell<T> {
         (told_by (logged (side_of st.word) T.entries T.clock (book_in m.0)) m.0, []) };
 }
 
-/// The book goes to a note, and comes back.
+/// The split that gives the book to a note.
 pub struct Note;
 
 impl Split<ListView> for Note {
@@ -116,7 +122,7 @@ impl Split<ListView> for Note {
     ghost right = { note_of };
 }
 
-/// The sound side's half goes to a seat of its own.
+/// The split that gives the sound side's half to a seat of its own.
 pub struct Halves;
 
 impl Split<ListView> for Halves {
@@ -125,7 +131,7 @@ impl Split<ListView> for Halves {
     ghost right = { sound_half };
 }
 
-/// Two seats are made one.
+/// The join of two seats into one.
 pub struct Joined;
 
 impl Join<ListView> for Joined {

@@ -88,7 +88,7 @@ impl Model for Ports {
 }
 
 impl Ports {
-    /// The region of the two machines.
+    /// Returns the region of the two machines.
     #[inline(always)]
     pub fn region(&self) -> Region
         ensures { result ≡ self.now.region }
@@ -96,8 +96,8 @@ impl Ports {
         self.region
     }
 
-    /// Tries once to take the log for a side. Where it can, it has the log and the book; else the
-    /// other side had it.
+    /// Tries once to take the log for a side. If it succeeds, the side has the log and the book; otherwise the other
+    /// side had it.
     #[inline(always)]
     fn enter(&self, side: Side, seats: &mut Seats) -> Option<Box<PortLog>>
         requires seats { AreSeatsOf self.now seats.old }
@@ -122,7 +122,7 @@ impl Ports {
         Some(log)
     }
 
-    /// Tells the book what a call of a side logged, and the clock that it published.
+    /// Adds to the book what a call of a side logged, and the clock that it published.
     #[inline(always)]
     fn tell<T: Telling>(&self, side: Side, seat: &mut ListSeat, event: Event, clock: u64)
         requires entries { T.entries ≡ entries_of event }

@@ -1,4 +1,4 @@
-// Both passes in one, before a turn of two threads and after it.
+// Both passes in one, before and after a turn of two threads.
 ghost use Rattle.std.specs.Prelude.{◌≡◌, IfOk};
 ghost use Rattle.snes_defs.specs.declared.ports.Side.TheVariants.{Console, Sound};
 ghost use Rattle.port_lock.specs.Passes.{IsPassOf};
@@ -16,8 +16,8 @@ use snes_defs::{NoMemory, Region, Side};
 use std::alloc::Global;
 use std::marker::Model;
 
-/// Both sides' ways to the ports, in one hand, with the tallies that their passes had. No call over a
-/// whole changes these.
+/// Both sides' access to the ports, in one hand, with the tallies that their passes had. No call over a whole changes
+/// these.
 #[derive(Drop)]
 pub struct Whole {
     // The clocks of the seats are the console's.
@@ -38,7 +38,7 @@ impl Model for Whole {
 }
 
 impl Ports {
-    /// Cuts a whole into the console's pass and the sound side's. Their tallies begin anew.
+    /// Cuts a whole into the console's pass and the sound side's. Their tallies begin again.
     pub fn part(&self, whole: Whole) -> (Pass, Pass)
         requires { IsWholeOf self.now whole }
         ensures console { result.0 ≡ console_pass whole }
@@ -74,7 +74,7 @@ impl Ports {
         (console, sound)
     }
 
-    /// The whole of the console's pass and the sound side's.
+    /// Makes a whole of the console's pass and the sound side's.
     pub fn reunite(&self, console: Pass, sound: Pass) -> Whole
         requires console_of { IsPassOf self.now console }
         requires sound_of { IsPassOf self.now sound }
@@ -116,8 +116,8 @@ impl Ports {
         }
     }
 
-    /// New ports for two machines of a region, with their whole. They take all the memory that they ever
-    /// need, and refuse only for want of it.
+    /// Returns new ports for two machines of a region, with their whole. They allocate all the memory that they ever
+    /// need, and fail only if allocation fails.
     pub fn open(alloc: Global, region: Region) -> Result<(Ports, Whole), NoMemory>
         ensures region { IfOk result (λ opened. opened.0.region ≡ region) }
         ensures whole { IfOk result (λ opened. opened.1 ≡ new_whole opened.0) }

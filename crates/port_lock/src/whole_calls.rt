@@ -37,8 +37,8 @@ fn meet(side: Side, clocks: &mut Clocks) -> Clocks
 }
 
 impl Ports {
-    /// The byte that a side finds at its incoming port at the stamp `at`. It is refused as `Behind` where
-    /// the other side's clock is too early.
+    /// Returns the byte that a side finds at its incoming port at the stamp `at`. It is refused as `Behind` if the
+    /// other side's clock is too early.
     pub fn read_whole(&self, whole: &mut Whole, side: Side, at: u64, port: u8) -> Result<u8, Late>
         requires of { IsWholeOf self.now whole.old }
         requires port { port < 4 }
@@ -52,8 +52,7 @@ impl Ports {
         as_of_log(answer)
     }
 
-    /// Zeroes the incoming ports of a side that the mask covers, at the stamp `at`. It is refused where a
-    /// read is.
+    /// Zeroes the incoming ports of a side that the mask covers, at the stamp `at`. It is refused if a read is.
     pub fn clear_whole(&self, whole: &mut Whole, side: Side, at: u64, mask: u8) -> Result<(), Late>
         requires of { IsWholeOf self.now whole.old }
         requires mask { (1 ≤ mask) × (mask ≤ 15) }
@@ -68,8 +67,8 @@ impl Ports {
         as_of_log(answer)
     }
 
-    /// Logs that a side wrote a byte to its outgoing port at the stamp `at`, and publishes `next`. It is
-    /// refused as `Ahead` where `at` lies past the window.
+    /// Logs that a side wrote a byte to its outgoing port at the stamp `at`, and publishes `next`. It is refused as
+    /// `Ahead` if `at` lies past the window.
     pub fn write_whole(
         &self,
         whole: &mut Whole,
@@ -93,7 +92,7 @@ impl Ports {
         as_of_log(answer)
     }
 
-    /// Publishes that each step of a side to come is at `at` or later, and answers the other side's clock.
+    /// Publishes that each later step of a side is at `at` or later, and returns the other side's clock.
     pub fn advance_whole(&self, whole: &mut Whole, side: Side, at: u64) -> u64
         requires of { IsWholeOf self.now whole.old }
         requires own_clock { (own_half side whole.old).at ≤ at }

@@ -15,9 +15,9 @@ use std::marker::Model;
 /// For how many of the other side's writes there is room: more than lie within a window.
 const ROOM: usize = 4096;
 
-/// What is kept of one side: the clock that it has published, the writes of the other side that it
-/// doesn't see at that clock yet, and for each of its incoming ports the byte that the others have
-/// left there and the greatest stamp at which it cleared the port.
+/// What is kept of one side: its published clock, its ports, and the other side's writes that it doesn't see at that
+/// clock yet. For each incoming port that is the byte that the earlier writes left there, and the greatest stamp at
+/// which the side cleared the port.
 #[derive(Drop)]
 pub struct Incoming {
     clock: u64,
@@ -128,7 +128,7 @@ fn first(waiting: &HeapCircularBuffer<Written>) -> Option<Written>
 }
 
 impl Incoming {
-    /// No write and no clear, zero bytes and a clock at 0.
+    /// Returns the state of a side with no write and no clear, zero bytes and a clock at 0.
     pub fn new(alloc: Global) -> Result<Incoming, NoMemory>
         ensures { IfOk result (λ s. s ≡ record {
           clock = 0;
@@ -148,7 +148,7 @@ impl Incoming {
         }
     }
 
-    /// The clock that the side has published.
+    /// Returns the clock that the side has published.
     #[inline(always)]
     pub fn clock(&self) -> u64
         ensures { result ≡ self.now.clock }
@@ -156,8 +156,8 @@ impl Incoming {
         self.clock
     }
 
-    /// The byte that the side finds at the port at `at`. It looks at the latch and at what waits, up
-    /// to the first write that it doesn't see at `at`.
+    /// Returns the byte that the side finds at the port at `at`. It reads the latch and the pending writes, up to the
+    /// first write that the side doesn't see at `at`.
     #[inline(always)]
     pub fn found(&self, side: Side, at: u64, port: u8) -> u8
         requires port { port < 4 }
@@ -180,7 +180,7 @@ impl Incoming {
         byte
     }
 
-    /// Publishes a clock: what the side sees then moves to the latches.
+    /// Publishes a clock: the writes that the side sees then move to the latches.
     #[inline(always)]
     pub fn publish(&mut self, side: Side, clock: u64)
         requires ports { AllByRecursion HasPort self.old.waiting }
@@ -201,7 +201,7 @@ impl Incoming {
         }
     }
 
-    /// Keeps a clear at `at` of the ports of the mask.
+    /// Records a clear, at `at`, of the ports of the mask.
     #[inline(always)]
     pub fn clear(&mut self, at: u64, mask: u8)
         ensures { self.new ≡ after_clear at mask self.old }
@@ -210,7 +210,7 @@ impl Incoming {
         self.cleared = later_clears(self.cleared, mask, at);
     }
 
-    /// Keeps a write of the other side.
+    /// Records a write of the other side.
     #[inline(always)]
     pub fn receive(&mut self, side: Side, write: Written)
         requires port { write.port < 4 }

@@ -16,12 +16,11 @@ use snes_defs::{NoMemory, Region, Side};
 use std::alloc::Global;
 use std::marker::Model;
 
-/// What the two sides have written to each other's ports, each write with its stamp, what they have
-/// cleared, and the clock that each has published.
+/// The log of the four ports: each side's writes with their stamps, what it has cleared, and the clock that it has
+/// published.
 ///
-/// A log stands for the two whole lists of entries, one for each side. Each call answers by these
-/// lists and the two clocks, and the log then stands for the lists with the call's entry appended.
-/// It keeps only what can still be asked for.
+/// A log stands for the two whole lists of entries, one for each side. Each call returns by these lists and the two
+/// clocks, and the log then stands for the lists with the call's entry appended. It keeps only what can still be read.
 #[derive(Drop)]
 pub struct PortLog {
     region: Region,
@@ -45,8 +44,8 @@ impl Model for PortLog {
 }
 
 impl PortLog {
-    /// A log with no write, zero bytes and both clocks at 0, for two machines of the region. It takes
-    /// all the memory that it ever needs, and refuses only for want of it.
+    /// Returns a log with no write, zero bytes and both clocks at 0, for two machines of the region. It allocates all
+    /// the memory that it ever needs, and fails only if allocation fails.
     pub fn new(alloc: Global, region: Region) -> Result<PortLog, NoMemory>
         ensures stands { IfOk result (λ log. StandsFor log no_entries) }
         ensures region { IfOk result (λ log. log.region ≡ region) }
@@ -62,7 +61,7 @@ impl PortLog {
         })
     }
 
-    /// The clock that a side has published.
+    /// Returns the clock that a side has published.
     #[inline(always)]
     pub fn clock(&self, side: Side) -> u64
         ensures { result ≡ clock_of side self.now }
@@ -134,13 +133,12 @@ impl PortLog {
         }
     }
 
-    /// The byte that `side` finds at its incoming port `port`, 0 to 3, at the stamp `at`: the last
-    /// that the other side wrote there as far as `side` sees it then, 0 where it wrote none or
-    /// a clear of `side` has zeroed it. The console sees what was written before `at`, the sound
-    /// side also what was written at `at`.
+    /// Returns the byte that `side` finds at its incoming port `port`, 0 to 3, at the stamp `at`. That is the last byte
+    /// that the other side wrote there as far as `side` sees it then. It is 0 if the other side wrote none or a clear
+    /// of `side` has zeroed it. The console sees what was written before `at`, the sound side also what was written at
+    /// `at`.
     ///
-    /// It is refused as `Behind` where the other side may still write what is seen at `at`. A read
-    /// publishes nothing.
+    /// It is refused as `Behind` if the other side may still write what is seen at `at`. A read publishes nothing.
     #[inline(always)]
     pub fn read(&mut self, side: Side, at: u64, port: u8) -> Result<u8, Late>
         requires port { port < 4 }
@@ -160,11 +158,10 @@ impl PortLog {
         }
     }
 
-    /// Zeroes the incoming ports of `side` that the mask covers, 1 to 15, bit `p` for port `p`: at
-    /// these ports what `side` sees at `at` counts no more, and what it doesn't see yet stays.
+    /// Zeroes the incoming ports of `side` that the mask covers, 1 to 15, bit `p` for port `p`. At these ports what
+    /// `side` sees at `at` counts no more, and what it doesn't see yet stays.
     ///
-    /// It is refused as `Behind` where a read at `at` is, and takes no memory. A clear publishes
-    /// nothing.
+    /// It is refused as `Behind` if a read at `at` is, and does not allocate. A clear publishes nothing.
     #[inline(always)]
     pub fn clear(&mut self, side: Side, at: u64, mask: u8) -> Result<(), Late>
         requires mask { (1 ≤ mask) × (mask ≤ 15) }
@@ -187,11 +184,10 @@ impl PortLog {
         Ok(())
     }
 
-    /// Logs that `side` wrote the byte `v` to its outgoing port `port`, 0 to 3, at the stamp `at`,
-    /// and publishes `next`, the stamp of its next step.
+    /// Logs that `side` wrote the byte `v` to its outgoing port `port`, 0 to 3, at the stamp `at`. Publishes `next`,
+    /// the stamp of its next step.
     ///
-    /// It is refused as `Ahead` exactly where `at` lies more than the region's window past the other
-    /// side's clock.
+    /// It is refused as `Ahead` exactly when `at` lies more than the region's window past the other side's clock.
     #[inline(always)]
     pub fn write(&mut self, side: Side, at: u64, port: u8, v: u8, next: u64) -> Result<(), Late>
         requires port { port < 4 }
@@ -218,8 +214,8 @@ impl PortLog {
         Ok(())
     }
 
-    /// Publishes that each step of `side` to come is at `at` or later, and answers the clock that the
-    /// other side has published. It is never refused.
+    /// Publishes that each later step of `side` is at `at` or later, and returns the clock that the other side has
+    /// published. It is never refused.
     #[inline(always)]
     pub fn advance(&mut self, side: Side, at: u64) -> u64
         requires { clock_of side self.old ≤ at }

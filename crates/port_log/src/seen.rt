@@ -1,4 +1,4 @@
-// What a side sees of the other's writes, and where a call is refused.
+// What a side sees of the other's writes, and when a call is refused.
 ghost use Rattle.std.specs.Prelude.{◌≡◌, ◌<◌, ◌≤◌, ◌+◌, ◌^◌, ◌↔◌, ℕ, IsTrue};
 ghost use Rattle.std.specs.Bool.{OnFalse};
 ghost use Rattle.port_entries.specs.LastValue.{sees};
@@ -8,7 +8,7 @@ ghost use Rattle.port_log.specs.Refused.{IsBehind, IsAhead};
 
 use snes_defs::Side;
 
-/// The side across the ports.
+/// Returns the side across the ports.
 #[inline(always)]
 pub fn across(side: Side) -> Side
     ensures { result ≡ other_side side }
@@ -31,7 +31,7 @@ pub fn is_behind(side: Side, at: u64, other: u64) -> bool
     }
 }
 
-/// Whether `at` lies past a window of the other side's clock.
+/// Whether `at` lies more than a window past the other side's clock.
 #[inline(always)]
 pub fn is_ahead(window: u64, at: u64, other: u64) -> bool
     ensures { IsTrue result ↔ IsAhead window at other }
@@ -51,7 +51,7 @@ pub fn is_seen(side: Side, written: u64, at: u64) -> bool
     }
 }
 
-/// Whether a clear, the greatest of the port, has zeroed what was written at `written`.
+/// Whether a write at `written` was zeroed by a clear of the port, given the latest one.
 #[inline(always)]
 pub fn is_cleared(side: Side, clear: Option<u64>, written: u64) -> bool
     ensures { result ≡ is_zeroed side clear written }

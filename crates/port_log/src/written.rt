@@ -5,6 +5,6 @@ pub struct Written {
     pub at: u64,
     /// The port, 0 to 3.
     pub port: u8,
-    /// What it wrote.
+    /// The byte that the step wrote.
     pub byte: u8,
 }

@@ -8,31 +8,36 @@ use crate::late::{CallName, PassLate};
 use clock_ratio::window;
 use snes_defs::Region;
 
-/// A refused call, by its name and stamp, and its refusal.
+/// A refused call: its name and stamp, and why it was refused.
 #[derive(Clone, Copy)]
 pub struct Refusal {
+    /// The name of the call.
     pub name: CallName,
+    /// The stamp of the call.
     pub at: u64,
+    /// Why it was refused.
     pub late: PassLate,
 }
 
-/// How many calls were refused, how many of the last ones in a row were, all of one name and at one
-/// stamp, and the last refusal.
+/// A tally of refused calls, and the last refusal.
 #[derive(Clone, Copy)]
 pub struct Counts {
+    /// How many calls were refused.
     pub refused: u64,
+    /// How many of the last calls in a row were refused, all of one name and at one stamp.
     pub row: u64,
+    /// The last refusal.
     pub last: Option<Refusal>,
 }
 
-/// One more, but at the end of the range no more.
+/// Returns one more, or the same at the end of the range.
 fn one_more(n: u64) -> u64
     ensures { result ≡ counted_on n }
 {
     if n == u64::MAX { n } else { n + 1 }
 }
 
-/// Whether a call goes on with the row of the last refusal.
+/// Whether a refused call continues the row of the last refusal.
 fn goes_on(last: Option<Refusal>, name: CallName, at: u64) -> bool
     ensures { result ≡ is_again_by last name at }
 {
@@ -42,7 +47,7 @@ fn goes_on(last: Option<Refusal>, name: CallName, at: u64) -> bool
     }
 }
 
-/// An advance at `at` counts as refused where it was told a clock that is too early for a step there.
+/// Returns how an advance at `at` counts: as refused, too, if the clock that it found is too early for a step there.
 pub fn counted(region: Region, at: u64, answer: Result<u64, PassLate>) -> Result<u64, PassLate>
     ensures { result ≡ counted_as (window_of region) at answer }
 {
@@ -59,7 +64,7 @@ pub fn counted(region: Region, at: u64, answer: Result<u64, PassLate>) -> Result
 }
 
 impl Counts {
-    /// No call was made yet.
+    /// Returns the tally before any call.
     pub fn none() -> Counts
         ensures { tally_of result ≡ no_tally }
     {
@@ -70,7 +75,7 @@ impl Counts {
         }
     }
 
-    /// The tally after a refused call.
+    /// Returns the tally after a refused call.
     fn refused(self, name: CallName, at: u64, late: PassLate) -> Counts
         ensures { tally_of result ≡ after_refusal (tally_of self) name at late }
     {
@@ -83,7 +88,7 @@ impl Counts {
         }
     }
 
-    /// The tally after a call of a name at a stamp, by its answer.
+    /// Returns the tally after a call of a name at a stamp, by the call's result.
     #[inline(always)]
     pub fn after<T>(self, name: CallName, at: u64, answer: &Result<T, PassLate>) -> Counts
         ensures { tally_of result ≡ tally_after name at answer.now (tally_of self) }

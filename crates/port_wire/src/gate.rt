@@ -1,9 +1,9 @@
 use snes_defs::Side;
 
-/// What a worker passes as it sets out on a leg: it is given its side and the turn's number, from 0 on.
+/// What a worker reports to as it starts a leg: it is given the worker's side and the turn's number, from 0 on.
 ///
-/// It promises nothing but that its call returns, and answers nothing. So no caller can tell one gate from another:
-/// what runs behind a test's gate, which counts the workers, is what runs behind the program's.
+/// It promises nothing but that its call returns, and returns nothing. So no caller can distinguish one gate from
+/// another: what runs behind a test's gate, which counts the workers, is what runs behind the program's.
 pub trait Gate: Sync {
     fn arrive(&self, side: Side, turn: u64);
 }
@@ -16,7 +16,7 @@ impl Gate for &dyn Gate {
     }
 }
 
-/// The program's gate: it does nothing.
+/// The program's gate, which does nothing.
 #[derive(Drop)]
 pub struct OpenGate;
 

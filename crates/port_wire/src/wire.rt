@@ -9,16 +9,16 @@ ghost use Rattle.port_wire.specs.Answers.{HearsOn, EndsRead, EndsClear, EndsWrit
 use crate::late::PassLate;
 use snes_defs::{Region, Side};
 
-/// What carries the entries of two sides between them. Each side has a pass, over which it reads, clears
-/// and writes its ports and publishes its clock; both passes together are a whole.
+/// What carries the entries of two sides between them. Each side has a pass, over which it reads, clears and writes its
+/// ports and publishes its clock; both passes together are a whole.
 ///
-/// Each call over a pass tries once, and is answered or refused. In every answer the pass has heard all
-/// that was in its `heard` before, and more only of what is stamped at its `upto` or later. So have both
-/// sides after a call over a whole.
+/// Each call over a pass tries once, and returns or is refused. Either way the pass has heard all that was in its
+/// `heard` before. It has heard more only of what is stamped at its `upto` or later. So have both sides after a call
+/// over a whole.
 ///
-/// What carries the entries may count on this of its callers: writes are stamped below 2^52, the clock that a
-/// write publishes is at most one step's rise later, and a clock is published by itself only within its side's
-/// reach, that is at most the window and one such rise past the clock of the other side that it was told.
+/// What carries the entries may count on this of its callers. Writes are stamped below 2^52, and the clock that a write
+/// publishes is at most one step's rise later. A clock is published by itself only within its side's reach. That is at
+/// most the window and one such rise past the other side's clock as it knows it.
 pub trait Wire: Sync {
     type Pass: Send;
 
@@ -37,23 +37,23 @@ pub trait Wire: Sync {
 
     ghost both: { Self.Whole → Both };
 
-    /// The region.
+    /// Returns the region of the two machines.
     fn region(&self) -> Region
         ensures { result ≡ region_of self.now };
 
-    /// The side of a pass.
+    /// Returns the side of a pass.
     fn side(&self, pass: &Self::Pass) -> Side
         ensures { result ≡ (seen pass.now).side };
 
-    /// The latest clock of the other side that the pass was told.
+    /// Returns the latest clock of the other side that the pass knows.
     fn known(&self, pass: &Self::Pass) -> u64
         ensures { result ≡ (seen pass.now).half.known };
 
-    /// The clock that the side of the pass has published.
+    /// Returns the clock that the side of the pass has published.
     fn clock(&self, pass: &Self::Pass) -> u64
         ensures { result ≡ (seen pass.now).half.at };
 
-    /// Two passes of a whole: the console's, then the sound side's.
+    /// Parts a whole into two passes: the console's, then the sound side's.
     fn part(&self, whole: Self::Whole) -> (Self::Pass, Self::Pass)
         requires { is_whole_of self.now whole }
         ensures console_of { is_pass_of self.now result.0 }
@@ -61,8 +61,8 @@ pub trait Wire: Sync {
         ensures console { seen result.0 ≡ record { side = Side.Console; half = parted (both whole).console } }
         ensures sound { seen result.1 ≡ record { side = Side.Sound; half = parted (both whole).sound } };
 
-    /// The whole of its two passes. Each side has heard a beginning of what the other logged, which has
-    /// all of it up to a stamp that the other has published.
+    /// Reunites two passes into their whole. Each side has heard a prefix of what the other logged, which has all of it
+    /// up to a stamp that the other has published.
     fn reunite(&self, console: Self::Pass, sound: Self::Pass) -> Self::Whole
         requires console_of { is_pass_of self.now console }
         requires sound_of { is_pass_of self.now sound }
@@ -73,7 +73,7 @@ pub trait Wire: Sync {
         ensures sound { (both result).sound ≡ (seen sound).half }
         ensures heard { AreReunited (seen console).half (seen sound).half };
 
-    /// The incoming byte of a port at a stamp.
+    /// Returns the incoming byte of a port at a stamp.
     fn read(&self, pass: &mut Self::Pass, at: u64, port: u8) -> Result<u8, PassLate>
         requires of { is_pass_of self.now pass.old }
         requires port { port < 4 }
@@ -83,7 +83,7 @@ pub trait Wire: Sync {
         ensures hears { HearsOn (seen pass.old).half (seen pass.new).half }
         ensures ends { EndsRead (seen pass.old).side at port result (seen pass.old).half (seen pass.new).half };
 
-    /// Zeroes the own incoming bytes of a mask at a stamp.
+    /// Zeroes the side's own incoming bytes of a mask at a stamp.
     fn clear(&self, pass: &mut Self::Pass, at: u64, mask: u8) -> Result<(), PassLate>
         requires of { is_pass_of self.now pass.old }
         requires mask { (1 ≤ mask) × (mask ≤ 15) }
@@ -113,7 +113,7 @@ pub trait Wire: Sync {
         ensures hears { HearsOn (seen pass.old).half (seen pass.new).half }
         ensures ends { EndsWrite (window_of (region_of self.now)) at port v next result (seen pass.old).half (seen pass.new).half };
 
-    /// Publishes a clock, and answers the other side's.
+    /// Publishes a clock, and returns the other side's.
     fn advance(&self, pass: &mut Self::Pass, at: u64) -> Result<u64, PassLate>
         requires of { is_pass_of self.now pass.old }
         requires own_clock { (seen pass.old).half.at ≤ at }
@@ -123,7 +123,7 @@ pub trait Wire: Sync {
         ensures hears { HearsOn (seen pass.old).half (seen pass.new).half }
         ensures ends { EndsAdvance (window_of (region_of self.now)) at result (seen pass.old).half (seen pass.new).half };
 
-    /// The incoming byte of a port of a side at a stamp, while no pass is out. It is refused as
+    /// Returns the incoming byte of a port of a side at a stamp, while no pass is out. It is refused as
     /// `PassLate::Behind` alone.
     fn read_whole(
         &self,
@@ -140,7 +140,8 @@ pub trait Wire: Sync {
         ensures hears { HearBoth (both whole.old) (both whole.new) }
         ensures ends { EndsReadWhole side at port result (half_of side (both whole.old)) (half_of (other_of side) (both whole.old)) (half_of side (both whole.new)) };
 
-    /// Zeroes the own incoming bytes of a mask at a stamp. It is refused as `PassLate::Behind` alone.
+    /// Zeroes a side's own incoming bytes of a mask at a stamp, while no pass is out. It is refused as
+    /// `PassLate::Behind` alone.
     fn clear_whole(
         &self,
         whole: &mut Self::Whole,
@@ -156,8 +157,8 @@ pub trait Wire: Sync {
         ensures hears { HearBoth (both whole.old) (both whole.new) }
         ensures ends { EndsClearWhole side at mask result (half_of side (both whole.old)) (half_of (other_of side) (both whole.old)) (half_of side (both whole.new)) };
 
-    /// Writes a byte to an outgoing port of a side at a stamp, and publishes the clock `next` with it. It
-    /// is refused as `PassLate::Ahead` alone.
+    /// Writes a byte to an outgoing port of a side at a stamp, and publishes the clock `next` with it, while no pass is
+    /// out. It is refused as `PassLate::Ahead` alone.
     fn write_whole(
         &self,
         whole: &mut Self::Whole,
@@ -178,7 +179,7 @@ pub trait Wire: Sync {
         ensures hears { HearBoth (both whole.old) (both whole.new) }
         ensures ends { EndsWriteWhole (window_of (region_of self.now)) at port v next result (half_of side (both whole.old)) (half_of (other_of side) (both whole.old)) (half_of side (both whole.new)) };
 
-    /// Publishes a clock of a side, and answers the other side's.
+    /// Publishes a clock of a side, and returns the other side's, while no pass is out.
     fn advance_whole(&self, whole: &mut Self::Whole, side: Side, at: u64) -> u64
         requires of { is_whole_of self.now whole.old }
         requires own_clock { (half_of side (both whole.old)).at ≤ at }

@@ -1,8 +1,8 @@
-// Which orders of the steps of two machines are as good as the serial one, and how many turns a run has,
-// for any two machines of one region.
+// Which orders of the steps of two machines are equivalent to the serial one, and how many turns a run has. The
+// machines are any two of one region.
 //
-// Each law is the contract of a function that does nothing: its clause speaks of every region, every start
-// and every list of moves, by the definitions in `specs/` alone.
+// Each law is the contract of a function that does nothing. Its clause speaks of every region, every start and every
+// list of moves, by the definitions in `specs/` alone.
 ghost use Rattle.std.specs.Prelude.{◌≡◌, ◌+◌, ◌*◌, ◌<◌, ◌≤◌, ℕ, List, ◌++◌, length};
 ghost use Rattle.snes_defs.specs.declared.region.Region.{Region};
 ghost use Rattle.snes_defs.specs.declared.ports.Side.TheVariants.{Console, Sound};
@@ -17,9 +17,8 @@ ghost use Rattle.run_laws.specs.TurnBound.{Made, AreBelow, EachSteps, steps_in, 
 
 use side_law::Machine;
 
-/// Every legal list of moves leads along the serial run: after it each side's state, entries and
-/// emitted bytes are those that it has in the run after as many steps, and no published clock is
-/// above its machine's stamp.
+/// Law of legal lists: every legal list of moves leads along the serial run. After it each side has the state, entries
+/// and emitted bytes that it has in the run after as many steps. No published clock is above its machine's stamp.
 #[tactic(none)]
 pub fn legal_is_serial<C: Machine, S: Machine>()
     ensures { (region : Region) (console : C.State) (sound : S.State) → C.valid region console → S.valid region sound
@@ -28,8 +27,8 @@ pub fn legal_is_serial<C: Machine, S: Machine>()
         (after_moves C.moves S.moves moves (halves_of console sound)) }
 {}
 
-/// Where both published clocks are the machines' stamps, the earlier side isn't refused, whatever
-/// its step does. It needs no state that a legal list reaches.
+/// Law of the earlier side: if both published clocks are the machines' stamps, it isn't refused, whatever its step
+/// does. The state need not be one that a legal list reaches.
 #[tactic(none)]
 pub fn earlier_is_free<C: Machine, S: Machine>()
     ensures { (region : Region) (h : Halves C.State S.State)
@@ -41,7 +40,7 @@ pub fn earlier_is_free<C: Machine, S: Machine>()
         → MayStep region Sound (S.moves.stamp h.sound.history.now) h.console.clock (S.moves.act h.sound.history.now)) }
 {}
 
-/// A legal list can always go on, and by a step: both sides publish their stamps, and the earlier
+/// Law of progress: a legal list can always continue, and by a step. Both sides publish their stamps, and the earlier
 /// one steps.
 #[tactic(none)]
 pub fn legal_goes_on<C: Machine, S: Machine>()
@@ -51,9 +50,9 @@ pub fn legal_goes_on<C: Machine, S: Machine>()
         × (steps_of Console more + steps_of Sound more ≡ 1) }
 {}
 
-/// The serial run's own order is a legal list, however long: in each turn both sides publish their
-/// stamps, and the earlier one steps. After the moves of the first turns both histories are those of
-/// the serial run after as many turns.
+/// Law of the serial order: it is a legal list, however long. In each turn both sides publish their stamps, and the
+/// earlier one steps. After the moves of the first turns both histories are those of the serial run after as many
+/// turns.
 #[tactic(none)]
 pub fn serial_order_is_legal<C: Machine, S: Machine>()
     ensures legal { (region : Region) (console : C.State) (sound : S.State) → C.valid region console → S.valid region sound → (turns : ℕ)
@@ -65,8 +64,8 @@ pub fn serial_order_is_legal<C: Machine, S: Machine>()
         ≡ (serial_run C.moves S.moves console sound turns).sound) }
 {}
 
-/// Two legal lists that make as many steps of each side end in the same states, entries and emitted
-/// bytes.
+/// Law of step counts: two legal lists that make as many steps of each side end alike, with the same states, entries
+/// and emitted bytes.
 #[tactic(none)]
 pub fn as_many_steps_end_alike<C: Machine, S: Machine>()
     ensures { (region : Region) (console : C.State) (sound : S.State) → C.valid region console → S.valid region sound
@@ -80,8 +79,8 @@ pub fn as_many_steps_end_alike<C: Machine, S: Machine>()
         ≡ (after_moves C.moves S.moves others (halves_of console sound)).sound.history) }
 {}
 
-/// In the serial run from stamp 0 no side waits long: each has made `i` steps after at most
-/// `8 * (i + 1)` turns. So "after its first `i` steps in the run" is always some state.
+/// Law of fairness: in the serial run from stamp 0 each side has made `i` steps after at most `8 * (i + 1)` turns. So
+/// "after its first `i` steps in the run" is always some state.
 #[tactic(none)]
 pub fn steps_come_in_time<C: Machine, S: Machine>()
     ensures console { (region : Region) (console : C.State) (sound : S.State) → C.valid region console → S.valid region sound
@@ -92,9 +91,9 @@ pub fn steps_come_in_time<C: Machine, S: Machine>()
         → (i : ℕ) → (n : ℕ) × (n ≤ 8 * (i + 1)) × ((serial_run C.moves S.moves console sound n).sound.steps ≡ i) }
 {}
 
-/// A run of turns that each make at least one step, none of them at or above the end of so many
-/// frames, has at most `76602 * frames + 2` turns in Ntsc and `91406 * frames + 2` in Pal, where each step of the sound side raises its
-/// stamp by one sound cycle.
+/// Law of turns: a run of turns, each of at least one step below the end of `frames` frames, has a bounded number of
+/// turns. There are at most `76602 * frames + 2` in Ntsc and `91406 * frames + 2` in Pal. The bound holds if each step
+/// of the sound side raises its stamp by one sound cycle.
 #[tactic(none)]
 pub fn turns_end<C: Machine, S: Machine>()
     ensures { (region : Region) (console : C.State) (sound : S.State) → C.valid region console
@@ -104,9 +103,9 @@ pub fn turns_end<C: Machine, S: Machine>()
         → length turns ≤ most_turns region frames }
 {}
 
-/// The serial run from stamp 0 to the end of so many frames has at most `76602 * frames + 2` turns in
-/// Ntsc and `91406 * frames + 2` in Pal, where each step of the sound side from a valid state raises its
-/// stamp by one sound cycle.
+/// Law of serial turns: the serial run from stamp 0 to the end of `frames` frames has a bounded number of turns. There
+/// are at most `76602 * frames + 2` in Ntsc and `91406 * frames + 2` in Pal. The bound holds if each step of the sound
+/// side from a valid state raises its stamp by one sound cycle.
 #[tactic(none)]
 pub fn runs_are_bounded<C: Machine, S: Machine>()
     ensures { (region : Region) (console : C.State) (sound : S.State) → C.valid region console → S.valid region sound

@@ -1,4 +1,4 @@
-// Many steps of one side at once: those that it may make before the other side goes on.
+// Many steps of one side in one call: those that it may run before the other side continues.
 ghost use Rattle.std.specs.Prelude.{◌≡◌, ◌+◌, ◌^◌, ◌<◌, ◌≤◌, ◌++◌, ℕ, false, IsTrue, List, length};
 ghost use Rattle.side_law.specs.Serial.{SerialState};
 ghost use Rattle.serial_console.specs.Serial.{console_of, sound_of};
@@ -28,8 +28,8 @@ fn lower(first: u64, end: u64) -> u64
     if first < end { first } else { end }
 }
 
-/// Makes steps before the stamp `first`, up to which this side is the earlier one, as many of those that emit nothing as the
-/// machine makes in one call. Answers the stamp of the step that is next.
+/// Runs steps that emit nothing, as many as the machine runs in one call. They begin before the stamp `first`, up to
+/// which this side is the earlier one. Returns the stamp of the next step.
 #[inline(always)]
 fn talk<M: Machine>(
     machine: &mut M,
@@ -50,9 +50,9 @@ fn talk<M: Machine>(
     machine.stamp()
 }
 
-/// Makes the step that is next where it is at a port and begins before the stamp `first`, so that no quiet steps are
-/// looked for before it. Answers whether they may be now: not where a step at a port has to wait for the other side,
-/// and not where a step emitted bytes.
+/// Runs the next step if it is at a port and begins before the stamp `first`. So no quiet steps are searched for before
+/// it. Returns whether they may be searched for now. That is false if a step at a port has to wait for the other side,
+/// or a step emitted bytes.
 #[inline(always)]
 fn leave_port<M: Machine>(
     machine: &mut M,
@@ -85,10 +85,10 @@ fn leave_port<M: Machine>(
     machine.pending() == 0
 }
 
-/// Makes a side's steps before `end` one after another: any that begins before the stamp `first`, up to which it
-/// is the earlier side, those that come first in one call where the machine has one for them (`Machine::talk`), and on
-/// from there those that are quiet, up to the first that emits a byte. Answers the stamp of that one, and where none
-/// did, of the step that is next.
+/// Runs a side's steps before `end` one after another, up to the first that emits a byte. Before the stamp `first`, up
+/// to which it is the earlier side, it runs any. The first of those run in one call if the machine has one for them
+/// (`Machine::talk`). From `first` on it runs only quiet ones. Returns the stamp of the step that emitted, or else of
+/// the next step.
 #[inline(always)]
 fn lead<M: Machine>(
     machine: &mut M,
@@ -146,9 +146,9 @@ fn lead<M: Machine>(
 }
 
 impl<C: Machine, S: Machine> Serial<C, S> {
-    /// Makes the console's steps before `end` one after another: any while it is the earlier side, and on from there
-    /// those that are quiet, up to the first that emits a byte. Answers the stamp of that one, and where none did, of
-    /// the step that is next. Where bytes of the console wait already it makes none, and answers `held`.
+    /// Runs the console's steps before `end`, up to the first that emits a byte: any while it is the earlier side, then
+    /// quiet ones. Returns the stamp of the step that emitted, or else of the next step. If bytes of the console are
+    /// buffered already, it runs none and returns `held`.
     #[inline(always)]
     pub fn console_leads(&mut self, end: u64, held: u64) -> u64
         requires room { C.MOST ≤ C.CAP }
@@ -181,9 +181,9 @@ impl<C: Machine, S: Machine> Serial<C, S> {
         )
     }
 
-    /// Makes the sound side's steps before `end` one after another: any while it is the earlier side, and on from
-    /// there those that are quiet, up to the first that emits a byte. Answers the stamp of that one, and where none
-    /// did, of the step that is next. Where bytes of the sound side wait already it makes none, and answers `held`.
+    /// Runs the sound side's steps before `end`, up to the first that emits a byte: any while it is the earlier side,
+    /// then quiet ones. Returns the stamp of the step that emitted, or else of the next step. If bytes of the sound
+    /// side are buffered already, it runs none and returns `held`.
     #[inline(always)]
     pub fn sound_leads(&mut self, end: u64, held: u64) -> u64
         requires room { S.MOST ≤ S.CAP }

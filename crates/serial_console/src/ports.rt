@@ -8,7 +8,7 @@ use crate::serial::Serial;
 use side_law::Machine;
 
 impl<C: Machine, S: Machine> Serial<C, S> {
-    /// The two machines, the console first.
+    /// Returns the two machines, the console first.
     #[inline(always)]
     pub fn machines(&self) -> (&C, &S)
         ensures console { result.0.now ≡ console_of self.now }
@@ -17,7 +17,7 @@ impl<C: Machine, S: Machine> Serial<C, S> {
         (&self.console, &self.sound)
     }
 
-    /// The bytes that go to the sound side, then those that go to the console, each by its port.
+    /// Returns the bytes that go to the sound side, then those that go to the console, each by its port.
     pub fn ports(&self) -> ([u8; 4], [u8; 4])
         ensures to_sound { result.0 ≡ bytes_to_sound self.now }
         ensures to_console { result.1 ≡ bytes_to_console self.now }

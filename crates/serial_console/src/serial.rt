@@ -10,8 +10,8 @@ use clock_ratio::console_first;
 use side_law::Machine;
 use snes_defs::{Act, Side};
 
-/// Two machines that share four bytes each way and nothing else. The earlier one makes each step,
-/// the console where both stand at one stamp.
+/// Two machines that share four bytes each way and nothing else. The earlier one runs each step, the console if both
+/// are at one stamp.
 #[derive(Drop)]
 pub struct Serial<C, S> {
     pub(crate) console: C,
@@ -72,7 +72,7 @@ fn exchange(act: Act, incoming: &mut [u8; 4], outgoing: &mut [u8; 4])
     }
 }
 
-/// One step of a machine against the bytes that come in to it and go out from it, by its act.
+/// Runs one step of a machine, by its act, against the bytes that come in to it and go out from it.
 #[inline(always)]
 #[tactic(auto, using(crate::proofs::Taken::taken_got))]
 pub(crate) fn step_by<M: Machine>(
@@ -98,8 +98,8 @@ pub(crate) fn step_by<M: Machine>(
     exchange(act, incoming, outgoing);
 }
 
-/// One step of a machine against the bytes that come in to it and go out from it: a quiet one at once
-/// where the machine sees that it is quiet.
+/// Runs one step of a machine against the bytes that come in to it and go out from it. A step that the machine quickly
+/// finds to be quiet runs without its act.
 #[inline(always)]
 #[tactic(auto, using(crate::proofs::Taken::quiet))]
 pub fn step<M: Machine>(machine: &mut M, incoming: &mut [u8; 4], outgoing: &mut [u8; 4])
@@ -135,7 +135,7 @@ impl<C: Machine, S: Machine> Serial<C, S> {
         }
     }
 
-    /// Makes one step of the earlier side, ties to the console, and answers that side.
+    /// Runs one step of the earlier side, the console if both are at one stamp, and returns that side.
     #[inline(always)]
     pub fn turn(&mut self) -> Side
         requires console_room { C.stamp_of (console_of self.old) ≤ S.stamp_of (sound_of self.old) → length (C.waiting (console_of self.old)) + C.MOST ≤ C.CAP }
@@ -174,7 +174,7 @@ impl<C: Machine, S: Machine> Serial<C, S> {
         self.console.stamp() >= end && self.sound.stamp() >= end
     }
 
-    /// Whether both stamps are at least `end` and no byte of either machine waits.
+    /// Whether both stamps are at least `end` and neither machine has bytes buffered.
     #[inline(always)]
     pub fn is_over(&self, end: u64) -> bool
         ensures { IsTrue result ↔ ((end ≤ C.stamp_of (console_of self.now)) × (end ≤ S.stamp_of (sound_of self.now)) × (length (C.waiting (console_of self.now)) ≡ 0) × (length (S.waiting (sound_of self.now)) ≡ 0)) }

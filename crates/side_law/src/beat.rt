@@ -3,8 +3,8 @@ use snes_defs::Act;
 /// One step of a `Tape`.
 #[derive(Clone, Copy, Debug, PartialEq, Eq)]
 pub struct Beat {
-    /// By how much it raises the stamp, from the least to the most of its region.
+    /// By how much the step raises the stamp, from the least to the most of its region.
     pub rise: u64,
-    /// What it does at the ports.
+    /// What the step does at the ports.
     pub act: Act,
 }

@@ -8,17 +8,16 @@ ghost use Rattle.side_law.specs.Sides.{HasTalked};
 use crate::pause::Pause;
 use snes_defs::{Act, Region};
 
-/// A machine that goes on by steps, each at a stamp, and touches four ports that another one shares.
+/// A machine that runs by steps, each at a stamp, and touches four ports that another machine shares.
 ///
-/// Apart from the emitted bytes that wait in it, a machine has one plain state, which only proofs
-/// know: `State`, with the `moves` from it. The code may forget what the state keeps, as the list
-/// of an instruction's accesses, so `stands` relates a value to each state that it can be in, and
-/// the clauses hold of every one of them. A constructor says which state its value stands for, and
-/// `stamp` that there is always one.
+/// Apart from the emitted bytes that it buffers, a machine has one plain state, which only proofs know: `State`, with
+/// the `moves` from it. The code may forget what the state keeps, such as the list of an instruction's accesses. So
+/// `stands` relates a value to each state that it can be in, and the clauses hold of every one of them. A constructor
+/// says which state its value stands for, and `stamp` that there is always one.
 ///
 /// A machine is of one region, whose numbers say by how much a step raises its stamp.
 pub trait Machine: Send {
-    /// How many emitted bytes can wait.
+    /// How many emitted bytes the buffer holds.
     const CAP: usize;
 
     /// The most bytes that one step emits.
@@ -49,23 +48,22 @@ pub trait Machine: Send {
     // The emitted bytes that wait, the first one first.
     ghost waiting: { Self → List ℕ };
 
-    /// The region, which no call changes.
+    /// Returns the region, which no call changes.
     fn region(&self) -> Region
         ensures { result ≡ region_of self.now };
 
-    /// The stamp of the next step.
+    /// Returns the stamp of the next step.
     fn stamp(&self) -> u64
         ensures stamp { result ≡ stamp_of self.now }
         ensures of_the_state { (m : State) → stands self.now m → moves.stamp m ≡ result }
         ensures stands { ∥ ((m : State) × stands self.now m) ∥₁ };
 
-    /// What the next step does at the ports.
+    /// Returns what the next step does at the ports.
     fn act(&self) -> Act
         ensures at_ports { IsAtPorts result }
         ensures of_the_state { (m : State) → stands self.now m → moves.act m ≡ result };
 
-    /// Makes a step. `got` is the incoming byte of the port where the act is a read, and matters
-    /// nowhere else.
+    /// Runs the next step. `got` is the incoming byte of the port if the act is a read; otherwise it doesn't matter.
     fn step(&mut self, got: u8)
         requires room { length (waiting self.old) + MOST ≤ CAP }
         requires early { stamp_of self.old ≤ 2 ^ 62 }
@@ -76,9 +74,9 @@ pub trait Machine: Send {
         ensures emits_at_most { length (waiting self.new) ≤ length (waiting self.old) + MOST }
         ensures same_region { region_of self.new ≡ region_of self.old };
 
-    /// Makes the next step where it is quiet and the machine sees so at once, and answers whether it
-    /// did. Otherwise it answers false and nothing has changed. A caller that asks this first makes
-    /// a quiet step without asking for its act; where it is false, `act` and `step` still serve.
+    /// Runs the next step if the machine quickly finds that it is quiet, and returns whether it did. If not, nothing
+    /// has changed. A caller that calls this first runs a quiet step without reading its act. If it returns false,
+    /// `act` and `step` still serve.
     #[inline(always)]
     fn try_step(&mut self) -> bool
         requires room { length (waiting self.old) + MOST ≤ CAP }
@@ -103,11 +101,11 @@ pub trait Machine: Send {
         }
     }
 
-    /// How many emitted bytes wait.
+    /// Returns how many emitted bytes are buffered.
     fn pending(&self) -> usize
         ensures { result ≡ length (waiting self.now) };
 
-    /// Whether there is room for the bytes of two steps.
+    /// Whether the buffer has room for the bytes of two steps.
     #[inline(always)]
     fn ready(&self) -> bool
         ensures { IsTrue result ↔ (length (waiting self.now) + 2 * MOST ≤ CAP) }
@@ -118,7 +116,7 @@ pub trait Machine: Send {
             && Self::MOST <= Self::CAP - waiting - Self::MOST
     }
 
-    /// Moves out the first of the bytes that wait, as many as wait or fit, and answers how many.
+    /// Moves out the first of the buffered bytes, all or as many as fit, and returns how many.
     fn drain(&mut self, into: &mut [u8]) -> usize
         ensures count { result ≡ min (length (waiting self.old)) (length into.old) }
         ensures moved { into.new ≡ take result (waiting self.old) ++ drop result into.old }
@@ -127,9 +125,9 @@ pub trait Machine: Send {
         ensures same_stamp { stamp_of self.new ≡ stamp_of self.old }
         ensures same_region { region_of self.new ≡ region_of self.old };
 
-    /// Makes quiet steps, as many as the machine likes to make in one call, which may be none, and answers where it
-    /// stands then. Each is begun before the stamp `before`, and none after one that emitted bytes. Who wants the
-    /// machine to go on asks again, and where its stamp hasn't risen, `step` serves.
+    /// Runs quiet steps, as many as the machine chooses to run in one call, or none, and returns where it stops. Each
+    /// begins before the stamp `before`, and none follows one that emitted bytes. A caller that wants more steps calls
+    /// again, and if the stamp hasn't risen, `step` serves.
     #[inline(always)]
     fn quiet(&mut self, before: u64) -> Pause
         requires room { length (waiting self.old) + MOST ≤ CAP }
@@ -161,9 +159,9 @@ pub trait Machine: Send {
         Pause { at, act }
     }
 
-    /// Makes steps of any kind that emit nothing, each begun before the stamp `before`, up to which this side is the
-    /// earlier one: so the bytes that come in stand still meanwhile, and are after these steps what they were. How many it
-    /// makes is left to the machine, none too. It saves a machine that talks a lot from being asked for each act.
+    /// Runs steps of any kind that emit nothing, each begun before the stamp `before`, up to which this side is the
+    /// earlier one. So the incoming bytes don't change meanwhile. The machine chooses how many steps it runs, possibly
+    /// none. It saves a machine that talks a lot from being asked for each act.
     #[inline(always)]
     fn talk(&mut self, incoming: &[u8; 4], outgoing: &mut [u8; 4], before: u64)
         requires early { before ≤ 2 ^ 62 }

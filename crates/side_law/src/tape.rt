@@ -9,9 +9,8 @@ use snes_defs::{Act, NoMemory, Region};
 use std::alloc::Global;
 use std::marker::Model;
 
-/// A machine that plays a list of beats, one a step, emits the byte got at each read, and after the
-/// last beat is quiet and rises by the least of its region. It shows that the laws of `Machine` can be met, and
-/// serves tests.
+/// A machine that plays a list of beats, one per step, and emits the byte got at each read. After the last beat it is
+/// quiet and rises by the least of its region. It shows that the laws of `Machine` can be met, and serves tests.
 #[derive(Drop)]
 pub struct Tape {
     region: Region,
@@ -34,8 +33,8 @@ impl Model for Tape {
 }
 
 impl Tape {
-    /// A tape of a region at stamp 0 that plays these beats, with no byte waiting. It takes the room
-    /// for the bytes that wait, and refuses only for want of memory.
+    /// Returns a tape of a region at stamp 0 that plays these beats, with no byte buffered. It allocates the buffer,
+    /// and fails only if allocation fails.
     pub fn new(alloc: Global, region: Region, beats: Vec<Beat>) -> Result<Tape, NoMemory>
         requires { AreBeats region beats.items }
         ensures starts { IfOk result (λ t. t.state ≡ tape_of region beats.items) }

@@ -1,9 +1,9 @@
-// The emitted bytes that wait in a machine, taken over into another one.
+// Copying the emitted bytes that a machine buffers into another one.
 ghost use Rattle.std.specs.Prelude.{◌≡◌};
 
 use circular_buffer::HeapCircularBuffer;
 
-/// Makes the other buffer hold the same bytes, where both have room for as many. No memory is taken.
+/// Makes the other buffer hold the same bytes. Both have room for as many. It does not allocate.
 pub fn copy_waiting(from: &HeapCircularBuffer<u8>, into: &mut HeapCircularBuffer<u8>)
     requires { from.now.capacity ≡ into.old.capacity }
     ensures { into.new ≡ from.now }

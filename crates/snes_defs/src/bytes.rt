@@ -3,7 +3,7 @@ ghost use Rattle.snes_defs.specs.Bytes.{AreBytes};
 
 use std::marker::Model;
 
-/// A list of bytes, as a file or a ROM.
+/// A list of bytes, such as a file or a ROM.
 #[derive(Drop)]
 pub struct Bytes {
     kept: Vec<u8>,
@@ -16,14 +16,14 @@ impl Model for Bytes {
 }
 
 impl Bytes {
-    /// Keeps the list. No memory is taken.
+    /// Makes a `Bytes` of a list. It does not allocate.
     pub fn of(v: Vec<u8>) -> Bytes
         ensures kept { result ≡ v.items }
     {
         Bytes { kept: v }
     }
 
-    /// The bytes, in order.
+    /// Returns the bytes, in order.
     pub fn get(&self) -> &[u8]
         ensures all { result.now ≡ self.now }
         ensures bytes { AreBytes self.now }

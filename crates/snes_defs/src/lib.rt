@@ -1,7 +1,7 @@
 // The plain types of the console, and the constants that both of its halves count by.
 //
-// Stands on nothing but std. A `Bytes` and a `Table` are seen in contracts as the lists that they
-// keep, and a `Spans` as a script, so that the crates above compare them with what definitions make.
+// Depends on nothing but std. Contracts see a `Bytes` and a `Table` as the lists that they hold, and a `Spans` as a
+// script. So the crates above compare them with what definitions make.
 #![tactic(auto)]
 
 mod bytes;
@@ -20,7 +20,7 @@ pub use script::{Span, Spans};
 pub use spot::{IrqTime, Spot};
 pub use table::Table;
 
-/// Want of memory: the one refusal that no input causes.
+/// Out of memory: the one failure that no input causes.
 #[derive(Clone, Copy, Debug, PartialEq, Eq)]
 pub struct NoMemory;
 
@@ -30,7 +30,7 @@ pub const WINDOW: u64 = 122_912_768;
 /// The least number of stamps by which one step of a machine raises its stamp: 6 master clocks.
 pub const LEAST_RISE: u64 = 33_792;
 
-/// The greatest number of stamps by which one step raises it: the 40 master clocks of a refresh.
+/// The greatest number of stamps by which one step of a machine raises its stamp: the 40 master clocks of a refresh.
 pub const MOST_RISE: u64 = 225_280;
 
 /// The most frames that a job may have.

@@ -1,7 +1,7 @@
 /// One of the two machines that share the four ports 2140 to 2143 (F4 to F7 on the other side).
 #[derive(Clone, Copy, Debug, PartialEq, Eq)]
 pub enum Side {
-    /// The 65C816 with the picture unit, the cartridge and the transfers.
+    /// The 65C816 with the PPU, the cartridge and the transfers.
     Console,
     /// The SPC700 with the S-DSP.
     Sound,

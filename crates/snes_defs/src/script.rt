@@ -16,9 +16,11 @@ mod growing;
 /// four bits are 0.
 #[derive(Clone, Copy, Debug, PartialEq, Eq)]
 pub struct Span {
-    /// How many frames it lasts.
+    /// How many frames the span lasts.
     pub count: u32,
+    /// The pad word of controller 1.
     pub pad1: u16,
+    /// The pad word of controller 2.
     pub pad2: u16,
 }
 
@@ -29,7 +31,7 @@ pub struct Spans {
     region: Region,
     spans: Vec<Span>,
     resets: Vec<u32>,
-    /// For how many spans there is memory.
+    /// How many spans there is memory for.
     room: usize,
 }
 
@@ -45,7 +47,7 @@ impl Model for Spans {
 }
 
 impl Spans {
-    /// Keeps the list as an Ntsc script without resets. No memory is taken.
+    /// Makes an Ntsc script of the spans, without resets. It does not allocate.
     pub fn of(alloc: Global, v: Vec<Span>) -> Spans
         requires { frames_of v.items ≤ 36000 }
         ensures kept { result ≡ record { region = Ntsc; spans = v.items; resets = []; room = length v.items } }
@@ -53,7 +55,7 @@ impl Spans {
         Spans::versioned(v, Region::Ntsc, Vec::new(alloc))
     }
 
-    /// Keeps all three. The resets rise and lie from 1 to 36,000. No memory is taken.
+    /// Makes a script of spans, region and resets. The resets rise, from 1 to 36,000. It does not allocate.
     pub fn versioned(v: Vec<Span>, region: Region, resets: Vec<u32>) -> Spans
         requires frames { frames_of v.items ≤ 36000 }
         requires resets { RiseWithin 1 36000 resets.items }
@@ -68,7 +70,7 @@ impl Spans {
         }
     }
 
-    /// A script of its own with the same content and memory for as many spans. Refused only for want of memory.
+    /// Returns a separate script with the same content, and memory for as many spans. Fails only if allocation fails.
     pub fn copied(&self, alloc: Global) -> Result<Spans, NoMemory>
         ensures { IfOk result (λ copy. copy ≡ self.now) }
     {
@@ -89,14 +91,14 @@ impl Spans {
         })
     }
 
-    /// The region of the machine that the script is played on.
+    /// Returns the region of the machine that the script is played on.
     pub fn region(&self) -> Region
         ensures { result ≡ self.now.region }
     {
         self.region
     }
 
-    /// The pads of the span in which the frame lies, from 0, and zeros after the last.
+    /// Returns both pad words of a frame, counted from 0; they are zero after the last span.
     pub fn pads(&self, frame: u32) -> (u16, u16)
         ensures { result ≡ pads_at self.now.spans frame }
     {

@@ -1,4 +1,4 @@
-/// Where the picture's beam stands.
+/// The position of the picture's beam.
 #[derive(Clone, Copy, Debug, PartialEq, Eq)]
 pub struct Spot {
     /// The line clock: master clocks since the line began, 0 to 1,363.
@@ -12,7 +12,7 @@ pub struct Spot {
 /// When the console's timer asks for an interrupt (4200 bits 5-4, 4207 to 420A).
 #[derive(Clone, Copy, Debug, PartialEq, Eq)]
 pub struct IrqTime {
-    /// 0 never, 1 on each line at `h`, 2 at the start of line `v`, 3 on line `v` at `h`.
+    /// The kind: 0 never, 1 on every line at `h`, 2 at the start of line `v`, 3 on line `v` at `h`.
     pub kind: u8,
     /// HTIME, 0 to 511, in units of four master clocks; above 340 it never comes.
     pub h: u16,

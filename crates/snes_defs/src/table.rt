@@ -2,7 +2,7 @@ ghost use Rattle.std.specs.Prelude.{◌≡◌, ◌<◌, ◌≤◌, ℕ, List, le
 
 use std::marker::Model;
 
-/// The 512 entries of the sound unit's interpolation table, each 0 to 2047, kept inline.
+/// The 512 entries of the S-DSP's interpolation table, each 0 to 2047, kept inline.
 #[derive(Drop)]
 pub struct Table {
     numbers: [u16; 512],
@@ -17,7 +17,7 @@ impl Model for Table {
 }
 
 impl Table {
-    /// Keeps the 512 numbers. No memory is taken.
+    /// Makes a table of the 512 numbers. It does not allocate.
     pub fn of(numbers: [u16; 512]) -> Table
         requires { All (λ n. n ≤ 2047) numbers }
         ensures kept { result ≡ numbers }
@@ -25,7 +25,7 @@ impl Table {
         Table { numbers }
     }
 
-    /// Entry `i`, from 0.
+    /// Returns entry `i`, from 0.
     #[inline(always)]
     pub fn at(&self, i: usize) -> u16
         requires { i < 512 }
@@ -35,7 +35,7 @@ impl Table {
         self.numbers[i]
     }
 
-    /// A table of its own with the same entries. No memory is taken.
+    /// Returns a separate table with the same entries. It does not allocate.
     pub fn copied(&self) -> Table
         ensures { result ≡ self.now }
     {

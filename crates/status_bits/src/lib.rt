@@ -1,8 +1,8 @@
 //! The bits of a processor's status byte, by their weight.
 //!
-//! A flag is named by the weight of its bit in the byte (1, 2, 4, .. 128). Both processors of the
-//! console keep their flags so, each with names of its own for the weights. The crate stands on std
-//! alone, and promises what each call returns, in the words `flag` and `put`.
+//! A flag is named by the weight of its bit in the byte (1, 2, 4, .. 128). Both processors of the console keep their
+//! flags this way, each with its own names for the weights. The crate depends on std alone, and promises what each call
+//! returns, by the definitions `flag` and `put`.
 #![tactic(auto)]
 
 ghost use Rattle.std.specs.Prelude.{◌≡◌, ◌<◌, ◌%◌, ◌/◌, IsTrue};
@@ -17,7 +17,7 @@ pub fn is_set(status: u8, weight: u8) -> bool
     status / weight % 2 == 1
 }
 
-/// The status byte with the bit of this weight set or clear, and each other bit as it was.
+/// Returns the status byte with the bit of this weight set or clear, and every other bit as it was.
 #[inline(always)]
 pub fn with_bit(status: u8, weight: u8, on: bool) -> u8
     requires { IsTrue (is_weight weight) }

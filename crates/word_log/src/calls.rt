@@ -44,7 +44,7 @@ fn is_ahead(window: u64, at: u64, other: u64) -> bool
 }
 
 impl Words {
-    /// Is told the other side's clock, takes all that the other has counted, and logs nothing.
+    /// Loads the other side's clock, takes all that the other has counted, and logs nothing.
     #[inline(always)]
     fn hear(&self, side: Side, seat: &mut WordSeat, desk: &mut Desk)
         requires seat { seat.old.table_id ≡ self.now.table }
@@ -96,7 +96,7 @@ impl Words {
         }
     }
 
-    /// A clear of a side. It is logged at the load of the other side's clock, where that settles it.
+    /// A clear of a side. It is logged at the load of the other side's clock, if that settles it.
     #[inline(always)]
     pub(crate) fn clear_by(
         &self,

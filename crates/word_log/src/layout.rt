@@ -1,4 +1,4 @@
-// Where the words of each side lie.
+// Where the words of each side are in the table.
 ghost use Rattle.std.specs.Prelude.{◌≡◌, ◌<◌};
 ghost use Rattle.port_entries.specs.Entry.{WriteAt};
 ghost use Rattle.port_log.specs.Kept.{other_side};
@@ -12,7 +12,7 @@ pub const WORDS: usize = 16448;
 /// How many entry words a side has.
 const RING: u64 = 8192;
 
-/// The side across the ports.
+/// Returns the side across the ports.
 #[inline(always)]
 pub fn across(side: Side) -> Side
     ensures { result ≡ other_side side }
@@ -23,7 +23,7 @@ pub fn across(side: Side) -> Side
     }
 }
 
-/// The first word of a side.
+/// Returns the first word of a side.
 #[inline(always)]
 fn first_place(side: Side) -> usize
     ensures { result ≡ first_word side }
@@ -34,7 +34,7 @@ fn first_place(side: Side) -> usize
     }
 }
 
-/// The word in which a side publishes its clock.
+/// Returns the index of the word in which a side publishes its clock.
 #[inline(always)]
 pub fn clock_place(side: Side) -> usize
     ensures { result ≡ clock_word side }
@@ -42,7 +42,7 @@ pub fn clock_place(side: Side) -> usize
     first_place(side)
 }
 
-/// The word that counts a side's writes.
+/// Returns the index of the word that counts a side's writes.
 #[inline(always)]
 pub fn count_place(side: Side) -> usize
     ensures { result ≡ count_word side }
@@ -53,7 +53,7 @@ pub fn count_place(side: Side) -> usize
     }
 }
 
-/// The word that a side's write of a number goes to.
+/// Returns the index of the word that a side's write of a number goes to.
 #[inline(always)]
 pub fn entry_place(side: Side, number: u64) -> usize
     ensures { result ≡ entry_word side number }
@@ -65,7 +65,7 @@ pub fn entry_place(side: Side, number: u64) -> usize
     }
 }
 
-/// What an entry word holds of a write: its stamp above ten bits for the port and the byte.
+/// Returns the entry word of a write: its stamp above ten bits for the port and the byte.
 #[inline(always)]
 pub fn packed(at: u64, port: u8, v: u8) -> u64
     requires stamp { at < end_of_stamps }

@@ -1,4 +1,4 @@
-// A pass: one side's way to the words.
+// A pass: one side's access to the words.
 ghost use Rattle.std.specs.Prelude.{◌≡◌, ◌+◌, ◌<◌, ◌≤◌};
 ghost use Rattle.clock_ratio.specs.Stamp.{least_of, most_of, window_of};
 ghost use Rattle.port_wire.specs.Answers.{HearsOn, EndsRead, EndsClear, EndsWrite, EndsAdvance};
@@ -12,7 +12,7 @@ use port_wire::{CallName, Counts, PassLate, counted};
 use snes_defs::Side;
 use std::marker::Model;
 
-/// One side's way to the words, with the tally of its refused calls. A thread holds it and needs nothing else.
+/// One side's access to the words, with the tally of its refused calls. A thread holds it and needs nothing else.
 #[derive(Drop)]
 pub struct Pass {
     pub(crate) side: Side,
@@ -32,7 +32,7 @@ impl Model for Pass {
 }
 
 impl Pass {
-    /// The side whose pass it is.
+    /// Returns the side whose pass it is.
     #[inline(always)]
     pub fn side(&self) -> Side
         ensures { result ≡ self.now.side }
@@ -40,7 +40,7 @@ impl Pass {
         self.side
     }
 
-    /// The clock that the side has published.
+    /// Returns the clock that the side has published.
     #[inline(always)]
     pub fn clock(&self) -> u64
         ensures { result ≡ self.now.half.at }
@@ -48,7 +48,7 @@ impl Pass {
         self.desk.log.clock(self.side)
     }
 
-    /// The latest clock of the other side that the pass was told.
+    /// Returns the latest clock of the other side that the pass knows.
     #[inline(always)]
     pub fn known(&self) -> u64
         ensures { result ≡ self.now.half.known }
@@ -57,10 +57,10 @@ impl Pass {
     }
 }
 
-// Each call loads the other side's clock and count, and takes all that the other has counted. Then it is answered
-// or refused as the log call of its name is, on the clock that it was told. None is held, and none waits.
+// Each call loads the other side's clock and count, and takes all that the other has counted. Then it returns or is
+// refused as the log call of its name is, on the clock that it loaded. None is held, and none waits.
 impl Words {
-    /// The byte that the side of the pass finds at its incoming port at the stamp `at`.
+    /// Returns the byte that the side of the pass finds at its incoming port at the stamp `at`.
     #[inline(always)]
     pub fn read(&self, pass: &mut Pass, at: u64, port: u8) -> Result<u8, PassLate>
         requires of { IsPassOf self.now pass.old }
@@ -78,7 +78,7 @@ impl Words {
         answer
     }
 
-    /// Zeroes the incoming ports of the mask of the side of the pass, at the stamp `at`.
+    /// Zeroes the incoming ports of the mask, of the side of the pass, at the stamp `at`.
     #[inline(always)]
     pub fn clear(&self, pass: &mut Pass, at: u64, mask: u8) -> Result<(), PassLate>
         requires of { IsPassOf self.now pass.old }
@@ -125,9 +125,9 @@ impl Words {
         answer
     }
 
-    /// Publishes that each step of the side of the pass to come is at `at` or later, and answers the other side's
-    /// clock. The clock published is not further ahead of the one known than the window and one rise. Where the
-    /// clock told is too early for a step at `at`, it counts as refused too.
+    /// Publishes that each later step of the side of the pass is at `at` or later, and returns the other side's clock.
+    /// The clock published is at most the window and one rise ahead of the one known. If the clock found is too early
+    /// for a step at `at`, the call counts as refused too.
     #[inline(always)]
     pub fn advance(&self, pass: &mut Pass, at: u64) -> Result<u64, PassLate>
         requires of { IsPassOf self.now pass.old }

@@ -1,8 +1,8 @@
 // The rule of the table, and the steps of its seats.
 //
-// Each side has a clock word, a count word and a ring of entry words, which that side alone changes. A seat that
-// stands for a side loads the other side's words, and stores its own. What a step does to a view is said of the side
-// that the number of its word tells.
+// Each side has a clock word, a count word and a ring of entry words, which that side alone changes. A seat that stands
+// for a side loads the other side's words, and stores its own. The number of a step's word says which side's view it
+// changes.
 ghost use Rattle.std.specs.Prelude.{◌≡◌, ℕ, List, []};
 ghost use Rattle.port_entries.specs.Entry.{Entry};
 ghost use Rattle.word_log.specs.Layout.{owner_of, entry_in};
@@ -16,8 +16,10 @@ use atomic_table::{Join, Play, Seat, Split, TableRule};
 use snes_defs::Region;
 use std::marker::{Brand, PhantomData};
 
+/// A seat of the table of words, which has no slot.
 pub type WordSeat = Seat<(), View>;
 
+/// The rule of the table: what its words say of the two sides, and what each knows of the other.
 pub struct WordRule;
 
 impl TableRule<(), View, Region> for WordRule {
@@ -26,7 +28,7 @@ impl TableRule<(), View, Region> for WordRule {
     ghost first = { λ region. first_view region };
 }
 
-/// What a side logs at a load of the other's clock: a clear, where the clock found settles it, or nothing.
+/// What a side logs at a load of the other's clock: a clear, if the clock found settles it, or nothing.
 pub trait Logging {
     ghost logs: { ℕ → List Entry };
 }
@@ -65,7 +67,7 @@ impl Play<(), View> for Put {
     ghost then = { λ st m r n. n ≡ (changed (owner_of st.word) (after_put (entry_in r) (half_in (owner_of st.word) m.0)) m.0, []) };
 }
 
-/// A store of the own count word, one more.
+/// A store of the own count word, raised by one.
 pub struct Count;
 
 impl Play<(), View> for Count {
@@ -79,14 +81,14 @@ impl Play<(), View> for Publish {
     ghost then = { λ st m r n. n ≡ (changed (owner_of st.word) (after_publish r (half_in (owner_of st.word) m.0)) m.0, []) };
 }
 
-/// A load that changes nothing, and tells what the rule knows of the two sides.
+/// A load that changes nothing, and shows what the rule knows of the two sides.
 pub struct Look;
 
 impl Play<(), View> for Look {
     ghost then = { λ st m r n. (n.1 ≡ []) × TellsAll m.0 n.0 };
 }
 
-/// The sound side's half goes to a seat of its own.
+/// The split that gives the sound side's half to a seat of its own, and the join of the two seats.
 pub struct BySide;
 
 impl Split<View> for BySide {

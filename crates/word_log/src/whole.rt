@@ -1,4 +1,4 @@
-// Both passes in one, before a turn of two threads and after it.
+// Both passes in one, before and after a turn of two threads.
 ghost use Rattle.std.specs.Prelude.{◌≡◌, [], IfOk};
 ghost use Rattle.snes_defs.specs.declared.ports.Side.TheVariants.{Console, Sound};
 ghost use Rattle.port_wire.specs.Seen.{AreReunited};
@@ -18,8 +18,8 @@ use snes_defs::{NoMemory, Region, Side};
 use std::alloc::Global;
 use std::marker::Model;
 
-/// Both sides' ways to the words, in one hand, with the tallies that their passes had. No call over a whole
-/// changes these.
+/// Both sides' access to the words, in one hand, with the tallies that their passes had. No call over a whole changes
+/// these.
 #[derive(Drop)]
 pub struct Whole {
     pub(crate) seat: WordSeat,
@@ -40,8 +40,8 @@ impl Model for Whole {
 }
 
 impl Words {
-    /// New words for two machines of a region, with their whole. They take all the memory that they ever need, and
-    /// refuse only for want of it.
+    /// Returns new words for two machines of a region, with their whole. They allocate all the memory that they ever
+    /// need, and fail only if allocation fails.
     pub fn open(alloc: Global, region: Region) -> Result<(Words, Whole), NoMemory>
         ensures region { IfOk result (λ opened. opened.0.region ≡ region) }
         ensures whole { IfOk result (λ opened. opened.1 ≡ new_whole opened.0) }
@@ -65,7 +65,7 @@ impl Words {
         Ok((words, whole))
     }
 
-    /// Cuts a whole into the console's pass and the sound side's. Their tallies begin anew.
+    /// Cuts a whole into the console's pass and the sound side's. Their tallies begin again.
     pub fn part(&self, whole: Whole) -> (Pass, Pass)
         requires { IsWholeOf self.now whole }
         ensures console { result.0 ≡ console_pass whole }
@@ -94,7 +94,7 @@ impl Words {
         (console_pass, sound_pass)
     }
 
-    /// Loads a word, and is told what holds of the two sides.
+    /// Loads a word, which shows what holds of the two sides.
     pub(crate) fn look(&self, seat: &mut WordSeat)
         requires seat { seat.old.table_id ≡ self.now.table }
         requires no_slot { seat.old.me.1 ≡ [] }
@@ -106,7 +106,7 @@ impl Words {
         let _word = self.table.shared.load::<Look>(seat, 0);
     }
 
-    /// The whole of the console's pass and the sound side's.
+    /// Makes a whole of the console's pass and the sound side's.
     pub fn reunite(&self, console: Pass, sound: Pass) -> Whole
         requires console_of { IsPassOf self.now console }
         requires sound_of { IsPassOf self.now sound }

@@ -129,8 +129,8 @@ impl Words {
         answer
     }
 
-    /// The byte that a side finds at its incoming port at the stamp `at`. It is refused as `Behind` where the other
-    /// side's clock is too early.
+    /// Returns the byte that a side finds at its incoming port at the stamp `at`. It is refused as `Behind` if the
+    /// other side's clock is too early.
     pub fn read_whole(
         &self,
         whole: &mut Whole,
@@ -155,7 +155,7 @@ impl Words {
         }
     }
 
-    /// Zeroes the incoming ports of a side that the mask covers, at the stamp `at`. It is refused where a read is.
+    /// Zeroes the incoming ports of a side that the mask covers, at the stamp `at`. It is refused if a read is.
     pub fn clear_whole(
         &self,
         whole: &mut Whole,
@@ -181,7 +181,7 @@ impl Words {
     }
 
     /// Logs that a side wrote a byte to its outgoing port at the stamp `at`, and publishes `next`. It is refused as
-    /// `Ahead` where `at` lies past the window.
+    /// `Ahead` if `at` lies past the window.
     pub fn write_whole(
         &self,
         whole: &mut Whole,
@@ -227,7 +227,7 @@ impl Words {
         }
     }
 
-    /// Publishes that each step of a side to come is at `at` or later, and answers the other side's clock.
+    /// Publishes that each later step of a side is at `at` or later, and returns the other side's clock.
     pub fn advance_whole(&self, whole: &mut Whole, side: Side, at: u64) -> u64
         requires of { IsWholeOf self.now whole.old }
         requires near { at ≤ (own_half side whole.old).known + window_of self.now.region + most_of self.now.region }

@@ -38,7 +38,7 @@ impl Model for Words {
 }
 
 impl Words {
-    /// The region of the two machines.
+    /// Returns the region of the two machines.
     #[inline(always)]
     pub fn region(&self) -> Region
         ensures { result ≡ self.now.region }
@@ -150,8 +150,8 @@ impl Words {
         }
     }
 
-    /// Is told the other side's clock, and takes all that the other has counted. A clear at `_at` that a caller is about to
-    /// make is logged at the load of that clock, in proofs alone, where the clock settles it.
+    /// Loads the other side's clock, and takes all that the other has counted. A caller's clear at `_at`, about to be
+    /// made, is logged at the load of that clock if the clock settles it. That is in proofs alone.
     #[inline(always)]
     pub(crate) fn listen<T: Logging>(
         &self,

@@ -1,4 +1,4 @@
-// A console side taken over whole into another one, and a script that goes on.
+// Copying a console side over another one, and playing a script that grows.
 ghost use Rattle.std.specs.Prelude.{◌≡◌, ◌+◌, ◌<◌, ◌≤◌, [], length, max, drop, OnOk, OnErr};
 ghost use Rattle.snes_defs.specs.Script.{frames_of};
 ghost use Rattle.console_steps.specs.ConsoleState.{ConsoleState};
@@ -10,9 +10,9 @@ use side_law::copy_waiting;
 use snes_defs::{NoMemory, Span};
 
 impl ConsoleSide {
-    /// Makes the other console side the same one, with an instruction or a transfer under way, the decoded tiles and
-    /// the bytes that wait. Both need one cartridge, of which the ROM is not copied, and no resets, and the other needs
-    /// room for the spans of the script; its room stays. No memory is taken.
+    /// Overwrites the other console side with this one: an instruction or transfer in progress, the decoded tiles and
+    /// the buffered bytes included. Both need one cartridge, of which the ROM is not copied, and no resets. The other
+    /// needs room for the spans of the script, and its room stays. It does not allocate.
     #[tactic(auto, using(crate::proofs::Copies::copied))]
     pub fn copy_into(&self, into: &mut ConsoleSide)
         requires board { self.now.rest.board ≡ into.old.rest.board }
@@ -30,7 +30,7 @@ impl ConsoleSide {
         copy_waiting(&self.parts.waiting, &mut into.parts.waiting);
     }
 
-    /// Makes room for so many more spans of the script. Refused only for want of memory; then nothing has changed.
+    /// Makes room for that many more spans of the script. Fails only if allocation fails; then nothing has changed.
     #[tactic(auto, using(crate::proofs::Copies::copied))]
     pub fn reserve(&mut self, spans: usize) -> Result<(), NoMemory>
         ensures ok { OnOk result (self.new ≡ value_with_room self.old (max self.old.rest.script.room (length self.old.rest.script.spans + spans))) }
@@ -40,9 +40,9 @@ impl ConsoleSide {
         self.parts.bus.reserve(spans)
     }
 
-    /// Puts a span at the end of the script, where there is room for one, and gives both pads the words that the
-    /// longer script has for the frame. As a frame begins that is the console that has played the longer script all
-    /// the time. No memory is taken.
+    /// Appends a span to the script, which must have room for it, and gives both pads the frame's words of the longer
+    /// script. At the beginning of a frame that is the console that has played the longer script all along. It does not
+    /// allocate.
     #[tactic(auto, using(crate::proofs::Copies::goes_on))]
     pub fn play(&mut self, span: Span)
         requires room { length self.old.rest.script.spans < self.old.rest.script.room }

@@ -1,4 +1,4 @@
-// A script that grows span by span, and is taken over from another one, in memory that it has.
+// A script that grows span by span, or is overwritten by another one, in memory that it has.
 ghost use Rattle.std.specs.Prelude.{◌≡◌, ◌+◌, ◌<◌, ◌≤◌, [], ◌∷◌, ◌++◌, length, max, OnOk, OnErr};
 ghost use Rattle.snes_defs.specs.Script.{frames_of};
 
@@ -6,7 +6,7 @@ use super::{Span, Spans};
 use crate::NoMemory;
 
 impl Spans {
-    /// Makes room for so many more spans. Refused only for want of memory; then nothing has changed.
+    /// Makes room for that many more spans. Fails only if allocation fails; then nothing has changed.
     pub fn reserve(&mut self, spans: usize) -> Result<(), NoMemory>
         ensures ok { OnOk result (self.new ≡ record self.old { room = max self.old.room (length self.old.spans + spans) }) }
         ensures err { OnErr result (self.new ≡ self.old) }
@@ -20,7 +20,7 @@ impl Spans {
         }
     }
 
-    /// Puts a span at the end, where there is room for one. No memory is taken.
+    /// Appends a span to a script that has room for it. It does not allocate.
     #[tactic(auto, using(crate::proofs::Frames::frames_more))]
     pub fn add(&mut self, span: Span)
         requires room { length self.old.spans < self.old.room }
@@ -33,8 +33,8 @@ impl Spans {
         }
     }
 
-    /// Makes the other script the same one, where neither has resets and the other has room for the spans. It
-    /// keeps its room. No memory is taken.
+    /// Overwrites the other script with this one. Neither has resets, and the other has room for the spans and keeps
+    /// its room. It does not allocate.
     pub fn copy_into(&self, into: &mut Spans)
         requires room { length self.now.spans ≤ into.old.room }
         requires no_resets { self.now.resets ≡ [] }
