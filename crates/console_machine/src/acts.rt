@@ -65,7 +65,7 @@ fn transfer_act(bus: &Bus, due: Move) -> Act
 {
     match due {
         Move::ToB { from, port } => {
-            // The byte is looked up only where it goes to one of the ports.
+            // The byte is looked up only if it goes to one of the ports.
             if port >= 0x40 && port < 0x80 {
                 write_act(Place::BBus(port), bus.take(from))
             } else {

@@ -10,7 +10,7 @@ use console_steps::{try_idle_at, try_read_at, try_write_at};
 use cpu_modes::{DirectKind, OperandKind, Place, Reach, ReturnKind};
 use cpu65816::Cpu;
 
-/// A fetch or a read at a place.
+/// Makes a fetch or a read at a place of the instruction's order.
 #[tactic(auto, using(crate::proofs::Follows::follows_same))]
 #[inline(always)]
 fn read_at(cpu: &mut Cpu, bus: &mut Bus, place: Place) -> bool
@@ -23,7 +23,7 @@ fn read_at(cpu: &mut Cpu, bus: &mut Bus, place: Place) -> bool
     }
 }
 
-/// A write at a place.
+/// Makes a write at a place of the instruction's order.
 #[tactic(auto, using(crate::proofs::Follows::follows_same))]
 #[inline(always)]
 fn write_at(cpu: &mut Cpu, bus: &mut Bus, place: Place) -> bool
@@ -36,7 +36,7 @@ fn write_at(cpu: &mut Cpu, bus: &mut Bus, place: Place) -> bool
     }
 }
 
-/// An internal cycle at a place.
+/// Makes an internal cycle at a place of the instruction's order.
 #[tactic(auto, using(crate::proofs::Follows::follows_same))]
 #[inline(always)]
 fn idle_at(cpu: &mut Cpu, bus: &mut Bus, place: Place) -> bool
@@ -49,7 +49,7 @@ fn idle_at(cpu: &mut Cpu, bus: &mut Bus, place: Place) -> bool
     }
 }
 
-/// The high byte of an operand.
+/// Makes the fetch of the high byte of an operand.
 #[tactic(auto, using(crate::proofs::Follows::follows_none))]
 #[inline(always)]
 fn operand_high(cpu: &mut Cpu, bus: &mut Bus) -> bool
@@ -61,7 +61,7 @@ fn operand_high(cpu: &mut Cpu, bus: &mut Bus) -> bool
     false
 }
 
-/// The high byte of an immediate operand.
+/// Makes the fetch of the high byte of an immediate operand.
 #[tactic(auto, using(crate::proofs::Follows::follows_none))]
 #[inline(always)]
 fn immediate_high(cpu: &mut Cpu, bus: &mut Bus) -> bool
@@ -73,7 +73,7 @@ fn immediate_high(cpu: &mut Cpu, bus: &mut Bus) -> bool
     false
 }
 
-/// The cycle before the data, where there is one.
+/// Makes the internal cycle before the data, if there is one.
 #[tactic(auto, using(crate::proofs::Follows::follows_none))]
 #[inline(always)]
 fn data_cycle(cpu: &mut Cpu, bus: &mut Bus) -> bool
@@ -85,7 +85,7 @@ fn data_cycle(cpu: &mut Cpu, bus: &mut Bus) -> bool
     true
 }
 
-/// The cycle before a word is pushed.
+/// Makes the internal cycle before a word is pushed.
 #[tactic(auto, using(crate::proofs::Follows::follows_none))]
 #[inline(always)]
 fn push_cycle(cpu: &mut Cpu, bus: &mut Bus) -> bool
@@ -97,7 +97,7 @@ fn push_cycle(cpu: &mut Cpu, bus: &mut Bus) -> bool
     false
 }
 
-/// The second cycle of a pull.
+/// Makes the second cycle of a pull.
 #[tactic(auto, using(crate::proofs::Follows::follows_none))]
 #[inline(always)]
 fn pull_cycle(cpu: &mut Cpu, bus: &mut Bus) -> bool
@@ -109,7 +109,7 @@ fn pull_cycle(cpu: &mut Cpu, bus: &mut Bus) -> bool
     false
 }
 
-/// The second cycle of a return.
+/// Makes the second cycle of a return.
 #[tactic(auto, using(crate::proofs::Follows::follows_none))]
 #[inline(always)]
 fn return_cycle(cpu: &mut Cpu, bus: &mut Bus) -> bool
@@ -121,7 +121,7 @@ fn return_cycle(cpu: &mut Cpu, bus: &mut Bus) -> bool
     false
 }
 
-/// The low byte of the address to return to.
+/// Makes the pull of the low byte of the return address.
 #[tactic(auto, using(crate::proofs::Follows::follows_none))]
 #[inline(always)]
 fn return_low(cpu: &mut Cpu, bus: &mut Bus) -> bool
@@ -133,7 +133,7 @@ fn return_low(cpu: &mut Cpu, bus: &mut Bus) -> bool
     false
 }
 
-/// Its high byte.
+/// Makes the pull of the high byte of the return address.
 #[tactic(auto, using(crate::proofs::Follows::follows_none))]
 #[inline(always)]
 fn return_high(cpu: &mut Cpu, bus: &mut Bus) -> bool
@@ -145,7 +145,7 @@ fn return_high(cpu: &mut Cpu, bus: &mut Bus) -> bool
     false
 }
 
-/// The high byte of data that is read.
+/// Makes the read of the high byte of data.
 #[tactic(auto, using(crate::proofs::Follows::follows_none))]
 #[inline(always)]
 fn load_high(cpu: &mut Cpu, bus: &mut Bus) -> bool
@@ -157,7 +157,7 @@ fn load_high(cpu: &mut Cpu, bus: &mut Bus) -> bool
     false
 }
 
-/// The high byte of data that is written, where it has one.
+/// Makes the write of the high byte of data, if it has one.
 #[tactic(auto, using(crate::proofs::Follows::follows_none))]
 #[inline(always)]
 fn store_high(cpu: &mut Cpu, bus: &mut Bus) -> bool
@@ -169,7 +169,7 @@ fn store_high(cpu: &mut Cpu, bus: &mut Bus) -> bool
     true
 }
 
-/// The high byte of data that is changed, where it has one.
+/// Makes the read of the high byte of data that is changed, if it has one.
 #[tactic(auto, using(crate::proofs::Follows::follows_none))]
 #[inline(always)]
 fn change_high(cpu: &mut Cpu, bus: &mut Bus) -> bool
@@ -181,7 +181,7 @@ fn change_high(cpu: &mut Cpu, bus: &mut Bus) -> bool
     true
 }
 
-/// The cycle in which data is changed.
+/// Makes the internal cycle in which data is changed.
 #[tactic(auto, using(crate::proofs::Follows::follows_none))]
 #[inline(always)]
 fn change_cycle(cpu: &mut Cpu, bus: &mut Bus) -> bool
@@ -193,7 +193,7 @@ fn change_cycle(cpu: &mut Cpu, bus: &mut Bus) -> bool
     false
 }
 
-/// The high byte of changed data is written back, where it has one.
+/// Makes the write of the high byte of changed data, if it has one.
 #[tactic(auto, using(crate::proofs::Follows::follows_none))]
 #[inline(always)]
 fn changed_high(cpu: &mut Cpu, bus: &mut Bus) -> bool
@@ -205,7 +205,7 @@ fn changed_high(cpu: &mut Cpu, bus: &mut Bus) -> bool
     true
 }
 
-/// Its low byte, or its only one.
+/// Makes the write of the low byte of changed data, or of its only one.
 #[tactic(auto, using(crate::proofs::Follows::follows_none))]
 #[inline(always)]
 fn changed_low(cpu: &mut Cpu, bus: &mut Bus) -> bool
@@ -217,7 +217,7 @@ fn changed_low(cpu: &mut Cpu, bus: &mut Bus) -> bool
     false
 }
 
-/// The low byte of a word that is pushed.
+/// Makes the push of the low byte of a word.
 #[tactic(auto, using(crate::proofs::Follows::follows_none))]
 #[inline(always)]
 fn push_low(cpu: &mut Cpu, bus: &mut Bus) -> bool
@@ -229,7 +229,7 @@ fn push_low(cpu: &mut Cpu, bus: &mut Bus) -> bool
     false
 }
 
-/// The high byte of a word that is pulled.
+/// Makes the pull of the high byte of a word.
 #[tactic(auto, using(crate::proofs::Follows::follows_none))]
 #[inline(always)]
 fn pull_high(cpu: &mut Cpu, bus: &mut Bus) -> bool
@@ -241,7 +241,7 @@ fn pull_high(cpu: &mut Cpu, bus: &mut Bus) -> bool
     false
 }
 
-/// The two bytes of an operand.
+/// Makes the fetches of the two bytes of an operand.
 #[inline(always)]
 fn operand(cpu: &mut Cpu, bus: &mut Bus, kind: OperandKind) -> bool
     requires known { cpu.old.micro.place ≡ OperandLow kind }
@@ -253,7 +253,7 @@ fn operand(cpu: &mut Cpu, bus: &mut Bus, kind: OperandKind) -> bool
     operand_high(cpu, bus)
 }
 
-/// The two bytes of an address that an index is added to, and the cycle that this may take.
+/// Makes the fetches of the two bytes of an address that an index is added to, and the cycle that this may take.
 #[inline(always)]
 fn indexed_operand(cpu: &mut Cpu, bus: &mut Bus, kind: OperandKind) -> bool
     requires known { cpu.old.micro.place ≡ OperandLow kind }
@@ -265,7 +265,7 @@ fn indexed_operand(cpu: &mut Cpu, bus: &mut Bus, kind: OperandKind) -> bool
     data_cycle(cpu, bus)
 }
 
-/// The two bytes of a call's target, and the cycle before it pushes.
+/// Makes the fetches of the two bytes of a call's target, and the cycle before it pushes.
 #[inline(always)]
 fn call(cpu: &mut Cpu, bus: &mut Bus) -> bool
     requires known { cpu.old.micro.place ≡ OperandLow OperandKind.Call }
@@ -277,7 +277,7 @@ fn call(cpu: &mut Cpu, bus: &mut Bus) -> bool
     push_cycle(cpu, bus)
 }
 
-/// An immediate operand of 16 bits.
+/// Makes the fetches of an immediate operand of 16 bits.
 #[inline(always)]
 fn immediate(cpu: &mut Cpu, bus: &mut Bus) -> bool
     requires known { cpu.old.micro.place ≡ ImmediateLow }
@@ -289,7 +289,7 @@ fn immediate(cpu: &mut Cpu, bus: &mut Bus) -> bool
     immediate_high(cpu, bus)
 }
 
-/// The two cycles of a pull.
+/// Makes the two cycles of a pull.
 #[inline(always)]
 fn pull(cpu: &mut Cpu, bus: &mut Bus) -> bool
     requires known { cpu.old.micro.place ≡ PullFirstCycle }
@@ -301,7 +301,7 @@ fn pull(cpu: &mut Cpu, bus: &mut Bus) -> bool
     pull_cycle(cpu, bus)
 }
 
-/// The two cycles of a return.
+/// Makes the two cycles of a return.
 #[inline(always)]
 fn return_cycles(cpu: &mut Cpu, bus: &mut Bus) -> bool
     requires known { cpu.old.micro.place ≡ ReturnFirstCycle ReturnKind.Near }
@@ -313,7 +313,7 @@ fn return_cycles(cpu: &mut Cpu, bus: &mut Bus) -> bool
     return_cycle(cpu, bus)
 }
 
-/// The address to return to.
+/// Makes the pulls of the return address.
 #[inline(always)]
 fn return_address(cpu: &mut Cpu, bus: &mut Bus) -> bool
     ensures { Follows cpu.old cpu.new bus.old bus.new }
@@ -324,7 +324,7 @@ fn return_address(cpu: &mut Cpu, bus: &mut Bus) -> bool
     return_high(cpu, bus)
 }
 
-/// A return up to its last cycle.
+/// Makes a return up to its last cycle.
 #[inline(always)]
 fn return_pulls(cpu: &mut Cpu, bus: &mut Bus) -> bool
     requires known { cpu.old.micro.place ≡ ReturnFirstCycle ReturnKind.Near }
@@ -336,7 +336,7 @@ fn return_pulls(cpu: &mut Cpu, bus: &mut Bus) -> bool
     return_address(cpu, bus)
 }
 
-/// Data of 16 bits is read.
+/// Makes the reads of data of 16 bits.
 #[inline(always)]
 fn load(cpu: &mut Cpu, bus: &mut Bus, reach: Reach) -> bool
     requires known { cpu.old.micro.place ≡ LoadLow reach }
@@ -348,7 +348,7 @@ fn load(cpu: &mut Cpu, bus: &mut Bus, reach: Reach) -> bool
     load_high(cpu, bus)
 }
 
-/// Data is written.
+/// Makes the writes of data.
 #[inline(always)]
 fn store(cpu: &mut Cpu, bus: &mut Bus, reach: Reach) -> bool
     requires known { cpu.old.micro.place ≡ StoreLow reach }
@@ -360,7 +360,7 @@ fn store(cpu: &mut Cpu, bus: &mut Bus, reach: Reach) -> bool
     store_high(cpu, bus)
 }
 
-/// Data that is to be changed is read.
+/// Makes the reads of data that is changed.
 #[inline(always)]
 fn change_reads(cpu: &mut Cpu, bus: &mut Bus, reach: Reach) -> bool
     requires known { cpu.old.micro.place ≡ ChangeReadLow reach }
@@ -372,7 +372,7 @@ fn change_reads(cpu: &mut Cpu, bus: &mut Bus, reach: Reach) -> bool
     change_high(cpu, bus)
 }
 
-/// Changed data is written back.
+/// Makes the writes of changed data.
 #[inline(always)]
 fn change_writes(cpu: &mut Cpu, bus: &mut Bus) -> bool
     ensures { Follows cpu.old cpu.new bus.old bus.new }
@@ -383,7 +383,7 @@ fn change_writes(cpu: &mut Cpu, bus: &mut Bus) -> bool
     changed_low(cpu, bus)
 }
 
-/// Data is changed, and written back.
+/// Makes the cycle in which data is changed, and the writes of it.
 #[inline(always)]
 fn changed(cpu: &mut Cpu, bus: &mut Bus) -> bool
     ensures { Follows cpu.old cpu.new bus.old bus.new }
@@ -394,7 +394,7 @@ fn changed(cpu: &mut Cpu, bus: &mut Bus) -> bool
     change_writes(cpu, bus)
 }
 
-/// Data is read, changed and written back.
+/// Makes the reads, the cycle and the writes of data that is changed.
 #[inline(always)]
 fn change(cpu: &mut Cpu, bus: &mut Bus, reach: Reach) -> bool
     requires known { cpu.old.micro.place ≡ ChangeReadLow reach }
@@ -406,7 +406,7 @@ fn change(cpu: &mut Cpu, bus: &mut Bus, reach: Reach) -> bool
     changed(cpu, bus)
 }
 
-/// A word is pushed.
+/// Makes the pushes of a word.
 #[inline(always)]
 fn push_word(cpu: &mut Cpu, bus: &mut Bus) -> bool
     requires known { cpu.old.micro.place ≡ PushHigh }
@@ -418,7 +418,7 @@ fn push_word(cpu: &mut Cpu, bus: &mut Bus) -> bool
     push_low(cpu, bus)
 }
 
-/// A word is pulled.
+/// Makes the pulls of a word.
 #[inline(always)]
 fn pull_word(cpu: &mut Cpu, bus: &mut Bus) -> bool
     requires known { cpu.old.micro.place ≡ PullLow }
@@ -430,7 +430,7 @@ fn pull_word(cpu: &mut Cpu, bus: &mut Bus) -> bool
     pull_high(cpu, bus)
 }
 
-/// What comes between the opcode and the data of the commonest modes.
+/// Makes what comes between the opcode and the data in the most common modes.
 #[tactic(auto, using(crate::proofs::Follows::follows_none))]
 #[inline(always)]
 fn approach(cpu: &mut Cpu, bus: &mut Bus) -> bool
@@ -455,7 +455,7 @@ fn approach(cpu: &mut Cpu, bus: &mut Bus) -> bool
     }
 }
 
-/// The data of the commonest modes, or a last cycle.
+/// Makes the data accesses of the most common modes, or a last cycle.
 #[tactic(auto, using(crate::proofs::Follows::follows_none))]
 #[inline(always)]
 fn data_accesses(cpu: &mut Cpu, bus: &mut Bus) -> bool
@@ -475,7 +475,7 @@ fn data_accesses(cpu: &mut Cpu, bus: &mut Bus) -> bool
     }
 }
 
-/// All that comes after an opcode, of the commonest modes.
+/// Makes all accesses that follow an opcode in the most common modes.
 #[inline(always)]
 fn after_opcode(cpu: &mut Cpu, bus: &mut Bus) -> bool
     ensures { Follows cpu.old cpu.new bus.old bus.new }
@@ -486,7 +486,7 @@ fn after_opcode(cpu: &mut Cpu, bus: &mut Bus) -> bool
     data_accesses(cpu, bus)
 }
 
-/// An instruction from its opcode on, or as much of it as may be made.
+/// Makes the accesses of an instruction, from its opcode on, or as many as can be made. Returns whether it finished.
 #[inline(always)]
 pub(crate) fn instruction(cpu: &mut Cpu, bus: &mut Bus) -> bool
     requires known { cpu.old.micro.place ≡ Ended }

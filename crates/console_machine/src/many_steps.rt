@@ -47,7 +47,7 @@ const LONGEST_ROUND: u16 = 400;
 /// Master clocks of a refresh of work RAM.
 const REFRESH_CLOCKS: u16 = 40;
 
-/// One access, wherever it stands in its instruction.
+/// Makes one access, at any place in its instruction.
 #[tactic(auto, using(crate::proofs::Follows::follows_same))]
 #[inline(always)]
 fn make_one(cpu: &mut Cpu, bus: &mut Bus) -> bool
@@ -139,7 +139,7 @@ fn finish_instruction(cpu: &mut Cpu, bus: &mut Bus) -> u16
     gone
 }
 
-/// The byte last on the data bus: what an address with nothing there gives.
+/// Returns the byte last on the data bus, which an address with nothing there gives.
 #[inline(always)]
 fn last_byte(bus: &mut Bus) -> u8
     ensures last { result ≡ bus.old.last }
@@ -175,7 +175,7 @@ fn is_back(cpu: &Cpu, bus: &mut Bus, first: &Cpu, byte: u8) -> bool
     is_like_first(cpu, bus, first, byte)
 }
 
-/// The clocks of the rounds, of so many clocks each, that end before the next place.
+/// Returns the clocks of the rounds, of `round` clocks each, that end before the next beam event.
 #[tactic(auto, using(crate::proofs::Looks::no_rounds, crate::proofs::Looks::some_rounds, crate::proofs::Looks::rounds_within))]
 #[inline(always)]
 fn rounds_before(round: u16, left: u16) -> u16
@@ -211,8 +211,8 @@ fn refresh_clocks(due: bool) -> u16
     if due { REFRESH_CLOCKS } else { 0 }
 }
 
-/// The beam goes on by a round that is known and lasts to the next place or past it, where nothing comes but a refresh or the
-/// next line, and by the refresh. Answers how many clocks they last.
+/// Advances the beam by a known round that lasts to the next beam event or past it, and by a refresh due there.
+/// Nothing happens at that event but a refresh or the next line. Returns how many clocks both last.
 #[inline(always)]
 fn go_over(bus: &mut Bus, round: u16) -> u16
     requires plain { IsPlainAhead bus.old.beam }
@@ -229,8 +229,9 @@ fn go_over(bus: &mut Bus, round: u16) -> u16
     round + more
 }
 
-/// Goes on with a round that is known past places where nothing comes but a refresh or the next line, for a line's clocks
-/// at most, of which some are gone before: whole rounds, of which one lasts past each place. Answers how many clocks they last.
+/// Continues a known round past beam events at which nothing happens but a refresh or the next line. It runs whole
+/// rounds, of which one lasts past each event, for a line's clocks at most, `before` included. Returns how many clocks
+/// they last.
 #[inline(always)]
 fn go_beyond(bus: &mut Bus, round: u16, before: u16) -> u16
     requires few { before ≤ 1364 }
@@ -260,9 +261,9 @@ fn go_beyond(bus: &mut Bus, round: u16, before: u16) -> u16
     gone
 }
 
-/// Makes accesses that only look, and where they come back to the processor and the byte on the data bus that they
-/// began with, passes the rounds that fit before the next place, and goes on with them past places where little comes, for a
-/// line's clocks at most, of which some are gone before. Answers how many clocks all of them last.
+/// Makes accesses that only read. If they come back to the processor and the data-bus byte that they began with, skips
+/// the rounds that fit before the next beam event. Then it continues with rounds past events at which little happens.
+/// All last a line's clocks at most, `before` included. Returns how many clocks they last.
 #[inline(always)]
 fn make_rounds(cpu: &mut Cpu, bus: &mut Bus, patience: &mut Patience, before: u16) -> u16
     requires few { before + clocks_left bus.old.beam ≤ 1364 }

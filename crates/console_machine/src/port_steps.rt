@@ -27,7 +27,7 @@ fn is_port(register: u8) -> bool
     0x40 <= register && register < 0x80
 }
 
-/// The processor takes the byte that came in at a port, and the beam goes on.
+/// Lets the processor take the byte that came in at a port, and advances the beam.
 #[inline(always)]
 fn take_port(cpu: &mut Cpu, bus: &mut Bus, got: u8)
     requires gets { IsTrue (gets_byte (access_of cpu.old)) }
@@ -42,7 +42,7 @@ fn take_port(cpu: &mut Cpu, bus: &mut Bus, got: u8)
     bus.go_on(PORT_CLOCKS as u16);
 }
 
-/// The processor has written a port, and the beam goes on.
+/// Lets the processor write a port, and advances the beam.
 #[inline(always)]
 fn give_port(cpu: &mut Cpu, bus: &mut Bus, v: u8)
     requires writes { IsTrue (is_write (access_of cpu.old)) }

@@ -16,7 +16,7 @@ use console_bus::Bus;
 use cpu_tables::Access;
 use cpu65816::Cpu;
 
-/// The processor takes a byte of the memory, and the beam goes on.
+/// Lets the processor take a byte of memory, and advances the beam.
 #[inline(always)]
 fn take_memory(cpu: &mut Cpu, bus: &mut Bus, at: usize, clocks: u16)
     requires gets { IsTrue (gets_byte (access_of cpu.old)) }
@@ -33,7 +33,7 @@ fn take_memory(cpu: &mut Cpu, bus: &mut Bus, at: usize, clocks: u16)
     bus.go_on(clocks);
 }
 
-/// A byte of the memory is written, and goes over the data bus.
+/// Writes a byte of memory, and puts it on the data bus.
 #[inline(always)]
 fn put_memory(bus: &mut Bus, at: usize, v: u8)
     requires { at < 131072 + bus.old.board.ram + bus.old.board.rom }
@@ -46,7 +46,7 @@ fn put_memory(bus: &mut Bus, at: usize, v: u8)
     bus.put(v);
 }
 
-/// The processor has written a byte of the memory, and the beam goes on.
+/// Lets the processor write a byte of memory, and advances the beam.
 #[inline(always)]
 fn give_memory(cpu: &mut Cpu, bus: &mut Bus, at: usize, v: u8, clocks: u16)
     requires writes { IsTrue (is_write (access_of cpu.old)) }

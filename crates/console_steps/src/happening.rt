@@ -11,7 +11,7 @@ use beam::Event;
 use console_bus::Bus;
 use cpu65816::Cpu;
 
-/// A line begins, and with line 0 a frame.
+/// Begins a line, and with line 0 a frame.
 #[inline(always)]
 fn begin_line(bus: &mut Bus)
     ensures { bus.new ≡ happened bus.old events.Line }
@@ -21,7 +21,7 @@ fn begin_line(bus: &mut Bus)
     }
 }
 
-/// What an event does, but for a row that is drawn.
+/// Makes an event happen on the bus, other than a row being drawn.
 fn happen_on_bus(bus: &mut Bus, event: Event)
     requires { event ≢ events.Draw }
     ensures { bus.new ≡ happened bus.old event }

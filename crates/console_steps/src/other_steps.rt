@@ -114,7 +114,7 @@ pub fn try_move(cpu: &mut Cpu, bus: &mut Bus, due: Move) -> bool
     true
 }
 
-/// A register of the B bus that is no port is read, and the byte goes over the data bus.
+/// Reads a register of the B bus other than a port, and puts the byte on the data bus.
 #[inline(always)]
 fn load_register(bus: &mut Bus, register: u8) -> u8
     ensures byte { result ≡ register_byte bus.old register 0 }
@@ -126,7 +126,7 @@ fn load_register(bus: &mut Bus, register: u8) -> u8
     byte
 }
 
-/// A register of the B bus is written, and the byte goes over the data bus.
+/// Writes a register of the B bus, and puts the byte on the data bus.
 #[inline(always)]
 pub(crate) fn store_register(bus: &mut Bus, register: u8, v: u8)
     ensures after { bus.new ≡ on_bus (register_written bus.old register v) v }
@@ -136,7 +136,7 @@ pub(crate) fn store_register(bus: &mut Bus, register: u8, v: u8)
     bus.put(v);
 }
 
-/// The processor takes the byte of a register of the B bus, and the beam goes on.
+/// Lets the processor take the byte of a register of the B bus, and advances the beam.
 #[inline(always)]
 fn take_register(cpu: &mut Cpu, bus: &mut Bus, register: u8)
     requires gets { IsTrue (gets_byte (access_of cpu.old)) }
@@ -152,7 +152,7 @@ fn take_register(cpu: &mut Cpu, bus: &mut Bus, register: u8)
     bus.go_on(REGISTER_CLOCKS as u16);
 }
 
-/// The processor has written a register of the B bus, and the beam goes on.
+/// Lets the processor write a register of the B bus, and advances the beam.
 #[inline(always)]
 fn give_register(cpu: &mut Cpu, bus: &mut Bus, register: u8, v: u8)
     requires writes { IsTrue (is_write (access_of cpu.old)) }
@@ -168,7 +168,7 @@ fn give_register(cpu: &mut Cpu, bus: &mut Bus, register: u8, v: u8)
     bus.go_on(REGISTER_CLOCKS as u16);
 }
 
-/// The processor reads a register of the B bus, where that is no port.
+/// Lets the processor read a register of the B bus other than a port, if one is at the address.
 #[inline(always)]
 fn read_register(cpu: &mut Cpu, bus: &mut Bus, addr: u32) -> Tried
     requires gets { IsTrue (gets_byte (access_of cpu.old)) }
@@ -189,7 +189,7 @@ fn read_register(cpu: &mut Cpu, bus: &mut Bus, addr: u32) -> Tried
     Tried::Made(REGISTER_CLOCKS)
 }
 
-/// The processor writes a register of the B bus, where that is no port.
+/// Lets the processor write a register of the B bus other than a port, if one is at the address.
 #[inline(always)]
 fn write_register(cpu: &mut Cpu, bus: &mut Bus, addr: u32, v: u8) -> Tried
     requires writes { IsTrue (is_write (access_of cpu.old)) }

@@ -14,7 +14,7 @@ use circular_buffer::HeapCircularBuffer;
 use console_bus::Bus;
 use cpu65816::Cpu;
 
-/// An event that comes or not, but for a row that is drawn.
+/// Passes an event that comes or not, other than a row being drawn.
 #[inline(always)]
 fn pass_event(cpu: &mut Cpu, bus: &mut Bus, comes: bool, event: Event)
     requires { event ≢ events.Draw }
@@ -27,7 +27,7 @@ fn pass_event(cpu: &mut Cpu, bus: &mut Bus, comes: bool, event: Event)
     }
 }
 
-/// A row that is drawn or not.
+/// Passes a row that is drawn or not.
 #[inline(always)]
 fn pass_row(cpu: &mut Cpu, bus: &mut Bus, waiting: &mut HeapCircularBuffer<u8>, comes: bool)
     requires first { IsTrue comes → 1 ≤ bus.old.beam.v }
@@ -44,7 +44,7 @@ fn pass_row(cpu: &mut Cpu, bus: &mut Bus, waiting: &mut HeapCircularBuffer<u8>, 
     }
 }
 
-/// The events of a place before a row is drawn: line, blank, HDMA of a frame, refresh.
+/// Passes the events of a place before a row is drawn: line, blank, HDMA of a frame, refresh.
 fn pass_first(cpu: &mut Cpu, bus: &mut Bus, happens: Happens)
     ensures at { (w : ConsoleState) → IsAt cpu.old bus.old w → IsAt cpu.new bus.new (after_events w (first_of happens)) }
     ensures none { (w : ConsoleState) → bytes_of_events w (first_of happens) ≡ [] }
@@ -56,7 +56,7 @@ fn pass_first(cpu: &mut Cpu, bus: &mut Bus, happens: Happens)
     pass_event(cpu, bus, happens.refresh, Event::Refresh);
 }
 
-/// The events of a place after a row is drawn: HDMA of a line, the timer.
+/// Passes the events of a place after a row is drawn: HDMA of a line, the timer.
 fn pass_last(cpu: &mut Cpu, bus: &mut Bus, happens: Happens)
     ensures at { (w : ConsoleState) → IsAt cpu.old bus.old w → IsAt cpu.new bus.new (after_events w (last_of happens)) }
     ensures none { (w : ConsoleState) → bytes_of_events w (last_of happens) ≡ [] }
@@ -66,7 +66,7 @@ fn pass_last(cpu: &mut Cpu, bus: &mut Bus, happens: Happens)
     pass_event(cpu, bus, happens.timer, Event::Timer);
 }
 
-/// The events of the place where the beam stands, in their order.
+/// Passes the events at the beam's place, in their order.
 fn pass_place(cpu: &mut Cpu, bus: &mut Bus, waiting: &mut HeapCircularBuffer<u8>, happens: Happens)
     requires first { IsTrue happens.draw → 1 ≤ bus.old.beam.v }
     requires last { IsTrue happens.draw → bus.old.beam.v ≤ 239 }

@@ -41,7 +41,7 @@ pub fn is_calm(bus: &Bus) -> bool
     !bus.is_busy()
 }
 
-/// The processor takes a byte of the memory, and the beam goes on.
+/// Lets the processor take a byte of memory, and advances the beam.
 #[inline(always)]
 fn take_plainly(cpu: &mut Cpu, bus: &mut Bus, place: Place, at: usize, clocks: u16)
     requires known { cpu.old.micro.place ≡ place }
@@ -59,7 +59,7 @@ fn take_plainly(cpu: &mut Cpu, bus: &mut Bus, place: Place, at: usize, clocks: u
     cpu.took_at(place, byte);
 }
 
-/// A byte of the memory is written, and goes over the data bus.
+/// Writes a byte of memory, and puts it on the data bus.
 #[inline(always)]
 fn put_plainly(bus: &mut Bus, at: usize, v: u8)
     requires { at < 131072 + bus.old.board.ram + bus.old.board.rom }
@@ -74,7 +74,7 @@ fn put_plainly(bus: &mut Bus, at: usize, v: u8)
     bus.put(v);
 }
 
-/// The processor has written a byte of the memory, and the beam goes on.
+/// Lets the processor write a byte of memory, and advances the beam.
 #[inline(always)]
 fn give_plainly(cpu: &mut Cpu, bus: &mut Bus, place: Place, at: usize, v: u8, clocks: u16)
     requires known { cpu.old.micro.place ≡ place }
@@ -92,7 +92,7 @@ fn give_plainly(cpu: &mut Cpu, bus: &mut Bus, place: Place, at: usize, v: u8, cl
     cpu.wrote_at(place);
 }
 
-/// The processor reads a byte of the memory.
+/// Lets the processor read a byte of memory, if nothing else happens in its clocks.
 #[inline(always)]
 pub(crate) fn read_plainly(cpu: &mut Cpu, bus: &mut Bus, place: Place, addr: u32) -> Option<u8>
     requires known { cpu.old.micro.place ≡ place }
@@ -111,7 +111,7 @@ pub(crate) fn read_plainly(cpu: &mut Cpu, bus: &mut Bus, place: Place, addr: u32
     Some(access.clocks as u8)
 }
 
-/// The processor has written a register of the B bus, and the beam goes on.
+/// Lets the processor write a register of the B bus, and advances the beam.
 #[inline(always)]
 fn give_register_plainly(cpu: &mut Cpu, bus: &mut Bus, place: Place, register: u8, v: u8)
     requires known { cpu.old.micro.place ≡ place }
@@ -155,7 +155,7 @@ fn write_register_plainly(
     Some(REGISTER_CLOCKS)
 }
 
-/// The processor writes a byte of the memory.
+/// Lets the processor write a byte of memory or a register of the B bus, if nothing else happens in its clocks.
 #[inline(always)]
 pub(crate) fn write_plainly(
     cpu: &mut Cpu,
@@ -181,7 +181,7 @@ pub(crate) fn write_plainly(
     Some(access.clocks as u8)
 }
 
-/// The processor makes an internal cycle, and the beam goes on.
+/// Lets the processor make an internal cycle, and advances the beam.
 #[inline(always)]
 fn rest_plainly(cpu: &mut Cpu, bus: &mut Bus, place: Place)
     requires known { cpu.old.micro.place ≡ place }
@@ -196,7 +196,7 @@ fn rest_plainly(cpu: &mut Cpu, bus: &mut Bus, place: Place)
     cpu.idle_at(place);
 }
 
-/// The processor makes an internal cycle.
+/// Lets the processor make an internal cycle, if nothing else happens in its clocks.
 #[inline(always)]
 pub(crate) fn idle_plainly(cpu: &mut Cpu, bus: &mut Bus, place: Place) -> Option<u8>
     requires known { cpu.old.micro.place ≡ place }

@@ -77,7 +77,7 @@ impl Micro {
         self.finish()
     }
 
-    /// Whether an offset from the direct register takes a cycle more: where the register's low byte isn't 0.
+    /// Whether an offset from the direct register takes one more cycle: it does if the register's low byte isn't 0.
     #[inline(always)]
     fn has_low_cycle(&self) -> bool
         ensures { result ≡ not (self.now.here.d % 256 == 0) }

@@ -10,8 +10,8 @@ use crate::lone::run_alone;
 use port_wire::{Gate, Wire};
 use side_law::Machine;
 
-/// Lets a machine run by itself over its pass. It stops if it reaches `end`, has no room for the bytes of two more
-/// steps, or its next step was refused `tries` times in a row.
+/// Lets a machine run by itself over its pass. It stops if it reaches `end` or has no room for the bytes of two more
+/// steps. It also stops if its next step was refused `tries` times in a row.
 ///
 /// Quiet steps call nothing, as far as the clock that the pass knows allows them. The own clock is published every four
 /// lines, with each write, at a step that was refused, and as the leg ends.

@@ -8,8 +8,8 @@ use clock_ratio::window;
 use port_wire::Wire;
 use side_law::Machine;
 
-/// The stamp below which quiet steps need no call: the clock that the pass was told allows them, and the own
-/// clock was published at most four lines before, which are a quarter of the window.
+/// Returns the stamp below which quiet steps need no call. The clock that the pass knows allows them. The own clock was
+/// published at most four lines before, which are a quarter of the window.
 #[inline(always)]
 fn alone_until<W: Wire>(wire: &W, pass: &W::Pass, end: u64) -> u64
     ensures by_end { result ≤ end }

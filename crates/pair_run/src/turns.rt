@@ -73,8 +73,8 @@ fn both_legs<R: Threads, W: Wire, C: Machine, S: Machine, G: Gate>(
     ensures sound_drain { (result.1 ≡ LegEnd.Drain) ↔ ((S.stamp_of sound.new < end) × (¬ (length (S.waiting sound.new) + 2 * S.MOST ≤ S.CAP))) }
     ensures sound_spent { (m : S.State) → S.stands sound.new m → IfHeldBack result.1 (λ late. IsSpent (call_of (S.moves.act m)) (S.stamp_of sound.new) late tries_of_turn (W.seen sound_pass.old).half (W.seen sound_pass.new).half) }
 {
-    // The console has most of the work. It goes on in the caller's thread, which is running, and beside what it
-    // left in that processor's caches, while the other thread begins.
+    // The console has most of the work. It stays in the caller's thread, which is running, next to what it left in that
+    // processor's caches, while the other thread begins.
     let (sound_end, console_end) = join_mut(
         rt,
         &mut || -> LegEnd

@@ -55,8 +55,8 @@ impl Pass {
     }
 }
 
-// Each call tries once to take the log. Where it finds the other side's number in the turn word it is
-// refused as `Held`; else it is answered or refused as the log call of its name is, on what it was told.
+// Each call tries once to take the log. If it finds the other side's number in the turn word, it is refused as `Held`.
+// Otherwise it returns or is refused as the log call of its name is, on the clock that it found.
 impl Ports {
     /// Returns the byte that the side of the pass finds at its incoming port at the stamp `at`.
     #[inline(always)]

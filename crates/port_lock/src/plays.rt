@@ -1,8 +1,8 @@
 // The rules of the two tables, and their steps.
 //
-// The lock table has the turn word, 0 where the log is free and else the number of the side that has
-// it, and one slot. Its steps are: take, give, look at nothing else. The list table has a word for each side, which
-// counts the entries of its list. Its steps are look and tell. In both a seat can be cut and joined.
+// The lock table has one slot and the turn word: 0 if the log is free, otherwise the number of the side that has it.
+// Its only steps are `Take` and `Give`. The list table has a word for each side, which counts the entries of its list.
+// Its steps are `Look` and `Tell`. In both a seat can be cut and joined.
 ghost use Rattle.std.specs.Prelude.{◌≡◌, ℕ, List, []};
 ghost use Rattle.port_entries.specs.Entry.{Entry};
 ghost use Rattle.port_lock.specs.Known.{Here, Book, spent_lock, spent_list};

@@ -15,8 +15,8 @@ use crate::whole::Whole;
 use port_log::Late;
 use snes_defs::Side;
 
-/// After a call of a side over a whole each side knows the other's clock. The clocks that the call left
-/// become the console's, and the sound side's are answered.
+/// Makes each side know the other's clock, after a call of a side over a whole. The clocks that the call left become
+/// the console's, and the sound side's are returned.
 #[inline(always)]
 fn meet(side: Side, clocks: &mut Clocks) -> Clocks
     ensures console { clocks.new ≡ console_clocks side clocks.old }

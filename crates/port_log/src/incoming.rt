@@ -42,7 +42,7 @@ impl Model for Incoming {
     ghost invariant = { λ s. s.waiting.capacity ≡ 4096 };
 }
 
-/// The greatest clear of a port after one more at `at`, where `bit` is the port's bit of the mask.
+/// Returns the greatest clear of a port after one more at `at`; `bit` is the port's bit of the mask.
 #[inline(always)]
 fn later_clear(clear: Option<u64>, mask: u8, bit: u8, at: u64) -> Option<u64>
     requires { 0 < bit }
@@ -72,7 +72,7 @@ fn later_clears(clears: [Option<u64>; 4], mask: u8, at: u64) -> [Option<u64>; 4]
     ]
 }
 
-/// A latch after a clear, where `bit` is the port's bit of the mask.
+/// Returns a latch after a clear; `bit` is the port's bit of the mask.
 #[inline(always)]
 fn zeroed_latch(latch: u8, mask: u8, bit: u8) -> u8
     requires { 0 < bit }
@@ -107,7 +107,7 @@ fn latch(side: Side, cleared: &[Option<u64>; 4], latches: &mut [u8; 4], write: W
     }
 }
 
-/// The byte of a port at `at` after one more write, where `clear` is the port's greatest clear.
+/// Returns the byte of a port at `at` after one more write; `clear` is the port's greatest clear.
 #[inline(always)]
 fn byte_after(side: Side, clear: Option<u64>, port: u8, at: u64, byte: u8, write: Written) -> u8
     ensures { result ≡ byte_with side clear port at byte write }

@@ -72,7 +72,7 @@ impl PortLog {
         }
     }
 
-    /// The byte that the side finds at the port at `at`, where nothing is held back.
+    /// Returns the byte that the side finds at the port at `at`, if nothing is held back.
     #[inline(always)]
     fn found(&self, side: Side, at: u64, port: u8) -> u8
         requires { port < 4 }

@@ -20,7 +20,7 @@ pub struct Serial<C, S> {
     pub(crate) to_console: [u8; 4],
 }
 
-/// The byte of a port under a clear, where `bit` is the port's bit of the mask.
+/// Returns the byte of a port under a clear; `bit` is the port's bit of the mask.
 #[inline(always)]
 fn kept(mask: u8, bit: u8, byte: u8) -> u8
     requires { 0 < bit }

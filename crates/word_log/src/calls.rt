@@ -150,7 +150,7 @@ impl Words {
             .store::<Put>(seat, entry_place(side, written), number);
     }
 
-    /// Counts the write that was put, the one after so many.
+    /// Counts the write that was put, which follows `written` others.
     #[inline(always)]
     fn count(&self, side: Side, seat: &mut WordSeat, written: u64)
         requires seat { seat.old.table_id ≡ self.now.table }
