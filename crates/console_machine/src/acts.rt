@@ -1,3 +1,4 @@
+// What the step that is due does at the ports.
 ghost use Rattle.std.specs.Prelude.{◌≡◌, ◌<◌, ◌^◌};
 ghost use Rattle.side_law.specs.Moves.{IsAtPorts};
 ghost use Rattle.cpu65816.specs.Instruction.{CpuState};

@@ -1,3 +1,4 @@
+// The parts of a console side, and its runs of quiet steps.
 ghost use Rattle.std.specs.Prelude.{◌≡◌, ◌<◌, ◌≤◌, ◌+◌, ◌*◌, ◌^◌, ◌++◌, ℕ, [], false, IfSome, IsTrue, length};
 ghost use Rattle.snes_defs.specs.declared.ports.Act.TheVariants.{Quiet};
 ghost use Rattle.snes_defs.specs.declared.ports.Side.TheVariants.{Console};

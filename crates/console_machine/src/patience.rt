@@ -1,3 +1,4 @@
+// When to search for an idle loop.
 ghost use Rattle.std.specs.Prelude.{◌≡◌, false};
 
 /// The most runs of steps between two searches for an idle loop.

@@ -1,3 +1,4 @@
+// The console side, and the trait `Machine` for it.
 ghost use Rattle.std.specs.Prelude.{◌≡◌, ◌≤◌, [], IfOk};
 ghost use Rattle.console_steps.specs.ConsoleState.{console_start};
 ghost use Rattle.console_machine.specs.Side.{IsSome, StandsAt};

@@ -1,3 +1,4 @@
+// A whole step: its effect and its clocks, in general or by a fast path.
 ghost use Rattle.std.specs.Prelude.{◌≡◌, ◌+◌, ◌<◌, ◌≤◌, ◌++◌, ℕ, Option, Some, None, [], false, IfSome, IsTrue, length};
 ghost use Rattle.snes_defs.specs.declared.ports.Act.TheVariants.{Quiet};
 ghost use Rattle.cpu_modes.specs.Plan.{gets_byte, is_write, is_inner};

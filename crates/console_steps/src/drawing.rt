@@ -1,3 +1,4 @@
+// The drawing of a row.
 ghost use Rattle.std.specs.Prelude.{◌≡◌, ◌+◌, ◌≤◌, ◌++◌, length};
 ghost use Rattle.beam.specs.declared.events.Event.TheVariants as events;
 ghost use Rattle.cpu65816.specs.Instruction.{CpuState};

@@ -1,3 +1,4 @@
+// The effect of a step: a read, a write, an internal cycle, a byte of a transfer, a reset.
 ghost use Rattle.std.specs.Prelude.{◌≡◌, ℕ, ◌<◌, ◌^◌, Option, Some, IsTrue, IsSome};
 ghost use Rattle.cpu_modes.specs.Plan.{gets_byte, is_write, is_inner};
 ghost use Rattle.cpu65816.specs.Instruction.{CpuState, at_reset, moved_on};

@@ -1,3 +1,4 @@
+// The events of the beam other than the drawing of a row.
 ghost use Rattle.std.specs.Prelude.{◌≡◌, ◌≢◌};
 ghost use Rattle.beam.specs.declared.events.Event.{Event};
 ghost use Rattle.beam.specs.declared.events.Event.TheVariants as events;

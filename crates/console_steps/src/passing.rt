@@ -1,3 +1,4 @@
+// The clocks that pass after a step's effect, with the events of the beam and the rows drawn.
 ghost use Rattle.std.specs.Prelude.{◌≡◌, ◌≢◌, ◌+◌, ◌*◌, ◌-◌, ◌<◌, ◌≤◌, ◌++◌, ◌==◌, ◌&&◌, ◌||◌, nat_lt, nat_le, ℕ, Bool, IsTrue, List, [], length, if◌then◌else◌};
 ghost use Rattle.beam.specs.Events.{one_if, events_of};
 ghost use Rattle.beam.specs.declared.events.Event.{Event};

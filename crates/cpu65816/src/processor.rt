@@ -1,3 +1,4 @@
+// The processor, stopped before an access: its next access, and the calls that complete it.
 ghost use Rattle.std.specs.Prelude.{◌≡◌, ◌<◌, ◌^◌, ◌||◌, IfSome, IsTrue, MatchBool, None, Some, false, true};
 ghost use Rattle.cpu_modes.specs.Plan.{address_of, first_access};
 ghost use Rattle.cpu_modes.specs.Remaining.{remaining};

@@ -1,3 +1,4 @@
+// The next access of a processor whose instruction has ended or waits, by its interrupt lines.
 ghost use Rattle.std.specs.Prelude.{◌≡◌, ◌<◌, Some, true};
 ghost use Rattle.cpu_modes.specs.Plan.{address_of, finished, first_access};
 ghost use Rattle.cpu_modes.specs.Remaining.{Keeps, remaining};

@@ -1,3 +1,4 @@
+// Shifts, rotations, increments and bit changes of A or a memory operand.
 ghost use Rattle.std.specs.Prelude.{◌≡◌, ◌⊎◌, ◌<◌, IsTrue};
 ghost use Rattle.cpu_alu.specs.Changes.{
   clear_bits,

@@ -1,3 +1,4 @@
+// Branches, jumps, returns, interrupts, the reset and block moves: where the program continues.
 ghost use Rattle.std.specs.Prelude.{◌≡◌, ◌<◌};
 ghost use Rattle.cpu_alu.specs.Flow.{
   branch,

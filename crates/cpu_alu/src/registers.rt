@@ -1,3 +1,4 @@
+// New status bytes, and values put into S, D, the data bank and all 16 bits of A.
 ghost use Rattle.std.specs.Prelude.{◌≡◌, ◌<◌, IsTrue};
 ghost use Rattle.status_bits.specs.StatusBits.{is_weight};
 ghost use Rattle.cpu_alu.specs.Registers.{

@@ -1,3 +1,4 @@
+// The result of every operation: the registers after it, and the operand that it writes or pushes.
 ghost use Rattle.std.specs.Prelude.{◌≡◌, ◌+◌, ◌%◌};
 ghost use Rattle.cpu_tables.specs.Status.{index_size};
 ghost use Rattle.cpu_alu.specs.Changes.{

@@ -1,3 +1,4 @@
+// Sums, differences and comparisons, in binary and decimal.
 ghost use Rattle.std.specs.Prelude.{◌≡◌, ◌⊎◌, ◌+◌, ◌*◌, ◌/◌, ◌%◌, ◌<◌, ◌≤◌};
 ghost use Rattle.cpu_tables.specs.Status.{memory_size};
 ghost use Rattle.cpu_alu.specs.Sums.{

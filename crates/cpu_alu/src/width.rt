@@ -1,3 +1,4 @@
+// Values at 8 or 16 bits, and loads of A, X and Y at their widths.
 ghost use Rattle.std.specs.Prelude.{◌≡◌, ◌⊎◌, ◌+◌, ◌*◌, ◌/◌, ◌%◌, ◌<◌};
 ghost use Rattle.cpu_tables.specs.Status.{memory_size, index_size};
 ghost use Rattle.cpu_alu.specs.Width.{accumulator, bit_of, load_a, load_x, load_y, put_a, top_bit, with_nz};

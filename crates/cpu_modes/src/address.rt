@@ -1,3 +1,4 @@
+// Addresses of the program, the stack, the direct page, pointers and data, and the bytes of words.
 ghost use Rattle.std.specs.Prelude.{◌≡◌, ◌+◌, ◌*◌, ◌/◌, ◌%◌, ◌<◌, ◌^◌};
 ghost use Rattle.cpu_modes.specs.Addresses.{code, direct, direct_always, has_index_cycle, is_wide, join, next_in_bank, pulled, pushed, second, stack};
 ghost use Rattle.cpu_modes.specs.Orders.{pointer_next};

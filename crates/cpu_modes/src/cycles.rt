@@ -1,3 +1,4 @@
+// What each place in an instruction's order becomes once its access, an internal cycle, was made.
 ghost use Rattle.std.specs.Prelude.{◌≡◌, IsTrue, false};
 ghost use Rattle.cpu_modes.specs.declared.place.Place.TheVariants.{LowCycle, DataCycle, PushCycle};
 

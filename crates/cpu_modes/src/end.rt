@@ -1,3 +1,4 @@
+// An instruction that has ended, and whether one has.
 ghost use Rattle.std.specs.Prelude.{◌≡◌, MatchBool};
 
 use crate::micro::Micro;

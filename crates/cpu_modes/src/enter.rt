@@ -1,3 +1,4 @@
+// The first access after an instruction's opcode, or of an interrupt.
 ghost use Rattle.std.specs.Prelude.{◌≡◌, ◌<◌, false};
 ghost use Rattle.cpu_modes.specs.Orders.{vector};
 

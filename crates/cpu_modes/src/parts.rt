@@ -1,3 +1,4 @@
+// The parts that the orders of several instructions share: data, pointers, operands, targets, branches.
 ghost use Rattle.std.specs.Prelude.{◌≡◌, ◌+◌, ◌*◌, ◌/◌, ◌%◌, ◌<◌, ◌^◌, false};
 ghost use Rattle.cpu_modes.specs.Addresses.{direct, fetched, in_bank, pulled, pushed};
 ghost use Rattle.cpu_modes.specs.declared.place.Reach.TheVariants.{NextAddress, NextInBankZero};

@@ -1,3 +1,4 @@
+// What an instruction becomes once its next access, a fetch or a read, has got its byte.
 ghost use Rattle.std.specs.Prelude.{◌≡◌, IsTrue, true, unwrap_or};
 
 use crate::micro::Micro;

@@ -1,3 +1,4 @@
+// The steps of a micro-state that all transitions are made of: registers moved, the next access set.
 ghost use Rattle.std.specs.Prelude.{◌≡◌, ◌+◌, ◌/◌, ◌%◌, ◌<◌, IsTrue, true, false};
 ghost use Rattle.cpu_tables.specs.declared.access.Access.TheVariants.{Fetch, Inner, Read, Write};
 ghost use Rattle.cpu_modes.specs.Addresses.{code, fetched, pulled, pushed, second, stack};

@@ -1,3 +1,4 @@
+// What each operation does on the bus.
 ghost use Rattle.std.specs.Prelude.{◌≡◌};
 ghost use Rattle.cpu_modes.specs.Uses.{use_of};
 

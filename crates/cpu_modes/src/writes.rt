@@ -1,3 +1,4 @@
+// What each place in an instruction's order becomes once its access, a write, was made.
 ghost use Rattle.std.specs.Prelude.{◌≡◌, IsTrue, false, true, unwrap_or};
 ghost use Rattle.cpu_modes.specs.declared.place.Place.TheVariants.{StoreLow, ChangeWriteHigh};
 

@@ -1,3 +1,4 @@
+// The opcode matrix: the operation and the addressing mode of each opcode.
 ghost use Rattle.std.specs.Prelude.{◌≡◌, Some};
 ghost use Rattle.cpu_tables.specs.Opcodes.{row_of};
 

@@ -1,3 +1,4 @@
+// One try of a step over a pass, by the call of its act.
 ghost use Rattle.std.specs.Prelude.{◌≡◌, ◌+◌, ◌^◌, ◌<◌, ◌≤◌, ◌↔◌, ℕ, IsTrue, OnOk, OnErr, IfErr, length};
 ghost use Rattle.clock_ratio.specs.Stamp.{least_of, most_of, window_of};
 ghost use Rattle.commute_laws.specs.History.{History};

@@ -1,3 +1,4 @@
+// A turn: two legs, the reunion of their passes, and one step of the earlier side.
 ghost use Rattle.std.specs.Prelude.{◌≡◌, ◌+◌, ◌*◌, ◌^◌, ◌<◌, ◌≤◌, ◌⊎◌, ◌↔◌, ℕ, length};
 ghost use Rattle.clock_ratio.specs.Stamp.{least_of, window_of};
 ghost use Rattle.snes_defs.specs.declared.ports.Side.TheVariants.{Console, Sound};

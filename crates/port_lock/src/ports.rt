@@ -1,3 +1,4 @@
+// The log of the ports under its lock, and the calls of a side over its seats.
 ghost use Rattle.std.specs.Prelude.{◌≡◌, ◌+◌, ◌<◌, ◌≤◌, ℕ, [], ◌∷◌, None, Some, IfSome, IfNone, length};
 ghost use Rattle.std.specs.List.{AllByRecursion};
 ghost use Rattle.port_entries.specs.Entry.{entry_stamp};

@@ -1,3 +1,4 @@
+// The log of the four ports with its calls: read, clear, write and advance.
 ghost use Rattle.std.specs.Prelude.{◌≡◌, ◌+◌, ◌<◌, ◌≤◌, ◌++◌, ◌∷◌, ℕ, [], IfOk, IfErr, OnOk, OnErr, IsOk, IsErr, ◌↔◌};
 ghost use Rattle.port_entries.specs.Entry.{WriteAt, ClearAt};
 ghost use Rattle.port_entries.specs.Window.{IsSettled, IsWithinWindow};

@@ -1,3 +1,4 @@
+// What a worker reports to as it starts a leg.
 use snes_defs::Side;
 
 /// What a worker reports to as it starts a leg: it is given the worker's side and the turn's number, from 0 on.

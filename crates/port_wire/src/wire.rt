@@ -1,3 +1,4 @@
+// The trait of what carries the entries of the two sides, with its calls over a pass and over a whole.
 ghost use Rattle.std.specs.Prelude.{◌≡◌, ◌+◌, ◌^◌, ◌<◌, ◌≤◌};
 ghost use Rattle.snes_defs.specs.declared.region.Region.{Region};
 ghost use Rattle.clock_ratio.specs.Stamp.{least_of, most_of, window_of};

@@ -1,3 +1,4 @@
+// The serial console and its turn: one step of the earlier machine.
 ghost use Rattle.std.specs.Prelude.{◌≡◌, ◌+◌, ◌/◌, ◌%◌, ◌^◌, ◌<◌, ◌≤◌, ◌==◌, ◌↔◌, ◌++◌, ℕ, IsTrue, if◌then◌else◌, length, min};
 ghost use Rattle.clock_ratio.specs.Stamp.{least_of, most_of};
 ghost use Rattle.side_law.specs.Serial.{SerialState, serial_of, turn, console_emits, sound_emits, cleared_from, got_of, incoming_after, outgoing_after};

@@ -1,3 +1,4 @@
+// The trait of both halves of the console: a machine that runs by steps, with its laws as members.
 ghost use Rattle.std.specs.Prelude.{◌≡◌, ◌+◌, ◌*◌, ◌^◌, ◌<◌, ◌≤◌, ◌↔◌, ℕ, false, List, ◌++◌, IsTrue, length, min, take, drop};
 ghost use Rattle.snes_defs.specs.declared.region.Region.{Region};
 ghost use Rattle.clock_ratio.specs.Stamp.{least_of, most_of};

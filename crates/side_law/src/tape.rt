@@ -1,3 +1,4 @@
+// A machine for tests, which plays a list of beats.
 ghost use Rattle.std.specs.Prelude.{◌≡◌, ◌+◌, ◌^◌, ◌<◌, ◌≤◌, [], IfOk, length};
 ghost use Rattle.side_law.specs.Tape.{AreBeats, IsBeat, tape_of, first_beat, after_beat};
 

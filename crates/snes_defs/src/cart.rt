@@ -1,3 +1,4 @@
+// A cartridge, and the job of a run.
 ghost use Rattle.std.specs.Prelude.{◌<◌, length};
 
 use crate::bytes::Bytes;

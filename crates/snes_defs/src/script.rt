@@ -1,3 +1,4 @@
+// The controller script.
 ghost use Rattle.std.specs.Prelude.{◌≡◌, ◌≤◌, List, [], if◌then◌else◌, IfOk, length};
 ghost use Rattle.snes_defs.specs.declared.region.Region.TheVariants.{Ntsc};
 ghost use Rattle.snes_defs.specs.declared.script.Span.{Span};

@@ -1,3 +1,4 @@
+// The words of the two sides, and how a side takes what the other has written.
 ghost use Rattle.std.specs.Prelude.{◌≡◌, ◌+◌, ◌*◌, ◌<◌, ◌≤◌, ℕ, [], List, length};
 ghost use Rattle.std.specs.List.{AllByRecursion};
 ghost use Rattle.clock_ratio.specs.Stamp.{least_of, most_of, window_of};
