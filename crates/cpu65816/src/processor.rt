@@ -144,7 +144,7 @@ impl Cpu {
         self.kept || self.irq_level
     }
 
-    /// Begins an interrupt, if the last instruction has ended and the next access is an internal cycle.
+    /// Begins an interrupt. The last instruction has ended, and the next access is an internal cycle.
     fn begin_interrupt(&mut self)
         requires ended { finished (self.old.kept || self.old.irq_level) (remaining self.old.micro) ≡ Some self.old.micro.here }
         requires inner { IsTrue (is_inner (access_of self.old)) }

@@ -33,7 +33,7 @@ is_immediate _ = false
 abbrev pub changed : (ℕ → ℕ → ℕ → Changed) → Mode → Regs → ℕ → Changed
 changed change mode r word = change (memory_size r) r.p (operand (is_accumulator mode) r word)
 
--- the same of TSB and TRB, whose other side is A
+-- the operand and the status byte of TSB and TRB, which change their operand by the bits of A
 abbrev pub changed_by_a : (ℕ → ℕ → ℕ → Changed) → Regs → ℕ → Changed
 changed_by_a change r word = change (accumulator r) r.p (word % memory_size r)
 

@@ -9,7 +9,7 @@ impl Micro {
     ghost use Rattle.cpu_modes.specs.Plan.{after, first_access, is_inner};
     ghost use Rattle.cpu_modes.specs.Remaining.{Keeps, remaining};
 
-    /// The cycle for a direct register whose low byte isn't 0 was made.
+    /// Moves on after the cycle for a direct register whose low byte isn't 0 was made.
     #[inline]
     fn idled_low_cycle(&mut self, kind: DirectKind)
         requires { self.old.place ≡ LowCycle kind }
@@ -20,7 +20,7 @@ impl Micro {
         self.pass_offset(kind, self.word);
     }
 
-    /// The cycle before the data was made.
+    /// Moves on after the cycle before the data was made.
     #[inline]
     fn idled_data_cycle(&mut self, reach: Reach)
         requires { self.old.place ≡ DataCycle reach }
@@ -31,7 +31,7 @@ impl Micro {
         self.reach_data(reach, self.base);
     }
 
-    /// The cycle before a register is pushed was made.
+    /// Moves on after the cycle before a register is pushed was made.
     #[inline]
     fn idled_push_cycle(&mut self)
         requires { self.old.place ≡ PushCycle }

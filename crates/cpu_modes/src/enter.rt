@@ -26,7 +26,7 @@ impl Micro {
     ghost use Rattle.cpu_modes.specs.Orders.{by_mode, call_order, data_of, jump_kind, operand, order};
     ghost use Rattle.cpu_modes.specs.Remaining.{Keeps, remaining};
 
-    /// An operation with data begins.
+    /// Begins an operation with data, by its addressing mode.
     #[inline(always)]
     pub(crate) fn enter_mode(&mut self)
         ensures left { remaining self.new ≡ by_mode self.old.row.mode self.old.traffic self.old.row self.old.here }
@@ -65,7 +65,7 @@ impl Micro {
         }
     }
 
-    /// A jump begins.
+    /// Begins a jump, by its addressing mode.
     #[inline(always)]
     pub(crate) fn enter_jump(&mut self)
         ensures left { remaining self.new ≡ operand (jump_kind self.old.row.mode) self.old.traffic self.old.row self.old.here }
@@ -82,7 +82,7 @@ impl Micro {
         self.to_fetch(Place::OperandLow(kind));
     }
 
-    /// A call begins.
+    /// Begins a call, by its addressing mode.
     #[inline(always)]
     pub(crate) fn enter_call(&mut self)
         ensures left { remaining self.new ≡ call_order self.old.row.mode self.old.traffic self.old.row self.old.here }
@@ -95,7 +95,7 @@ impl Micro {
         }
     }
 
-    /// The data of an operation.
+    /// Sets the direction and the width of an operation's data.
     #[inline(always)]
     pub(crate) fn with_data(&mut self, direction: Direction, width: Width)
         ensures data_set { self.new ≡ record self.old { traffic = data_of direction width self.old.here } }

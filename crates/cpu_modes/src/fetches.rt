@@ -12,7 +12,7 @@ impl Micro {
     ghost use Rattle.cpu_modes.specs.Orders.{instruction};
     ghost use Rattle.cpu_modes.specs.Remaining.{Keeps, remaining};
 
-    /// An opcode was fetched: the next instruction begins.
+    /// Moves on after an opcode was fetched: the next instruction begins.
     #[inline(always)]
     pub(crate) fn took_opcode(&mut self, got: u8)
         ensures left { remaining self.new ≡ after (instruction self.old.here) got }
@@ -25,7 +25,7 @@ impl Micro {
         self.enter();
     }
 
-    /// The only operand byte was fetched: the instruction has ended.
+    /// Moves on after the only operand byte was fetched: the instruction has ended.
     #[inline(always)]
     pub(crate) fn took_operand_byte(&mut self, got: u8) -> bool
         requires { self.old.place ≡ OperandByte }
@@ -38,7 +38,7 @@ impl Micro {
         self.finish()
     }
 
-    /// The mask of REP or SEP was fetched.
+    /// Moves on after the mask of REP or SEP was fetched.
     #[inline]
     pub(crate) fn took_status_operand(&mut self, got: u8)
         requires { self.old.place ≡ StatusOperand }
@@ -51,7 +51,7 @@ impl Micro {
         self.to_idle(Place::LastCycle);
     }
 
-    /// The low byte of an immediate operand was fetched.
+    /// Moves on after the low byte of an immediate operand was fetched.
     #[inline(always)]
     pub(crate) fn took_immediate_low(&mut self, got: u8)
         requires { self.old.place ≡ ImmediateLow }
@@ -64,7 +64,7 @@ impl Micro {
         self.to_fetch(Place::ImmediateHigh);
     }
 
-    /// The high byte of an immediate operand was fetched: the instruction has ended.
+    /// Moves on after the high byte of an immediate operand was fetched: the instruction has ended.
     #[inline(always)]
     pub(crate) fn took_immediate_high(&mut self, got: u8) -> bool
         requires { self.old.place ≡ ImmediateHigh }
@@ -85,7 +85,7 @@ impl Micro {
         self.here.d % 256 != 0
     }
 
-    /// An offset from the direct register was fetched.
+    /// Moves on after an offset from the direct register was fetched.
     #[inline]
     pub(crate) fn took_direct_offset(&mut self, kind: DirectKind, got: u8)
         requires { self.old.place ≡ DirectOffset kind }
@@ -102,7 +102,7 @@ impl Micro {
         }
     }
 
-    /// The offset of data in the direct page was fetched.
+    /// Moves on after the offset of data in the direct page was fetched.
     #[inline(always)]
     pub(crate) fn took_direct_data_offset(&mut self, got: u8)
         requires { self.old.place ≡ DirectOffset DirectKind.Plain }
@@ -119,7 +119,7 @@ impl Micro {
         }
     }
 
-    /// An offset from the stack pointer was fetched, for data there.
+    /// Moves on after an offset from the stack pointer was fetched, for data there.
     #[inline]
     pub(crate) fn took_stack_offset(&mut self, got: u8)
         requires { self.old.place ≡ StackOffset }
@@ -132,7 +132,7 @@ impl Micro {
         self.to_idle(Place::DataCycle(Reach::NextInBankZero));
     }
 
-    /// An offset from the stack pointer was fetched, for a pointer there.
+    /// Moves on after an offset from the stack pointer was fetched, for a pointer there.
     #[inline]
     pub(crate) fn took_stack_pointer_offset(&mut self, got: u8)
         requires { self.old.place ≡ StackPointerOffset }
@@ -145,7 +145,7 @@ impl Micro {
         self.to_idle(Place::PointerCycle(PointerKind::StackY));
     }
 
-    /// The low byte of an operand was fetched.
+    /// Moves on after the low byte of an operand was fetched.
     #[inline(always)]
     pub(crate) fn took_operand_low(&mut self, kind: OperandKind, got: u8)
         requires { self.old.place ≡ OperandLow kind }
@@ -158,7 +158,7 @@ impl Micro {
         self.to_fetch(Place::OperandHigh(kind));
     }
 
-    /// The high byte of an operand was fetched. Returns whether the instruction has ended.
+    /// Moves on after the high byte of an operand was fetched. Returns whether the instruction has ended.
     #[inline]
     pub(crate) fn took_operand_high(&mut self, kind: OperandKind, got: u8) -> bool
         requires { self.old.place ≡ OperandHigh kind }
@@ -170,7 +170,7 @@ impl Micro {
         self.pass_operand(kind, join(self.word, got))
     }
 
-    /// The high byte of an address of data was fetched.
+    /// Moves on after the high byte of an address of data was fetched.
     #[inline(always)]
     pub(crate) fn took_address_high(&mut self, got: u8)
         requires { self.old.place ≡ OperandHigh OperandKind.Plain }
@@ -182,7 +182,7 @@ impl Micro {
         self.reach_absolute(join(self.word, got));
     }
 
-    /// The high byte of an address that X is added to was fetched.
+    /// Moves on after the high byte of an address that X is added to was fetched.
     #[inline(always)]
     pub(crate) fn took_x_address_high(&mut self, got: u8)
         requires { self.old.place ≡ OperandHigh OperandKind.X }
@@ -194,7 +194,7 @@ impl Micro {
         self.reach_absolute_indexed(join(self.word, got), self.here.x);
     }
 
-    /// The high byte of an address that Y is added to was fetched.
+    /// Moves on after the high byte of an address that Y is added to was fetched.
     #[inline(always)]
     pub(crate) fn took_y_address_high(&mut self, got: u8)
         requires { self.old.place ≡ OperandHigh OperandKind.Y }
@@ -206,7 +206,7 @@ impl Micro {
         self.reach_absolute_indexed(join(self.word, got), self.here.y);
     }
 
-    /// The bank of an operand was fetched. Returns whether the instruction has ended.
+    /// Moves on after the bank of an operand was fetched. Returns whether the instruction has ended.
     #[inline]
     pub(crate) fn took_operand_bank(&mut self, kind: BankKind, got: u8) -> bool
         requires { self.old.place ≡ OperandBank kind }
@@ -218,7 +218,7 @@ impl Micro {
         self.pass_bank(kind, got)
     }
 
-    /// JSL: the bank was fetched.
+    /// JSL: moves on after the bank was fetched.
     #[inline]
     pub(crate) fn took_call_bank(&mut self, got: u8)
         requires { self.old.place ≡ CallBank }
@@ -232,7 +232,7 @@ impl Micro {
         self.to_push_word();
     }
 
-    /// JSR `(a,X)`: the low byte was fetched.
+    /// JSR `(a,X)`: moves on after the low byte was fetched.
     #[inline]
     pub(crate) fn took_call_pointer_low(&mut self, got: u8)
         requires { self.old.place ≡ CallPointerLow }
@@ -245,7 +245,7 @@ impl Micro {
         self.to_push(Place::CallPointerPushHigh, high_byte(self.here.pc as u32));
     }
 
-    /// JSR `(a,X)`: the high byte was fetched.
+    /// JSR `(a,X)`: moves on after the high byte was fetched.
     #[inline]
     pub(crate) fn took_call_pointer_high(&mut self, got: u8)
         requires { self.old.place ≡ CallPointerHigh }
@@ -259,7 +259,7 @@ impl Micro {
         self.to_idle(Place::TargetCycle);
     }
 
-    /// A branch's distance was fetched. Returns whether the instruction has ended.
+    /// Moves on after a branch's distance was fetched. Returns whether the instruction has ended.
     #[inline(always)]
     pub(crate) fn took_branch_offset(&mut self, got: u8) -> bool
         requires { self.old.place ≡ BranchOffset }
@@ -271,7 +271,7 @@ impl Micro {
         self.branch(got)
     }
 
-    /// BRK and COP: the byte after the opcode was fetched.
+    /// BRK and COP: moves on after the byte after the opcode was fetched.
     #[inline]
     pub(crate) fn took_break_operand(&mut self, got: u8)
         requires { self.old.place ≡ BreakOperand }
@@ -283,7 +283,7 @@ impl Micro {
         self.interrupt();
     }
 
-    /// MVN and MVP: the destination's bank was fetched.
+    /// MVN and MVP: moves on after the destination's bank was fetched.
     #[inline]
     pub(crate) fn took_block_destination(&mut self, got: u8)
         requires { self.old.place ≡ BlockDestination }
@@ -296,7 +296,7 @@ impl Micro {
         self.to_fetch(Place::BlockSource);
     }
 
-    /// MVN and MVP: the source's bank was fetched.
+    /// MVN and MVP: moves on after the source's bank was fetched.
     #[inline]
     pub(crate) fn took_block_source(&mut self, got: u8)
         requires { self.old.place ≡ BlockSource }

@@ -10,7 +10,7 @@ impl Micro {
     ghost use Rattle.cpu_modes.specs.Plan.{after};
     ghost use Rattle.cpu_modes.specs.Remaining.{Keeps, remaining};
 
-    /// A pointer's low byte was read.
+    /// Moves on after a pointer's low byte was read.
     #[inline]
     pub(crate) fn took_pointer_low(&mut self, kind: PointerKind, got: u8)
         requires { self.old.place ≡ PointerLow kind }
@@ -23,7 +23,7 @@ impl Micro {
         self.to_read(Place::PointerHigh(kind));
     }
 
-    /// A pointer's high byte was read.
+    /// Moves on after a pointer's high byte was read.
     #[inline]
     pub(crate) fn took_pointer_high(&mut self, kind: PointerKind, got: u8)
         requires { self.old.place ≡ PointerHigh kind }
@@ -34,7 +34,7 @@ impl Micro {
         self.pass_pointer(kind, self.base, join(self.word, got));
     }
 
-    /// The bank of a pointer `[d]` was read.
+    /// Moves on after the bank of a pointer `[d]` was read.
     #[inline]
     pub(crate) fn took_pointer_bank(&mut self, got: u8)
         requires { self.old.place ≡ PointerBank }
@@ -46,7 +46,7 @@ impl Micro {
         self.reach_data(Reach::NextAddress, at);
     }
 
-    /// The bank of a pointer `[d],Y` was read.
+    /// Moves on after the bank of a pointer `[d],Y` was read.
     #[inline]
     pub(crate) fn took_pointer_bank_y(&mut self, got: u8)
         requires { self.old.place ≡ PointerBankY }
@@ -59,7 +59,7 @@ impl Micro {
         self.reach_data(Reach::NextAddress, to);
     }
 
-    /// Data of 8 bits was read: the instruction has ended.
+    /// Moves on after data of 8 bits was read: the instruction has ended.
     #[inline(always)]
     pub(crate) fn took_load_byte(&mut self, got: u8) -> bool
         requires { self.old.place ≡ LoadByte }
@@ -71,7 +71,7 @@ impl Micro {
         self.finish()
     }
 
-    /// The low byte of data of 16 bits was read.
+    /// Moves on after the low byte of data of 16 bits was read.
     #[inline(always)]
     pub(crate) fn took_load_low(&mut self, reach: Reach, got: u8)
         requires { self.old.place ≡ LoadLow reach }
@@ -84,7 +84,7 @@ impl Micro {
         self.to_read(Place::LoadHigh);
     }
 
-    /// The high byte of data of 16 bits was read: the instruction has ended.
+    /// Moves on after the high byte of data of 16 bits was read: the instruction has ended.
     #[inline(always)]
     pub(crate) fn took_load_high(&mut self, got: u8) -> bool
         requires { self.old.place ≡ LoadHigh }
@@ -96,7 +96,7 @@ impl Micro {
         self.finish()
     }
 
-    /// Data that is to be changed was read, or its low byte.
+    /// Moves on after data that is to be changed was read, or its low byte.
     #[inline(always)]
     pub(crate) fn took_change_read_low(&mut self, reach: Reach, got: u8)
         requires { self.old.place ≡ ChangeReadLow reach }
@@ -112,7 +112,7 @@ impl Micro {
         }
     }
 
-    /// The high byte of data that is to be changed was read.
+    /// Moves on after the high byte of data that is to be changed was read.
     #[inline(always)]
     pub(crate) fn took_change_read_high(&mut self, reach: Reach, got: u8)
         requires { self.old.place ≡ ChangeReadHigh reach }
@@ -124,7 +124,7 @@ impl Micro {
         self.to_idle(Place::ChangeCycle(reach));
     }
 
-    /// A target's low byte was read.
+    /// Moves on after a target's low byte was read.
     #[inline]
     pub(crate) fn took_target_low(&mut self, kind: TargetKind, got: u8)
         requires { self.old.place ≡ TargetLow kind }
@@ -137,7 +137,7 @@ impl Micro {
         self.to_read(Place::TargetHigh(kind));
     }
 
-    /// A target's high byte was read. Returns whether the instruction has ended.
+    /// Moves on after a target's high byte was read. Returns whether the instruction has ended.
     #[inline]
     pub(crate) fn took_target_high(&mut self, kind: TargetKind, got: u8) -> bool
         requires { self.old.place ≡ TargetHigh kind }
@@ -148,7 +148,7 @@ impl Micro {
         self.pass_target(kind, self.base, join(self.word, got))
     }
 
-    /// A target's bank was read: the instruction has ended.
+    /// Moves on after a target's bank was read: the instruction has ended.
     #[inline]
     pub(crate) fn took_target_bank(&mut self, got: u8) -> bool
         requires { self.old.place ≡ TargetBank }
@@ -160,7 +160,7 @@ impl Micro {
         self.finish()
     }
 
-    /// MVN and MVP: a byte was read.
+    /// MVN and MVP: moves on after a byte was read.
     #[inline]
     pub(crate) fn took_block_read(&mut self, got: u8)
         requires { self.old.place ≡ BlockRead }

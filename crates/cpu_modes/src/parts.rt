@@ -14,7 +14,7 @@ impl Micro {
     ghost use Rattle.cpu_modes.specs.Orders.{after_bank, after_offset, after_operand, after_pointer, after_return, after_target, branch_cycles, data_at, data_indexed, interrupted, push_data, return_pulls, written_of};
     ghost use Rattle.cpu_modes.specs.Remaining.{Keeps, remaining};
 
-    /// The data is next, at an address.
+    /// Moves on to the data, at an address.
     #[inline(always)]
     pub(crate) fn reach_data(&mut self, reach: Reach, at: u32)
         requires { at < 2 ^ 24 }
@@ -30,7 +30,7 @@ impl Micro {
         }
     }
 
-    /// The data is next, at an address and an index.
+    /// Moves on to the data, at an address and an index.
     #[inline(always)]
     pub(crate) fn reach_indexed(&mut self, at: u32, index: u16)
         requires { at < 2 ^ 24 }
@@ -48,7 +48,7 @@ impl Micro {
         }
     }
 
-    /// The data is next, at an offset from the direct register.
+    /// Moves on to the data, at an offset from the direct register.
     #[inline(always)]
     pub(crate) fn reach_direct(&mut self, offset: u16)
         ensures left { remaining self.new ≡ data_at self.old.traffic NextInBankZero self.old.row self.old.here (direct self.old.here offset 0) }
@@ -59,7 +59,7 @@ impl Micro {
         self.reach_data(Reach::NextInBankZero, at);
     }
 
-    /// The data is next, at an address in the data bank.
+    /// Moves on to the data, at an address in the data bank.
     #[inline(always)]
     pub(crate) fn reach_absolute(&mut self, word: u16)
         ensures left { remaining self.new ≡ data_at self.old.traffic NextAddress self.old.row self.old.here (in_bank self.old.here.dbr word) }
@@ -70,7 +70,7 @@ impl Micro {
         self.reach_data(Reach::NextAddress, at);
     }
 
-    /// The data is next, at an address in the data bank and an index.
+    /// Moves on to the data, at an address in the data bank and an index.
     #[inline(always)]
     pub(crate) fn reach_absolute_indexed(&mut self, word: u16, index: u16)
         ensures left { remaining self.new ≡ data_indexed self.old.traffic self.old.row self.old.here (in_bank self.old.here.dbr word) index }
@@ -81,7 +81,7 @@ impl Micro {
         self.reach_indexed(at, index);
     }
 
-    /// An offset from the direct register was fetched, and the cycle after it made.
+    /// Moves on after an offset from the direct register was fetched, and the cycle after it made.
     #[inline(always)]
     pub(crate) fn pass_offset(&mut self, kind: DirectKind, offset: u16)
         ensures left { remaining self.new ≡ after_offset kind self.old.traffic self.old.row self.old.here offset }
@@ -125,7 +125,7 @@ impl Micro {
         }
     }
 
-    /// A pointer's two bytes were read.
+    /// Moves on after a pointer's two bytes were read.
     #[inline(always)]
     pub(crate) fn pass_pointer(&mut self, kind: PointerKind, at: u32, word: u16)
         ensures left { remaining self.new ≡ after_pointer kind self.old.traffic self.old.row self.old.here at word }
@@ -158,7 +158,7 @@ impl Micro {
         }
     }
 
-    /// An operand's two bytes were fetched.
+    /// Moves on after an operand's two bytes were fetched.
     #[inline(never)]
     pub(crate) fn pass_operand(&mut self, kind: OperandKind, word: u16) -> bool
         ensures left { remaining self.new ≡ after_operand kind self.old.traffic self.old.row self.old.here word }
@@ -233,7 +233,7 @@ impl Micro {
         }
     }
 
-    /// The bank of an operand was fetched.
+    /// Moves on after the bank of an operand was fetched.
     #[inline(always)]
     pub(crate) fn pass_bank(&mut self, kind: BankKind, bank: u8) -> bool
         ensures left { remaining self.new ≡ after_bank kind self.old.traffic self.old.row self.old.here self.old.word bank }
@@ -258,7 +258,7 @@ impl Micro {
         }
     }
 
-    /// What the operation writes is pushed next.
+    /// Moves on to the push of what the operation writes.
     #[inline(always)]
     pub(crate) fn push_written(&mut self)
         ensures left { remaining self.new ≡ push_data self.old.traffic self.old.row self.old.here (written_of self.old.row self.old.here self.old.word) self.old.word }
@@ -273,7 +273,7 @@ impl Micro {
         }
     }
 
-    /// A target's two bytes were read.
+    /// Moves on after a target's two bytes were read.
     #[inline(always)]
     pub(crate) fn pass_target(&mut self, kind: TargetKind, at: u32, word: u16) -> bool
         requires { at < 2 ^ 24 }
@@ -292,7 +292,7 @@ impl Micro {
         }
     }
 
-    /// What a return pulls first.
+    /// Moves on to what a return pulls first.
     #[inline(always)]
     pub(crate) fn pull_return(&mut self, kind: ReturnKind)
         ensures left { remaining self.new ≡ return_pulls kind self.old.row self.old.here }
@@ -306,7 +306,7 @@ impl Micro {
         }
     }
 
-    /// The program counter was pulled.
+    /// Moves on after the program counter was pulled.
     #[inline(always)]
     pub(crate) fn pass_return(&mut self, kind: ReturnKind, word: u16) -> bool
         ensures left { remaining self.new ≡ after_return kind self.old.row self.old.here word }
@@ -334,7 +334,7 @@ impl Micro {
         }
     }
 
-    /// A branch's distance was fetched.
+    /// Moves on after a branch's distance was fetched.
     #[inline(always)]
     pub(crate) fn branch(&mut self, offset: u8) -> bool
         ensures left { remaining self.new ≡ branch_cycles self.old.row self.old.here offset }
@@ -355,7 +355,7 @@ impl Micro {
         }
     }
 
-    /// An interrupt's pushes are next.
+    /// Moves on to an interrupt's pushes.
     #[inline(always)]
     pub(crate) fn interrupt(&mut self)
         ensures left { remaining self.new ≡ interrupted self.old.row self.old.here self.old.base }

@@ -10,7 +10,7 @@ impl Micro {
     ghost use Rattle.cpu_modes.specs.Plan.{after};
     ghost use Rattle.cpu_modes.specs.Remaining.{Keeps, remaining};
 
-    /// The only byte was pulled: the instruction has ended.
+    /// Moves on after the only byte was pulled: the instruction has ended.
     #[inline(always)]
     pub(crate) fn took_pull_byte(&mut self, got: u8) -> bool
         requires { self.old.place ≡ PullByte }
@@ -23,7 +23,7 @@ impl Micro {
         self.finish()
     }
 
-    /// The low byte was pulled.
+    /// Moves on after the low byte was pulled.
     #[inline(always)]
     pub(crate) fn took_pull_low(&mut self, got: u8)
         requires { self.old.place ≡ PullLow }
@@ -36,7 +36,7 @@ impl Micro {
         self.to_pull(Place::PullHigh);
     }
 
-    /// The high byte was pulled: the instruction has ended.
+    /// Moves on after the high byte was pulled: the instruction has ended.
     #[inline(always)]
     pub(crate) fn took_pull_high(&mut self, got: u8) -> bool
         requires { self.old.place ≡ PullHigh }
@@ -49,7 +49,7 @@ impl Micro {
         self.finish()
     }
 
-    /// RTI: the status byte was pulled.
+    /// RTI: moves on after the status byte was pulled.
     #[inline]
     pub(crate) fn took_return_status(&mut self, got: u8)
         requires { self.old.place ≡ ReturnStatus }
@@ -62,7 +62,7 @@ impl Micro {
         self.to_pull(Place::ReturnLow(ReturnKind::Interrupt));
     }
 
-    /// The program counter's low byte was pulled.
+    /// Moves on after the program counter's low byte was pulled.
     #[inline(always)]
     pub(crate) fn took_return_low(&mut self, kind: ReturnKind, got: u8)
         requires { self.old.place ≡ ReturnLow kind }
@@ -75,7 +75,7 @@ impl Micro {
         self.to_pull(Place::ReturnHigh(kind));
     }
 
-    /// The program counter's high byte was pulled. Returns whether the instruction has ended.
+    /// Moves on after the program counter's high byte was pulled. Returns whether the instruction has ended.
     #[inline(always)]
     pub(crate) fn took_return_high(&mut self, kind: ReturnKind, got: u8) -> bool
         requires { self.old.place ≡ ReturnHigh kind }
@@ -87,7 +87,7 @@ impl Micro {
         self.pass_return(kind, join(self.word, got))
     }
 
-    /// The program bank was pulled: the instruction has ended.
+    /// Moves on after the program bank was pulled: the instruction has ended.
     #[inline]
     pub(crate) fn took_return_bank(&mut self, got: u8) -> bool
         requires { self.old.place ≡ ReturnBank }

@@ -44,7 +44,7 @@ impl Micro {
         self.here.s = pulled_stack(&self.here);
     }
 
-    /// The next byte of the program is fetched next.
+    /// Sets the next access: the next byte of the program is fetched.
     #[inline(always)]
     pub(crate) fn to_fetch(&mut self, place: Place)
         ensures set { self.new ≡ record self.old { place = place; access = Fetch (code self.old.here) } }
@@ -54,7 +54,7 @@ impl Micro {
         self.access = Access::Fetch(code_address(&self.here));
     }
 
-    /// The byte at the base is read next.
+    /// Sets the next access: the byte at the base is read.
     #[inline(always)]
     pub(crate) fn to_read(&mut self, place: Place)
         ensures set { self.new ≡ record self.old { place = place; access = Read self.old.base } }
@@ -64,7 +64,7 @@ impl Micro {
         self.access = Access::Read(self.base);
     }
 
-    /// The high byte of data that is changed is read next.
+    /// Sets the next access: the high byte of data that is changed is read.
     #[inline(always)]
     pub(crate) fn to_read_second(&mut self, reach: Reach)
         ensures set { self.new ≡ record self.old { place = ChangeReadHigh reach; access = Read (second reach self.old.base) } }
@@ -74,7 +74,7 @@ impl Micro {
         self.access = Access::Read(second_address(reach, self.base));
     }
 
-    /// A byte is pulled next.
+    /// Sets the next access: a byte is pulled.
     #[inline(always)]
     pub(crate) fn to_pull(&mut self, place: Place)
         ensures set { self.new ≡ record self.old { place = place; access = Read (stack (pulled self.old.here)) } }
@@ -84,7 +84,7 @@ impl Micro {
         self.access = Access::Read(pull_address(&self.here));
     }
 
-    /// A byte is pushed next.
+    /// Sets the next access: a byte is pushed.
     #[inline(always)]
     pub(crate) fn to_push(&mut self, place: Place, byte: u8)
         ensures set { self.new ≡ record self.old { place = place; access = Write (stack self.old.here) byte } }
@@ -94,7 +94,7 @@ impl Micro {
         self.access = Access::Write(stack_address(&self.here), byte);
     }
 
-    /// A byte is written next, at an address.
+    /// Sets the next access: a byte is written, at an address.
     #[inline(always)]
     pub(crate) fn to_write(&mut self, place: Place, at: u32, byte: u8)
         requires { at < 16777216 }
@@ -105,7 +105,7 @@ impl Micro {
         self.access = Access::Write(at, byte);
     }
 
-    /// An internal cycle is next.
+    /// Sets the next access: an internal cycle.
     #[inline(always)]
     pub(crate) fn to_idle(&mut self, place: Place)
         ensures set { self.new ≡ record self.old { place = place; access = Inner } }
@@ -128,7 +128,7 @@ impl Micro {
         true
     }
 
-    /// An immediate operand is fetched next.
+    /// Sets the next access: an immediate operand is fetched.
     #[inline(always)]
     #[tactic(auto, using(crate::proofs::Widths::narrow_immediate, crate::proofs::Widths::wide_immediate))]
     pub(crate) fn to_immediate(&mut self)
@@ -143,7 +143,7 @@ impl Micro {
         }
     }
 
-    /// The data at the base is read next.
+    /// Sets the next access: the data at the base is read.
     #[inline(always)]
     #[tactic(auto, using(crate::proofs::Widths::narrow_load, crate::proofs::Widths::wide_load))]
     pub(crate) fn to_load(&mut self, reach: Reach)
@@ -158,7 +158,7 @@ impl Micro {
         }
     }
 
-    /// The data of a pull is read next.
+    /// Sets the next access: the data of a pull is read.
     #[inline(always)]
     #[tactic(auto, using(crate::proofs::Widths::narrow_pull, crate::proofs::Widths::wide_pull))]
     pub(crate) fn to_pulled(&mut self)
@@ -173,7 +173,7 @@ impl Micro {
         }
     }
 
-    /// What a store writes is written next, at the base. Out of line, as what is written is a large match.
+    /// Sets the next access: what a store writes is written at the base. Out of line, as it is found by a large match.
     #[inline(never)]
     pub(crate) fn to_store(&mut self, reach: Reach)
         ensures left { remaining self.new ≡ store self.old.traffic reach self.old.here self.old.base (written_of self.old.row self.old.here 0) }
@@ -185,7 +185,7 @@ impl Micro {
         self.to_write(Place::StoreLow(reach), self.base, low_byte(written as u32));
     }
 
-    /// Changed data is written back next, its high byte first.
+    /// Sets the next access: changed data is written back, its high byte first.
     #[inline(never)]
     pub(crate) fn to_change(&mut self, reach: Reach)
         ensures left { remaining self.new ≡ write_back self.old.traffic reach self.old.row self.old.here self.old.base self.old.word }
@@ -201,7 +201,7 @@ impl Micro {
         }
     }
 
-    /// The base, a word, is pushed next.
+    /// Sets the next access: the base, a word, is pushed.
     #[inline(always)]
     pub(crate) fn to_push_word(&mut self)
         ensures left { remaining self.new ≡ push_word self.old.row self.old.here self.old.base self.old.word }
@@ -211,7 +211,7 @@ impl Micro {
         self.to_push(Place::PushHigh, high_byte(self.base));
     }
 
-    /// The low byte of the base is pushed next.
+    /// Sets the next access: the low byte of the base is pushed.
     #[inline(always)]
     pub(crate) fn to_push_low(&mut self)
         ensures left { remaining self.new ≡ push_low self.old.row self.old.here self.old.base self.old.word }

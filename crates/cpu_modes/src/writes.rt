@@ -11,7 +11,7 @@ impl Micro {
     ghost use Rattle.cpu_modes.specs.Plan.{after, finished, first_access, is_write};
     ghost use Rattle.cpu_modes.specs.Remaining.{Keeps, onward, remaining};
 
-    /// The low byte of data was written, or its only one. Returns whether the instruction has ended.
+    /// Moves on after the low byte of data was written, or its only one. Returns whether the instruction has ended.
     #[inline(always)]
     fn wrote_store_low(&mut self, reach: Reach) -> bool
         requires { self.old.place ≡ StoreLow reach }
@@ -30,7 +30,7 @@ impl Micro {
         }
     }
 
-    /// The high byte of changed data was written.
+    /// Moves on after the high byte of changed data was written.
     #[inline]
     fn wrote_change_write_high(&mut self, reach: Reach)
         requires { self.old.place ≡ ChangeWriteHigh reach }
