@@ -1,3 +1,4 @@
+//! The beam, and the table of what happens at its places.
 ghost use Rattle.std.specs.Prelude.{◌≡◌, ◌-◌, ◌+◌, ◌==◌, ◌<◌, ◌≤◌, Bool, [], false, if◌then◌else◌};
 ghost use Rattle.beam.specs.Events.{BeamValue, lines_of, fires, next_v, next_h, happens_at, events_of, happens_next, beam_next, blank_after, beam_after, passed};
 ghost use Rattle.beam.specs.Places.{table_place, timer_place, next_place, clocks_left};
@@ -8,11 +9,10 @@ use std::marker::Model;
 
 mod copy;
 
-/// The master clocks of a line.
+/// The number of master clocks in a line.
 const LINE: u16 = 1364;
 
-/// The beam. It stands `left` master clocks before the next place of its line at which something may
-/// happen.
+/// The beam. It is `left` master clocks before the next place of its line at which something may happen.
 #[derive(Drop)]
 pub struct Beam {
     region: Region,
@@ -37,7 +37,7 @@ impl Model for Beam {
 }
 
 impl Beam {
-    /// The beam at line 0, line clock 0, where the events of that place are done. The timer is off.
+    /// Returns the beam at line 0, line clock 0, after the events of that place. The timer is off.
     pub fn new(region: Region) -> Beam
         ensures { result ≡ record { region = region; v = 0; h = 0; blank = false; timer = record { kind = 0; h = 511; v = 511 } } }
     {
@@ -57,7 +57,7 @@ impl Beam {
         }
     }
 
-    /// Where the beam stands.
+    /// Returns the place of the beam.
     #[inline(always)]
     pub fn spot(&self) -> Spot
         ensures { result ≡ record { h = self.now.h; v = self.now.v; blank = self.now.blank } }
@@ -69,7 +69,7 @@ impl Beam {
         }
     }
 
-    /// The master clocks, at least 1, to the next place of the line at which something may happen.
+    /// Returns the master clocks, at least 1, to the next place of the line at which something may happen.
     #[inline(always)]
     pub fn clocks_left(&self) -> u16
         ensures clocks { result ≡ clocks_left self.now }
@@ -79,7 +79,7 @@ impl Beam {
         self.left
     }
 
-    /// Gives the timer another setting, which counts from the next master clock on.
+    /// Gives the timer another setting, which is in force from the next master clock on.
     pub fn aim(&mut self, timer: IrqTime)
         ensures { self.new ≡ record self.old { timer = timer } }
     {
@@ -90,7 +90,7 @@ impl Beam {
         self.timer = timer;
     }
 
-    /// Goes on by fewer clocks than are left: nothing happens.
+    /// Advances the beam by fewer clocks than are left, in which nothing happens.
     #[inline(always)]
     pub fn go_on(&mut self, clocks: u16)
         requires { clocks < clocks_left self.old }
@@ -104,8 +104,8 @@ impl Beam {
         self.left -= clocks;
     }
 
-    /// Goes on to the next place at which something may happen, by just the clocks that are left, and
-    /// answers what happens there. `overscan` is bit 2 of 2133.
+    /// Advances the beam to the next place at which something may happen, and returns what happens there.
+    /// `overscan` is bit 2 of 2133.
     pub fn reach(&mut self, overscan: bool) -> Happens
         ensures moved { self.new ≡ beam_after overscan self.old (clocks_left self.old) }
         ensures happened { passed overscan self.old (clocks_left self.old) ≡ events_of result }
@@ -128,7 +128,7 @@ impl Beam {
     }
 }
 
-/// The line and the line clock of a place, of 1 to 1,364, on line v.
+/// Returns the line and the line clock of a place, 1 to 1,364, on line `v`.
 #[tactic(auto, unfolding(crate::specs::Events::next_v, crate::specs::Events::next_h))]
 fn place_of(region: Region, v: u16, place: u16) -> (u16, u16)
     requires line { v < lines_of region }
@@ -149,7 +149,7 @@ fn place_of(region: Region, v: u16, place: u16) -> (u16, u16)
     if v + 1 == lines { (0, 0) } else { (v + 1, 0) }
 }
 
-/// Whether vertical blank has begun, after what happens at a place.
+/// Returns whether vertical blank has begun, after what happens at a place.
 #[tactic(auto, unfolding(crate::specs::Events::blank_after))]
 #[inline(always)]
 fn blank_after(blank: bool, happens: Happens, v: u16, h: u16) -> bool
@@ -158,7 +158,7 @@ fn blank_after(blank: bool, happens: Happens, v: u16, h: u16) -> bool
     !(h == 0 && v == 0) && (blank || happens.blank)
 }
 
-/// Whether the timer fires at a line and a line clock.
+/// Returns whether the timer fires at a line and a line clock.
 #[tactic(auto, unfolding(crate::specs::Events::fires))]
 #[inline(always)]
 fn fires(timer: IrqTime, v: u16, h: u16) -> bool
@@ -169,7 +169,7 @@ fn fires(timer: IrqTime, v: u16, h: u16) -> bool
         || ((timer.kind == 3 && v == timer.v) && h as u32 == 4 * timer.h as u32)
 }
 
-/// The row of the table at a line and a line clock.
+/// Returns the row of the table at a line and a line clock.
 #[tactic(auto, unfolding(crate::specs::Events::happens_at, crate::specs::Events::is_blank_line))]
 #[inline(always)]
 fn happens(timer: IrqTime, overscan: bool, blank: bool, v: u16, h: u16) -> Happens
@@ -186,7 +186,7 @@ fn happens(timer: IrqTime, overscan: bool, blank: bool, v: u16, h: u16) -> Happe
     }
 }
 
-/// The next line clock after this one at which the table has a row on line v.
+/// Returns the next line clock after this one at which the table has a row on line `v`.
 #[tactic(auto, unfolding(crate::specs::Places::table_place))]
 #[inline(always)]
 fn table_place(blank: bool, v: u16, h: u16) -> u16
@@ -208,7 +208,7 @@ fn table_place(blank: bool, v: u16, h: u16) -> u16
     }
 }
 
-/// The line clock inside line v at which the timer fires, or 1,364.
+/// Returns the line clock inside line `v` at which the timer fires, or 1,364.
 #[tactic(auto, unfolding(crate::specs::Places::timer_place))]
 #[inline(always)]
 fn timer_place(timer: IrqTime, v: u16) -> u16
@@ -222,7 +222,7 @@ fn timer_place(timer: IrqTime, v: u16) -> u16
     }
 }
 
-/// The next line clock after this one at which anything may happen.
+/// Returns the next line clock after this one at which anything may happen.
 #[tactic(auto, unfolding(crate::specs::Places::next_place))]
 fn next_place(timer: IrqTime, blank: bool, v: u16, h: u16) -> u16
     requires { h < 1364 }

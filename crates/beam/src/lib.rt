@@ -1,9 +1,10 @@
-//! The picture's beam: where it stands on the screen, and what happens at the places that it passes.
+//! The beam: its line and line clock, and the events at the places that it passes.
 //!
-//! Stands on `snes_defs` alone. A line has 1,364 master clocks in both regions. What happens at a
-//! place is one table (`specs/Events.antt`); every call answers by it, whatever the steps in which the
-//! beam goes on. A caller that makes many small steps asks `clocks_left` once and counts down: until then
-//! nothing happens, and `go_on` says so. At the end of the count `reach` answers what happens there.
+//! The crate depends on `snes_defs` alone. A line has 1,364 master clocks in both regions. One table says what
+//! happens at a place (`specs/Events.antt`). Every call follows it, in whatever steps the beam advances.
+//!
+//! A caller that takes many small steps calls `clocks_left` once and counts down. Until the end of the count nothing
+//! happens, as `go_on` promises. There `reach` returns what happens.
 #![tactic(auto)]
 
 mod beam;

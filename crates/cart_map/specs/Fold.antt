@@ -12,6 +12,6 @@ fold_below (suc bits) size offset =
     else (if nat_eq size (2 * 2 ^ bits) || nat_lt offset (2 ^ bits) then offset
     else 2 ^ bits + fold_below bits (size - 2 ^ bits) (offset - 2 ^ bits))
 
--- the same for offsets of 22 bits, 4 MiB, which is the largest ROM
+-- The offset in a ROM of `size` bytes at which an offset, modulo 2^22, is seen. The largest ROM has 4 MiB, 2^22 bytes.
 unfoldable pub fold : ℕ → ℕ → ℕ
 fold size offset = fold_below 22 size (offset % 0x400000)

@@ -1,3 +1,4 @@
+//! Which files are cartridges, by their size and their header.
 ghost use Rattle.std.specs.Prelude.{◌≡◌, ℕ, ◌*◌, ◌+◌, ◌<◌, ◌≤◌, Ok, Err, IfOk, OnOk, OnErr, length, slice_index};
 ghost use Rattle.cart_map.specs.declared.refused.CartRefused.{CartRefused};
 ghost use Rattle.cart_map.specs.Accept.{image_of, missing, rom_of, header_at, chosen, sums_add, stands, asks_for, judged, verdict};
@@ -8,22 +9,22 @@ use byteorder::{ByteOrder, LittleEndian};
 use snes_defs::{Bytes, Cart, MapKind};
 use std::alloc::AllocError;
 
-/// The fewest and the most bytes of an image, and the bytes of a page to which it is filled.
+/// The fewest and the most bytes of an image, and the size of a page, to which it is filled.
 const SMALLEST: usize = 0x8000;
 
 const LARGEST: usize = 0x40_0000;
 
 const PAGE: usize = 0x8000;
 
-/// The bytes that may stand in front of an image, as copiers put them.
+/// The bytes that a copier may have put in front of an image.
 const FRONT: usize = 512;
 
-/// Where the two headers begin in an image. The processor sees both at FFC0 of bank 00.
+/// The places in an image at which the two headers begin. The processor sees both at FFC0 of bank 00.
 const LOROM_HEADER: usize = 0x7fc0;
 
 const HIROM_HEADER: usize = 0xffc0;
 
-/// Where a header has its fields.
+/// The places of a header's fields.
 const MAP_BYTE: usize = 0x15;
 
 const CHIP_BYTE: usize = 0x16;
@@ -34,13 +35,16 @@ const COMPLEMENT: usize = 0x1c;
 
 const CHECKSUM: usize = 0x1e;
 
-/// Takes the file of a cartridge, or tells why it is none.
+/// Accepts the file of a cartridge, or returns why it is refused.
 ///
-/// A file of 512 bytes more than whole KiB loses its first 512. The image that is left has 32,768 to
-/// 4,194,304 bytes and is filled with zeros to whole pages of 32 KiB. A LoROM header stands at 7FC0
-/// where its map byte is 20 or 30, a HiROM header at FFC0 where its is 21 or 31. If both stand, HiROM
-/// is taken where only its complement and checksum add to FFFF, and else LoROM. The chip byte is at
-/// most 02 and the RAM size byte at most 7. The first rule that fails, in this order, refuses.
+/// If the file has 512 bytes more than whole KiB, its first 512 are dropped. The image that is left must have
+/// 32,768 to 4,194,304 bytes, and is filled with zeros to whole pages of 32 KiB.
+///
+/// There is a LoROM header at 7FC0 if its map byte is 20 or 30. There is a HiROM header at FFC0 if its map byte is
+/// 21 or 31. If there are both, HiROM is taken if only its complement and checksum add to FFFF, else LoROM.
+///
+/// The chip byte must be at most 02, and the RAM size byte at most 7. The first rule that fails, in this order,
+/// refuses.
 pub fn accept(file: Vec<u8>) -> Result<Cart, CartEnd>
     ensures header { IfOk result (λ cart. verdict file.items ≡ Ok (record { map = cart.map; ram = cart.ram })) }
     ensures rom { IfOk result (λ cart. cart.rom ≡ rom_of (image_of file.items)) }
@@ -67,7 +71,7 @@ pub fn accept(file: Vec<u8>) -> Result<Cart, CartEnd>
     }
 }
 
-/// The image in a file.
+/// Returns the image in a file.
 #[tactic(auto, using(crate::proofs::Front::front_dropped), unfolding(crate::specs::Accept::image_of))]
 fn without_front(mut file: Vec<u8>) -> Vec<u8>
     ensures { result.items ≡ image_of file.items }
@@ -92,7 +96,7 @@ fn filled(mut image: Vec<u8>) -> Result<Vec<u8>, AllocError>
     Ok(image)
 }
 
-/// What the headers of a ROM say.
+/// Returns what the headers of a ROM say.
 #[tactic(auto, unfolding(crate::specs::Accept::judged))]
 fn judge(rom: &[u8]) -> Result<Header, CartRefused>
     requires { 32768 ≤ length rom.now }
@@ -113,7 +117,7 @@ fn judge(rom: &[u8]) -> Result<Header, CartRefused>
     }
 }
 
-/// The map whose header is taken.
+/// Returns the map whose header is taken.
 fn map_of(rom: &[u8]) -> Option<MapKind>
     requires { 32768 ≤ length rom.now }
     ensures chosen { result ≡ chosen rom.now }
@@ -130,7 +134,7 @@ fn map_of(rom: &[u8]) -> Option<MapKind>
     if lorom { Some(MapKind::LoRom) } else { None }
 }
 
-/// Whether a header's complement and checksum add to FFFF.
+/// Returns whether a header's complement and checksum add to FFFF.
 fn sums_add(rom: &[u8], header: usize) -> bool
     requires { header + 32 ≤ length rom.now }
     ensures { result ≡ sums_add rom.now header }
@@ -138,7 +142,7 @@ fn sums_add(rom: &[u8], header: usize) -> bool
     word(rom, header + COMPLEMENT) + word(rom, header + CHECKSUM) == 0xffff
 }
 
-/// A number of 16 bits, low byte first.
+/// Returns a number of 16 bits, low byte first.
 fn word(rom: &[u8], at: usize) -> u32
     requires { at + 2 ≤ length rom.now }
     ensures number { result ≡ slice_index rom.now at + 256 * slice_index rom.now (at + 1) }
@@ -147,7 +151,7 @@ fn word(rom: &[u8], at: usize) -> u32
     u32::from(LittleEndian::read_u16(&rom[at..]))
 }
 
-/// What a header's chip and RAM size ask for.
+/// Returns what a header's chip and RAM size ask for.
 fn asked(map: MapKind, chip: u8, size: u8) -> Result<Header, CartRefused>
     ensures { result ≡ asks_for map chip size }
 {

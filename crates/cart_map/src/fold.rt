@@ -1,7 +1,8 @@
+//! Folding: the byte of a ROM at an offset beyond its size.
 ghost use Rattle.std.specs.Prelude.{◌≡◌, ◌-◌, ◌*◌, ◌%◌, ◌^◌, ◌<◌, ◌≤◌};
 ghost use Rattle.cart_map.specs.Fold.{fold, fold_below};
 
-/// The byte of a ROM of this size that is seen at an offset of 22 bits.
+/// Returns the byte of a ROM of `size` bytes that is seen at an offset of 22 bits.
 #[tactic(auto, unfolding(crate::specs::Fold::fold))]
 pub(crate) fn folded(size: usize, offset: u32) -> u32
     requires some { 0 < size }
@@ -12,7 +13,7 @@ pub(crate) fn folded(size: usize, offset: u32) -> u32
     folded_below(22, size, offset)
 }
 
-/// The same for an offset of so many bits.
+/// Returns the byte of a ROM of `size` bytes that is seen at an offset of `bits` bits.
 #[tactic(auto, using(crate::proofs::FoldLemmas::fold_below_at, crate::proofs::FoldLemmas::fold_below_none))]
 fn folded_below(bits: u32, size: usize, offset: u32) -> u32
     requires some { 0 < size }
@@ -35,7 +36,7 @@ fn folded_below(bits: u32, size: usize, offset: u32) -> u32
     half + folded_below(bits - 1, size - half as usize, offset - half)
 }
 
-/// Half of the offsets of so many bits.
+/// Returns half of the number of offsets of `bits` bits.
 #[tactic(auto, using(crate::proofs::FoldLemmas::two_halves, crate::proofs::FoldLemmas::half_shift, crate::proofs::FoldLemmas::half_small))]
 fn half_of(bits: u32) -> u32
     requires some { 0 < bits }
@@ -47,7 +48,7 @@ fn half_of(bits: u32) -> u32
     1u32 << (bits - 1)
 }
 
-/// The offset in one half at which an offset in two is seen.
+/// Returns the offset in one half at which an offset in both halves is seen.
 #[tactic(auto, using(crate::proofs::FoldLemmas::seen_in_half))]
 fn seen_in(half: u32, offset: u32) -> u32
     requires { offset < 2 * half }

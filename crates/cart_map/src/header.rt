@@ -1,9 +1,10 @@
 use snes_defs::MapKind;
 
-/// What a cartridge's header says of it.
+/// The contents of a cartridge's header that the map needs.
 #[derive(Clone, Copy, Debug, PartialEq, Eq)]
 pub struct Header {
+    /// LoROM or HiROM.
     pub map: MapKind,
-    /// The size of its RAM in bytes.
+    /// The size of the cartridge's RAM in bytes.
     pub ram: u32,
 }

@@ -1,9 +1,9 @@
-// The cartridge as the processor sees it: which files are cartridges, what lies at each of the 2^24
-// addresses, and how many master clocks an access there lasts.
-//
-// Stands on the plain types. `accept` takes LoROM and HiROM cartridges with up to 128 KiB of RAM, and
-// refuses every other file by the first rule that fails. `place` and `clocks` are the tables of the
-// address map.
+//! The cartridge as the processor sees it: the files that are cartridges, the contents of the 2^24 addresses, and
+//! the master clocks of an access.
+//!
+//! The crate depends on the plain types of `snes_defs`. `accept` takes LoROM and HiROM cartridges with up to
+//! 128 KiB of RAM, and refuses every other file by the first rule that fails. `place` and `clocks` are the tables
+//! of the address map.
 #![tactic(auto)]
 
 mod acceptance;

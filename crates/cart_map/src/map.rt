@@ -1,3 +1,4 @@
+//! The address map: what lies at each 24-bit address.
 ghost use Rattle.std.specs.Prelude.{◌≡◌, ◌^◌, ◌/◌, ◌%◌, ◌<◌, ◌≤◌, length};
 ghost use Rattle.cart_map.specs.Place.{place_of, bank_place_of, system_place_of, lorom_place_of, hirom_place_of, ram_place_of, IsInside};
 
@@ -5,7 +6,7 @@ use crate::fold::folded;
 use crate::places::Place;
 use snes_defs::{Cart, MapKind};
 
-/// What lies at this 24-bit address of a console with this cartridge.
+/// Returns what lies at this 24-bit address of a console with this cartridge.
 #[inline(always)]
 pub fn place(cart: &Cart, addr: u32) -> Place
     requires { addr < 2 ^ 24 }
@@ -15,8 +16,9 @@ pub fn place(cart: &Cart, addr: u32) -> Place
     place_in(cart.map, cart.rom.get().len(), cart.ram, addr)
 }
 
-/// What lies at this 24-bit address of a console whose cartridge has this map, with so many bytes of ROM,
-/// at least one, and of RAM.
+/// Returns what lies at this 24-bit address, for a cartridge with this map and the sizes of its memories.
+///
+/// `rom` is the number of bytes of ROM, at least one, and `ram` that of RAM.
 ///
 /// Source: fullsnes, "SNES Memory Map".
 #[inline(always)]
@@ -40,7 +42,7 @@ pub fn place_in(map: MapKind, rom: usize, ram: u32, addr: u32) -> Place
     }
 }
 
-/// The console's own places, at 0000 to 5FFF of banks 00 to 3F and 80 to BF.
+/// Returns the console's own places, at 0000 to 5FFF of banks 00 to 3F and 80 to BF.
 #[inline(always)]
 fn system_place(offset: u16) -> Place
     requires { offset < 32768 }
@@ -57,7 +59,7 @@ fn system_place(offset: u16) -> Place
     }
 }
 
-/// What a LoROM cartridge shows.
+/// Returns what a LoROM cartridge shows at an address.
 fn lorom_place(rom: usize, ram: u32, bank: u32, offset: u32) -> Place
     requires some { 0 < rom }
     requires bank { bank < 256 }
@@ -74,7 +76,7 @@ fn lorom_place(rom: usize, ram: u32, bank: u32, offset: u32) -> Place
     }
 }
 
-/// What a HiROM cartridge shows.
+/// Returns what a HiROM cartridge shows at an address.
 fn hirom_place(rom: usize, ram: u32, bank: u32, offset: u32) -> Place
     requires some { 0 < rom }
     requires bank { bank < 256 }
@@ -98,7 +100,7 @@ fn hirom_place(rom: usize, ram: u32, bank: u32, offset: u32) -> Place
     }
 }
 
-/// A byte of the cartridge's RAM, if it has any.
+/// Returns a byte of the cartridge's RAM, if it has any.
 fn ram_place(ram: u32, index: u32) -> Place
     ensures place { result ≡ ram_place_of ram index }
     ensures inside { IsInside 0 ram result }

@@ -1,7 +1,8 @@
+//! The master clocks of an access at each 24-bit address.
 ghost use Rattle.std.specs.Prelude.{◌≡◌, ◌^◌, ◌<◌};
 ghost use Rattle.cart_map.specs.Clocks.{clocks_of};
 
-/// How many master clocks an access at this 24-bit address lasts: 6, 8 or 12.
+/// Returns the master clocks of an access at this 24-bit address: 6, 8 or 12.
 ///
 /// `fast` is bit 0 of MEMSEL (420D). Source: fullsnes, "SNES Memory Speed"; the equal clocks of
 /// reads and writes are those of the bus.

@@ -1,4 +1,4 @@
-//! The main screen's colour: one pixel, and a row.
+//! The main screen's colour after colour arithmetic: of one pixel, and of a row.
 
 ghost use Rattle.std.specs.Prelude.{◌≡◌, ℕ, ◌+◌, ◌*◌, ◌/◌, ◌%◌, ◌<◌, ◌≤◌, ◌==◌, Bool, true, false, not, ◌&&◌, ◌||◌, slice_index, if◌then◌else◌};
 ghost use Rattle.ppu_regs.specs.declared.registers.WindowPart.TheVariants.{Never};
@@ -23,7 +23,7 @@ fn holds_where(part: WindowPart, inside: bool) -> bool
     }
 }
 
-/// The fixed colour of 2132 COLDATA.
+/// Returns the fixed colour of 2132 COLDATA, 15 bits.
 #[inline(always)]
 #[tactic(auto, unfolding(crate::specs::Mixing::fixed_colour))]
 pub fn fixed(p: &Ppu) -> u16
@@ -34,7 +34,7 @@ pub fn fixed(p: &Ppu) -> u16
     m.red as u16 + 32 * m.green as u16 + 1024 * m.blue as u16
 }
 
-/// What 2130 CGWSEL and 2131 CGADSUB ask for, at a pixel inside and at one outside of the colour window.
+/// The demands of 2130 CGWSEL and 2131 CGADSUB, at a pixel inside and at one outside of the colour window.
 #[derive(Clone, Copy)]
 struct Mixer {
     black_inside: bool,
@@ -86,7 +86,7 @@ fn pick(which: bool, taken: u16, other: u16) -> u16
     if which { taken } else { other }
 }
 
-/// One pixel of the main screen, by a mixer made of these registers.
+/// Returns one pixel of the main screen, by a mixer made of these registers.
 #[inline(always)]
 #[tactic(auto, unfolding(crate::specs::Mixing::mixed))]
 fn mixed_by(
@@ -147,9 +147,10 @@ fn colour_of_dot(dot: Option<Dot>) -> u16
     }
 }
 
-/// The main screen's colour at the pixel `x` before brightness: `front` is the layer (1 to 4, or 5 for the
-/// objects) and the dot in front on the main screen, None where only the backdrop is there, and `sub` the
-/// dot in front on the sub screen.
+/// Returns the main screen's colour at the pixel `x` before brightness.
+///
+/// `front` is the layer (1 to 4, or 5 for the objects) and the dot in front on the main screen. It is None if only
+/// the backdrop is there. `sub` is the dot in front on the sub screen.
 #[tactic(auto, unfolding(crate::specs::Mixing::mixed_at))]
 pub fn mix(p: &Ppu, x: u8, front: Option<(u8, Dot)>, sub: Option<Dot>) -> u16
     ensures { result ≡ mixed_at p.now x front sub }
@@ -202,7 +203,8 @@ fn mix_each(
     }
 }
 
-/// The same, written out by what is done, so that each loop does one thing.
+/// Mixes a row by a mixer made of these registers. It is written out by what is done, so that each loop does one
+/// thing.
 #[inline(always)]
 fn mix_kinds(
     m: &ColourMath,
@@ -261,7 +263,8 @@ fn mix_kinds(
     }
 }
 
-/// Whether the colour window has no say: main is black nowhere, and arithmetic stopped nowhere.
+/// Returns whether the colour window has no effect: the main screen is black nowhere, and arithmetic is stopped
+/// nowhere.
 #[inline(always)]
 #[tactic(auto, unfolding(crate::specs::Mixing::holds_at))]
 fn is_unwindowed(m: &ColourMath) -> bool
@@ -277,7 +280,7 @@ fn is_unwindowed(m: &ColourMath) -> bool
     }
 }
 
-/// Mixes a row where the colour window has no say.
+/// Mixes a row if the colour window has no effect.
 #[tactic(auto, using(crate::proofs::Cases::unwindowed))]
 fn mix_unwindowed(
     p: &Ppu,
@@ -355,7 +358,7 @@ pub fn mix_row(
     }
 }
 
-/// Whether a pixel with this key takes part in arithmetic: 1 or 0.
+/// Returns whether a pixel with this key takes part in arithmetic: 1 or 0.
 #[inline(always)]
 #[tactic(auto, unfolding(crate::specs::Mixing::is_mixed, scanline_ops::specs::RankedPixels::is_named))]
 fn mark(m: &ColourMath, stopped_inside: bool, stopped_outside: bool, inside: bool, key: u8) -> u8
@@ -367,8 +370,8 @@ fn mark(m: &ColourMath, stopped_inside: bool, stopped_outside: bool, inside: boo
     (key / 8 % 2 == 1 && !stopped) as u8
 }
 
-/// Marks the pixels that take part in arithmetic by the row of the colour window, 1 for such a pixel and else 0, and
-/// answers whether there are any.
+/// Marks the pixels that take part in arithmetic by the row of the colour window: 1 for such a pixel, else 0.
+/// Returns whether there are any.
 #[inline(always)]
 fn mark_each(m: &ColourMath, inside: &[u8; 256], keys: &[u8; 256], marks: &mut [u8; 256]) -> bool
     ensures marks { (x : ℕ) → x < 256 → slice_index marks.new x ≡
@@ -386,8 +389,8 @@ fn mark_each(m: &ColourMath, inside: &[u8; 256], keys: &[u8; 256], marks: &mut [
     most != 0
 }
 
-/// Marks the pixels of a row whose colours take part in arithmetic, 1 for such a pixel and else 0, and answers whether
-/// there are any: `keys` are the main screen's.
+/// Marks the pixels of a row whose colours take part in arithmetic: 1 for such a pixel, else 0. Returns whether
+/// there are any. `keys` are the main screen's keys.
 #[tactic(auto, using(crate::proofs::Cases::masks))]
 pub fn mark_mixed(p: &Ppu, keys: &[u8; 256], marks: &mut [u8; 256]) -> bool
     ensures marks { (x : ℕ) → x < 256 → slice_index marks.new x ≡
@@ -420,7 +423,7 @@ fn pick_marked(marked: u8, taken: u16, other: u16) -> u16
     pick(marked != 0, taken, other)
 }
 
-/// One pixel of the main screen, where that is black nowhere, by a mark of `mark_mixed`.
+/// Returns one pixel of a main screen that is black nowhere, by a mark of `mark_mixed`.
 #[inline(always)]
 #[tactic(auto, using(crate::proofs::Cases::marked))]
 fn mixed_where(m: &ColourMath, mixer: &Mixer, marked: u8, main: u16, found: bool, sub: u16) -> u16
@@ -438,7 +441,7 @@ fn mixed_where(m: &ColourMath, mixer: &Mixer, marked: u8, main: u16, found: bool
     pick_marked(marked, joined, main)
 }
 
-/// Mixes the marked pixels of a row by a mixer made of these registers, where the main screen is black nowhere.
+/// Mixes the marked pixels of a row by a mixer made of these registers, if the main screen is black nowhere.
 #[inline(always)]
 fn mix_marked_each(
     m: &ColourMath,
@@ -469,7 +472,8 @@ fn mix_marked_each(
     }
 }
 
-/// The same, written out by what is done, so that each loop does one thing.
+/// Mixes the marked pixels of a row by a mixer made of these registers, if the main screen is black nowhere. It is
+/// written out by what is done, so that each loop does one thing.
 #[inline(always)]
 fn mix_marked_kinds(
     m: &ColourMath,
@@ -524,7 +528,7 @@ fn mix_marked_kinds(
     }
 }
 
-/// Mixes the pixels of a row that `mark_mixed` has marked, where the main screen is black nowhere: `main` are the main
+/// Mixes the pixels of a row that `mark_mixed` has marked, if the main screen is black nowhere. `main` are the main
 /// screen's colours, `sub_keys` and `sub` the sub screen's keys and colours.
 pub fn mix_marked(
     p: &Ppu,

@@ -1,4 +1,4 @@
-//! Windows: a truth for one pixel, and mask rows made of intervals.
+//! The windows of the layers: whether one pixel is inside, and mask rows made of intervals.
 
 ghost use Rattle.std.specs.Prelude.{◌≡◌, ℕ, ◌<◌, ◌≤◌, slice_index, true, false, if◌then◌else◌};
 ghost use Rattle.ppu_regs.specs.Picture.{windows_of};
@@ -7,8 +7,9 @@ ghost use Rattle.color_window.specs.Windows.{is_within, truth_of, is_inside, mas
 use ppu_regs::{Combine, LayerWindows, Ppu, Registers, Window};
 use scanline_ops::fill_row;
 
-/// Whether the pixel `x` lies in the windows of a layer: 1 to 4 for BG1 to BG4, 5 for the objects, 6 for the
-/// colour window.
+/// Returns whether the pixel `x` is in the windows of a layer.
+///
+/// The layers are 1 to 4 for BG1 to BG4, 5 for the objects, and 6 for the colour window.
 #[inline(always)]
 pub fn inside(p: &Ppu, layer: u8, x: u8) -> bool
     requires first { 1 ≤ layer }
@@ -69,7 +70,7 @@ fn mask(truth: bool) -> u8
     truth as u8 * 255
 }
 
-/// What a layer makes of the four cases of being in the two windows, as masks.
+/// A layer's masks for the four cases of being in the two windows.
 #[derive(Clone, Copy)]
 struct Cases {
     neither: u8,
@@ -126,8 +127,7 @@ fn split(window: &Window, inside: u8, outside: u8, out: &mut [u8; 256])
     fill_within(window, inside, out);
 }
 
-/// Writes FF at each pixel that lies in the windows of a layer (1 to 6, as for `inside`), and 0 at each
-/// other.
+/// Writes FF at each pixel that is in the windows of a layer (1 to 6, as for `inside`), and 0 at each other.
 #[tactic(auto, unfolding(crate::specs::Windows::is_inside))]
 pub fn mask_row(p: &Ppu, layer: u8, out: &mut [u8; 256])
     requires first { 1 ≤ layer }
@@ -138,7 +138,8 @@ pub fn mask_row(p: &Ppu, layer: u8, out: &mut [u8; 256])
     masks(r.windows(layer), &r.window_one, &r.window_two, out);
 }
 
-/// The row of the pixels outside of window 1 and that of the pixels within it are intervals of window 2 each.
+/// Writes a layer's mask row. The pixels outside of window 1 are an interval of window 2, and so are those within
+/// it.
 #[tactic(auto, using(crate::proofs::Cases::cases))]
 fn masks(w: &LayerWindows, one: &Window, two: &Window, out: &mut [u8; 256])
     ensures { (x : ℕ) → x < 256 → slice_index out.new x ≡ mask_of (truth_of w.now (is_within one.now x) (is_within two.now x)) }

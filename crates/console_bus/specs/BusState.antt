@@ -57,7 +57,7 @@ next_frame frame = if frame == 65535 then 65535 else frame + 1
 unfoldable pub channels_start : List Channel
 channels_start = replicate 8 first_channel
 
--- so many bytes of RAM, all zeros, before the ROM
+-- work RAM and `ram` bytes of the cartridge's RAM, all zeros, before the ROM
 unfoldable pub memory_start : ℕ → List ℕ → List ℕ
 memory_start ram rom = replicate (131072 + ram) 0 ++ rom
 

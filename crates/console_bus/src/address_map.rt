@@ -1,4 +1,4 @@
-// What lies at an address, and at which byte of the memory, by pages that are made once.
+// The address map as 2,048 pages of 8 KiB, made once: the byte of the memory at an address, and an access's clocks.
 ghost use Rattle.std.specs.Prelude.{◌≡◌, ℕ, ◌<◌, ◌≤◌, ◌+◌, ◌*◌, ◌^◌, false, IfOk, IfSome, IsTrue, length};
 ghost use Rattle.cart_map.specs.Place.{IsInside};
 ghost use Rattle.console_bus.specs.declared.cart_board.CartBoard.{CartBoard};
@@ -11,35 +11,37 @@ use snes_defs::NoMemory;
 use std::alloc::Global;
 use std::marker::Model;
 
-/// The addresses of a page.
+/// The number of addresses in a page.
 const PAGE: u32 = 0x2000;
 
-/// How many pages there are.
+/// The number of pages.
 const PAGES: u32 = 2048;
 
-/// What a page that isn't memory says an access lasts: longer than a line, so that one comparison with the clocks
-/// that are left tells both that an access is of the memory and that nothing else happens in its clocks.
+/// The access time, in clocks, of a page that isn't memory: longer than a line. So one comparison with the clocks
+/// left shows both that an access is to memory and that no event interrupts it.
 const NO_MEMORY: u16 = 2000;
 
-/// An access to the memory: to which byte, and how many clocks it lasts.
+/// An access to the memory: its byte and its clocks.
 #[derive(Clone, Copy, Debug, PartialEq, Eq)]
 pub struct MemoryAccess {
+    /// The number of the byte in the memory: work RAM, then the cartridge's RAM, then its ROM.
     pub at: usize,
+    /// The master clocks that the access takes.
     pub clocks: u16,
 }
 
-/// Eight KiB of addresses, which are memory, one byte after another, or `NO_MEMORY`.
+/// A page of 8 KiB of addresses: memory, one byte after another, or `NO_MEMORY`.
 #[derive(Clone, Copy, Debug, PartialEq, Eq)]
 pub(crate) struct Page {
     /// The byte of the memory at the first address.
     at: u32,
-    /// How many clocks an access lasts.
+    /// The clocks of an access.
     slow: u16,
-    /// The same where MEMSEL makes ROM fast.
+    /// The clocks of an access while MEMSEL makes ROM fast.
     fast: u16,
 }
 
-/// A cartridge's board with its pages, seen in contracts as the board.
+/// A cartridge's board with its pages. Contracts see it as the board.
 #[derive(Drop)]
 pub(crate) struct AddressMap {
     board: CartBoard,
@@ -59,7 +61,7 @@ impl Model for AddressMap {
 }
 
 impl AddressMap {
-    /// The map of a board. It takes the memory for its pages, and refuses only for want of it.
+    /// Makes the map of a board. Fails only if allocation of the pages fails.
     pub(crate) fn new(alloc: Global, board: CartBoard) -> Result<AddressMap, NoMemory>
         requires { 0 < board.rom }
         ensures { IfOk result (λ map. map ≡ board) }
@@ -68,7 +70,7 @@ impl AddressMap {
         Ok(AddressMap { board, pages })
     }
 
-    /// The board.
+    /// Returns the board.
     #[inline(always)]
     pub(crate) fn board(&self) -> &CartBoard
         ensures { result.now ≡ self.now }
@@ -76,8 +78,8 @@ impl AddressMap {
         &self.board
     }
 
-    /// The byte of the memory at an address, where the page of the address is memory and an access lasts fewer
-    /// clocks than so many.
+    /// Returns the access to the memory at an address. None if the page of the address isn't memory, or an access
+    /// takes `limit` clocks or more.
     #[inline(always)]
     pub(crate) fn memory_within(&self, addr: u32, fast: bool, limit: u16) -> Option<MemoryAccess>
         requires addr { addr < 2 ^ 24 }
@@ -89,7 +91,7 @@ impl AddressMap {
         access(page, addr % PAGE, fast, limit)
     }
 
-    /// The byte of the memory at an address, where the page of the address is memory.
+    /// Returns the access to the memory at an address. None if the page of the address isn't memory.
     #[inline(always)]
     pub(crate) fn memory_at(&self, addr: u32, fast: bool) -> Option<MemoryAccess>
         requires { addr < 2 ^ 24 }
@@ -99,7 +101,7 @@ impl AddressMap {
     }
 }
 
-/// How many clocks an access to a page lasts.
+/// Returns the clocks of an access to a page.
 #[inline(always)]
 fn page_clocks(page: Page, fast: bool) -> u16
     ensures { result ≡ page_clocks page fast }
@@ -107,7 +109,7 @@ fn page_clocks(page: Page, fast: bool) -> u16
     if fast { page.fast } else { page.slow }
 }
 
-/// The byte so many addresses after a page's first, where an access lasts fewer clocks than so many.
+/// Returns the access `offset` addresses after a page's first. None if it takes `limit` clocks or more.
 #[inline(always)]
 fn access(page: Page, offset: u32, fast: bool, limit: u16) -> Option<MemoryAccess>
     requires offset { offset < 8192 }
@@ -126,7 +128,7 @@ fn access(page: Page, offset: u32, fast: bool, limit: u16) -> Option<MemoryAcces
     })
 }
 
-/// The pages of a board.
+/// Makes the pages of a board.
 #[tactic(auto, using(crate::proofs::Pages::one_more))]
 fn pages_of(alloc: Global, board: &CartBoard) -> Result<Vec<Page>, NoMemory>
     requires { 0 < board.now.rom }
@@ -143,7 +145,7 @@ fn pages_of(alloc: Global, board: &CartBoard) -> Result<Vec<Page>, NoMemory>
     Ok(pages)
 }
 
-/// A page that isn't memory, or not one byte after another.
+/// Returns a page that isn't memory, or isn't one byte after another.
 fn no_page() -> Page
     ensures slow { result.slow ≡ 2000 }
     ensures fast { result.fast ≡ 2000 }
@@ -155,7 +157,7 @@ fn no_page() -> Page
     }
 }
 
-/// A page of a board.
+/// Returns the page of this number of a board.
 
 fn page_from(board: &CartBoard, number: u32) -> Page
     requires some { 0 < board.now.rom }
@@ -174,8 +176,8 @@ fn page_from(board: &CartBoard, number: u32) -> Page
     }
 }
 
-/// The byte of the memory at a place where a page may begin: none for a page that would pass the end of the
-/// memory of which it is, or where that isn't made of whole pages.
+/// Returns the byte of the memory at a place where a page may begin. None if the page would pass the end of its
+/// memory, or that memory isn't made of whole pages.
 fn first_byte(board: &CartBoard, place: Place) -> Option<u32>
     ensures index { IfSome result (λ at. index_of board.now place ≡ Some at) }
     ensures whole { IfSome result (λ at. IsWhole board.now place) }
@@ -190,7 +192,7 @@ fn first_byte(board: &CartBoard, place: Place) -> Option<u32>
     }
 }
 
-/// The byte `i` of so many, counted from the memory's start, where a page from it on lies inside of them.
+/// Returns the byte `i` of `size`, counted from the memory's start. None if a page from there on passes their end.
 fn fitting(before: usize, i: u32, size: usize) -> Option<u32>
     requires { before < 2 ^ 33 }
     ensures at { IfSome result (λ at. at ≡ before + i) }

@@ -1,3 +1,4 @@
+//! The bus as one value: reads and writes of memory, places and registers.
 ghost use Rattle.std.specs.Prelude.{◌≡◌, ◌<◌, ◌≤◌, ◌+◌, ◌^◌, ◌++◌, length, IfOk, IfSome, List, slice_index};
 ghost use Rattle.snes_defs.specs.declared.cart.Cart.{Cart};
 ghost use Rattle.beam.specs.Places.{clocks_left};
@@ -18,24 +19,37 @@ use snes_defs::{NoMemory, Spans, Spot};
 use std::marker::Model;
 use tile_cache::TileCache;
 
-/// The bytes of work RAM.
+/// The size of work RAM in bytes.
 pub(crate) const WORK_RAM: usize = 131_072;
 
-/// The console without its processor, seen in contracts as a `BusState`.
+/// The console side without its processor. Contracts see it as a `BusState`.
 #[derive(Drop)]
 pub struct Bus {
+    /// The cartridge's board, with the pages of its address map.
     pub(crate) map: AddressMap,
+    /// The controller script.
     pub(crate) script: Spans,
+    /// Work RAM, then the cartridge's RAM, then its ROM.
     pub(crate) memory: Vec<u8>,
+    /// The address of 2180 WMDATA in work RAM, 17 bits.
     pub(crate) port: u32,
+    /// The CPU's own registers.
     pub(crate) io: Io,
+    /// The DMA channels.
     pub(crate) dma: Dma,
+    /// The PPU.
     pub(crate) ppu: Ppu,
+    /// The decoded tiles, in step with VRAM.
     pub(crate) tiles: TileCache,
+    /// The beam.
     pub(crate) beam: Beam,
+    /// The number of the frame from 0. It stays at 65,535.
     pub(crate) frame: u16,
+    /// The byte last on the data bus.
     pub(crate) last: u8,
+    /// Whether a refresh is due.
     pub(crate) refresh: bool,
+    /// Whether a reset is due.
     pub(crate) reset: bool,
 }
 
@@ -52,7 +66,7 @@ impl Model for Bus {
 }
 
 impl Bus {
-    /// What lies at a 24-bit address.
+    /// Returns what lies at a 24-bit address.
     #[inline(always)]
     #[tactic(auto, using(crate::proofs::Addresses::same_bank, crate::proofs::Addresses::same_offset))]
     pub fn place(&self, addr: u32) -> Place
@@ -63,8 +77,8 @@ impl Bus {
         place_in(board.map, board.rom, board.ram, addr % 0x100_0000)
     }
 
-    /// Which byte of the memory lies at a 24-bit address, and how many clocks an access there lasts, where the
-    /// page of the address is memory.
+    /// Returns the access to the memory at a 24-bit address: its byte and its clocks. None if the page of the
+    /// address isn't memory.
     #[inline(always)]
     pub fn memory_at(&self, addr: u32) -> Option<MemoryAccess>
         requires { addr < 2 ^ 24 }
@@ -73,7 +87,8 @@ impl Bus {
         self.map.memory_at(addr, self.io.fast())
     }
 
-    /// The same where the access lasts fewer clocks than are left to the beam's next place: nothing else happens in them.
+    /// Returns the access to the memory at a 24-bit address, if it ends before the beam's next event. So nothing
+    /// else happens in its clocks. None also if the page of the address isn't memory.
     #[inline(always)]
     pub fn memory_within(&self, addr: u32) -> Option<MemoryAccess>
         requires { addr < 2 ^ 24 }
@@ -84,7 +99,7 @@ impl Bus {
             .memory_within(addr, self.io.fast(), self.beam.clocks_left())
     }
 
-    /// A byte of the memory.
+    /// Returns a byte of the memory.
     #[inline(always)]
     pub fn load(&self, at: usize) -> u8
         requires { at < 131072 + self.now.board.ram + self.now.board.rom }
@@ -93,7 +108,7 @@ impl Bus {
         self.memory[at]
     }
 
-    /// Writes a byte of the memory. ROM stays as it is.
+    /// Writes a byte of the memory. ROM stays unchanged.
     #[inline(always)]
     pub fn store(&mut self, at: usize, v: u8)
         requires { at < 131072 + self.old.board.ram + self.old.board.rom }
@@ -104,7 +119,7 @@ impl Bus {
         }
     }
 
-    /// The byte that a transfer takes from the A side, at a 24-bit address.
+    /// Returns the byte that a transfer takes from the A side, at a 24-bit address.
     #[inline(always)]
     pub fn take(&self, addr: u32) -> u8
         ensures { result ≡ taken_from self.now addr }
@@ -119,7 +134,7 @@ impl Bus {
         }
     }
 
-    /// A transfer writes a byte at a 24-bit address of the A side.
+    /// Writes a byte of a transfer to the A side, at a 24-bit address.
     #[inline(always)]
     pub fn give(&mut self, addr: u32, v: u8)
         ensures given { self.new ≡ place_written self.old (a_side (place_at self.old.board addr)) v }
@@ -135,7 +150,7 @@ impl Bus {
         }
     }
 
-    /// Reads a byte at a place. `got` is what a port to the sound side gives.
+    /// Reads a byte at a place. `got` is the byte that a port to the sound side gives.
     #[inline(always)]
     pub fn read(&mut self, place: Place, got: u8) -> u8
         requires { IsInside self.old.board.rom self.old.board.ram place }
@@ -152,7 +167,7 @@ impl Bus {
         }
     }
 
-    /// Writes a byte at a place. What it does at a port to the sound side is the caller's.
+    /// Writes a byte at a place. At a port to the sound side the write is left to the caller.
     #[inline(always)]
     pub fn write(&mut self, place: Place, v: u8)
         requires { IsInside self.old.board.rom self.old.board.ram place }
@@ -168,7 +183,7 @@ impl Bus {
         }
     }
 
-    /// Reads a register of the B bus, 2100 plus `register`. `got` is what a port gives.
+    /// Reads a register of the B bus, 2100 plus `register`. `got` is the byte that a port to the sound side gives.
     #[tactic(auto, unfolding(crate::specs::Places::register_byte, crate::specs::Places::register_read))]
     pub fn read_register(&mut self, register: u8, got: u8) -> u8
         ensures byte { result ≡ register_byte self.old register got }
@@ -190,7 +205,8 @@ impl Bus {
         self.last
     }
 
-    /// Writes a register of the B bus, 2100 plus `register`; not what a port does on the other side.
+    /// Writes a register of the B bus, 2100 plus `register`. At a port to the sound side the write is left to the
+    /// caller.
     #[tactic(auto, unfolding(crate::specs::Places::register_written))]
     pub fn write_register(&mut self, register: u8, v: u8)
         ensures written { self.new ≡ register_written self.old register v }
@@ -222,7 +238,7 @@ impl Bus {
         }
     }
 
-    /// Writes a register of the picture unit, and keeps the decoded tiles in step.
+    /// Writes a register of the PPU, and keeps the decoded tiles in step with VRAM.
     fn write_picture(&mut self, register: u8, v: u8)
         requires { register < 0x40 }
         ensures { self.new ≡ (let p = after_write self.old.picture register v in record self.old { picture = p }) }
@@ -230,7 +246,7 @@ impl Bus {
         let _word = tile_cache::write(&mut self.ppu, &mut self.tiles, register, v);
     }
 
-    /// Reads a register of the processor's chip.
+    /// Reads a register of the CPU's chip, 4016 to 437F.
     #[tactic(auto, unfolding(crate::specs::Places::chip_byte, crate::specs::Places::chip_read), using(crate::proofs::Timers::timer_read))]
     pub fn read_chip(&mut self, register: u16) -> u8
         ensures byte { result ≡ chip_byte self.old register }
@@ -243,7 +259,7 @@ impl Bus {
         self.io.read(register, self.last, spot)
     }
 
-    /// Writes a register of the processor's chip.
+    /// Writes a register of the CPU's chip, 4016 to 437F.
     #[tactic(auto, unfolding(crate::specs::Places::chip_written))]
     pub fn write_chip(&mut self, register: u16, v: u8)
         ensures { self.new ≡ chip_written self.old register v }
@@ -261,7 +277,7 @@ impl Bus {
         }
     }
 
-    /// Writes a register of `Io`, whose timer the beam then follows.
+    /// Writes a register of `Io`, and gives the beam the setting of its timer.
     fn write_io(&mut self, register: u16, v: u8)
         ensures { self.new ≡ with_io self.old (io_written self.old.io register v) }
     {

@@ -1,9 +1,12 @@
 use snes_defs::MapKind;
 
-/// The cartridge's map and the sizes of its memories in bytes.
+/// A cartridge's map, and the sizes of its memories.
 #[derive(Clone, Copy, Debug, PartialEq, Eq)]
 pub struct CartBoard {
+    /// LoROM or HiROM.
     pub map: MapKind,
+    /// The bytes of ROM.
     pub rom: usize,
+    /// The bytes of RAM.
     pub ram: u32,
 }

@@ -1,4 +1,4 @@
-// A bus taken over into another one, and a script that goes on.
+// Copying a bus into another one, and adding to its script.
 ghost use Rattle.std.specs.Prelude.{◌≡◌, ◌+◌, ◌<◌, ◌≤◌, ◌++◌, [], length, max, take, drop, OnOk, OnErr};
 ghost use Rattle.snes_defs.specs.Script.{frames_of};
 ghost use Rattle.console_bus.specs.Playing.{played, with_room};
@@ -6,7 +6,7 @@ ghost use Rattle.console_bus.specs.Playing.{played, with_room};
 use crate::bus::{Bus, WORK_RAM};
 use snes_defs::{NoMemory, Span};
 
-/// Makes the first so many bytes those of another list.
+/// Copies the first `count` bytes from another list.
 fn copy_first(from: &[u8], into: &mut [u8], count: usize)
     requires there { count ≤ length from.now }
     requires here { count ≤ length into.old }
@@ -16,8 +16,10 @@ fn copy_first(from: &[u8], into: &mut [u8], count: usize)
 }
 
 impl Bus {
-    /// Makes the other bus the same one. Both need one cartridge, of which the ROM is not copied, and no resets, and
-    /// the other needs room for the spans of the script; its room stays. No memory is taken.
+    /// Copies this bus into another one, except ROM. Does not allocate.
+    ///
+    /// Both need the same cartridge and scripts without resets. The other needs room for this script's spans, and
+    /// keeps its room.
     #[tactic(auto, using(crate::proofs::Copies::same_memory))]
     pub fn copy_into(&self, into: &mut Bus)
         requires board { self.now.board ≡ into.old.board }
@@ -42,7 +44,7 @@ impl Bus {
         into.reset = self.reset;
     }
 
-    /// Makes room for so many more spans of the script. Refused only for want of memory; then nothing has changed.
+    /// Reserves room for `spans` more spans of the script. Fails only if allocation fails; then nothing has changed.
     pub fn reserve(&mut self, spans: usize) -> Result<(), NoMemory>
         ensures ok { OnOk result (self.new ≡ record self.old { script = with_room self.old.script (max self.old.script.room (length self.old.script.spans + spans)) }) }
         ensures err { OnErr result (self.new ≡ self.old) }
@@ -50,8 +52,8 @@ impl Bus {
         self.script.reserve(spans)
     }
 
-    /// Puts a span at the end of the script, where there is room for one, and gives both pads the words that the
-    /// longer script has for the frame. No memory is taken.
+    /// Appends a span to the script, and gives both pads the words that the longer script has for the frame.
+    /// Does not allocate: the caller has reserved the room.
     pub fn play(&mut self, span: Span)
         requires room { length self.old.script.spans < self.old.script.room }
         requires frames { frames_of self.old.script.spans + span.count ≤ 36000 }

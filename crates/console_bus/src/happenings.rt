@@ -1,3 +1,4 @@
+//! The events of the beam, transfers, refreshes and resets, as they change the bus.
 ghost use Rattle.std.specs.Prelude.{◌≡◌, IsTrue, ℕ, ◌+◌, ◌==◌, if◌then◌else◌, ◌<◌, ◌≤◌, ◌-◌, Bool, true, false, [], None, IsSome, map, slice_index};
 ghost use Rattle.beam.specs.Events.{happens_next, beam_next, beam_after, passed};
 ghost use Rattle.beam.specs.Places.{clocks_left};
@@ -15,7 +16,7 @@ use io_math::Io;
 use ppu_line::draw;
 
 impl Bus {
-    /// The levels of the processor's NMI and IRQ lines.
+    /// Returns the levels of the processor's NMI and IRQ lines.
     #[inline(always)]
     pub fn interrupt_levels(&self) -> (bool, bool)
         ensures nmi { result.0 ≡ nmi_level self.now.io }
@@ -24,7 +25,7 @@ impl Bus {
         self.io.lines()
     }
 
-    /// The next byte of a transfer, if one is due.
+    /// Returns the next byte of a transfer, if one is due.
     #[inline(always)]
     pub fn transfer(&self) -> Option<Move>
         ensures { result ≡ due_of self.now.channels }
@@ -32,7 +33,7 @@ impl Bus {
         self.dma.next()
     }
 
-    /// Whether a reset, a refresh or a byte of a transfer is due, and not an access of the processor.
+    /// Returns whether a reset, a refresh or a byte of a transfer is due. If not, it is the processor's turn.
     #[inline(always)]
     pub fn is_busy(&self) -> bool
         ensures reset { result ≡ false → self.now.reset ≡ false }
@@ -42,7 +43,7 @@ impl Bus {
         self.reset || self.refresh || self.dma.next().is_some()
     }
 
-    /// The byte of a transfer that was due has been moved.
+    /// Records that the byte of a transfer that was due has been moved.
     #[inline(always)]
     pub fn transferred(&mut self, byte: u8)
         requires { IsSome (due_of self.old.channels) }
@@ -51,7 +52,7 @@ impl Bus {
         self.dma.done(byte);
     }
 
-    /// A byte has gone over the data bus.
+    /// Records the byte last on the data bus.
     #[inline(always)]
     pub fn put(&mut self, byte: u8)
         ensures { self.new ≡ record self.old { last = byte } }
@@ -59,7 +60,7 @@ impl Bus {
         self.last = byte;
     }
 
-    /// Whether a reset is due, and whether a refresh is.
+    /// Returns whether a reset is due.
     #[inline(always)]
     pub fn resets(&self) -> bool
         ensures { result ≡ self.now.reset }
@@ -67,6 +68,7 @@ impl Bus {
         self.reset
     }
 
+    /// Returns whether a refresh is due.
     #[inline(always)]
     pub fn refreshes(&self) -> bool
         ensures { result ≡ self.now.refresh }
@@ -74,14 +76,14 @@ impl Bus {
         self.refresh
     }
 
-    /// The refresh is made.
+    /// Records that the refresh was made.
     pub fn refreshed(&mut self)
         ensures { self.new ≡ record self.old { refresh = false } }
     {
         self.refresh = false;
     }
 
-    /// Bit 0 of MEMSEL.
+    /// Returns bit 0 of 420D MEMSEL: whether ROM is fast in banks 80 to FF.
     #[inline(always)]
     pub fn fast(&self) -> bool
         ensures { result ≡ self.now.io.fast }
@@ -89,7 +91,7 @@ impl Bus {
         self.io.fast()
     }
 
-    /// The clocks, at least 1, until something may happen.
+    /// Returns the master clocks, at least 1, until the next place at which something may happen.
     #[inline(always)]
     pub fn clocks_left(&self) -> u16
         ensures clocks { result ≡ clocks_left self.now.beam }
@@ -99,7 +101,7 @@ impl Bus {
         self.beam.clocks_left()
     }
 
-    /// The beam goes on by fewer clocks than are left: nothing happens.
+    /// Advances the beam by fewer clocks than are left, in which nothing happens.
     #[inline(always)]
     pub fn go_on(&mut self, clocks: u16)
         requires { clocks < clocks_left self.old.beam }
@@ -112,8 +114,8 @@ impl Bus {
         self.beam.go_on(clocks);
     }
 
-    /// The beam goes on by the clocks that are left, and answers what happens there; before the last of
-    /// them nothing does.
+    /// Advances the beam by all the clocks that are left, and returns what happens there. Before the last of them
+    /// nothing happens.
     pub fn reach(&mut self) -> Happens
         ensures none_before { passed self.old.picture.registers.settings.overscan self.old.beam (clocks_left self.old.beam - 1) ≡ [] }
         ensures last { let overscan = self.old.picture.registers.settings.overscan in result ≡ happens_next overscan (beam_after overscan self.old.beam (clocks_left self.old.beam - 1)) }
@@ -126,7 +128,7 @@ impl Bus {
         self.beam.reach(overscan)
     }
 
-    /// The line clock of the next place at which something may happen, 1,364 for the end of the line.
+    /// Returns the line clock of the next place at which something may happen, 1,364 for the end of the line.
     #[inline(always)]
     pub fn place_ahead(&self) -> u16
         ensures { result ≡ self.now.beam.h + clocks_left self.now.beam }
@@ -134,7 +136,7 @@ impl Bus {
         self.beam.spot().h + self.beam.clocks_left()
     }
 
-    /// Whether the timer asks for no interrupts.
+    /// Returns whether the timer is off, so that it asks for no interrupts.
     #[inline(always)]
     pub fn is_timer_off(&self) -> bool
         ensures { IsTrue result → self.now.beam.timer.kind ≡ 0 }
@@ -142,7 +144,7 @@ impl Bus {
         self.io.irq_time().kind == 0
     }
 
-    /// The line where the beam stands.
+    /// Returns the line of the beam.
     #[inline(always)]
     pub fn scanline(&self) -> u16
         ensures { result ≡ self.now.beam.v }
@@ -150,7 +152,8 @@ impl Bus {
         self.beam.spot().v
     }
 
-    /// A frame begins.
+    /// Begins a frame: clears the NMI flag and the flags of the objects' limits, and gives the pads the frame's
+    /// words. A reset is then due if the script has one.
     #[tactic(auto, unfolding(crate::specs::Happenings::frame_begun), using(crate::proofs::Timers::timer_framed))]
     pub fn begin_frame(&mut self)
         ensures { self.new ≡ frame_begun self.old }
@@ -168,7 +171,8 @@ impl Bus {
         self.reset = self.reset || resets;
     }
 
-    /// Vertical blank begins.
+    /// Begins vertical blank: sets the NMI flag, and runs auto-read if it is on. The address of OAM is reloaded unless
+    /// forced blank is set.
     #[tactic(auto, unfolding(crate::specs::Happenings::blank_begun), using(crate::proofs::Timers::timer_blanked))]
     pub fn begin_blank(&mut self)
         ensures { self.new ≡ blank_begun self.old }
@@ -178,28 +182,28 @@ impl Bus {
         self.ppu.blank();
     }
 
-    /// The HDMA channels begin a frame.
+    /// Begins a frame of the HDMA channels.
     pub fn begin_hdma(&mut self)
         ensures { self.new ≡ record self.old { channels = map channel_frame_begun self.old.channels } }
     {
         self.dma.frame();
     }
 
-    /// The HDMA channels begin a line.
+    /// Begins a line of the HDMA channels.
     pub fn begin_hdma_line(&mut self)
         ensures { self.new ≡ record self.old { channels = map line_begun self.old.channels } }
     {
         self.dma.line();
     }
 
-    /// A refresh is due.
+    /// Makes a refresh due.
     pub fn begin_refresh(&mut self)
         ensures { self.new ≡ record self.old { refresh = true } }
     {
         self.refresh = true;
     }
 
-    /// The timer fires.
+    /// Fires the timer.
     #[tactic(auto, using(crate::proofs::Timers::timer_timed))]
     pub fn fire(&mut self)
         ensures { self.new ≡ record self.old { io = timed self.old.io } }
@@ -207,7 +211,7 @@ impl Bus {
         self.io.timer();
     }
 
-    /// Draws the row above the line where the beam stands, 1 to 239: 512 dots of 15 bits.
+    /// Draws the row above the beam's line, which is 1 to 239: 512 dots of 15 bits.
     #[tactic(auto, unfolding(crate::specs::Happenings::row_drawn, crate::specs::Happenings::is_shown, crate::specs::Happenings::shown_dot))]
     pub fn draw_dots(&mut self, dots: &mut [u16; 512])
         requires first { 1 ≤ self.old.beam.v }
@@ -224,7 +228,7 @@ impl Bus {
         }
     }
 
-    /// A reset is made.
+    /// Makes a reset: sets forced blank, stops all transfers, and puts the CPU's registers at their start.
     #[tactic(auto, unfolding(crate::specs::Happenings::was_reset))]
     pub fn reset(&mut self)
         ensures { self.new ≡ was_reset self.old }
@@ -236,7 +240,7 @@ impl Bus {
         self.restart_io();
     }
 
-    /// 2100 is 80, as by a write.
+    /// Sets forced blank: writes 80 to 2100.
     #[tactic(auto, unfolding(crate::specs::Places::register_written))]
     fn blank_picture(&mut self)
         ensures { self.new ≡ (let p = after_write self.old.picture 0 0x80 in record self.old { picture = p }) }
@@ -244,7 +248,7 @@ impl Bus {
         self.write_register(0, 0x80);
     }
 
-    /// No channel has anything to do.
+    /// Stops all DMA channels.
     #[tactic(auto, unfolding(crate::specs::BusState::channels_start))]
     fn stop_transfers(&mut self)
         ensures { self.new ≡ record self.old { channels = channels_start } }
@@ -252,7 +256,7 @@ impl Bus {
         self.dma = Dma::new();
     }
 
-    /// The registers of the processor's chip are as at the start, with the pads of the frame.
+    /// Sets the registers of the CPU's chip to those of the start, with the pads of the frame.
     fn restart_io(&mut self)
         ensures { self.new ≡ with_io self.old (with_pads self.old.script self.old.frame registers_start) }
     {
@@ -264,7 +268,7 @@ impl Bus {
     }
 }
 
-/// A row of black dots.
+/// Makes all dots of a row black.
 fn darken(dots: &mut [u16; 512])
     ensures { (e : ℕ) → e < 512 → slice_index dots.new e ≡ 0 }
 {

@@ -1,9 +1,9 @@
-//! The console without its processor: memories, registers, transfers, picture and beam on one bus.
+//! The console side without its processor: memories, registers, DMA, PPU and beam on one bus.
 //!
-//! Stands on the parts, each exact by its own definitions: the address map, the processor's registers, the
-//! channels, the picture unit with its cache of decoded tiles, the beam. `Bus` joins them: a byte is read or
-//! written at an address or at a register of the B bus, an event of the beam happens, a reset is made. It
-//! knows no steps and no clocks: the machine above says what comes when.
+//! The crate depends on the parts: the address map, the CPU's registers, the DMA channels, the PPU with its cache
+//! of decoded tiles, the beam. Each is exact by its own definitions. `Bus` joins them. It reads or writes a byte at
+//! an address or at a register of the B bus. It carries out the events of the beam, and resets. It knows neither
+//! steps nor clocks: the machine above says what comes when.
 #![tactic(auto)]
 
 mod address_map;

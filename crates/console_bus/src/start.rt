@@ -1,3 +1,4 @@
+//! The bus at the start of a console.
 ghost use Rattle.std.specs.Prelude.{◌≡◌, ◌+◌, ◌++◌, All, IfOk, length, replicate};
 ghost use Rattle.console_bus.specs.BusState.{board_of, beam_start, channels_start, memory_start, bus_start, with_pads};
 ghost use Rattle.io_math.specs.Registers.{registers_start};
@@ -14,8 +15,8 @@ use std::alloc::Global;
 use tile_cache::TileCache;
 
 impl Bus {
-    /// The bus of a console at its start, with a cartridge and a script. It takes all its memory here, and
-    /// refuses only for want of it.
+    /// Makes the bus of a console at its start, with a cartridge and a script. It allocates all its memory here,
+    /// and fails only if allocation fails.
     pub fn new(alloc: Global, cart: &Cart, script: &Spans, region: Region) -> Result<Bus, NoMemory>
         ensures { IfOk result (λ bus. bus ≡ bus_start cart.now script.now region) }
     {
@@ -45,7 +46,7 @@ impl Bus {
     }
 }
 
-/// The cartridge's map and sizes.
+/// Returns the cartridge's map and sizes.
 fn board(cart: &Cart) -> CartBoard
     ensures { result ≡ board_of cart.now }
 {
@@ -56,7 +57,7 @@ fn board(cart: &Cart) -> CartBoard
     }
 }
 
-/// The registers of the processor's chip at the start, with the pads of frame 0.
+/// Returns the registers of the CPU's chip at the start, with the pads of frame 0.
 fn first_io(script: &Spans) -> Io
     ensures { result ≡ with_pads script.now 0 registers_start }
 {
@@ -66,7 +67,7 @@ fn first_io(script: &Spans) -> Io
     io
 }
 
-/// Channels with nothing to do.
+/// Returns channels with nothing to do.
 #[tactic(auto, unfolding(crate::specs::BusState::channels_start))]
 fn no_transfers() -> Dma
     ensures { result ≡ channels_start }
@@ -74,7 +75,7 @@ fn no_transfers() -> Dma
     Dma::new()
 }
 
-/// Work RAM and the cartridge's RAM as zeros, then its ROM.
+/// Makes the memory: work RAM and the cartridge's RAM as zeros, then its ROM.
 #[tactic(auto, unfolding(crate::specs::BusState::memory_start), using(crate::proofs::Zeros::same_zeros))]
 fn memory_of(alloc: Global, cart: &Cart) -> Result<Vec<u8>, NoMemory>
     ensures { IfOk result (λ memory. memory.items ≡ memory_start cart.now.ram cart.now.rom) }
@@ -86,7 +87,7 @@ fn memory_of(alloc: Global, cart: &Cart) -> Result<Vec<u8>, NoMemory>
     }
 }
 
-/// So many zeros.
+/// Makes `size` zeros.
 fn zeroed(alloc: Global, size: usize) -> Result<Vec<u8>, NoMemory>
     ensures size { IfOk result (λ memory. length memory.items ≡ size) }
     ensures zeros { IfOk result (λ memory. All (λ b. b ≡ 0) memory.items) }

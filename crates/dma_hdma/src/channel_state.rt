@@ -1,24 +1,25 @@
+//! One channel: its registers, its DMA and its HDMA.
 ghost use Rattle.std.specs.Prelude.{◌≡◌, ◌<◌};
 ghost use Rattle.dma_hdma.specs.Pattern.{offset_of, length_of, address};
 
 use crate::moves::Move;
 
-/// What is left to do of a channel's HDMA at this moment.
+/// The work of a channel's HDMA that is left at this moment.
 #[derive(Clone, Copy, Debug, PartialEq, Eq)]
 pub enum Work {
     /// Nothing.
     Idle,
-    /// To move the bytes of the pattern from this one on, and then to count the line.
+    /// Move the bytes of the pattern from this one on, and then count the line.
     Send(u8),
-    /// To load the line byte.
+    /// Load the line byte.
     Line,
-    /// To load the low byte of the indirect address, and then the high one.
+    /// Load the low byte of the indirect address, and then the high one.
     Low,
-    /// To load the high byte of the indirect address.
+    /// Load the high byte of the indirect address.
     High,
 }
 
-/// A channel: its registers and its marks. Source of the registers: fullsnes, "SNES DMA and HDMA
+/// A channel: its registers and its state. Source of the registers: fullsnes, "SNES DMA and HDMA
 /// Channel 0..7 Registers".
 #[derive(Clone, Copy, Debug, PartialEq, Eq)]
 pub struct Channel {
@@ -27,29 +28,29 @@ pub struct Channel {
     pub mode: u8,
     /// 43x1 BBAD: the low byte of the first B register.
     pub port: u8,
-    /// 43x2-3 A1T: the offset of the A address, or where the HDMA table begins.
+    /// 43x2-3 A1T: the offset of the A address, or of the HDMA table's first byte.
     pub addr: u16,
     /// 43x4 A1B: the bank of the A address and of the table.
     pub bank: u8,
-    /// 43x5-6 DAS: how many bytes DMA has left, 0 for 65,536; the offset of HDMA's indirect data.
+    /// 43x5-6 DAS: the number of bytes that DMA has left, 0 for 65,536, or the offset of HDMA's indirect data.
     pub count: u16,
     /// 43x7 DASB: the bank of the indirect data.
     pub indirect_bank: u8,
     /// 43x8-9 A2A: the offset of the next byte of the table.
     pub table: u16,
-    /// 43xA NTRL: bits 6-0 the lines left of this entry, bit 7 whether each of them sends.
+    /// 43xA NTRL. Bits 6-0: the lines left of this entry. Bit 7: whether each of them sends.
     pub line: u8,
     /// 43xB and 43xF: a byte that is kept.
     pub spare: u8,
     /// The channel's bit of 420C.
     pub enabled: bool,
-    /// Its HDMA has not ended in this frame.
+    /// Whether its HDMA has not ended in this frame.
     pub live: bool,
-    /// It sends at the next line.
+    /// Whether it sends at the next line.
     pub sending: bool,
-    /// What is left of its HDMA.
+    /// The work of its HDMA that is left at this moment.
     pub work: Work,
-    /// Its DMA has bytes left.
+    /// Whether its DMA has bytes left.
     pub running: bool,
     /// The place in the pattern of its next DMA byte, modulo 4.
     pub position: u8,
@@ -67,10 +68,10 @@ static OFFSETS: [u8; 32] = [
     0, 0, 1, 1, // 7: as 3
 ];
 
-/// How many bytes HDMA moves at a line, by the pattern.
+/// The number of bytes that HDMA moves at a line, by the pattern.
 static LENGTHS: [u8; 8] = [1, 2, 2, 4, 4, 4, 2, 4];
 
-/// What a pattern adds to the B address at a place in it.
+/// Returns what a pattern adds to the B address at a place in it.
 #[inline(always)]
 #[tactic(auto, unfolding(crate::specs::Pattern::offset_of))]
 fn offset_at(mode: u8, place: u8) -> u8
@@ -79,7 +80,7 @@ fn offset_at(mode: u8, place: u8) -> u8
     OFFSETS[(mode % 8 * 4 + place % 4) as usize]
 }
 
-/// How many bytes HDMA moves at a line.
+/// Returns the number of bytes that HDMA moves at a line.
 #[inline(always)]
 #[tactic(auto, unfolding(crate::specs::Pattern::length_of))]
 fn length_at(mode: u8) -> u8
@@ -89,7 +90,7 @@ fn length_at(mode: u8) -> u8
     LENGTHS[(mode % 8) as usize]
 }
 
-/// A 24-bit address.
+/// Returns a 24-bit address from its bank and its offset.
 #[inline(always)]
 fn joined(bank: u8, offset: u16) -> u32
     ensures { result ≡ address bank offset }
@@ -101,7 +102,7 @@ impl Channel {
     ghost use Rattle.std.specs.Prelude.{◌≡◌, ◌<◌, Some, None};
     ghost use Rattle.dma_hdma.specs.Channel.{first_channel, register_of, written, port_of, source_of, is_working, work_move, stepped, counted, loaded, line_begun, frame_begun, worked, dma_move, run_on, started, enabled_as};
 
-    /// A channel at the start: every register FF, and nothing to do.
+    /// Returns a channel at the start: every register FF, and nothing to do.
     pub(crate) fn new() -> Channel
         ensures { result ≡ first_channel }
     {
@@ -124,7 +125,7 @@ impl Channel {
         }
     }
 
-    /// The register of this number; those that aren't there give the byte last on the bus.
+    /// Returns the register of this number. One that isn't there gives the byte last on the data bus.
     pub(crate) fn register(&self, number: u16, bus: u8) -> u8
         requires { number < 16 }
         ensures { result ≡ register_of self.now number bus }
@@ -194,7 +195,7 @@ impl Channel {
         }
     }
 
-    /// The B register of a place in the pattern.
+    /// Returns the B register of a place in the pattern.
     #[inline(always)]
     fn port_at(&self, place: u8) -> u8
         ensures { result ≡ port_of self.now place }
@@ -202,7 +203,7 @@ impl Channel {
         self.port.wrapping_add(offset_at(self.mode, place))
     }
 
-    /// Where HDMA's next byte lies.
+    /// Returns the address of HDMA's next byte.
     #[inline(always)]
     fn source(&self) -> u32
         ensures { result ≡ source_of self.now }
@@ -214,7 +215,7 @@ impl Channel {
         }
     }
 
-    /// Whether an HDMA byte of this channel is due.
+    /// Returns whether an HDMA byte of this channel is due.
     #[inline(always)]
     pub(crate) fn is_working(&self) -> bool
         ensures { result ≡ is_working self.now }
@@ -225,7 +226,7 @@ impl Channel {
         }
     }
 
-    /// The HDMA byte that is due.
+    /// Returns the HDMA byte that is due.
     #[inline(always)]
     #[tactic(auto, unfolding(crate::specs::Channel::work_move))]
     pub(crate) fn hdma_move(&self) -> Option<Move>
@@ -243,7 +244,7 @@ impl Channel {
         }
     }
 
-    /// Goes on by one byte of the data.
+    /// Advances by one byte of the data.
     #[inline(always)]
     fn step(&mut self)
         ensures { self.new ≡ stepped self.old }
@@ -255,7 +256,7 @@ impl Channel {
         }
     }
 
-    /// Counts the line, and begins to load where the entry ends.
+    /// Counts the line, and begins to load if the entry ends.
     #[inline(always)]
     fn count_line(&mut self)
         ensures { self.new ≡ counted self.old }
@@ -282,7 +283,7 @@ impl Channel {
         }
     }
 
-    /// Begins HDMA of a frame.
+    /// Begins a frame of HDMA.
     #[tactic(auto, unfolding(crate::specs::Channel::frame_begun))]
     pub(crate) fn begin_frame(&mut self)
         ensures { self.new ≡ frame_begun self.old }
@@ -297,7 +298,7 @@ impl Channel {
         }
     }
 
-    /// Begins HDMA of a line.
+    /// Begins a line of HDMA.
     #[tactic(auto, unfolding(crate::specs::Channel::line_begun))]
     pub(crate) fn begin_line(&mut self)
         ensures { self.new ≡ line_begun self.old }
@@ -349,7 +350,7 @@ impl Channel {
         }
     }
 
-    /// The DMA byte that is due while the channel runs.
+    /// Returns the DMA byte that is due while the channel runs.
     #[inline(always)]
     #[tactic(auto, unfolding(crate::specs::Channel::dma_move))]
     pub(crate) fn dma_move(&self) -> Move
@@ -364,7 +365,7 @@ impl Channel {
         }
     }
 
-    /// Goes on by one DMA byte.
+    /// Advances by one DMA byte.
     #[inline(always)]
     #[tactic(auto, unfolding(crate::specs::Channel::run_on))]
     pub(crate) fn run(&mut self)
@@ -382,7 +383,7 @@ impl Channel {
         self.position = (self.position % 4 + 1) % 4;
     }
 
-    /// Starts DMA, if the channel's bit says so.
+    /// Starts DMA if the channel's bit of 420B is set.
     #[tactic(auto, unfolding(crate::specs::Channel::started))]
     pub(crate) fn start(&mut self, on: bool)
         ensures { self.new ≡ started self.old on }

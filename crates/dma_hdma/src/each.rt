@@ -1,3 +1,4 @@
+//! What is done to every channel, by a mask or at the start of a frame or a line.
 ghost use Rattle.std.specs.Prelude.{◌≡◌, map};
 ghost use Rattle.dma_hdma.specs.Channel.{started, enabled_as, frame_begun, line_begun};
 ghost use Rattle.dma_hdma.specs.Channels.{by_bits};
@@ -15,7 +16,7 @@ pub(crate) fn start_each(channels: &mut [Channel], mask: u8)
     }
 }
 
-/// Takes the bits of 420C.
+/// Enables or disables HDMA on each channel by the bits of 420C.
 pub(crate) fn enable_each(channels: &mut [Channel], mask: u8)
     ensures { channels.new ≡ by_bits enabled_as channels.old mask }
 {
@@ -26,7 +27,7 @@ pub(crate) fn enable_each(channels: &mut [Channel], mask: u8)
     }
 }
 
-/// Begins HDMA of a frame on every channel.
+/// Begins a frame of HDMA on every channel.
 pub(crate) fn begin_frame(channels: &mut [Channel])
     ensures { channels.new ≡ map frame_begun channels.old }
 {
@@ -35,7 +36,7 @@ pub(crate) fn begin_frame(channels: &mut [Channel])
     }
 }
 
-/// Begins HDMA of a line on every channel.
+/// Begins a line of HDMA on every channel.
 pub(crate) fn begin_line(channels: &mut [Channel])
     ensures { channels.new ≡ map line_begun channels.old }
 {

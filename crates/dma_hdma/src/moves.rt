@@ -1,4 +1,4 @@
-/// One byte that a channel moves. Addresses have 24 bits; a port is the low byte of 21xx.
+/// The way of one byte that a channel moves. Addresses have 24 bits; a port is the low byte of 21xx.
 #[derive(Clone, Copy, Debug, PartialEq, Eq)]
 pub enum Move {
     /// From the A side to a B register.

@@ -1,3 +1,4 @@
+//! The eight channels as one value.
 use crate::channel_state::Channel;
 use crate::each::{begin_frame, begin_line, enable_each, start_each};
 use crate::moves::Move;
@@ -7,7 +8,7 @@ use std::marker::Model;
 
 mod copy;
 
-/// The eight channels, with the next byte kept beside them.
+/// The eight channels, together with the next byte to move.
 #[derive(Drop)]
 pub struct Dma {
     channels: [Channel; 8],
@@ -33,7 +34,7 @@ impl Dma {
     ghost use Rattle.dma_hdma.specs.Channel.{first_channel, register_of, written, started, enabled_as, frame_begun, line_begun};
     ghost use Rattle.dma_hdma.specs.Channels.{channel_at, channel_number, register_number, due_of, after_byte, by_bits};
 
-    /// Channels at the start, of which none has anything to do.
+    /// Returns the channels at the start, which have nothing to do.
     #[tactic(auto, unfolding(crate::specs::Channels::turn_of))]
     pub fn new() -> Dma
         ensures { result ≡ replicate 8 first_channel }
@@ -45,7 +46,7 @@ impl Dma {
         }
     }
 
-    /// Reads 4300 to 437F. `bus` is the byte last on the data bus, which 43xC to 43xE give.
+    /// Reads a register of 4300 to 437F. `bus` is the byte last on the data bus, which 43xC to 43xE give.
     pub fn read(&self, addr: u16, bus: u8) -> u8
         requires from { 0x4300 ≤ addr }
         requires to { addr ≤ 0x437f }
@@ -54,7 +55,7 @@ impl Dma {
         self.channels[(addr / 16 % 8) as usize].register(addr % 16, bus)
     }
 
-    /// Writes 4300 to 437F.
+    /// Writes a register of 4300 to 437F.
     pub fn write(&mut self, addr: u16, v: u8)
         requires from { 0x4300 ≤ addr }
         requires to { addr ≤ 0x437f }
@@ -86,7 +87,7 @@ impl Dma {
         self.due = due;
     }
 
-    /// Begins HDMA of a frame.
+    /// Begins a frame of HDMA on every channel.
     pub fn frame(&mut self)
         ensures { self.new ≡ map frame_begun self.old }
     {
@@ -96,7 +97,7 @@ impl Dma {
         self.due = due;
     }
 
-    /// Begins HDMA of a line.
+    /// Begins a line of HDMA on every channel.
     pub fn line(&mut self)
         ensures { self.new ≡ map line_begun self.old }
     {
@@ -106,7 +107,7 @@ impl Dma {
         self.due = due;
     }
 
-    /// The next byte to move, if one is due.
+    /// Returns the next byte to move, if one is due.
     #[inline(always)]
     pub fn next(&self) -> Option<Move>
         ensures { result ≡ due_of self.now }
@@ -114,7 +115,7 @@ impl Dma {
         self.due
     }
 
-    /// Takes down that the byte that was due has been moved.
+    /// Records that the byte that was due has been moved.
     pub fn done(&mut self, byte: u8)
         requires { IsSome (due_of self.old) }
         ensures { self.new ≡ after_byte self.old byte }

@@ -1,3 +1,4 @@
+//! The order of the channels: whose byte is next.
 ghost use Rattle.std.specs.Prelude.{◌≡◌, ◌<◌, length, position, IfSome};
 ghost use Rattle.dma_hdma.specs.Channel.{is_working};
 ghost use Rattle.dma_hdma.specs.Channels.{turn_of, move_in, IsInside};
@@ -6,7 +7,7 @@ use crate::channel_state::Channel;
 use crate::moves::Move;
 use crate::whose::Turn;
 
-/// Whose byte is next, and which.
+/// Returns the channel whose byte is next, and that byte.
 #[tactic(auto, unfolding(crate::specs::Channels::turn_of))]
 #[inline(always)]
 pub(crate) fn decided(channels: &[Channel; 8]) -> (Turn, Option<Move>)
@@ -23,7 +24,7 @@ pub(crate) fn decided(channels: &[Channel; 8]) -> (Turn, Option<Move>)
     }
 }
 
-/// The first channel of which an HDMA byte is due.
+/// Returns the first channel whose HDMA byte is due.
 fn first_working(channels: &[Channel; 8]) -> Option<usize>
     ensures first { result ≡ position is_working channels.now }
     ensures inside { IfSome result (λ x. x < 8) }
@@ -31,7 +32,7 @@ fn first_working(channels: &[Channel; 8]) -> Option<usize>
     channels.iter().position(|c| c.is_working())
 }
 
-/// The first channel whose DMA runs.
+/// Returns the first channel whose DMA runs.
 fn first_running(channels: &[Channel; 8]) -> Option<usize>
     ensures first { result ≡ position (λ c. c.running) channels.now }
     ensures inside { IfSome result (λ x. x < 8) }

@@ -1,4 +1,4 @@
-/// Which channel moves the next byte.
+/// The channel that moves the next byte.
 #[derive(Clone, Copy, Debug, PartialEq, Eq)]
 pub enum Turn {
     /// No byte is due.

@@ -1,3 +1,4 @@
+//! The CPU's own registers as one value: writes, reads and the events of the beam.
 ghost use Rattle.std.specs.Prelude.{◌≡◌, ◌<◌, ◌≤◌};
 ghost use Rattle.io_math.specs.Registers.{with_low, with_high, bit_if, registers_start, strobe_written, nmitimen_written, multiplied, divided, written, pad_bit, pad_read, byte_read, after_read, pad_blanked, blanked, framed, timed, nmi_level, irq_level};
 
@@ -7,7 +8,7 @@ use std::marker::Model;
 
 mod copy;
 
-/// The processor's own registers, seen in contracts as `IoRegisters`.
+/// The CPU's own registers. Contracts see them as `IoRegisters`.
 #[derive(Drop)]
 pub struct Io {
     registers: IoRegisters,
@@ -25,7 +26,7 @@ impl Model for Io {
 }
 
 impl Io {
-    /// The registers at the start.
+    /// Returns the registers at the start.
     pub fn new() -> Io
         ensures { result ≡ registers_start }
     {
@@ -75,15 +76,15 @@ impl Io {
         read_register(&mut self.registers, addr, bus, beam)
     }
 
-    /// Vertical blank begins, with the words of both pads: the NMI flag is set, and auto-read takes the
-    /// words where it is on.
+    /// Begins vertical blank with the words of both pads: sets the NMI flag, and keeps the words if auto-read is
+    /// on.
     pub fn blank(&mut self, pad1: u16, pad2: u16)
         ensures { self.new ≡ blanked self.old pad1 pad2 }
     {
         begin_blank(&mut self.registers, pad1, pad2);
     }
 
-    /// A frame begins, with the words of both pads.
+    /// Begins a frame: clears the NMI flag, and gives both pads their words.
     #[tactic(auto, unfolding(crate::specs::Registers::framed))]
     pub fn frame(&mut self, pad1: u16, pad2: u16)
         ensures { self.new ≡ framed self.old pad1 pad2 }
@@ -94,7 +95,7 @@ impl Io {
         r.pad2.word = pad2;
     }
 
-    /// The timer fires: the IRQ flag is set.
+    /// Fires the timer: sets the IRQ flag.
     #[tactic(auto, unfolding(crate::specs::Registers::timed))]
     pub fn timer(&mut self)
         ensures { self.new ≡ timed self.old }
@@ -102,7 +103,7 @@ impl Io {
         self.registers.interrupts.irq_flag = true;
     }
 
-    /// The levels of NMI, set where its flag and 4200 bit 7 both are, and of IRQ, which is its flag.
+    /// Returns the levels of NMI and IRQ. NMI is set if its flag and 4200 bit 7 both are; IRQ is its flag.
     #[inline(always)]
     pub fn lines(&self) -> (bool, bool)
         ensures nmi { result.0 ≡ nmi_level self.now }
@@ -112,7 +113,7 @@ impl Io {
         (i.nmi_flag && i.nmi_on, i.irq_flag)
     }
 
-    /// When the timer fires.
+    /// Returns the setting of the timer: its kind, and the H and V at which it fires.
     #[inline(always)]
     pub fn irq_time(&self) -> IrqTime
         ensures { result ≡ record { kind = self.now.interrupts.timer_kind; h = self.now.interrupts.htime; v = self.now.interrupts.vtime } }
@@ -125,7 +126,7 @@ impl Io {
         }
     }
 
-    /// Bit 0 of MEMSEL (420D).
+    /// Returns bit 0 of 420D MEMSEL: whether ROM is fast in banks 80 to FF.
     #[inline(always)]
     pub fn fast(&self) -> bool
         ensures { result ≡ self.now.fast }
@@ -134,7 +135,7 @@ impl Io {
     }
 }
 
-/// A write of a byte at an address.
+/// Writes a byte at an address.
 #[tactic(auto, unfolding(crate::specs::Registers::written))]
 fn write_register(r: &mut IoRegisters, addr: u16, v: u8)
     ensures after { r.new ≡ written r.old addr v }
@@ -193,7 +194,7 @@ fn write_register(r: &mut IoRegisters, addr: u16, v: u8)
     }
 }
 
-/// A read of a byte at an address.
+/// Reads a byte at an address.
 #[tactic(auto, unfolding(crate::specs::Registers::byte_read, crate::specs::Registers::after_read))]
 fn read_register(r: &mut IoRegisters, addr: u16, bus: u8, beam: Spot) -> u8
     ensures byte { result ≡ byte_read r.old addr bus beam }
@@ -248,7 +249,7 @@ fn read_register(r: &mut IoRegisters, addr: u16, bus: u8, beam: Spot) -> u8
     }
 }
 
-/// The start of vertical blank.
+/// Begins vertical blank.
 #[tactic(auto, unfolding(crate::specs::Registers::blanked))]
 fn begin_blank(r: &mut IoRegisters, pad1: u16, pad2: u16)
     ensures after { r.new ≡ blanked r.old pad1 pad2 }
@@ -312,14 +313,14 @@ fn divide(a: &mut Arithmetic, v: u8)
     }
 }
 
-/// The word with its low byte replaced.
+/// Returns the word with its low byte replaced.
 fn with_low(word: u16, byte: u8) -> u16
     ensures { result ≡ with_low word byte }
 {
     word / 256 * 256 + byte as u16
 }
 
-/// The word with its high byte replaced.
+/// Returns the word with its high byte replaced.
 fn with_high(word: u16, byte: u8) -> u16
     ensures { result ≡ with_high word byte }
 {
@@ -332,7 +333,7 @@ fn bit_if(set: bool, weight: u8) -> u8
     if set { weight } else { 0 }
 }
 
-/// The next bit of a pad, which then stands at the one after it unless the strobe is set.
+/// Returns the next bit of a pad, and moves the pad to the one after it unless the strobe is set.
 #[tactic(auto, unfolding(crate::specs::Registers::pad_bit, crate::specs::Registers::pad_read))]
 fn take_bit(pad: &mut Pad, strobe: bool) -> u8
     ensures bit { result ≡ pad_bit pad.old }

@@ -1,8 +1,8 @@
-//! The processor's own registers: controller ports, interrupts, products and quotients, 4016 to 421F.
+//! The CPU's own registers, 4016 to 421F: controller ports, interrupts, multiplication and division.
 //!
-//! Stands on `snes_defs` alone. `Io` is seen in contracts as its registers by name; a write, a read and
-//! each event of the beam is exact by the register pages of `specs/`. What 420B and 420C start belongs to
-//! the transfers, and 4300 to 437F are theirs; a caller hands those on.
+//! The crate depends on `snes_defs` alone. Contracts see `Io` as its registers by name. A write, a read and each
+//! event of the beam are exact by the register pages of `specs/`. The caller passes 420B, 420C and 4300 to 437F to
+//! the DMA channels.
 #![tactic(auto)]
 
 mod io;

@@ -24,7 +24,7 @@ fn is_depth(depth: u8) -> bool
     depth == 2 || depth == 4 || depth == 8
 }
 
-/// Whether a mode has a background.
+/// Returns whether a mode has a background.
 #[inline(always)]
 #[tactic(auto, unfolding(crate::specs::Line::has_background))]
 fn has(mode: u8, layer: u8) -> bool
@@ -37,7 +37,7 @@ fn has(mode: u8, layer: u8) -> bool
     }
 }
 
-/// Whether a mode is mode 7.
+/// Returns whether a mode is mode 7.
 #[inline(always)]
 fn rotates(mode: u8) -> bool
     ensures { result ≡ (mode == 7) }
@@ -89,7 +89,7 @@ fn paint_rotated(p: &Ppu, layer: u8, row: u16, odd: bool, out: &mut RankedRow)
     m7_planes(p, layer, row, low, high, out);
 }
 
-/// Paints a background that the mode has: its dots 2x, or 2x + 1 where `odd`.
+/// Paints a background that the mode has: its dots 2x, or 2x + 1 if `odd`.
 #[tactic(auto, unfolding(crate::specs::Line::has_background))]
 fn paint_background(p: &Ppu, tiles: &TileCache, layer: u8, row: u16, odd: bool, out: &mut RankedRow)
     requires first { 1 ≤ layer }
@@ -113,7 +113,7 @@ fn hires(mode: u8) -> bool
     mode == 5 || mode == 6
 }
 
-/// Lays a background of 512 dots over both screens: the odd dots on the main screen, the even ones on the sub
+/// Lays a background of 512 dots over both screens: the odd dots over the main screen, the even ones over the sub
 /// screen.
 fn lay_both(
     p: &Ppu,
@@ -188,7 +188,7 @@ fn lay_background(
     }
 }
 
-/// The same, if a screen shows the layer.
+/// Lays a background that the mode has over both screens, if a screen shows it.
 #[inline(always)]
 #[tactic(auto, using(crate::proofs::Painted::unshown))]
 fn lay_shown(
@@ -239,7 +239,7 @@ pub fn add_background(
     }
 }
 
-/// Whether a background may have anything on either screen: the mode has it, and a screen shows it.
+/// Returns whether a background may have anything on either screen: the mode has it, and a screen shows it.
 #[inline(always)]
 #[tactic(auto, using(crate::proofs::Painted::absent, crate::proofs::Painted::unshown))]
 pub fn is_seen(p: &Ppu, layer: u8) -> bool
@@ -252,7 +252,7 @@ pub fn is_seen(p: &Ppu, layer: u8) -> bool
     has(p.registers().mode, layer) && (screens.main || screens.sub)
 }
 
-/// Whether no sliver is drawn on a row.
+/// Returns whether no sliver is drawn on a row.
 #[inline(always)]
 #[tactic(auto, using(crate::proofs::Painted::empty))]
 fn is_sliverless(p: &Ppu, row: u16, slivers: &ArrayVec<Sliver, 34>) -> bool
@@ -262,7 +262,8 @@ fn is_sliverless(p: &Ppu, row: u16, slivers: &ArrayVec<Sliver, 34>) -> bool
     slivers.is_empty()
 }
 
-/// Whether the objects may have anything on a row of either screen: there are slivers, and a screen shows them.
+/// Returns whether the objects may have anything on a row of either screen: there are slivers, and a screen shows
+/// them.
 #[inline(always)]
 #[tactic(auto, using(crate::proofs::Painted::objectless, crate::proofs::Painted::unshown))]
 pub fn are_objects_seen(p: &Ppu, row: u16, slivers: &ArrayVec<Sliver, 34>) -> bool
@@ -308,7 +309,7 @@ fn lay_objects(
     lay_layer(p, 5, work, work, main, sub);
 }
 
-/// Adds the objects, whose drawn slivers on the row these are, to both screens.
+/// Adds the objects to both screens, if a screen shows them. `slivers` are the drawn slivers of the row.
 pub fn add_objects(
     p: &Ppu,
     row: u16,

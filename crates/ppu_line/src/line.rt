@@ -1,4 +1,4 @@
-//! A row from its layers.
+//! A row's dots, from its layers.
 
 ghost use Rattle.std.specs.Prelude.{◌≡◌, ℕ, ◌+◌, ◌-◌, ◌*◌, ◌<◌, ◌≤◌, IfSome, true, false, length, slice_index};
 ghost use Rattle.scanline_ops.specs.RankedPixels.{no_pixel};
@@ -23,7 +23,7 @@ fn empty_row() -> RankedRow {
     }
 }
 
-/// What stands in front on both screens.
+/// Finds the pixels in front on both screens.
 fn fronts(
     p: &Ppu,
     tiles: &TileCache,
@@ -79,7 +79,7 @@ fn is_none(first: bool, second: bool, third: bool, fourth: bool, objects: bool) 
     !first && !second && !third && !fourth && !objects
 }
 
-/// Whether no layer has anything on a row, by the registers and the slivers of the objects there.
+/// Returns whether no layer has anything on a row, by the registers and the slivers of the objects there.
 #[inline(always)]
 fn is_bare(p: &Ppu, row: u16, slivers: &ArrayVec<Sliver, 34>) -> bool
     requires slivers { slivers.now.items ≡ drawn_slivers p.now row }
@@ -94,8 +94,8 @@ fn is_bare(p: &Ppu, row: u16, slivers: &ArrayVec<Sliver, 34>) -> bool
     is_none(first, second, third, fourth, objects)
 }
 
-/// The colour of all dots of a row, where it is easily seen that they are alike: in forced blank, and where there is nothing
-/// but the backdrop.
+/// Returns the colour of all dots of a row, if they are easily found to be alike. That is in forced blank, and if
+/// there is nothing except the backdrop.
 #[tactic(auto, using(crate::proofs::Halves::blank))]
 fn one_colour(p: &Ppu, row: u16, slivers: &ArrayVec<Sliver, 34>) -> Option<u16>
     requires slivers { slivers.now.items ≡ drawn_slivers p.now row }
@@ -110,7 +110,7 @@ fn one_colour(p: &Ppu, row: u16, slivers: &ArrayVec<Sliver, 34>) -> Option<u16>
     }
 }
 
-/// Writes the 512 dots of the row `v - 1`, and answers which limits of the objects were passed. The tiles have to be
+/// Writes the 512 dots of the row `v - 1`. Returns which limits of the objects were passed. The decoded tiles must be
 /// in step with VRAM.
 pub fn draw(p: &Ppu, tiles: &TileCache, v: u16, out: &mut [u16]) -> Over
     requires first { 1 ≤ v }

@@ -1,7 +1,7 @@
 //! The rotated and scaled background of mode 7.
 //!
-//! The crate stands on `ppu_regs`. `m7_row` writes a row of dots of layer 1, or of layer 2 of EXTBG, and
-//! `m7_planes` the same row as two byte planes; both are exact by `rotated_layer_dot` of
+//! The crate depends on `ppu_regs` and `scanline_ops`. `m7_row` writes a row of dots of layer 1, or of layer 2 of
+//! EXTBG, and `m7_planes` writes that row as two byte planes. Both are exact by `rotated_layer_dot` of
 //! `specs/Rotated.antt`, a function of the registers, VRAM, the layer, the row and the pixel.
 #![tactic(auto)]
 

@@ -1,4 +1,4 @@
-//! Where a pixel lies in the plane: numbers modulo 2^32, a negative one as its complement.
+//! The place of a pixel in the plane, in 256ths of a pixel: numbers modulo 2^32, a negative one as its complement.
 
 ghost use Rattle.std.specs.Prelude.{◌≡◌, ℕ, ◌+◌, ◌*◌, ◌/◌, ◌%◌, ◌^◌, ◌<◌, ◌≤◌, if◌then◌else◌};
 ghost use Rattle.ppu_regs.specs.Picture.{background_of};
@@ -62,7 +62,7 @@ fn start_of_line(across: u32, along: u32, p: u32, q: u32, y: u32, centre: u32) -
     corner.wrapping_add(line)
 }
 
-/// The place of the column `x` of a line.
+/// Returns the place of the column `x` of a line, across or down, in 256ths of a pixel modulo 2^32.
 #[inline(always)]
 #[tactic(auto, unfolding(crate::specs::Rotated::place_at))]
 pub fn place(start: u32, across: u32, x: u32) -> u32
@@ -71,7 +71,7 @@ pub fn place(start: u32, across: u32, x: u32) -> u32
     start.wrapping_add(across.wrapping_mul(x))
 }
 
-/// Where a line begins in the plane, across.
+/// Returns the place in the plane, across, at which a line begins.
 #[tactic(auto, unfolding(crate::specs::Rotated::start_x))]
 fn first_x(r: &Rotation, y: u32) -> u32
     ensures { result ≡ start_x r.now y }
@@ -86,7 +86,7 @@ fn first_x(r: &Rotation, y: u32) -> u32
     )
 }
 
-/// Where a line begins in the plane, downwards.
+/// Returns the place in the plane, downwards, at which a line begins.
 #[tactic(auto, unfolding(crate::specs::Rotated::start_y))]
 fn first_y(r: &Rotation, y: u32) -> u32
     ensures { result ≡ start_y r.now y }
@@ -123,7 +123,7 @@ fn turn(is_flipped: bool, n: u32) -> u32
     if is_flipped { 255 - n } else { n }
 }
 
-/// The line that a row shows.
+/// Returns the line that a row shows.
 #[tactic(auto, unfolding(crate::specs::Rotated::line_of))]
 fn line_shown(r: &Registers, layer: u8, row: u16) -> u32
     requires { row < 239 }
@@ -133,16 +133,20 @@ fn line_shown(r: &Registers, layer: u8, row: u16) -> u32
     turn(r.rotation.flip_y, block + 1)
 }
 
-/// What does not change along a row.
+/// The numbers of a line that don't change along it, all modulo 2^32.
 #[derive(Clone, Copy)]
 pub struct Line {
+    /// The place of its column 0 in the plane, across, in 256ths of a pixel.
     pub start_x: u32,
+    /// The place of its column 0 in the plane, downwards, in 256ths of a pixel.
     pub start_y: u32,
+    /// M7A, signed: the step across from one column to the next.
     pub a: u32,
+    /// M7C, signed: the step downwards from one column to the next.
     pub c: u32,
 }
 
-/// The line of a layer's row.
+/// Returns the line of a layer's row.
 #[inline(always)]
 pub fn line_at(r: &Registers, layer: u8, row: u16) -> Line
     requires { row < 239 }

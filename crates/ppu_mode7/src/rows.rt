@@ -10,7 +10,7 @@ use crate::texels::values;
 use ppu_regs::{Dot, LayerDot, Ppu, RankedRow};
 use scanline_ops::spread_blocks;
 
-/// A row the other way round.
+/// Writes a row mirrored.
 fn turn_row(from: &[u8; 256], out: &mut [u8; 256])
     ensures { (x : ℕ) → x < 256 → slice_index out.new x ≡ slice_index from.now (255 - x) }
 {
@@ -19,7 +19,7 @@ fn turn_row(from: &[u8; 256], out: &mut [u8; 256])
     }
 }
 
-/// The values of the columns of a line, as a row shows them without mosaic.
+/// Writes the values of the columns of a line, as a row shows them without mosaic.
 #[inline(always)]
 #[tactic(auto, unfolding(crate::specs::Rotated::turned))]
 fn turned_values(p: &Ppu, along: &Line, out: &mut [u8; 256])
@@ -38,7 +38,7 @@ fn turned_values(p: &Ppu, along: &Line, out: &mut [u8; 256])
     }
 }
 
-/// The values of a layer's row.
+/// Writes the values of a layer's row.
 fn row_values(p: &Ppu, layer: u8, row: u16, out: &mut [u8; 256])
     requires { row < 239 }
     ensures { (x : ℕ) → x < 256 → slice_index out.new x ≡ rotated_value p.now layer row x }
@@ -91,7 +91,7 @@ fn layer_dot_in(p: &Ppu, is_direct: bool, layer: u8, row: u16, x: usize, value: 
     layer_dot(is_direct, layer, value)
 }
 
-/// Writes the dots of a layer's row: layer 1, or 2 of EXTBG.
+/// Writes the 256 dots of a layer's row: layer 1, or layer 2 of EXTBG.
 pub fn m7_row(p: &Ppu, layer: u8, row: u16, out: &mut [Dot])
     requires mode { p.now.registers.mode ≡ 7 }
     requires layer { (layer ≡ 1) ⊎ (layer ≡ 2) }
@@ -117,7 +117,7 @@ fn rank_byte(c: &LayerDot, low: u8, high: u8) -> u8
     if c.on { base } else { 0 }
 }
 
-/// The planes of a row's values.
+/// Writes the two planes of a row's values.
 #[inline(always)]
 #[tactic(auto, unfolding(crate::specs::Lines::rank_at))]
 fn planes_of(is_direct: bool, layer: u8, values: &[u8; 256], low: u8, high: u8, out: &mut RankedRow)
@@ -131,7 +131,7 @@ fn planes_of(is_direct: bool, layer: u8, values: &[u8; 256], low: u8, high: u8, 
     }
 }
 
-/// Writes a layer's row as planes: `low` and `high` are the rank bytes of the two priorities.
+/// Writes a layer's row as two byte planes. `low` and `high` are the rank bytes of the two priorities.
 #[tactic(auto, unfolding(crate::specs::Rotated::rotated_layer_dot, crate::specs::Lines::rank_at))]
 pub fn m7_planes(p: &Ppu, layer: u8, row: u16, low: u8, high: u8, out: &mut RankedRow)
     requires { row < 239 }

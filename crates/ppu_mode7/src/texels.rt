@@ -1,4 +1,4 @@
-//! The values at places of the plane, a row at a time: first where they lie, then the tiles, then their pixels.
+//! The values at places of the plane, a row at a time: first their words of the map, then the tiles, then the pixels.
 
 ghost use Rattle.std.specs.Prelude.{◌≡◌, ℕ, ◌+◌, ◌*◌, ◌/◌, ◌%◌, ◌<◌, ◌≤◌, ◌==◌, ◌||◌, length, slice_index, if◌then◌else◌};
 ghost use Rattle.ppu_mode7.specs.Rotated.{place_at, value_at, pixel_of};
@@ -16,7 +16,7 @@ fn pixel(place: u32) -> u32
     place / 256 % 1024
 }
 
-/// The word of the map at a place.
+/// Returns the word of the map at a place.
 #[inline(always)]
 #[tactic(auto, unfolding(crate::specs::Lines::map_word))]
 fn word_at(x: u32, y: u32) -> u16
@@ -26,7 +26,7 @@ fn word_at(x: u32, y: u32) -> u16
     (128 * (pixel(y) / 8) + pixel(x) / 8) as u16
 }
 
-/// The pixel of its tile at a place.
+/// Returns the pixel of its tile, 0 to 63, at a place.
 #[inline(always)]
 #[tactic(auto, unfolding(crate::specs::Lines::fine_of))]
 fn fine_at(x: u32, y: u32) -> u8
@@ -36,7 +36,7 @@ fn fine_at(x: u32, y: u32) -> u8
     (8 * (pixel(y) % 8) + pixel(x) % 8) as u8
 }
 
-/// Where the columns of a line lie: the words of the map, and the pixels in their tiles.
+/// Finds the columns of a line in the plane: the words of the map, and the pixels in their tiles.
 fn look(along: &Line, words: &mut [u16; 256], fine: &mut [u8; 256])
     ensures words { (c : ℕ) → c < 256 → slice_index words.new c ≡
         map_word (place_at along.now.start_x along.now.a c) (place_at along.now.start_y along.now.c c) }
@@ -60,7 +60,7 @@ fn mark(x: u32, y: u32) -> u8
     (x >= 262_144 || y >= 262_144) as u8
 }
 
-/// Marks the columns that lie outside of the plane.
+/// Marks the columns that are outside of the plane.
 fn mark_outside(along: &Line, marks: &mut [u8; 256])
     ensures { (c : ℕ) → c < 256 → slice_index marks.new c ≡
         outside_mark (place_at along.now.start_x along.now.a c) (place_at along.now.start_y along.now.c c) }
@@ -73,7 +73,7 @@ fn mark_outside(along: &Line, marks: &mut [u8; 256])
     }
 }
 
-/// The tiles of words of the map.
+/// Reads the tiles of words of the map.
 fn take_tiles(vram: &[u16], words: &[u16; 256], tiles: &mut [u8; 256])
     requires size { length vram.now ≡ 32768 }
     requires small { (c : ℕ) → c < 256 → slice_index words.now c < 16384 }
@@ -84,7 +84,7 @@ fn take_tiles(vram: &[u16], words: &[u16; 256], tiles: &mut [u8; 256])
     }
 }
 
-/// The values of pixels of tiles.
+/// Reads the values of pixels of tiles.
 fn take_values(vram: &[u16], tiles: &[u8; 256], fine: &[u8; 256], out: &mut [u8; 256])
     requires size { length vram.now ≡ 32768 }
     requires small { (c : ℕ) → c < 256 → slice_index fine.now c < 64 }
@@ -104,7 +104,7 @@ fn unless_marked(mark: u8, v: u8) -> u8
     choose(mark == 0, v, 0)
 }
 
-/// Puts 0 where a mark is set.
+/// Clears the bytes whose mark is set.
 fn clear_marked(marks: &[u8; 256], row: &mut [u8; 256])
     ensures { (c : ℕ) → c < 256 → slice_index row.new c ≡ (if slice_index marks.now c == 0 then slice_index row.old c else 0) }
 {
@@ -113,7 +113,7 @@ fn clear_marked(marks: &[u8; 256], row: &mut [u8; 256])
     }
 }
 
-/// The values of the columns of a line, 0 to 255.
+/// Writes the values, 0 to 255, of the 256 columns of a line.
 pub fn values(code: Outside, vram: &[u16], along: &Line, out: &mut [u8; 256])
     requires { length vram.now ≡ 32768 }
     ensures { (c : ℕ) → c < 256 → slice_index out.new c ≡

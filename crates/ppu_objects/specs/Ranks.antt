@@ -6,7 +6,7 @@ use Rattle.ppu_regs.specs.declared.dots.LayerDot.{LayerDot}
 unfoldable pub rank_byte : List ℕ → Bool → ℕ → Bool → ℕ
 rank_byte bases named priority math = slice_index bases priority + (if named && math then 8 else 0)
 
--- that of what stands at a pixel, 0 where nothing does
+-- the rank byte of an object's dot, 0 if nothing is there
 unfoldable pub object_rank : List ℕ → Bool → LayerDot → ℕ
 object_rank bases named c = if c.on then rank_byte bases named c.priority c.math else 0
 

@@ -1,4 +1,4 @@
-//! What OAM says of one object, and which objects stand on a row.
+//! One object of OAM, and the objects on a row.
 
 ghost use Rattle.std.specs.Prelude.{◌≡◌, ℕ, ◌+◌, ◌*◌, ◌/◌, ◌%◌, ◌<◌, ◌≤◌, Bool, false, List, [], take, length, nat_lt, slice_index};
 ghost use Rattle.ppu_objects.specs.Objects.{pair_at, object_of, height_of, line_in, stands_on, first_object, place_in_turn, object_in_turn, grown, on_row, drawn_objects, passes_range};
@@ -12,21 +12,23 @@ use ppu_regs::Ppu;
 /// One object, as OAM has it.
 #[derive(Clone, Copy, Default)]
 pub struct Object {
-    /// Nine bits, the top one the sign.
+    /// The X of its left column: nine bits, the top one the sign.
     pub x: u16,
+    /// The Y of its top, as OAM has it.
     pub y: u8,
-    /// The tile at its top left.
+    /// The number of the tile at its top left.
     pub tile: u8,
-    /// Turned over top to bottom.
+    /// Whether it is mirrored top to bottom.
     pub flip_y: bool,
-    /// Turned over left to right.
+    /// Whether it is mirrored left to right.
     pub flip_x: bool,
-    /// 0 to 3.
+    /// The priority, 0 to 3.
     pub priority: u8,
-    /// 0 to 7.
+    /// The palette, 0 to 7.
     pub palette: u8,
-    /// 0 or 1.
+    /// The table of tiles, 0 or 1.
     pub table: u8,
+    /// Whether it has the larger of the two sizes.
     pub large: bool,
 }
 
@@ -39,7 +41,7 @@ fn pair(byte: u8, k: u8) -> u8
     (byte >> (2 * k)) % 4
 }
 
-/// Object `n` of OAM.
+/// Returns object `n` of OAM.
 #[inline(always)]
 #[tactic(auto, unfolding(crate::specs::Objects::object_of))]
 pub fn read_object(oam: &[u8; 544], n: u8) -> Object
@@ -66,7 +68,7 @@ pub fn read_object(oam: &[u8; 544], n: u8) -> Object
     }
 }
 
-/// The row's line in an object from its top.
+/// Returns the line of a row in an object with this Y, counted from the object's top, modulo 256.
 #[inline(always)]
 #[tactic(auto, unfolding(crate::specs::Objects::line_in))]
 pub fn line_of_object(y: u8, row: u16) -> u16
@@ -123,8 +125,7 @@ fn nth_in_turn(p: &Ppu, first: u8, k: u8) -> Object
     read_object(p.oam(), in_turn(first, k))
 }
 
-/// Adds an object at the end of a list of 32 where it stands and there is room; answers whether there are
-/// more than 32.
+/// Appends an object to a list of 32 if it is on the row and there is room. Returns whether there are more than 32.
 #[inline(always)]
 #[tactic(auto, unfolding(crate::specs::Objects::grown))]
 fn note(list: &mut ArrayVec<Object, 32>, more: bool, does: bool, o: Object) -> bool
@@ -141,7 +142,7 @@ fn note(list: &mut ArrayVec<Object, 32>, more: bool, does: bool, o: Object) -> b
     more
 }
 
-/// The height of the taller of both kinds of objects.
+/// Returns the height of the taller of both kinds of objects.
 #[inline(always)]
 fn tallest(sizes: &Sizes) -> u8
     ensures { (large : Bool) → height_of sizes.now large ≤ result }
@@ -149,7 +150,7 @@ fn tallest(sizes: &Sizes) -> u8
     sizes.height(false).max(sizes.height(true)) as u8
 }
 
-/// Whether an object with this Y may stand on a row, where none is taller than `tall`: 1 or 0.
+/// Returns whether an object with this Y may be on a row, if none is taller than `tall`: 1 or 0.
 #[inline(always)]
 #[tactic(auto, unfolding(crate::specs::Near::near_mark, crate::specs::Objects::line_in))]
 fn mark(tall: u8, row: u8, y: u8) -> u8
@@ -159,7 +160,8 @@ fn mark(tall: u8, row: u8, y: u8) -> u8
     (row.wrapping_sub(y) < tall) as u8
 }
 
-/// Marks the objects that may stand on a row, twice side by side, so that from any first object on they stand in turn.
+/// Marks the objects that may be on a row. It writes the marks twice, side by side, so that from any first object on
+/// they follow in turn.
 fn look(tops: &[u8; 128], tall: u8, row: u8, near: &mut [u8; 256])
     requires { row < 239 }
     ensures { (n : ℕ) → n < 256 → slice_index near.new n ≡ near_mark tall row (slice_index tops.now (n % 128)) }
@@ -171,7 +173,7 @@ fn look(tops: &[u8; 128], tall: u8, row: u8, near: &mut [u8; 256])
     }
 }
 
-/// Four bytes as one number.
+/// Returns four bytes as one number.
 #[inline(always)]
 fn four(near: &[u8; 256], at: usize) -> u64
     requires { at + 4 ≤ 256 }
@@ -184,7 +186,7 @@ fn four(near: &[u8; 256], at: usize) -> u64
         + 16_777_216 * near[at + 3] as u64
 }
 
-/// Whether any of eight marks is set. As the bytes of one number they are looked at together.
+/// Returns whether any of eight marks is set. As the bytes of one number they are tested together.
 #[inline(always)]
 #[tactic(auto, using(crate::proofs::Marks::marks))]
 fn is_any(near: &[u8; 256], at: usize) -> bool
@@ -194,7 +196,7 @@ fn is_any(near: &[u8; 256], at: usize) -> bool
     four(near, at) + 4_294_967_296 * four(near, at + 4) != 0
 }
 
-/// Looks at the object `k` in turn.
+/// Tests the object `k` in turn, and appends it if it is on the row.
 #[inline(always)]
 #[tactic(auto, using(crate::proofs::Marks::far))]
 fn note_nth(
@@ -227,7 +229,7 @@ fn note_nth(
     note(list, more, stands(sizes, &o, row), o)
 }
 
-/// Looks at eight objects in turn, from `8 * group` on.
+/// Tests eight objects in turn, from `8 * group` on.
 #[inline(always)]
 fn note_group(
     p: &Ppu,
@@ -261,7 +263,8 @@ fn note_group(
     more
 }
 
-/// Looks at eight objects in turn, from `8 * group` on, unless none of them may stand on the row, or more than 32 do already.
+/// Tests eight objects in turn, from `8 * group` on, unless none of them may be on the row or more than 32 are
+/// already.
 #[inline(always)]
 fn note_some(
     p: &Ppu,
@@ -292,7 +295,7 @@ fn note_some(
     note_group(p, sizes, row, tall, first, group, near, list, over)
 }
 
-/// Whether any object may stand on the row.
+/// Returns whether any object may be on the row.
 fn is_any_near(near: &[u8; 256]) -> bool
     ensures { (n : ℕ) → n < 256 → result ≡ false → slice_index near.now n ≡ 0 }
 {
@@ -303,7 +306,7 @@ fn is_any_near(near: &[u8; 256]) -> bool
     most != 0
 }
 
-/// Looks at all objects in turn, those eight at once of which none may stand on the row.
+/// Tests all objects in turn, and skips each eight of which none may be on the row.
 fn note_near(
     p: &Ppu,
     sizes: &Sizes,
@@ -330,8 +333,8 @@ fn note_near(
     more
 }
 
-/// Gathers the first 32 objects on a row, in turn, in an empty list; answers whether there are more. Objects are looked
-/// at by their Y first, all at once and then eight at a time.
+/// Gathers the first 32 objects on a row, in turn, in an empty list. Returns whether there are more. It first marks
+/// all objects by their Y in one pass, and then tests them eight at a time.
 #[tactic(auto, unfolding(crate::specs::Objects::drawn_objects, crate::specs::Objects::passes_range))]
 pub fn gather(p: &Ppu, row: u16, list: &mut ArrayVec<Object, 32>) -> bool
     requires row { row < 239 }

@@ -68,7 +68,7 @@ fn word_of_sliver(tiles: &ObjectTiles, sizes: &Sizes, sliver: &Sliver, row: u16)
     word(tiles, o.table, tile(o.tile, column, line), line)
 }
 
-/// The rank byte of an object's pixel, and 0 where it has none.
+/// Returns the rank byte of an object's pixels.
 #[inline(always)]
 #[tactic(auto, unfolding(crate::specs::Ranks::rank_byte))]
 fn rank_of_object(bases: &[u8; 4], named: bool, o: &Object) -> u8
@@ -80,7 +80,7 @@ fn rank_of_object(bases: &[u8; 4], named: bool, o: &Object) -> u8
     base + bit
 }
 
-/// The eight pixels of a sliver on a row, left to right on the screen.
+/// Returns the eight pixels of a sliver on a row, left to right on the screen.
 #[inline(always)]
 fn line_of_sliver(p: &Ppu, sizes: &Sizes, row: u16, sliver: &Sliver) -> [u8; 8]
     requires row { row < 239 }
@@ -92,7 +92,7 @@ fn line_of_sliver(p: &Ppu, sizes: &Sizes, row: u16, sliver: &Sliver) -> [u8; 8]
     line_of_words(vram[at], vram[(at + 8) % 32768], sliver.object.flip_x)
 }
 
-/// Puts eight bytes.
+/// Puts eight bytes into the lines.
 #[inline(always)]
 fn put_bytes(lines: &mut [u8; 272], at: usize, bytes: &[u8; 8])
     requires { at + 8 ≤ 272 }
@@ -104,8 +104,8 @@ fn put_bytes(lines: &mut [u8; 272], at: usize, bytes: &[u8; 8])
     }
 }
 
-/// Puts the pixels of slivers side by side, so that they are read from memory where they are drawn: taken from a number's
-/// bytes at once they would be handled one by one.
+/// Writes the pixels of slivers side by side, for `paint` to read from memory. Pixels taken directly from a
+/// number's bytes would be handled one by one.
 #[inline(always)]
 pub fn put_lines(p: &Ppu, row: u16, slivers: &[Sliver], lines: &mut [u8; 272])
     requires row { row < 239 }
@@ -120,7 +120,7 @@ pub fn put_lines(p: &Ppu, row: u16, slivers: &[Sliver], lines: &mut [u8; 272])
     }
 }
 
-/// A pixel's byte over another, where its value isn't 0.
+/// Returns a pixel's byte if its value isn't 0, else the byte under it.
 #[inline(always)]
 #[tactic(auto, unfolding(scanline_ops::specs::RankedPixels::chosen))]
 fn over(value: u8, taken: u8, under: u8) -> u8
@@ -129,7 +129,7 @@ fn over(value: u8, taken: u8, under: u8) -> u8
     choose(value != 0, taken, under)
 }
 
-/// Draws eight pixels over two rows, from a place on.
+/// Draws eight pixels over two rows, from the place `at` on.
 #[inline(always)]
 #[tactic(auto, unfolding(crate::specs::Covering::covers))]
 fn cover(
@@ -155,8 +155,10 @@ fn cover(
     }
 }
 
-/// Draws a sliver over a row in two planes, whose pixel x stands at place x + 8: its rank bytes by the bases of the four
-/// priorities, and bit 3 where `named` and its palette may take part in arithmetic. Its pixels stand in `lines`.
+/// Draws a sliver over a row in two planes, whose pixel x is at place x + 8. `lines` has the sliver's pixels.
+///
+/// `bases` are the rank bytes of the four priorities. Bit 3 is set if `named` and the palette may take part in
+/// arithmetic.
 #[inline(always)]
 pub fn paint(
     p: &Ppu,

@@ -25,7 +25,7 @@ fn clear(out: &mut RankedRow)
     }
 }
 
-/// Gathers the drawn slivers of a row in an empty list, and answers which limits were passed.
+/// Gathers the drawn slivers of a row in an empty list. Returns which limits were passed.
 #[tactic(auto, unfolding(crate::specs::Slivers::drawn_slivers, crate::specs::Slivers::passes_time))]
 pub fn gather_row(p: &Ppu, row: u16, slivers: &mut ArrayVec<Sliver, 34>) -> Over
     requires row { row < 239 }
@@ -40,7 +40,7 @@ pub fn gather_row(p: &Ppu, row: u16, slivers: &mut ArrayVec<Sliver, 34>) -> Over
     Over { range, time }
 }
 
-/// Draws slivers in turn over a row in which nothing stands, and whose pixel x stands at place x + 8.
+/// Draws slivers in turn over an empty row, whose pixel x is at place x + 8.
 #[inline(always)]
 #[tactic(auto, unfolding(crate::specs::Slivers::painted, crate::specs::Ranks::object_rank), using(std::proofs::lemmas::List::Sums::fold_more))]
 fn paint_all(
@@ -68,7 +68,7 @@ fn paint_all(
     }
 }
 
-/// A row of zeros with room for eight more at both ends.
+/// Returns a row of zeros with room for eight more at both ends.
 #[inline(always)]
 fn clear_row() -> [u8; 272]
     ensures { (x : ℕ) → slice_index result x ≡ 0 }
@@ -76,7 +76,7 @@ fn clear_row() -> [u8; 272]
     [0; 272]
 }
 
-/// The pixels of a row from their places.
+/// Copies the 256 pixels of a row from their places, x + 8.
 #[inline(always)]
 fn cut(from: &[u8; 272], out: &mut [u8; 256])
     ensures { (x : ℕ) → x < 256 → slice_index out.new x ≡ slice_index from.now (x + 8) }
@@ -114,8 +114,10 @@ fn paint_row(
     }
 }
 
-/// Writes the drawn slivers of a row as planes: `bases` are the rank bytes of the four priorities, and bit 3 is set
-/// where `named` and the palette may take part in arithmetic.
+/// Writes the drawn slivers of a row as two byte planes.
+///
+/// `bases` are the rank bytes of the four priorities. Bit 3 is set if `named` and the palette may take part in
+/// arithmetic.
 #[tactic(auto, unfolding(crate::specs::Slivers::object_layer_dot))]
 pub fn paint_drawn(
     p: &Ppu,
@@ -134,8 +136,10 @@ pub fn paint_drawn(
     paint_row(p, row, slivers.as_slice(), bases, named, out);
 }
 
-/// Writes the objects of a row as planes, and answers which limits were passed: `bases` are the rank bytes of the
-/// four priorities, and bit 3 is set where `named` and the palette may take part in arithmetic.
+/// Writes the objects of a row as two byte planes. Returns which limits were passed.
+///
+/// `bases` are the rank bytes of the four priorities. Bit 3 is set if `named` and the palette may take part in
+/// arithmetic.
 pub fn obj_planes(p: &Ppu, row: u16, bases: &[u8; 4], named: bool, out: &mut RankedRow) -> Over
     requires row { row < 239 }
     requires bases { (k : ℕ) → slice_index bases.now k ≤ 240 }
@@ -150,7 +154,7 @@ pub fn obj_planes(p: &Ppu, row: u16, bases: &[u8; 4], named: bool, out: &mut Ran
     over
 }
 
-/// One pixel of a row as a dot, from its bytes in planes whose rank bytes are those of `obj_row`.
+/// Returns one pixel of a row as a dot, from its bytes in planes whose rank bytes are those of `obj_row`.
 #[inline(always)]
 #[tactic(auto, unfolding(crate::specs::Ranks::object_rank, crate::specs::Ranks::rank_byte, ppu_regs::specs::Dots::dot_of, ppu_regs::specs::Dots::colour_of))]
 fn dot_at(cgram: &[u16; 256], rank: u8, number: u8) -> Dot
@@ -182,7 +186,7 @@ fn dot_in_row(p: &Ppu, row: u16, x: usize, rank: u8, number: u8) -> Dot
     dot_at(p.cgram(), rank, number)
 }
 
-/// Writes the dots of the objects of a row, and answers which limits were passed.
+/// Writes the 256 dots of the objects of a row. Returns which limits were passed.
 pub fn obj_row(p: &Ppu, row: u16, out: &mut [Dot]) -> Over
     requires row { row < 239 }
     requires room { length out.old ≡ 256 }

@@ -1,11 +1,11 @@
-//! How large objects are.
+//! The sizes of objects in pixels, by the size code of 2101 OBSEL.
 
 ghost use Rattle.std.specs.Prelude.{◌≡◌, ℕ, ◌≤◌, Bool, true, false};
 ghost use Rattle.ppu_objects.specs.Objects.{width_of, height_of};
 
 use std::marker::Model;
 
-/// The width of an object in pixels.
+/// Returns the width of an object in pixels, 8 to 64.
 #[inline(always)]
 #[tactic(auto, unfolding(crate::specs::Objects::width_of))]
 fn width(code: u8, large: bool) -> u16
@@ -30,7 +30,7 @@ fn width(code: u8, large: bool) -> u16
     }
 }
 
-/// The height of an object in pixels.
+/// Returns the height of an object in pixels, 8 to 64.
 #[inline(always)]
 #[tactic(auto, unfolding(crate::specs::Objects::height_of))]
 fn height(code: u8, large: bool) -> u16
@@ -55,8 +55,8 @@ fn height(code: u8, large: bool) -> u16
     }
 }
 
-/// The sizes of small and of large objects, found once for a row. Contracts see them as the code that says them, bits 7-5
-/// of 2101.
+/// The sizes of small and of large objects, found once for a row. Contracts see them as their size code, bits 7-5 of
+/// 2101.
 #[derive(Drop)]
 pub struct Sizes {
     code: u8,
@@ -81,7 +81,7 @@ impl Model for Sizes {
 }
 
 impl Sizes {
-    /// Those of a code.
+    /// Returns the sizes of a size code, 0 to 7.
     #[inline(always)]
     pub fn of(code: u8) -> Sizes
         ensures { result ≡ code }
@@ -95,7 +95,7 @@ impl Sizes {
         }
     }
 
-    /// The width of an object in pixels.
+    /// Returns the width of a small or a large object in pixels, 8 to 64.
     #[inline(always)]
     pub fn width(&self, large: bool) -> u16
         ensures value { result ≡ width_of self.now large }
@@ -109,7 +109,7 @@ impl Sizes {
         }
     }
 
-    /// The height of an object in pixels.
+    /// Returns the height of a small or a large object in pixels, 8 to 64.
     #[inline(always)]
     pub fn height(&self, large: bool) -> u16
         ensures value { result ≡ height_of self.now large }

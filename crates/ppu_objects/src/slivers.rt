@@ -12,11 +12,13 @@ use arrayvec::ArrayVec;
 /// One sliver of an object: its column of eight pixels, from the left on the screen.
 #[derive(Clone, Copy, Default)]
 pub struct Sliver {
+    /// The object.
     pub object: Object,
+    /// The column of eight pixels in the object, 0 to 7, from the left on the screen.
     pub column: u8,
 }
 
-/// Where a sliver begins, modulo 512.
+/// Returns the X at which a sliver begins, modulo 512.
 #[inline(always)]
 #[tactic(auto, unfolding(crate::specs::Slivers::sliver_left))]
 pub fn left_of(o: &Object, column: u8) -> u16
@@ -26,7 +28,7 @@ pub fn left_of(o: &Object, column: u8) -> u16
     ((o.x as u32 + 8 * column as u32) % 512) as u16
 }
 
-/// Whether a sliver that begins there has a pixel in the row.
+/// Returns whether a sliver that begins at `left` has a pixel in the row.
 #[inline(always)]
 #[tactic(auto, unfolding(crate::specs::Slivers::is_on_screen))]
 pub fn on_screen(left: u16) -> bool
@@ -35,8 +37,8 @@ pub fn on_screen(left: u16) -> bool
     left < 256 || left > 504
 }
 
-/// Adds a sliver at the end of a list of 34 where it is on the screen and there is room; answers whether there
-/// are more than 34.
+/// Appends a sliver to a list of 34 if it is on the screen and there is room. Returns whether there are more than
+/// 34.
 #[inline(always)]
 #[tactic(auto, unfolding(crate::specs::Objects::grown))]
 fn note_sliver(list: &mut ArrayVec<Sliver, 34>, more: bool, does: bool, sliver: Sliver) -> bool
@@ -68,8 +70,8 @@ fn add_slivers(sizes: &Sizes, o: &Object, list: &mut ArrayVec<Sliver, 34>, over:
     more
 }
 
-/// Gathers the first 34 slivers of some objects, from the last object to the first, in an empty list; answers whether
-/// there are more.
+/// Gathers the first 34 slivers of some objects, from the last object to the first, in an empty list. Returns
+/// whether there are more.
 #[tactic(auto, unfolding(crate::specs::Slivers::all_slivers), using(crate::proofs::Firsts::turns))]
 pub fn gather_slivers(code: u8, objects: &[Object], list: &mut ArrayVec<Sliver, 34>) -> bool
     requires empty { list.old.items ≡ [] }

@@ -1,7 +1,8 @@
+//! Single bits of a byte.
 ghost use Rattle.std.specs.Prelude.{◌≡◌, ◌<◌};
 ghost use Rattle.ppu_regs.specs.Bits.{is_set};
 
-/// Whether the bit of this weight (1, 2, 4, .. 128) is set.
+/// Returns whether the bit of this weight (1, 2, 4, .. 128) is set.
 #[inline(always)]
 #[tactic(auto, unfolding(crate::specs::Bits::is_set))]
 pub fn bit(v: u8, weight: u8) -> bool

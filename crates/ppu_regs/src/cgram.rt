@@ -1,9 +1,10 @@
+//! The port to CGRAM: 2121, 2122 and 213B.
 ghost use Rattle.std.specs.Prelude.{◌≡◌, ℕ, ◌<◌, slice_index, length};
 ghost use Rattle.ppu_regs.specs.Ports.{cgram_written, cgram_port_written, cgram_byte, cgram_port_read};
 
 use crate::registers::CgramPort;
 
-/// A byte that 2122 CGDATA takes: the first is kept, the second writes 15 bits.
+/// Writes 2122 CGDATA: keeps the first byte of a colour, and at the second writes its 15 bits.
 #[inline(always)]
 #[tactic(auto, unfolding(crate::specs::Ports::cgram_written, crate::specs::Ports::cgram_port_written))]
 pub fn put(cgram: &mut [u16; 256], port: &mut CgramPort, v: u8)
@@ -23,7 +24,7 @@ pub fn put(cgram: &mut [u16; 256], port: &mut CgramPort, v: u8)
     port.index = ((port.index as u16 + 1) % 256) as u8;
 }
 
-/// A byte that 213B RDCGRAM gives: the low one, then the high one.
+/// Reads 213B RDCGRAM: a colour's low byte, then its high one.
 #[inline(always)]
 #[tactic(auto, unfolding(crate::specs::Ports::cgram_byte, crate::specs::Ports::cgram_port_read))]
 pub fn take(cgram: &[u16; 256], port: &mut CgramPort) -> u8

@@ -1,49 +1,50 @@
+//! The dots that layers have on a row, before and after their colours are looked up.
 ghost use Rattle.std.specs.Prelude.{◌≡◌, ◌<◌, ◌≤◌};
 ghost use Rattle.ppu_regs.specs.Dots.{no_dot, dot_of, colour_of, direct_colour_of};
 
-/// What a layer has at a dot, as the layers above compare it: the colour is looked up.
+/// A layer's dot with its colour looked up.
 #[derive(Clone, Copy, Debug, PartialEq, Eq)]
 pub struct Dot {
     /// Whether the layer has anything there. If not, all else is 0.
     pub on: bool,
-    /// 0 or 1 of a background, 0 to 3 of an object.
+    /// The priority: 0 or 1 for a background, 0 to 3 for an object.
     pub prio: u8,
-    /// 15 bits: red in bits 4-0, green in 9-5, blue in 14-10.
+    /// The colour, 15 bits: red in bits 4-0, green in 9-5, blue in 14-10.
     pub colour: u16,
     /// Whether colour arithmetic may take it: false exactly for objects of the palettes 0 to 3.
     pub math: bool,
 }
 
-/// What a layer has at a dot, before its colour is looked up.
+/// A layer's dot before its colour is looked up.
 #[derive(Clone, Copy)]
 pub struct LayerDot {
     /// Whether the layer has anything there: its value isn't 0.
     pub on: bool,
-    /// 0 or 1 of a background, 0 to 3 of an object.
+    /// The priority: 0 or 1 for a background, 0 to 3 for an object.
     pub priority: u8,
-    /// The colour's number in CGRAM; of direct colour the value BBGGGRRR.
+    /// The colour's number in CGRAM, or the value BBGGGRRR of a direct colour.
     pub number: u8,
     /// Whether the colour is direct.
     pub direct: bool,
-    /// The palette of a direct colour, 0 to 7; 0 where the colour isn't direct.
+    /// The palette of a direct colour, 0 to 7; 0 if the colour isn't direct.
     pub palette: u8,
-    /// As in `Dot`.
+    /// Whether colour arithmetic may take it, as in `Dot`.
     pub math: bool,
 }
 
-/// A row of 256 dots of one layer, or of the front of some, in two byte planes.
+/// A row of 256 dots of one layer, or of the dots in front of several layers, in two byte planes.
 ///
-/// `ranks` has in bits 7-4 the rank: 0 where nothing is, else the greater one is in front; in bit 3
-/// whether colour arithmetic names the dot; in bits 2-0 the palette of direct colour. `numbers` has
-/// the number of the colour in CGRAM, or the value of a direct colour. So the front of two dots is
-/// that of the greater byte in `ranks`.
+/// Of two dots the one with the greater rank is in front.
 #[derive(Clone, Copy)]
 pub struct RankedRow {
+    /// Bits 7-4: the rank, 0 if nothing is there. Bit 3: whether colour arithmetic
+    /// names the dot. Bits 2-0: the palette of a direct colour.
     pub ranks: [u8; 256],
+    /// The number of the colour in CGRAM, or the value of a direct colour.
     pub numbers: [u8; 256],
 }
 
-/// A direct colour: of the value BBGGGRRR and the palette p, red is RRR p0 0, green GGG p1 0, blue
+/// Returns the direct colour of a value BBGGGRRR and a palette p. Red is RRR p0 0, green GGG p1 0, blue
 /// BB p2 0 0.
 #[inline(always)]
 #[tactic(auto, unfolding(crate::specs::Dots::direct_colour_of))]
@@ -59,7 +60,7 @@ pub fn direct_colour(value: u8, palette: u8) -> u16
 }
 
 impl LayerDot {
-    /// Its colour.
+    /// Returns the dot's colour.
     #[inline(always)]
     #[tactic(auto, unfolding(crate::specs::Dots::colour_of))]
     pub fn colour(self, cgram: &[u16; 256]) -> u16
@@ -73,7 +74,7 @@ impl LayerDot {
         }
     }
 
-    /// Its dot.
+    /// Returns the dot with its colour looked up.
     #[inline(always)]
     #[tactic(auto, unfolding(crate::specs::Dots::dot_of))]
     pub fn dot(self, cgram: &[u16; 256]) -> Dot

@@ -1,10 +1,11 @@
+//! The registers of one layer, by its number.
 ghost use Rattle.std.specs.Prelude.{◌≡◌};
 ghost use Rattle.ppu_regs.specs.Picture.{background_of, windows_of, screens_of};
 
 use crate::registers::{Background, LayerScreens, LayerWindows, Registers};
 
 impl Registers {
-    /// BG1 to BG4.
+    /// Returns the registers of the background of a layer, 1 to 4 for BG1 to BG4.
     #[inline(always)]
     #[tactic(auto, unfolding(crate::specs::Picture::background_of))]
     pub fn background(&self, layer: u8) -> &Background
@@ -18,7 +19,7 @@ impl Registers {
         }
     }
 
-    /// The windows of layers 1 to 4, of the objects as 5, of the colour window as 6.
+    /// Returns a layer's use of the windows: 1 to 4 for BG1 to BG4, 5 for the objects, 6 for the colour window.
     #[inline(always)]
     #[tactic(auto, unfolding(crate::specs::Picture::windows_of))]
     pub fn windows(&self, layer: u8) -> &LayerWindows
@@ -34,7 +35,7 @@ impl Registers {
         }
     }
 
-    /// The screens of layers 1 to 4, of the objects as 5.
+    /// Returns the screens that show a layer: 1 to 4 for BG1 to BG4, 5 for the objects.
     #[inline(always)]
     #[tactic(auto, unfolding(crate::specs::Picture::screens_of))]
     pub fn screens(&self, layer: u8) -> &LayerScreens

@@ -1,7 +1,7 @@
-//! The picture unit's registers, 2100 to 213F, and its three memories.
+//! The PPU's registers, 2100 to 213F, and its three memories: VRAM, CGRAM and OAM.
 //!
-//! The crate stands on `snes_defs`. `Ppu` is seen in contracts as the record `Picture` of
-//! `specs/Picture.antt`: all registers by name, and VRAM, CGRAM and OAM as lists.
+//! The crate depends on `snes_defs`. Contracts see `Ppu` as the record `Picture` of `specs/Picture.antt`:
+//! all registers by name, and the three memories as lists.
 #![tactic(auto)]
 
 mod bits;

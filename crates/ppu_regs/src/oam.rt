@@ -1,3 +1,4 @@
+//! OAM and the port to it: 2102 to 2104 and 2138.
 ghost use Rattle.std.specs.Prelude.{◌≡◌, ◌<◌, ◌+◌, ◌*◌, ℕ, length, slice_index};
 ghost use Rattle.ppu_regs.specs.Picture.{zeros};
 ghost use Rattle.ppu_regs.specs.Ports.{oam_place, oam_stepped, oam_bytes_written, oam_port_written};
@@ -5,8 +6,8 @@ ghost use Rattle.ppu_regs.specs.Ports.{oam_place, oam_stepped, oam_bytes_written
 use crate::registers::OamPort;
 use std::marker::Model;
 
-/// OAM: 544 bytes, seen in contracts as their list. The Y of all objects stand once more side by side, so that a row is compared
-/// with many of them at once.
+/// OAM: 544 bytes, seen in contracts as their list. The Y of all objects are kept once more side by side, so that
+/// one pass compares a row with many of them.
 #[derive(Drop)]
 pub struct Oam {
     bytes: [u8; 544],
@@ -25,7 +26,7 @@ impl Model for Oam {
 }
 
 impl Oam {
-    /// 544 zeros.
+    /// Returns an OAM of 544 zeros.
     pub fn new() -> Oam
         ensures { result ≡ zeros 544 }
     {
@@ -35,7 +36,7 @@ impl Oam {
         }
     }
 
-    /// Makes the other one the same.
+    /// Copies all bytes into another OAM.
     pub fn copy_into(&self, into: &mut Oam)
         ensures { into.new ≡ self.now }
     {
@@ -43,7 +44,7 @@ impl Oam {
         into.tops = self.tops;
     }
 
-    /// All bytes.
+    /// Returns all 544 bytes.
     #[inline(always)]
     pub fn bytes(&self) -> &[u8; 544]
         ensures { result.now ≡ self.now }
@@ -51,7 +52,7 @@ impl Oam {
         &self.bytes
     }
 
-    /// The Y of each object.
+    /// Returns the Y of each of the 128 objects.
     #[inline(always)]
     pub fn tops(&self) -> &[u8; 128]
         ensures { (n : ℕ) → n < 128 → slice_index result.now n ≡ slice_index self.now (4 * n + 1) }
@@ -59,7 +60,7 @@ impl Oam {
         &self.tops
     }
 
-    /// A byte that 2104 OAMDATA takes.
+    /// Writes 2104 OAMDATA: puts or keeps a byte by the port's address, and steps the address.
     #[inline(always)]
     pub fn put(&mut self, port: &mut OamPort, v: u8)
         requires { port.old.address < 1024 }
@@ -89,7 +90,7 @@ fn no_bytes() -> [u8; 544]
     [0; 544]
 }
 
-/// The place in OAM of a byte address: 512 bytes, then 32 over and over.
+/// Returns the place in OAM of a byte address: 512 bytes, then the last 32 repeated.
 #[inline(always)]
 #[tactic(auto, unfolding(crate::specs::Ports::oam_place))]
 pub fn place(address: u16) -> usize
@@ -103,7 +104,7 @@ pub fn place(address: u16) -> usize
     }
 }
 
-/// The address steps.
+/// Steps the byte address, modulo 1,024.
 #[inline(always)]
 pub fn step(port: &mut OamPort)
     requires { port.old.address < 1024 }
@@ -112,7 +113,7 @@ pub fn step(port: &mut OamPort)
     port.address = (port.address + 1) % 1024;
 }
 
-/// A byte that 2104 OAMDATA takes, among the bytes.
+/// Writes 2104 OAMDATA into the bytes.
 #[inline(always)]
 #[tactic(auto, unfolding(crate::specs::Ports::oam_bytes_written, crate::specs::Ports::oam_port_written))]
 fn put_bytes(oam: &mut [u8; 544], port: &mut OamPort, v: u8)

@@ -1,3 +1,4 @@
+//! The bits of each register that is written, register by register.
 ghost use Rattle.std.specs.Prelude.{◌≡◌, ◌<◌, ◌≤◌};
 ghost use Rattle.ppu_regs.specs.Pages.{display_written, object_tiles_written, oam_low_written, oam_high_written, mode_written, mosaic_written, map_written, tiles_low_written, tiles_high_written, scrolled_across, scrolled_down, rotation_scrolled_across, rotation_scrolled_down, vram_step_written, rotation_settings_written, rotation_a_written, rotation_b_written, rotation_c_written, rotation_d_written, rotation_x_written, rotation_y_written, cgram_index_written, windows_selected, windows_low_written, windows_high_written, windows_others_written, combine_of, combines_written, combines_others_written, main_written, sub_written, main_masks_written, sub_masks_written, window_part_of, colour_selected, arithmetic_written, fixed_colour_written, settings_written};
 
@@ -7,7 +8,7 @@ use crate::registers::{
     Rotation, Settings, WindowPart,
 };
 
-/// Two bits of 212A and 212B.
+/// Returns what two bits of 212A and 212B say.
 #[inline(always)]
 #[tactic(auto, unfolding(crate::specs::Pages::combine_of))]
 fn combine(code: u8) -> Combine
@@ -21,7 +22,7 @@ fn combine(code: u8) -> Combine
     }
 }
 
-/// Two bits of 2130.
+/// Returns what two bits of 2130 say.
 #[inline(always)]
 #[tactic(auto, unfolding(crate::specs::Pages::window_part_of))]
 fn window_part(code: u8) -> WindowPart
@@ -36,7 +37,7 @@ fn window_part(code: u8) -> WindowPart
 }
 
 impl Background {
-    /// 2107-210A BGnSC.
+    /// Writes 2107-210A BGnSC.
     #[inline(always)]
     #[tactic(auto, unfolding(crate::specs::Pages::map_written))]
     pub(crate) fn write_map(&mut self, v: u8)
@@ -47,7 +48,7 @@ impl Background {
         self.wide = bit(v, 1);
     }
 
-    /// BGnHOFS, over the byte that the scroll registers kept.
+    /// Writes BGnHOFS, over the byte that the scroll registers kept.
     #[inline(always)]
     #[tactic(auto, unfolding(crate::specs::Pages::scrolled_across))]
     pub(crate) fn scroll_across(&mut self, kept: u8, v: u8)
@@ -56,7 +57,7 @@ impl Background {
         self.scroll_x = 256 * v as u16 + (kept / 8 * 8) as u16 + self.scroll_x / 256 % 8;
     }
 
-    /// BGnVOFS, over the byte that the scroll registers kept.
+    /// Writes BGnVOFS, over the byte that the scroll registers kept.
     #[inline(always)]
     #[tactic(auto, unfolding(crate::specs::Pages::scrolled_down))]
     pub(crate) fn scroll_down(&mut self, kept: u8, v: u8)
@@ -67,7 +68,7 @@ impl Background {
 }
 
 impl Rotation {
-    /// M7HOFS.
+    /// Writes 210D as M7HOFS.
     #[inline(always)]
     #[tactic(auto, unfolding(crate::specs::Pages::rotation_scrolled_across))]
     pub(crate) fn scroll_across(&mut self, v: u8)
@@ -77,7 +78,7 @@ impl Rotation {
         self.kept = v;
     }
 
-    /// M7VOFS.
+    /// Writes 210E as M7VOFS.
     #[inline(always)]
     #[tactic(auto, unfolding(crate::specs::Pages::rotation_scrolled_down))]
     pub(crate) fn scroll_down(&mut self, v: u8)
@@ -87,7 +88,7 @@ impl Rotation {
         self.kept = v;
     }
 
-    /// 211A M7SEL.
+    /// Writes 211A M7SEL.
     #[inline(always)]
     #[tactic(auto, unfolding(crate::specs::Pages::rotation_settings_written))]
     pub(crate) fn write_settings(&mut self, v: u8)
@@ -102,7 +103,7 @@ impl Rotation {
         };
     }
 
-    /// 211B M7A.
+    /// Writes 211B M7A.
     #[inline(always)]
     #[tactic(auto, unfolding(crate::specs::Pages::rotation_a_written))]
     pub(crate) fn write_a(&mut self, v: u8)
@@ -112,7 +113,7 @@ impl Rotation {
         self.kept = v;
     }
 
-    /// 211C M7B.
+    /// Writes 211C M7B.
     #[inline(always)]
     #[tactic(auto, unfolding(crate::specs::Pages::rotation_b_written))]
     pub(crate) fn write_b(&mut self, v: u8)
@@ -122,7 +123,7 @@ impl Rotation {
         self.kept = v;
     }
 
-    /// 211D M7C.
+    /// Writes 211D M7C.
     #[inline(always)]
     #[tactic(auto, unfolding(crate::specs::Pages::rotation_c_written))]
     pub(crate) fn write_c(&mut self, v: u8)
@@ -132,7 +133,7 @@ impl Rotation {
         self.kept = v;
     }
 
-    /// 211E M7D.
+    /// Writes 211E M7D.
     #[inline(always)]
     #[tactic(auto, unfolding(crate::specs::Pages::rotation_d_written))]
     pub(crate) fn write_d(&mut self, v: u8)
@@ -142,7 +143,7 @@ impl Rotation {
         self.kept = v;
     }
 
-    /// 211F M7X.
+    /// Writes 211F M7X.
     #[inline(always)]
     #[tactic(auto, unfolding(crate::specs::Pages::rotation_x_written))]
     pub(crate) fn write_x(&mut self, v: u8)
@@ -152,7 +153,7 @@ impl Rotation {
         self.kept = v;
     }
 
-    /// 2120 M7Y.
+    /// Writes 2120 M7Y.
     #[inline(always)]
     #[tactic(auto, unfolding(crate::specs::Pages::rotation_y_written))]
     pub(crate) fn write_y(&mut self, v: u8)
@@ -164,7 +165,7 @@ impl Rotation {
 }
 
 impl LayerWindows {
-    /// A nibble of 2123-2125.
+    /// Takes a layer's nibble of 2123-2125.
     #[inline(always)]
     #[tactic(auto, unfolding(crate::specs::Pages::windows_selected))]
     fn select(&mut self, nibble: u8)
@@ -178,7 +179,7 @@ impl LayerWindows {
 }
 
 impl ColourMath {
-    /// 2130 CGWSEL.
+    /// Writes 2130 CGWSEL.
     #[inline(always)]
     #[tactic(auto, unfolding(crate::specs::Pages::colour_selected))]
     pub(crate) fn select(&mut self, v: u8)
@@ -190,7 +191,7 @@ impl ColourMath {
         self.direct = bit(v, 1);
     }
 
-    /// 2132 COLDATA.
+    /// Writes 2132 COLDATA.
     #[inline(always)]
     #[tactic(auto, unfolding(crate::specs::Pages::fixed_colour_written))]
     pub(crate) fn write_fixed(&mut self, v: u8)
@@ -204,7 +205,7 @@ impl ColourMath {
 }
 
 impl Registers {
-    /// 2100 INIDISP.
+    /// Writes 2100 INIDISP.
     #[inline(always)]
     #[tactic(auto, unfolding(crate::specs::Pages::display_written))]
     pub(crate) fn write_display(&mut self, v: u8)
@@ -216,7 +217,7 @@ impl Registers {
         };
     }
 
-    /// 2101 OBSEL.
+    /// Writes 2101 OBSEL.
     #[inline(always)]
     #[tactic(auto, unfolding(crate::specs::Pages::object_tiles_written))]
     pub(crate) fn write_object_tiles(&mut self, v: u8)
@@ -229,7 +230,7 @@ impl Registers {
         };
     }
 
-    /// 2102 OAMADDL.
+    /// Writes 2102 OAMADDL.
     #[inline(always)]
     #[tactic(auto, unfolding(crate::specs::Pages::oam_low_written))]
     pub(crate) fn write_oam_low(&mut self, v: u8)
@@ -241,7 +242,7 @@ impl Registers {
         self.oam.address = 2 * word;
     }
 
-    /// 2103 OAMADDH.
+    /// Writes 2103 OAMADDH.
     #[inline(always)]
     #[tactic(auto, unfolding(crate::specs::Pages::oam_high_written))]
     pub(crate) fn write_oam_high(&mut self, v: u8)
@@ -253,7 +254,7 @@ impl Registers {
         self.oam.address = 2 * word;
     }
 
-    /// 2105 BGMODE.
+    /// Writes 2105 BGMODE.
     #[inline(always)]
     #[tactic(auto, unfolding(crate::specs::Pages::mode_written))]
     pub(crate) fn write_mode(&mut self, v: u8)
@@ -267,7 +268,7 @@ impl Registers {
         self.bg4.large = bit(v, 128);
     }
 
-    /// 2106 MOSAIC.
+    /// Writes 2106 MOSAIC.
     #[inline(always)]
     #[tactic(auto, unfolding(crate::specs::Pages::mosaic_written))]
     pub(crate) fn write_mosaic(&mut self, v: u8)
@@ -280,7 +281,7 @@ impl Registers {
         self.bg4.mosaic = bit(v, 8);
     }
 
-    /// 210B BG12NBA.
+    /// Writes 210B BG12NBA.
     #[inline(always)]
     #[tactic(auto, unfolding(crate::specs::Pages::tiles_low_written))]
     pub(crate) fn write_tiles_low(&mut self, v: u8)
@@ -290,7 +291,7 @@ impl Registers {
         self.bg2.tile_base = (v / 16) as u16 * 0x1000;
     }
 
-    /// 210C BG34NBA.
+    /// Writes 210C BG34NBA.
     #[inline(always)]
     #[tactic(auto, unfolding(crate::specs::Pages::tiles_high_written))]
     pub(crate) fn write_tiles_high(&mut self, v: u8)
@@ -300,7 +301,7 @@ impl Registers {
         self.bg4.tile_base = (v / 16) as u16 * 0x1000;
     }
 
-    /// 2115 VMAIN.
+    /// Writes 2115 VMAIN.
     #[inline(always)]
     #[tactic(auto, unfolding(crate::specs::Pages::vram_step_written))]
     pub(crate) fn write_vram_step(&mut self, v: u8)
@@ -315,7 +316,7 @@ impl Registers {
         };
     }
 
-    /// 2121 CGADD.
+    /// Writes 2121 CGADD.
     #[inline(always)]
     #[tactic(auto, unfolding(crate::specs::Pages::cgram_index_written))]
     pub(crate) fn write_cgram_index(&mut self, v: u8)
@@ -325,7 +326,7 @@ impl Registers {
         self.cgram.high = false;
     }
 
-    /// 2123 W12SEL.
+    /// Writes 2123 W12SEL.
     #[inline(always)]
     #[tactic(auto, unfolding(crate::specs::Pages::windows_low_written))]
     pub(crate) fn write_windows_low(&mut self, v: u8)
@@ -335,7 +336,7 @@ impl Registers {
         self.windows_bg2.select(v / 16);
     }
 
-    /// 2124 W34SEL.
+    /// Writes 2124 W34SEL.
     #[inline(always)]
     #[tactic(auto, unfolding(crate::specs::Pages::windows_high_written))]
     pub(crate) fn write_windows_high(&mut self, v: u8)
@@ -345,7 +346,7 @@ impl Registers {
         self.windows_bg4.select(v / 16);
     }
 
-    /// 2125 WOBJSEL.
+    /// Writes 2125 WOBJSEL.
     #[inline(always)]
     #[tactic(auto, unfolding(crate::specs::Pages::windows_others_written))]
     pub(crate) fn write_windows_others(&mut self, v: u8)
@@ -355,7 +356,7 @@ impl Registers {
         self.windows_colour.select(v / 16);
     }
 
-    /// 212A WBGLOG.
+    /// Writes 212A WBGLOG.
     #[inline(always)]
     #[tactic(auto, unfolding(crate::specs::Pages::combines_written))]
     pub(crate) fn write_combines(&mut self, v: u8)
@@ -367,7 +368,7 @@ impl Registers {
         self.windows_bg4.combine = combine(v / 64);
     }
 
-    /// 212B WOBJLOG.
+    /// Writes 212B WOBJLOG.
     #[inline(always)]
     #[tactic(auto, unfolding(crate::specs::Pages::combines_others_written))]
     pub(crate) fn write_combines_others(&mut self, v: u8)
@@ -377,7 +378,7 @@ impl Registers {
         self.windows_colour.combine = combine(v / 4 % 4);
     }
 
-    /// 212C TM.
+    /// Writes 212C TM.
     #[inline(always)]
     #[tactic(auto, unfolding(crate::specs::Pages::main_written))]
     pub(crate) fn write_main(&mut self, v: u8)
@@ -390,7 +391,7 @@ impl Registers {
         self.screens_objects.main = bit(v, 16);
     }
 
-    /// 212D TS.
+    /// Writes 212D TS.
     #[inline(always)]
     #[tactic(auto, unfolding(crate::specs::Pages::sub_written))]
     pub(crate) fn write_sub(&mut self, v: u8)
@@ -403,7 +404,7 @@ impl Registers {
         self.screens_objects.sub = bit(v, 16);
     }
 
-    /// 212E TMW.
+    /// Writes 212E TMW.
     #[inline(always)]
     #[tactic(auto, unfolding(crate::specs::Pages::main_masks_written))]
     pub(crate) fn write_main_masks(&mut self, v: u8)
@@ -416,7 +417,7 @@ impl Registers {
         self.screens_objects.main_masked = bit(v, 16);
     }
 
-    /// 212F TSW.
+    /// Writes 212F TSW.
     #[inline(always)]
     #[tactic(auto, unfolding(crate::specs::Pages::sub_masks_written))]
     pub(crate) fn write_sub_masks(&mut self, v: u8)
@@ -429,7 +430,7 @@ impl Registers {
         self.screens_objects.sub_masked = bit(v, 16);
     }
 
-    /// 2131 CGADSUB.
+    /// Writes 2131 CGADSUB.
     #[inline(always)]
     #[tactic(auto, unfolding(crate::specs::Pages::arithmetic_written))]
     pub(crate) fn write_arithmetic(&mut self, v: u8)
@@ -445,7 +446,7 @@ impl Registers {
         self.colour.backdrop = bit(v, 32);
     }
 
-    /// 2133 SETINI.
+    /// Writes 2133 SETINI.
     #[inline(always)]
     #[tactic(auto, unfolding(crate::specs::Pages::settings_written))]
     pub(crate) fn write_settings(&mut self, v: u8)

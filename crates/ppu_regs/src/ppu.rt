@@ -1,3 +1,4 @@
+//! The PPU as one value: writes, reads and the events of the beam.
 ghost use Rattle.std.specs.Prelude.{◌≡◌, ℕ, ◌<◌, ◌≤◌, ◌+◌, ◌*◌, length, slice_index, All, IfOk, IfSome, not, true, false};
 ghost use Rattle.ppu_regs.specs.Picture.{IsInRange, picture_start, vram_words, zeros};
 ghost use Rattle.ppu_regs.specs.Writes.{registers_written, oam_written, vram_low_set, vram_high_set, vram_low_put, vram_high_put, colour_put, after_write, word_written, after_over, after_frame, after_blank};
@@ -14,10 +15,10 @@ use std::marker::Model;
 
 mod copy;
 
-/// The words of VRAM.
+/// The number of words in VRAM.
 const VRAM_WORDS: usize = 32_768;
 
-/// The picture unit's registers and memories. Contracts see it as the record `Picture`.
+/// The PPU: its registers and its three memories. Contracts see it as the record `Picture`.
 #[derive(Drop)]
 pub struct Ppu {
     registers: Registers,
@@ -37,7 +38,7 @@ impl Model for Ppu {
 }
 
 impl Ppu {
-    /// The unit at the start: forced blank, all else zeros. Refused only for want of memory.
+    /// Returns the PPU at its start: forced blank, all else zeros. Fails only if allocation fails.
 
     pub fn new(alloc: Global) -> Result<Ppu, NoMemory>
         ensures start { IfOk result (λ p. p ≡ picture_start) }
@@ -51,7 +52,7 @@ impl Ppu {
         })
     }
 
-    /// All registers.
+    /// Returns all registers.
     #[inline(always)]
     pub fn registers(&self) -> &Registers
         ensures { result.now ≡ self.now.registers }
@@ -59,7 +60,7 @@ impl Ppu {
         &self.registers
     }
 
-    /// VRAM, 32,768 words.
+    /// Returns VRAM, 32,768 words.
     #[inline(always)]
     pub fn vram(&self) -> &[u16]
         ensures words { result.now ≡ self.now.vram }
@@ -68,7 +69,7 @@ impl Ppu {
         self.vram.as_slice()
     }
 
-    /// CGRAM, 256 colours of 15 bits.
+    /// Returns CGRAM: 256 colours of 15 bits, red in bits 4-0, green in 9-5, blue in 14-10.
     #[inline(always)]
     pub fn cgram(&self) -> &[u16; 256]
         ensures colours { result.now ≡ self.now.cgram }
@@ -77,7 +78,7 @@ impl Ppu {
         &self.cgram
     }
 
-    /// OAM, 544 bytes.
+    /// Returns OAM, 544 bytes.
     #[inline(always)]
     pub fn oam(&self) -> &[u8; 544]
         ensures { result.now ≡ self.now.oam }
@@ -85,7 +86,7 @@ impl Ppu {
         self.oam.bytes()
     }
 
-    /// The Y of each object in OAM.
+    /// Returns the Y of each of OAM's 128 objects.
     #[inline(always)]
     pub fn tops(&self) -> &[u8; 128]
         ensures { (n : ℕ) → n < 128 → slice_index result.now n ≡ slice_index self.now.oam (4 * n + 1) }
@@ -93,7 +94,7 @@ impl Ppu {
         self.oam.tops()
     }
 
-    /// What the ranges of the registers are.
+    /// Gives a caller's proof the ranges of the registers. It changes nothing.
     #[inline(always)]
     pub fn in_range(&self)
         ensures { IsInRange self.now }
@@ -101,8 +102,8 @@ impl Ppu {
         let _mode = self.registers.mode;
     }
 
-    /// A byte is written to the register 2100 plus `reg`. The word of VRAM that this writes, which is so
-    /// exactly at 2118 and 2119.
+    /// Writes a byte to the register 2100 plus `reg`. Returns the word of VRAM that was written, if `reg` is
+    /// 2118 or 2119.
     #[inline]
     #[tactic(auto, unfolding(crate::specs::Writes::after_write, crate::specs::Writes::word_written))]
     pub fn write(&mut self, reg: u8, v: u8) -> Option<u16>
@@ -129,7 +130,8 @@ impl Ppu {
         None
     }
 
-    /// A byte is read from the register 2100 plus `reg`, where `bus` was the byte last on the data bus.
+    /// Reads a byte from the register 2100 plus `reg`. `bus` is the byte last on the data bus, `spot` the place of
+    /// the beam.
     #[inline]
     #[tactic(auto, unfolding(crate::specs::Reads::byte_read, crate::specs::Reads::registers_read))]
     pub fn read(&mut self, reg: u8, bus: u8, spot: Spot) -> u8
@@ -151,9 +153,9 @@ impl Ppu {
             }
             // 2138 OAMDATAREAD
             0x38 => self.take_oam(),
-            // 2139 VMDATALREAD
+            // 2139 RDVRAML
             0x39 => (self.take_vram(false) % 256) as u8,
-            // 213A VMDATAHREAD
+            // 213A RDVRAMH
             0x3a => (self.take_vram(true) / 256) as u8,
             // 213B CGDATAREAD
             0x3b => self.take_colour(),
@@ -169,7 +171,7 @@ impl Ppu {
         }
     }
 
-    /// The flags of a row are added.
+    /// Adds the flags of a row to those of the objects' limits.
     pub fn over(&mut self, row: Over)
         ensures { self.new ≡ after_over self.old row }
     {
@@ -178,7 +180,7 @@ impl Ppu {
         over.time = over.time || row.time;
     }
 
-    /// A frame begins: the flags of the objects' limits are cleared.
+    /// Begins a frame: clears the flags of the objects' limits.
     pub fn frame(&mut self)
         ensures { self.new ≡ after_frame self.old }
     {
@@ -188,7 +190,7 @@ impl Ppu {
         };
     }
 
-    /// Vertical blank begins: the byte address of OAM is loaded anew, unless forced blank is set.
+    /// Begins vertical blank: reloads the byte address of OAM from its word address, unless forced blank is set.
     pub fn blank(&mut self)
         ensures { self.new ≡ after_blank self.old }
     {
@@ -198,14 +200,14 @@ impl Ppu {
         self.registers.oam.address = 2 * self.registers.oam.word;
     }
 
-    /// Any register that reaches no memory.
+    /// Writes any register that reaches no memory.
     fn write_register(&mut self, reg: u8, v: u8)
         ensures { self.new ≡ (let r = registers_written self.old.registers reg v in record self.old { registers = r }) }
     {
         self.registers.write(reg, v);
     }
 
-    /// 2104 OAMDATA.
+    /// Writes 2104 OAMDATA.
     #[inline(always)]
     #[tactic(auto, unfolding(crate::specs::Writes::oam_written))]
     fn write_oam(&mut self, v: u8)
@@ -214,7 +216,7 @@ impl Ppu {
         self.oam.put(&mut self.registers.oam, v);
     }
 
-    /// 2116 VMADDL.
+    /// Writes 2116 VMADDL.
     #[inline(always)]
     #[tactic(auto, unfolding(crate::specs::Writes::vram_low_set))]
     fn aim_vram_low(&mut self, v: u8)
@@ -223,7 +225,7 @@ impl Ppu {
         vram::aim_low(self.vram.as_slice(), &mut self.registers.vram, v);
     }
 
-    /// 2117 VMADDH.
+    /// Writes 2117 VMADDH.
     #[inline(always)]
     #[tactic(auto, unfolding(crate::specs::Writes::vram_high_set))]
     fn aim_vram_high(&mut self, v: u8)
@@ -232,7 +234,7 @@ impl Ppu {
         vram::aim_high(self.vram.as_slice(), &mut self.registers.vram, v);
     }
 
-    /// 2118 VMDATAL.
+    /// Writes 2118 VMDATAL. Returns the word of VRAM that was written.
     #[inline(always)]
     #[tactic(auto, unfolding(crate::specs::Writes::vram_low_put))]
     fn put_vram_low(&mut self, v: u8) -> u16
@@ -243,7 +245,7 @@ impl Ppu {
         vram::put_low(self.vram.as_mut_slice(), &mut self.registers.vram, v)
     }
 
-    /// 2119 VMDATAH.
+    /// Writes 2119 VMDATAH. Returns the word of VRAM that was written.
     #[inline(always)]
     #[tactic(auto, unfolding(crate::specs::Writes::vram_high_put))]
     fn put_vram_high(&mut self, v: u8) -> u16
@@ -254,7 +256,7 @@ impl Ppu {
         vram::put_high(self.vram.as_mut_slice(), &mut self.registers.vram, v)
     }
 
-    /// 2122 CGDATA.
+    /// Writes 2122 CGDATA.
     #[inline(always)]
     #[tactic(auto, unfolding(crate::specs::Writes::colour_put))]
     fn put_colour(&mut self, v: u8)
@@ -263,7 +265,7 @@ impl Ppu {
         cgram::put(&mut self.cgram, &mut self.registers.cgram, v);
     }
 
-    /// 2137 SLHV: the place of the beam is kept.
+    /// Reads 2137 SLHV: keeps the place of the beam.
     #[inline(always)]
     fn latch(&mut self, spot: Spot)
         ensures { self.new ≡ (let k = counters_latched self.old.registers.counters spot in record self.old { registers = record self.old.registers { counters = k } }) }
@@ -271,7 +273,7 @@ impl Ppu {
         self.registers.counters.latch(spot);
     }
 
-    /// 2138 OAMDATAREAD.
+    /// Reads 2138 OAMDATAREAD.
     #[inline(always)]
     fn take_oam(&mut self) -> u8
         ensures byte { result ≡ slice_index self.old.oam (oam_place self.old.registers.oam.address) }
@@ -282,7 +284,7 @@ impl Ppu {
         byte
     }
 
-    /// 2139 RDVRAML or 213A RDVRAMH: the word that was fetched ahead.
+    /// Reads 2139 RDVRAML or 213A RDVRAMH. Returns the word that was fetched ahead.
     #[inline(always)]
     fn take_vram(&mut self, high: bool) -> u16
         ensures word { result ≡ self.old.registers.vram.fetched }
@@ -293,7 +295,7 @@ impl Ppu {
         word
     }
 
-    /// 213B RDCGRAM.
+    /// Reads 213B RDCGRAM.
     #[inline(always)]
     fn take_colour(&mut self) -> u8
         ensures byte { result ≡ cgram_byte self.old.cgram self.old.registers.cgram }
@@ -302,7 +304,7 @@ impl Ppu {
         cgram::take(&self.cgram, &mut self.registers.cgram)
     }
 
-    /// 213C OPHCT.
+    /// Reads 213C OPHCT.
     #[inline(always)]
     fn take_h(&mut self) -> u8
         ensures byte { result ≡ count_byte self.old.registers.counters.h self.old.registers.counters.h_high }
@@ -313,7 +315,7 @@ impl Ppu {
         part_of_count(self.registers.counters.h, high)
     }
 
-    /// 213D OPVCT.
+    /// Reads 213D OPVCT.
     #[inline(always)]
     fn take_v(&mut self) -> u8
         ensures byte { result ≡ count_byte self.old.registers.counters.v self.old.registers.counters.v_high }
@@ -324,7 +326,7 @@ impl Ppu {
         part_of_count(self.registers.counters.v, high)
     }
 
-    /// 213F STAT78: the flag of the counters and their orders go back.
+    /// Reads 213F STAT78, which clears the counters' flag and makes the low byte of both the next one.
     #[inline(always)]
     fn take_status(&mut self) -> u8
         ensures byte { result ≡ status_two self.old.registers.counters }

@@ -1,3 +1,4 @@
+//! The bytes that the readable registers give.
 ghost use Rattle.std.specs.Prelude.{◌≡◌, ◌<◌, ◌*◌, ◌%◌};
 ghost use Rattle.ppu_regs.specs.Reads.{product_of, counters_latched, count_byte, status_one, status_two};
 
@@ -5,7 +6,7 @@ use crate::registers::{Counters, Over, Rotation};
 use snes_defs::Spot;
 
 impl Rotation {
-    /// 2134-2136 MPYL, MPYM, MPYH: a 24-bit number in two's complement.
+    /// Returns the product of 2134-2136 MPYL, MPYM, MPYH: a 24-bit number in two's complement.
     #[inline(always)]
     #[tactic(auto, unfolding(crate::specs::Reads::product_of))]
     pub(crate) fn product(&self) -> u32
@@ -31,7 +32,7 @@ fn times(a: u64, b: u64) -> u32
 }
 
 impl Counters {
-    /// 2137 SLHV.
+    /// Keeps the place of the beam, as a read of 2137 SLHV does.
     #[inline(always)]
     #[tactic(auto, unfolding(crate::specs::Reads::counters_latched))]
     pub(crate) fn latch(&mut self, spot: Spot)
@@ -42,7 +43,7 @@ impl Counters {
         self.latched = true;
     }
 
-    /// 213F STAT78.
+    /// Returns the byte that 213F STAT78 gives.
     #[inline(always)]
     #[tactic(auto, unfolding(crate::specs::Reads::status_two))]
     pub(crate) fn status(&self) -> u8
@@ -52,7 +53,7 @@ impl Counters {
     }
 }
 
-/// 213C OPHCT, 213D OPVCT: the low byte of a count, or its bit 8.
+/// Returns the low byte of a count, or its bit 8 if `high`, as 213C OPHCT and 213D OPVCT give it.
 #[inline(always)]
 pub fn part_of_count(count: u16, high: bool) -> u8
     ensures { result ≡ count_byte count high }
@@ -65,7 +66,7 @@ pub fn part_of_count(count: u16, high: bool) -> u8
 }
 
 impl Over {
-    /// 213E STAT77.
+    /// Returns the byte that 213E STAT77 gives.
     #[inline(always)]
     #[tactic(auto, unfolding(crate::specs::Reads::status_one))]
     pub(crate) fn status(&self) -> u8

@@ -1,3 +1,4 @@
+//! The registers at the start.
 ghost use Rattle.std.specs.Prelude.{◌≡◌};
 ghost use Rattle.ppu_regs.specs.Picture.{background_start, windows_start, screens_start, registers_start};
 
@@ -93,7 +94,7 @@ impl ColourMath {
 }
 
 impl Registers {
-    /// The registers at the start: forced blank, all else 0.
+    /// Returns the registers at the start: forced blank, VRAM's step 1, all else 0.
     pub fn start() -> Registers
         ensures { result ≡ registers_start }
     {

@@ -1,9 +1,10 @@
+//! The port to VRAM: 2115 to 2119, 2139 and 213A.
 ghost use Rattle.std.specs.Prelude.{◌≡◌, ◌<◌, length, true, false};
 ghost use Rattle.ppu_regs.specs.Ports.{rotated, remapped, vram_place, vram_stepped, vram_low_aimed, vram_high_aimed, vram_low_written, vram_high_written, vram_port_after, vram_fetched, vram_port_read};
 
 use crate::registers::VramPort;
 
-/// The low eight, nine or ten bits moved left by 3 in rotation, by remap 1, 2 or 3.
+/// Rotates the low eight, nine or ten bits left by 3, by remap 1, 2 or 3.
 #[inline(always)]
 #[tactic(auto, unfolding(crate::specs::Ports::remapped, crate::specs::Ports::rotated))]
 fn remap(code: u8, address: u16) -> u16
@@ -17,7 +18,7 @@ fn remap(code: u8, address: u16) -> u16
     }
 }
 
-/// The word of VRAM that the port stands at.
+/// Returns the word of VRAM that the port reads or writes: its address after the remap.
 #[inline(always)]
 #[tactic(auto, unfolding(crate::specs::Ports::vram_place))]
 pub fn place(port: &VramPort) -> u16
@@ -27,7 +28,7 @@ pub fn place(port: &VramPort) -> u16
     remap(port.remap, port.address) % 32768
 }
 
-/// The address steps.
+/// Steps the address.
 #[inline(always)]
 #[tactic(auto, unfolding(crate::specs::Ports::vram_stepped))]
 fn step(port: &mut VramPort)
@@ -36,7 +37,7 @@ fn step(port: &mut VramPort)
     port.address = ((port.address as u32 + port.step as u32) % 65536) as u16;
 }
 
-/// 2116 VMADDL: the word at the new address is fetched.
+/// Writes 2116 VMADDL, the address's low byte, and fetches the word at the new address.
 #[inline(always)]
 #[tactic(auto, unfolding(crate::specs::Ports::vram_low_aimed))]
 pub fn aim_low(vram: &[u16], port: &mut VramPort, v: u8)
@@ -47,7 +48,7 @@ pub fn aim_low(vram: &[u16], port: &mut VramPort, v: u8)
     port.fetched = vram[place(port) as usize];
 }
 
-/// 2117 VMADDH: the word at the new address is fetched.
+/// Writes 2117 VMADDH, the address's high byte, and fetches the word at the new address.
 #[inline(always)]
 #[tactic(auto, unfolding(crate::specs::Ports::vram_high_aimed))]
 pub fn aim_high(vram: &[u16], port: &mut VramPort, v: u8)
@@ -58,7 +59,7 @@ pub fn aim_high(vram: &[u16], port: &mut VramPort, v: u8)
     port.fetched = vram[place(port) as usize];
 }
 
-/// The step after a byte was written.
+/// Steps the address after a byte was written, if that byte is the stepping one.
 #[inline(always)]
 #[tactic(auto, unfolding(crate::specs::Ports::vram_port_after))]
 fn step_after(port: &mut VramPort, high: bool)
@@ -69,7 +70,7 @@ fn step_after(port: &mut VramPort, high: bool)
     }
 }
 
-/// 2118 VMDATAL. The word that it writes.
+/// Writes 2118 VMDATAL, the low byte of a word. Returns the number of that word.
 #[inline(always)]
 #[tactic(auto, unfolding(crate::specs::Ports::vram_low_written))]
 pub fn put_low(vram: &mut [u16], port: &mut VramPort, v: u8) -> u16
@@ -86,7 +87,7 @@ pub fn put_low(vram: &mut [u16], port: &mut VramPort, v: u8) -> u16
     word
 }
 
-/// 2119 VMDATAH. The word that it writes.
+/// Writes 2119 VMDATAH, the high byte of a word. Returns the number of that word.
 #[inline(always)]
 #[tactic(auto, unfolding(crate::specs::Ports::vram_high_written))]
 pub fn put_high(vram: &mut [u16], port: &mut VramPort, v: u8) -> u16
@@ -103,7 +104,7 @@ pub fn put_high(vram: &mut [u16], port: &mut VramPort, v: u8) -> u16
     word
 }
 
-/// On the stepping byte: the word at the address is fetched, then the address steps.
+/// Fetches the word at the address, then steps the address.
 #[inline(always)]
 #[tactic(auto, unfolding(crate::specs::Ports::vram_fetched))]
 fn fetch(vram: &[u16], port: &mut VramPort)
@@ -114,7 +115,8 @@ fn fetch(vram: &[u16], port: &mut VramPort)
     step(port);
 }
 
-/// 2139 RDVRAML and 213A RDVRAMH: the byte of the fetched word.
+/// Fetches the next word after a read of 2139 RDVRAML, or of 213A RDVRAMH if `high`, if that byte is the
+/// stepping one.
 #[inline(always)]
 #[tactic(auto, unfolding(crate::specs::Ports::vram_port_read))]
 pub fn fetch_after(vram: &[u16], port: &mut VramPort, high: bool)

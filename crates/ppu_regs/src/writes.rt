@@ -1,10 +1,11 @@
+//! Writes to the registers that reach no memory.
 ghost use Rattle.std.specs.Prelude.{◌≡◌, ◌<◌};
 ghost use Rattle.ppu_regs.specs.Writes.{registers_written};
 
 use crate::registers::Registers;
 
 impl Registers {
-    /// A byte that is written to 2100 plus `reg`, but for the registers that reach a memory.
+    /// Writes a byte to 2100 plus `reg`, for every register that reaches no memory; at any other nothing changes.
     #[tactic(auto, unfolding(crate::specs::Writes::registers_written))]
     pub(crate) fn write(&mut self, reg: u8, v: u8)
         requires { self.old.oam.word < 512 }

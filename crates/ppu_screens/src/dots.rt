@@ -1,4 +1,4 @@
-//! From what stands in front on both screens to the 512 dots of a row.
+//! The last step of a row: from the pixels in front on both screens to the 512 dots.
 
 ghost use Rattle.std.specs.Prelude.{◌≡◌, ℕ, ◌+◌, ◌*◌, ◌<◌, true, false, IfSome, length, slice_index, if◌then◌else◌};
 ghost use Rattle.ppu_regs.specs.declared.registers.WindowPart.TheVariants.{Never};
@@ -23,7 +23,7 @@ fn direct(r: &Registers) -> bool
     r.colour.direct && (r.mode == 3 || r.mode == 4 || r.mode == 7)
 }
 
-/// The colours of what stands in front.
+/// Looks up the colours of the pixels in front.
 #[tactic(auto, unfolding(crate::specs::Screens::front_pixel_colour))]
 fn front_colours(p: &Ppu, front: &RankedRow, out: &mut [u16; 256])
     ensures { (x : ℕ) → x < 256 → slice_index out.new x ≡ front_pixel_colour p.now (ranked_pixel_at front.now x) }
@@ -40,7 +40,7 @@ fn front_colours(p: &Ppu, front: &RankedRow, out: &mut [u16; 256])
     );
 }
 
-/// The colours in front on the sub screen, if they are asked for.
+/// Looks up the colours in front on the sub screen, if 2130 asks for them.
 #[inline(always)]
 fn asked_colours(p: &Ppu, sub: &RankedRow, out: &mut [u16; 256])
     ensures { p.now.registers.colour.sub_screen ≡ true → (x : ℕ) → x < 256 → slice_index out.new x ≡ front_pixel_colour p.now (ranked_pixel_at sub.now x) }
@@ -60,8 +60,8 @@ fn is_never(part: WindowPart) -> bool
     }
 }
 
-/// The main screen's colours before brightness, wherever it is black or mixed. The sub screen's count only where they are asked
-/// for.
+/// Writes the main screen's colours before brightness, wherever it is black or mixed. The sub screen's colours count
+/// only if 2130 asks for them.
 #[tactic(auto, unfolding(crate::specs::Screens::main_colour), using(crate::proofs::Mixes::apart))]
 fn mixed_colours(p: &Ppu, main: &RankedRow, sub: &RankedRow, out: &mut [u16; 256])
     ensures { (x : ℕ) → x < 256 → slice_index out.new x ≡ main_colour p.now x (ranked_pixel_at main.now x) (ranked_pixel_at sub.now x) }
@@ -72,7 +72,8 @@ fn mixed_colours(p: &Ppu, main: &RankedRow, sub: &RankedRow, out: &mut [u16; 256
     mix_row(p, &main.ranks, out, &sub.ranks, &subs);
 }
 
-/// The same where it is black nowhere, and arithmetic is done at the marked pixels alone.
+/// Writes the main screen's colours before brightness, if it is black nowhere. Arithmetic is done at the marked pixels
+/// alone.
 #[tactic(auto, unfolding(crate::specs::Screens::main_colour), using(crate::proofs::Mixes::apart))]
 fn marked_colours(
     p: &Ppu,
@@ -92,7 +93,7 @@ fn marked_colours(
     mix_marked(p, marks, out, &sub.ranks, &subs);
 }
 
-/// The same where no pixel is marked.
+/// Writes the main screen's colours before brightness, if it is black nowhere and no pixel is marked.
 #[tactic(auto, unfolding(crate::specs::Screens::main_colour), using(crate::proofs::Mixes::unmixed))]
 fn unmixed_colours(
     p: &Ppu,
@@ -110,7 +111,7 @@ fn unmixed_colours(
     front_colours(p, main, out);
 }
 
-/// The same where arithmetic is named nowhere.
+/// Writes the main screen's colours before brightness, if it is black nowhere and arithmetic is named nowhere.
 #[tactic(auto, unfolding(crate::specs::Screens::main_colour), using(crate::proofs::Mixes::unnamed))]
 fn unnamed_colours(p: &Ppu, main: &RankedRow, sub: &RankedRow, out: &mut [u16; 256])
     requires black { p.now.registers.colour.black ≡ Never }
@@ -120,7 +121,8 @@ fn unnamed_colours(p: &Ppu, main: &RankedRow, sub: &RankedRow, out: &mut [u16; 2
     front_colours(p, main, out);
 }
 
-/// The same where arithmetic is stopped nowhere, so that it is done wherever it is named.
+/// Writes the main screen's colours before brightness, if it is black nowhere. It is for a colour window that stops
+/// arithmetic nowhere, so that arithmetic is done wherever it is named.
 #[tactic(auto, using(crate::proofs::Mixes::named))]
 fn named_colours(p: &Ppu, main: &RankedRow, sub: &RankedRow, out: &mut [u16; 256])
     requires black { p.now.registers.colour.black ≡ Never }
@@ -133,7 +135,8 @@ fn named_colours(p: &Ppu, main: &RankedRow, sub: &RankedRow, out: &mut [u16; 256
     }
 }
 
-/// The same where the colour window says where it is done.
+/// Writes the main screen's colours before brightness, if it is black nowhere. The colour window says where
+/// arithmetic is done.
 fn windowed_colours(p: &Ppu, main: &RankedRow, sub: &RankedRow, out: &mut [u16; 256])
     requires black { p.now.registers.colour.black ≡ Never }
     ensures { (x : ℕ) → x < 256 → slice_index out.new x ≡ main_colour p.now x (ranked_pixel_at main.now x) (ranked_pixel_at sub.now x) }
@@ -156,7 +159,7 @@ fn or_fixed(p: &Ppu, fixed: u16, key: u8, number: u8, colour: u16) -> u16
     if is_found_key(key) { colour } else { fixed }
 }
 
-/// The sub screen's colours, for the even dots.
+/// Writes the sub screen's colours, for the even dots.
 fn sub_colours(p: &Ppu, sub: &RankedRow, subs: &[u16; 256], out: &mut [u16; 256])
     requires { (x : ℕ) → x < 256 → slice_index subs.now x ≡ front_pixel_colour p.now (ranked_pixel_at sub.now x) }
     ensures { (x : ℕ) → x < 256 → slice_index out.new x ≡ sub_colour p.now (ranked_pixel_at sub.now x) }
@@ -175,7 +178,7 @@ fn halved(r: &Registers) -> bool
     r.settings.half_dots || r.mode == 5 || r.mode == 6
 }
 
-/// The main screen's colours before brightness.
+/// Writes the main screen's colours before brightness.
 fn main_colours(p: &Ppu, main: &RankedRow, sub: &RankedRow, out: &mut [u16; 256])
     ensures { (x : ℕ) → x < 256 → slice_index out.new x ≡ main_colour p.now x (ranked_pixel_at main.now x) (ranked_pixel_at sub.now x) }
 {
@@ -227,8 +230,10 @@ fn finish_halved(p: &Ppu, main: &RankedRow, sub: &RankedRow, out: &mut [u16])
     write_dots(&even, &odd, out);
 }
 
-/// The colour of all dots of a row on which no layer stands. None where they may differ, or aren't the backdrop's: with
-/// half dots, where arithmetic takes the backdrop, and where the main screen may be black.
+/// Returns the colour of all dots of a row on which no layer has anything.
+///
+/// None if the dots may differ, or may not have the backdrop's colour. That is with half dots, if arithmetic takes
+/// the backdrop, and if the main screen may be black.
 #[tactic(auto, using(crate::proofs::Mixes::bare))]
 pub fn backdrop_colour(p: &Ppu) -> Option<u16>
     requires shown { p.now.registers.display.blanked ≡ false }
@@ -244,7 +249,7 @@ pub fn backdrop_colour(p: &Ppu) -> Option<u16>
     }
 }
 
-/// Writes the row's 512 dots from what stands in front on the main and on the sub screen: dots 2x and 2x + 1 are those
+/// Writes the row's 512 dots from the pixels in front on the main and on the sub screen. Dots 2x and 2x + 1 are those
 /// of the pixel x.
 #[tactic(auto, unfolding(crate::specs::Screens::even_dot, crate::specs::Screens::odd_dot))]
 pub fn finish(p: &Ppu, main: &RankedRow, sub: &RankedRow, out: &mut [u16])

@@ -1,4 +1,4 @@
-//! What stands in front on the main and on the sub screen.
+//! The pixels in front on the main and on the sub screen.
 
 ghost use Rattle.std.specs.Prelude.{◌≡◌, ℕ, ◌<◌, ◌≤◌, true, false, slice_index};
 ghost use Rattle.scanline_ops.specs.RankedPixels.{no_pixel, nearest};
@@ -18,7 +18,7 @@ fn fill(key: u8, planes: &mut RankedRow)
     fill_row(0, &mut planes.numbers);
 }
 
-/// Begins a row: the backdrop on the main screen, nothing on the sub screen.
+/// Begins a row with the backdrop on the main screen and nothing on the sub screen.
 #[tactic(auto, unfolding(crate::specs::Screens::backdrop))]
 pub fn start(p: &Ppu, main: &mut RankedRow, sub: &mut RankedRow)
     ensures main { (x : ℕ) → x < 256 → ranked_pixel_at main.new x ≡ backdrop p.now.registers }
@@ -62,7 +62,7 @@ fn lay_open(p: &Ppu, layer: u8, row: &RankedRow, front: &mut RankedRow)
     );
 }
 
-/// Whether a layer has anything on a row, by its keys.
+/// Returns whether a layer has anything on a row, by its keys.
 fn is_any_there(keys: &[u8; 256]) -> bool
     ensures { (x : ℕ) → x < 256 → result ≡ false → slice_index keys.now x ≡ 0 }
 {
@@ -115,9 +115,10 @@ fn lay_on(p: &Ppu, layer: u8, on: bool, masked: bool, row: &RankedRow, front: &m
     }
 }
 
-/// Lays a layer (1 to 4 for BG1 to BG4, 5 for the objects) over both screens, where it is on and not masked: at each
-/// pixel the nearer to the front stays. The even dots go to the sub screen and the odd ones to the main screen,
-/// which differ in modes 5 and 6 alone.
+/// Lays a layer (1 to 4 for BG1 to BG4, 5 for the objects) over both screens, where it is on and not masked. At each
+/// pixel the nearer to the front stays.
+///
+/// The even dots go to the sub screen and the odd ones to the main screen. They differ in modes 5 and 6 alone.
 #[tactic(auto, unfolding(crate::specs::Screens::on_main, crate::specs::Screens::on_sub))]
 pub fn lay_layer(
     p: &Ppu,

@@ -1,4 +1,4 @@
-//! The rank of a layer's priority in the order of the mode.
+//! The rank of each layer's priority in the order of the mode.
 
 ghost use Rattle.std.specs.Prelude.{◌≡◌, ◌≤◌, ◌==◌, ◌&&◌};
 ghost use Rattle.ppu_screens.specs.Order.{order_0, order_1, order_1_front, order_2, order_7, order_7_second, rank_in, rank_at, layer_rank, rank_base};
@@ -12,7 +12,7 @@ fn is_place(layer: u8, priority: u8, of_layer: u8, of_priority: u8) -> bool
     of_layer == layer && of_priority == priority
 }
 
-/// Mode 0.
+/// Returns a rank in mode 0.
 #[inline(always)]
 fn rank_0(layer: u8, priority: u8) -> u8
     ensures value { result ≡ rank_in order_0 layer priority }
@@ -47,7 +47,7 @@ fn rank_0(layer: u8, priority: u8) -> u8
     }
 }
 
-/// Mode 1.
+/// Returns a rank in mode 1.
 #[inline(always)]
 fn rank_1(layer: u8, priority: u8) -> u8
     ensures value { result ≡ rank_in order_1 layer priority }
@@ -78,7 +78,7 @@ fn rank_1(layer: u8, priority: u8) -> u8
     }
 }
 
-/// Mode 1 with BG3's priority in front of all.
+/// Returns a rank in mode 1 with BG3's priority in front of all.
 #[inline(always)]
 fn rank_1_front(layer: u8, priority: u8) -> u8
     ensures value { result ≡ rank_in order_1_front layer priority }
@@ -109,7 +109,7 @@ fn rank_1_front(layer: u8, priority: u8) -> u8
     }
 }
 
-/// Modes 2 to 6.
+/// Returns a rank in modes 2 to 6.
 #[inline(always)]
 fn rank_2(layer: u8, priority: u8) -> u8
     ensures value { result ≡ rank_in order_2 layer priority }
@@ -136,7 +136,7 @@ fn rank_2(layer: u8, priority: u8) -> u8
     }
 }
 
-/// Mode 7.
+/// Returns a rank in mode 7.
 #[inline(always)]
 fn rank_7(layer: u8, priority: u8) -> u8
     ensures value { result ≡ rank_in order_7 layer priority }
@@ -157,7 +157,7 @@ fn rank_7(layer: u8, priority: u8) -> u8
     }
 }
 
-/// Mode 7 with EXTBG.
+/// Returns a rank in mode 7 with EXTBG.
 #[inline(always)]
 fn rank_7_second(layer: u8, priority: u8) -> u8
     ensures value { result ≡ rank_in order_7_second layer priority }
@@ -207,8 +207,8 @@ fn rank_by(mode: u8, bg3_front: bool, extbg: bool, layer: u8, priority: u8) -> u
     }
 }
 
-/// The rank of a layer's priority (1 to 4 for BG1 to BG4, 5 for the objects): the greater the nearer to the front,
-/// 0 where the mode hasn't that layer.
+/// Returns the rank, 0 to 12, of a priority of a layer (1 to 4 for BG1 to BG4, 5 for the objects). The greater rank is
+/// nearer to the front; it is 0 if the mode hasn't that layer.
 #[inline(always)]
 #[tactic(auto, unfolding(crate::specs::Order::layer_rank))]
 pub fn rank(r: &Registers, layer: u8, priority: u8) -> u8
@@ -218,7 +218,7 @@ pub fn rank(r: &Registers, layer: u8, priority: u8) -> u8
     rank_by(r.mode, r.bg3_front, r.settings.extbg, layer, priority)
 }
 
-/// The rank byte of a layer's priority: its rank in bits 7-4, and bit 3 where it is named for arithmetic.
+/// Returns the rank byte of a layer's priority: its rank in bits 7-4, and bit 3 if it is `named` for arithmetic.
 #[inline(always)]
 #[tactic(auto, unfolding(crate::specs::Order::rank_base))]
 pub fn base(r: &Registers, layer: u8, priority: u8, named: bool) -> u8

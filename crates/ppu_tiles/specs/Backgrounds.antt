@@ -31,7 +31,7 @@ entry_at p b px py =
 
 -- The scrolls of a layer at one place are ten bits across and down.
 
--- those of its registers
+-- the scrolls of a background's registers
 unfoldable pub own_scroll : Background → Scroll
 own_scroll b = record { across = b.scroll_x % 1024; down = b.scroll_y % 1024 }
 

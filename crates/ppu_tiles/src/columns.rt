@@ -1,3 +1,4 @@
+//! One column of a background's row: the eight pixels of a map entry.
 ghost use Rattle.std.specs.Prelude.{◌≡◌, ℕ, List, IsTrue, ◌<◌, ◌≤◌, ◌+◌, ◌*◌, ◌/◌, ◌%◌, ◌==◌, ◌||◌, ◌&&◌, ◌-◌, slice_index, if◌then◌else◌};
 ghost use Rattle.ppu_regs.specs.Reads.{bit_of};
 ghost use Rattle.tile_cache.specs.Bitplanes.{IsInStep, eight};
@@ -12,7 +13,7 @@ use crate::scrolls::{Scroll, in_column};
 use ppu_regs::{Background, Ppu, Registers};
 use tile_cache::TileCache;
 
-/// Puts eight bytes.
+/// Puts eight bytes into a row.
 #[inline(always)]
 pub fn put_bytes(row: &mut [u8; 264], at: usize, bytes: &[u8; 8])
     requires { at + 8 ≤ 264 }
@@ -36,7 +37,7 @@ fn put_half(row: &mut [u8; 264], at: usize, bytes: &[u8; 8], odd: bool)
     }
 }
 
-/// The line of one half of a tile at row `py` of the map: the word of VRAM where it begins.
+/// Returns the word of VRAM at which the line of one half of a tile begins, at row `py` of the map.
 #[inline(always)]
 #[tactic(auto, unfolding(crate::specs::Columns::half_word))]
 pub fn half_place(b: &Background, depth: u8, entry: u16, x: u16, py: u16) -> usize
@@ -49,8 +50,8 @@ pub fn half_place(b: &Background, depth: u8, entry: u16, x: u16, py: u16) -> usi
     line_place(b, depth, tile(entry, x, y), y) as usize
 }
 
-/// The eight pixels of one half of a tile at row `py` of the map, from the left on the screen: `n` is a pixel of that
-/// half.
+/// Returns the eight pixels of one half of a tile at row `py` of the map, from the left on the screen. `n` is a
+/// pixel of that half.
 #[inline(always)]
 #[tactic(auto, unfolding(crate::specs::Columns::half_value))]
 fn half_line(
@@ -72,7 +73,7 @@ fn half_line(
     tiles.turned_line(word, depth, flip)
 }
 
-/// Puts the eight pixels of a map entry in a column of which `m` is the place in the map, in eights of pixels.
+/// Puts the eight pixels of a map entry in a column. `m` is the column's place in the map, in eights of pixels.
 #[inline(always)]
 fn put_values(
     p: &Ppu,
@@ -112,7 +113,7 @@ fn put_values(
     }
 }
 
-/// The first pixel of the map in a column of which `m` is the place there, in eights of pixels.
+/// Returns the first pixel of the map in a column. `m` is the column's place there, in eights of pixels.
 #[inline(always)]
 pub fn start(mode: u8, m: u16) -> u16
     requires { m ≤ 160 }
@@ -121,7 +122,7 @@ pub fn start(mode: u8, m: u16) -> u16
     if hires(mode) { 16 * m } else { 8 * m }
 }
 
-/// Puts a byte eight times.
+/// Puts one byte into a row eight times.
 #[inline(always)]
 pub fn put_same(row: &mut [u8; 264], at: usize, v: u8)
     requires { at + 8 ≤ 264 }
@@ -133,7 +134,7 @@ pub fn put_same(row: &mut [u8; 264], at: usize, v: u8)
     }
 }
 
-/// The number of a palette's first colour.
+/// Returns the number in CGRAM of a palette's first colour, for a layer of this depth.
 #[inline(always)]
 #[tactic(auto, unfolding(crate::specs::Backgrounds::number_of))]
 pub fn first_number(mode: u8, layer: u8, depth: u8, palette: u8) -> u8
@@ -153,7 +154,7 @@ pub fn first_number(mode: u8, layer: u8, depth: u8, palette: u8) -> u8
     }
 }
 
-/// The palette of direct colour, where colours are direct, else 0.
+/// Returns the palette of direct colour if colours are direct, else 0.
 #[inline(always)]
 fn direct_palette(r: &Registers, depth: u8, palette: u8) -> u8
     requires { palette < 8 }
@@ -167,7 +168,7 @@ fn direct_palette(r: &Registers, depth: u8, palette: u8) -> u8
     }
 }
 
-/// The byte of a map entry in the plane of ranks: that of its priority, and the palette of direct colour.
+/// Returns the byte of a map entry in the plane of ranks: that of its priority, plus the palette of direct colour.
 #[inline(always)]
 fn base(entry: u16, low: u8, high: u8, palette: u8) -> u8
     requires low { low ≤ 248 }
@@ -182,8 +183,8 @@ fn base(entry: u16, low: u8, high: u8, palette: u8) -> u8
     }
 }
 
-/// Puts column `c` of a layer in row `y`, which is that after mosaic: its values, and what they are counted
-/// from in both planes.
+/// Paints column `c` of a layer: its values, and what they are counted from in both planes. `y` is the row after
+/// mosaic.
 #[inline(always)]
 #[tactic(auto, unfolding(crate::specs::Columns::column_value, crate::specs::Columns::column_base, crate::specs::Columns::column_first))]
 pub fn put_column(

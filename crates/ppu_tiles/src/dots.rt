@@ -1,3 +1,4 @@
+//! Rows of a background as dots with their colours.
 ghost use Rattle.std.specs.Prelude.{◌≡◌, ℕ, IsTrue, ◌<◌, ◌≤◌, ◌+◌, ◌*◌, ◌/◌, ◌%◌, ◌==◌, ◌||◌, ◌&&◌, ◌≢◌, length, slice_index, slice_index_or};
 ghost use Rattle.ppu_regs.specs.Dots.{dot_of, no_dot};
 ghost use Rattle.tile_cache.specs.Bitplanes.{IsInStep};
@@ -13,10 +14,10 @@ use tile_cache::TileCache;
 /// The byte in the plane of ranks for priority 0.
 const LOW: u8 = 16;
 
-/// The same for priority 1.
+/// The byte in the plane of ranks for priority 1.
 const HIGH: u8 = 32;
 
-/// Whether the colours of a layer are direct.
+/// Returns whether the colours of a layer are direct.
 #[inline(always)]
 fn is_direct(p: &Ppu, layer: u8) -> bool
     ensures { result ≡ ((depth_of p.now.registers.mode layer == 8) && p.now.registers.colour.direct) }
@@ -25,7 +26,7 @@ fn is_direct(p: &Ppu, layer: u8) -> bool
     depth(r.mode, layer) == 8 && r.colour.direct
 }
 
-/// The dot that two bytes of a row stand for.
+/// Returns the dot that two bytes of a row stand for.
 #[inline(always)]
 #[tactic(auto, unfolding(crate::specs::Columns::planes_layer_dot))]
 fn dot(rank: u8, number: u8, direct: bool, cgram: &[u16; 256]) -> Dot
@@ -42,7 +43,7 @@ fn dot(rank: u8, number: u8, direct: bool, cgram: &[u16; 256]) -> Dot
     layer_dot.dot(cgram)
 }
 
-/// The dots of two byte planes take every second place, from the first or the second.
+/// Writes the dots of two byte planes into every second place, from the first or the second.
 fn fill(
     ranks: &[u8; 256],
     numbers: &[u8; 256],
@@ -62,7 +63,7 @@ fn fill(
     }
 }
 
-/// A row of a background as dots with their colours: 512, of which 2x and 2x + 1 are the same but in modes 5
+/// Writes a row of a background as 512 dots with their colours. Dots 2x and 2x + 1 are the same except in modes 5
 /// and 6.
 pub fn bg_row(p: &Ppu, tiles: &TileCache, layer: u8, row: u16, out: &mut [Dot])
     requires first { 1 ≤ layer }

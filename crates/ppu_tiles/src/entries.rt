@@ -1,10 +1,11 @@
+//! Map entries: their places in VRAM, and the tiles and lines that they name.
 ghost use Rattle.std.specs.Prelude.{◌≡◌, ◌<◌, ◌≤◌, ◌-◌, ◌%◌, ◌/◌, ◌==◌, ◌*◌, ◌+◌};
 ghost use Rattle.ppu_tiles.specs.Backgrounds.{map_word, entry_at, turned, tile_of, line_word, number_of, layer_dot_of, block_start};
 
 use crate::modes::{height, width};
 use ppu_regs::{Background, Ppu, Registers};
 
-/// The first row or column of the mosaic block in which one lies.
+/// Returns the first row or column of the mosaic block of `n`, or `n` if the layer has no mosaic.
 #[inline(always)]
 #[tactic(auto, unfolding(crate::specs::Backgrounds::block_start))]
 pub fn block(r: &Registers, b: &Background, n: u16) -> u16
@@ -18,7 +19,7 @@ pub fn block(r: &Registers, b: &Background, n: u16) -> u16
     }
 }
 
-/// The word of VRAM with the map entry at a column and a row of tiles.
+/// Returns the word of VRAM with the map entry at a column and a row of tiles.
 #[inline(always)]
 #[tactic(auto, unfolding(crate::specs::Backgrounds::map_word))]
 pub fn map_place(b: &Background, col: u16, row: u16) -> usize
@@ -32,7 +33,7 @@ pub fn map_place(b: &Background, col: u16, row: u16) -> usize
     ((line + col as u32 % 32 + col as u32 / 32 % 2 * right) % 32768) as usize
 }
 
-/// The map entry at a pixel of the map.
+/// Returns the map entry at a pixel of the map.
 #[inline(always)]
 #[tactic(auto, unfolding(crate::specs::Backgrounds::entry_at))]
 pub fn entry(p: &Ppu, mode: u8, b: &Background, px: u16, py: u16) -> u16
@@ -42,7 +43,7 @@ pub fn entry(p: &Ppu, mode: u8, b: &Background, px: u16, py: u16) -> u16
     p.vram()[map_place(b, px / width(mode, b), py / height(b))]
 }
 
-/// The place in a tile of 8 or 16 pixels, turned over where the entry says so.
+/// Returns the place of `n` in a tile of `size` pixels, counted from the other end if `flip`.
 #[inline(always)]
 pub fn turn(flip: bool, size: u16, n: u16) -> u16
     requires { 0 < size }
@@ -53,7 +54,7 @@ pub fn turn(flip: bool, size: u16, n: u16) -> u16
     if flip { size - 1 - place } else { place }
 }
 
-/// The tile of an entry at a place of a large tile.
+/// Returns the number of the tile of 8 by 8 pixels at a place of an entry's tile.
 #[inline(always)]
 pub fn tile(entry: u16, x: u16, y: u16) -> u16
     requires x { x < 16 }
@@ -64,7 +65,7 @@ pub fn tile(entry: u16, x: u16, y: u16) -> u16
     (entry % 1024 + x / 8 + 16 * (y / 8)) % 1024
 }
 
-/// The word of VRAM at which a line of a tile begins.
+/// Returns the word of VRAM at which a line of a tile begins.
 #[inline(always)]
 #[tactic(auto, unfolding(crate::specs::Backgrounds::line_word))]
 pub fn line_place(b: &Background, depth: u8, tile: u16, y: u16) -> u16

@@ -1,9 +1,9 @@
 //! The backgrounds of the picture modes 0 to 6.
 //!
-//! The crate stands on `ppu_regs` and `tile_cache`. What a background has at a dot is a function of the
-//! picture, `background_layer_dot` in `specs/Backgrounds.antt`. `bg_row` gives a row of it as dots with
-//! their colours, `ranked_row` as two byte planes, in which a caller compares layers before it looks colours
-//! up. Both take decoded tiles that are in step with VRAM, and neither takes memory.
+//! The crate depends on `ppu_regs`, `tile_cache` and `scanline_ops`. A background's dot is a function of the picture,
+//! `background_layer_dot` in `specs/Backgrounds.antt`. `bg_row` writes a row of it as dots with their colours.
+//! `ranked_row` writes it as two byte planes, in which a caller compares layers before it looks colours up. Both
+//! take decoded tiles that are in step with VRAM, and neither allocates.
 #![tactic(auto)]
 
 mod columns;

@@ -1,9 +1,10 @@
+//! The layers' depths and the tiles' sizes in modes 0 to 6.
 ghost use Rattle.std.specs.Prelude.{◌≡◌, ◌<◌, ◌≤◌};
 ghost use Rattle.ppu_tiles.specs.Modes.{by_layer, depth_of, is_hires, has_offsets, tile_width, tile_height};
 
 use ppu_regs::Background;
 
-/// One of four numbers by the layer, 0 for none.
+/// Returns one of four numbers by the layer, 1 to 4, or 0 for any other.
 #[inline(always)]
 fn four(layer: u8, first: u8, second: u8, third: u8, fourth: u8) -> u8
     ensures { result ≡ by_layer layer first second third fourth }
@@ -17,7 +18,7 @@ fn four(layer: u8, first: u8, second: u8, third: u8, fourth: u8) -> u8
     }
 }
 
-/// The bits of a pixel of a layer, 1 to 4, in a mode: 2, 4 or 8; 0 where the mode has no such layer.
+/// Returns the bits per pixel of a layer, 1 to 4, in a mode: 2, 4 or 8. It is 0 if the mode has no such layer.
 #[inline(always)]
 #[tactic(auto, unfolding(crate::specs::Modes::depth_of))]
 pub fn depth(mode: u8, layer: u8) -> u8
@@ -35,7 +36,7 @@ pub fn depth(mode: u8, layer: u8) -> u8
     }
 }
 
-/// Whether the mode has 512 dots a row.
+/// Returns whether the mode has 512 dots a row.
 #[inline(always)]
 pub fn hires(mode: u8) -> bool
     ensures { result ≡ is_hires mode }
@@ -43,7 +44,7 @@ pub fn hires(mode: u8) -> bool
     mode == 5 || mode == 6
 }
 
-/// Whether BG3's map has scrolls for each column.
+/// Returns whether BG3's map has scrolls for each column in this mode.
 #[inline(always)]
 pub fn offsets(mode: u8) -> bool
     ensures { result ≡ has_offsets mode }
@@ -51,7 +52,7 @@ pub fn offsets(mode: u8) -> bool
     mode == 2 || mode == 4 || mode == 6
 }
 
-/// The width of a tile.
+/// Returns the width of a tile in pixels, 8 or 16.
 #[inline(always)]
 pub fn width(mode: u8, b: &Background) -> u16
     ensures width { result ≡ tile_width mode b.now }
@@ -60,7 +61,7 @@ pub fn width(mode: u8, b: &Background) -> u16
     if hires(mode) || b.large { 16 } else { 8 }
 }
 
-/// Its height.
+/// Returns the height of a tile in pixels, 8 or 16.
 #[inline(always)]
 pub fn height(b: &Background) -> u16
     ensures height { result ≡ tile_height b.now }

@@ -1,3 +1,4 @@
+//! Rows of a background as two byte planes.
 ghost use Rattle.std.specs.Prelude.{◌≡◌, ℕ, ◌<◌, ◌≤◌, ◌+◌, ◌-◌, ◌*◌, ◌/◌, ◌%◌, ◌==◌, slice_index, if◌then◌else◌};
 ghost use Rattle.ppu_regs.specs.Reads.{bit_of};
 ghost use Rattle.ppu_regs.specs.Dots.{rank_of};
@@ -16,8 +17,8 @@ use ppu_regs::{Background, Ppu, Registers};
 use scanline_ops::spread_blocks;
 use tile_cache::TileCache;
 
-/// The 33 columns of a row, side by side: their values, and what they are counted from in both planes. `b` is the
-/// background, `mode` the mode and `bits` the depth of the layer.
+/// Paints the 33 columns of a row, side by side: their values, and what they are counted from in both planes. `b` is
+/// the background, `mode` the mode and `bits` the depth of the layer.
 #[inline(always)]
 fn paint_columns(
     p: &Ppu,
@@ -56,7 +57,8 @@ fn paint_columns(
     }
 }
 
-/// The same, written out by mode and depth, so that each case is one run of loads and stores.
+/// Paints the 33 columns of a row: their values, and what they are counted from in both planes. It is written out
+/// by mode and depth, so that each case is one run of loads and stores.
 #[inline(always)]
 fn paint(
     p: &Ppu,
@@ -124,7 +126,7 @@ fn paint(
     }
 }
 
-/// The byte of a value in the plane of ranks.
+/// Returns the byte of a value in the plane of ranks.
 #[inline(always)]
 fn rank(value: u8, base: u8) -> u8
     ensures { result ≡ (if value == 0 then 0 else base) }
@@ -132,7 +134,7 @@ fn rank(value: u8, base: u8) -> u8
     if value == 0 { 0 } else { base }
 }
 
-/// The two planes from a painted row, from one of its first eight pixels on.
+/// Makes the two planes from a painted row, from one of its first eight pixels on.
 #[inline(always)]
 fn rank_pixels(
     values: &[u8; 264],
@@ -153,7 +155,7 @@ fn rank_pixels(
     }
 }
 
-/// Each byte becomes that of the first dot of its mosaic block, where the layer has mosaic.
+/// Replaces each byte by that of the first dot of its mosaic block, if the layer has mosaic.
 #[inline(always)]
 #[tactic(auto, unfolding(crate::specs::Backgrounds::block_start))]
 fn take_blocks(r: &Registers, b: &Background, row: &mut [u8; 256])
@@ -165,8 +167,8 @@ fn take_blocks(r: &Registers, b: &Background, row: &mut [u8; 256])
     }
 }
 
-/// A row without mosaic, of row `y` of the screen, from its columns one by one. It stands out of line, so that rows of small
-/// tiles, which don't need it, have none of its registers and bytes to keep.
+/// Writes row `y` of the screen without mosaic, from its columns one by one. It is out of line, so that rows of
+/// small tiles, which don't need it, have none of its registers and bytes to keep.
 #[inline(never)]
 fn columns_row(
     p: &Ppu,
@@ -208,8 +210,8 @@ fn columns_row(
     rank_pixels(&values, &bases, &firsts, from, ranks, numbers);
 }
 
-/// A row without mosaic, of row `y` of the screen. Small tiles in modes without scrolls by column are written out by mode and
-/// depth.
+/// Writes row `y` of the screen without mosaic. Small tiles in modes without scrolls by column are written out by
+/// mode and depth.
 #[inline(always)]
 fn plain_row(
     p: &Ppu,
@@ -256,9 +258,10 @@ fn plain_row(
     }
 }
 
-/// A row of a layer in two byte planes: `ranks` has 0 where the layer has nothing, else `low` or `high` by the
-/// dot's priority, plus the palette of a direct colour; `numbers` has the number of the colour. Dot x is
-/// dot 2x of the row, or 2x + 1 where `odd`.
+/// Writes a row of a layer as two byte planes: its even dots, or its odd ones if `odd`.
+///
+/// `ranks` has 0 where the layer has nothing, else `low` or `high` by the dot's priority, plus the palette of a
+/// direct colour. `numbers` has the number of the colour. Place x is dot 2x of the row, or 2x + 1 if `odd`.
 pub fn ranked_row(
     p: &Ppu,
     tiles: &TileCache,

@@ -1,3 +1,4 @@
+//! The scrolls of a background, for all columns or for each (offset per tile).
 ghost use Rattle.std.specs.Prelude.{◌≡◌, ◌<◌, ◌≤◌, ◌%◌, ◌/◌, ◌*◌, ◌+◌, ◌==◌};
 ghost use Rattle.ppu_regs.specs.Picture.{background_of};
 ghost use Rattle.ppu_tiles.specs.Backgrounds.{own_scroll, offset_entry, acts_on, across_by, two_offsets, one_offset, column_scroll};
@@ -9,11 +10,13 @@ use ppu_regs::{Background, Ppu};
 /// The scrolls of a layer at one place, ten bits each.
 #[derive(Clone, Copy)]
 pub struct Scroll {
+    /// The scroll to the right.
     pub across: u16,
+    /// The scroll downwards.
     pub down: u16,
 }
 
-/// The scrolls of a layer's registers.
+/// Returns the scrolls of a layer's registers.
 #[inline(always)]
 #[tactic(auto, unfolding(crate::specs::Backgrounds::own_scroll))]
 pub fn own(b: &Background) -> Scroll
@@ -27,7 +30,7 @@ pub fn own(b: &Background) -> Scroll
     }
 }
 
-/// BG3's entry for a column from 1, or the one so many pixels lower.
+/// Returns BG3's entry for a column, 1 to 32, or the entry `lower` pixels below it.
 #[inline(always)]
 #[tactic(auto, unfolding(crate::specs::Backgrounds::offset_entry))]
 fn offset(p: &Ppu, mode: u8, c: u16, lower: u16) -> u16
@@ -47,7 +50,7 @@ fn offset(p: &Ppu, mode: u8, c: u16, lower: u16) -> u16
     )
 }
 
-/// Whether an entry acts on BG1 or BG2.
+/// Returns whether an entry acts on BG1 or BG2.
 #[inline(always)]
 fn acts(layer: u8, entry: u16) -> bool
     ensures { result ≡ acts_on layer entry }
@@ -60,7 +63,7 @@ fn acts(layer: u8, entry: u16) -> bool
     bit == 1
 }
 
-/// Modes 2 and 6: an entry for across and one for down.
+/// Returns the scrolls of modes 2 and 6, by an entry for across and one for down.
 #[inline(always)]
 #[tactic(auto, unfolding(crate::specs::Backgrounds::two_offsets))]
 fn two(layer: u8, own: Scroll, first: u16, second: u16) -> Scroll
@@ -84,7 +87,7 @@ fn two(layer: u8, own: Scroll, first: u16, second: u16) -> Scroll
     }
 }
 
-/// Mode 4: one entry, whose bit 15 says down.
+/// Returns the scrolls of mode 4, by one entry. Its bit 15 says whether it is for down.
 #[inline(always)]
 #[tactic(auto, unfolding(crate::specs::Backgrounds::one_offset))]
 fn one(layer: u8, own: Scroll, entry: u16) -> Scroll
@@ -110,7 +113,7 @@ fn one(layer: u8, own: Scroll, entry: u16) -> Scroll
     }
 }
 
-/// The scrolls of a layer in a column of tiles.
+/// Returns the scrolls of a layer in a column of tiles.
 #[inline(always)]
 #[tactic(auto, unfolding(crate::specs::Backgrounds::column_scroll))]
 pub fn in_column(p: &Ppu, mode: u8, layer: u8, own: Scroll, c: u16) -> Scroll

@@ -1,5 +1,5 @@
-//! A row of tiles of 8 by 8 pixels, in modes whose columns have no scrolls of their own: each thing that a column needs
-//! is taken for all 33 columns in a pass of its own, which the compiler makes vector code of.
+//! A row of tiles of 8 by 8 pixels, in modes whose columns have no scrolls of their own. Each thing that a column
+//! needs is taken for all 33 columns in a pass of its own, which the compiler makes vector code of.
 
 ghost use Rattle.std.specs.Prelude.{◌≡◌, ℕ, List, true, false, ◌<◌, ◌≤◌, ◌+◌, ◌-◌, ◌*◌, ◌/◌, ◌%◌, ◌==◌, ◌&&◌, length, slice_index, if◌then◌else◌};
 ghost use Rattle.ppu_regs.specs.Reads.{bit_of};
@@ -16,7 +16,7 @@ use crate::scrolls::{Scroll, in_column, own};
 use ppu_regs::{Background, Ppu};
 use tile_cache::TileCache;
 
-/// The map entry of a column.
+/// Returns the map entry of a column.
 #[inline(always)]
 fn entry_in_column(p: &Ppu, b: &Background, mode: u8, layer: u8, own: Scroll, y: u16, c: u16) -> u16
     requires mode { mode ≡ p.now.registers.mode }
@@ -32,7 +32,7 @@ fn entry_in_column(p: &Ppu, b: &Background, mode: u8, layer: u8, own: Scroll, y:
     entry(p, mode, b, start(mode, c + s.across / 8), y + 1 + s.down)
 }
 
-/// Copies map entries that stand side by side.
+/// Copies map entries that are side by side in VRAM.
 #[inline(always)]
 fn copy_entries(vram: &[u16], from: usize, at: usize, count: usize, entries: &mut [u16; 33])
     requires size { length vram.now ≡ 32768 }
@@ -46,8 +46,8 @@ fn copy_entries(vram: &[u16], from: usize, at: usize, count: usize, entries: &mu
     }
 }
 
-/// Copies the 33 entries of a row of the map from column `first` on, which stand in two screens of 32 side by side; answers
-/// whether it could, since a screen's line may lie over the end of VRAM.
+/// Copies the 33 entries of a row of the map from column `first` on, which are in two screens of 32 side by side.
+/// Returns false if it could not, since a screen's line may lie over the end of VRAM.
 #[inline(always)]
 #[tactic(auto, using(crate::proofs::SmallSteps::near, crate::proofs::SmallSteps::far))]
 fn copy_row(vram: &[u16], b: &Background, first: u16, row: u16, entries: &mut [u16; 33]) -> bool
@@ -66,7 +66,7 @@ fn copy_row(vram: &[u16], b: &Background, first: u16, row: u16, entries: &mut [u
     true
 }
 
-/// The map entries of a row, one by one.
+/// Reads the map entries of a row, one by one.
 fn find_entries(
     p: &Ppu,
     b: &Background,
@@ -89,7 +89,7 @@ fn find_entries(
     }
 }
 
-/// The map entries of a row.
+/// Reads the map entries of a row.
 #[inline(always)]
 #[tactic(auto, using(crate::proofs::SmallSteps::entry_is))]
 fn take_entries(
@@ -118,7 +118,7 @@ fn take_entries(
     }
 }
 
-/// The attributes of a map entry.
+/// Returns the attributes of a map entry, as `take_attributes` has them.
 #[inline(always)]
 #[tactic(auto, unfolding(crate::specs::Columns::attribute_of))]
 fn attribute(mode: u8, layer: u8, bits: u8, entry: u16) -> u8
@@ -131,7 +131,8 @@ fn attribute(mode: u8, layer: u8, bits: u8, entry: u16) -> u8
     first_number(mode, layer, bits, palette) + 128 * priority
 }
 
-/// The attributes of map entries, a byte each: the number from which an entry's values are counted, and its priority as bit 7.
+/// Takes the attributes of map entries, a byte each. Bits 6-0 are the number from which an entry's values are
+/// counted, and bit 7 is its priority.
 fn take_attributes(mode: u8, layer: u8, bits: u8, entries: &[u16; 33], attributes: &mut [u8; 33])
     requires first { 1 ≤ layer }
     requires last { layer ≤ 4 }
@@ -142,7 +143,7 @@ fn take_attributes(mode: u8, layer: u8, bits: u8, entries: &[u16; 33], attribute
     }
 }
 
-/// The words of VRAM at which the lines of map entries begin, at row `py` of the map.
+/// Takes the words of VRAM at which the lines of map entries begin, at row `py` of the map.
 fn take_words(b: &Background, bits: u8, py: u16, entries: &[u16; 33], words: &mut [u16; 33])
     requires depth { bits ≤ 8 }
     ensures words { (c : ℕ) → c < 33 → slice_index words.new c ≡ half_word b.now bits (slice_index entries.now c) 0 py }
@@ -153,7 +154,7 @@ fn take_words(b: &Background, bits: u8, py: u16, entries: &[u16; 33], words: &mu
     }
 }
 
-/// Each byte eight times.
+/// Writes each byte eight times.
 #[inline(never)]
 fn spread(bytes: &[u8; 33], row: &mut [u8; 264])
     ensures { (k : ℕ) → k < 264 → slice_index row.new k ≡ slice_index bytes.now (k / 8) }
@@ -163,7 +164,7 @@ fn spread(bytes: &[u8; 33], row: &mut [u8; 264])
     }
 }
 
-/// The pixels of a map entry whose line begins at a word.
+/// Returns the pixels of a map entry whose line begins at a word.
 #[inline(always)]
 fn line_of_entry(tiles: &TileCache, bits: u8, entry: u16, word: u16) -> [u8; 8]
     requires depth { IsDepth bits }
@@ -174,7 +175,7 @@ fn line_of_entry(tiles: &TileCache, bits: u8, entry: u16, word: u16) -> [u8; 8]
     tiles.turned_line(word as usize, bits, entry / 16384 % 2 == 1)
 }
 
-/// The pixels of a row of map entries whose lines begin at these words.
+/// Puts the pixels of a row of map entries whose lines begin at these words, each mirrored if its entry says so.
 #[inline(always)]
 fn put_pixels(
     tiles: &TileCache,
@@ -194,7 +195,7 @@ fn put_pixels(
     }
 }
 
-/// Whether any of a row of map entries is turned over left to right.
+/// Returns whether any of a row of map entries is mirrored.
 #[inline(always)]
 fn is_any_turned(entries: &[u16; 33]) -> bool
     ensures { (c : ℕ) → c < 33 → result ≡ false → slice_index entries.now c / 16384 % 2 ≡ 0 }
@@ -206,7 +207,7 @@ fn is_any_turned(entries: &[u16; 33]) -> bool
     most != 0
 }
 
-/// The pixels of a row of map entries none of which is turned over left to right.
+/// Puts the pixels of a row of map entries, none of which is mirrored.
 #[inline(always)]
 fn put_straight(tiles: &TileCache, bits: u8, words: &[u16; 33], values: &mut [u8; 264])
     requires depth { IsDepth bits }
@@ -220,7 +221,7 @@ fn put_straight(tiles: &TileCache, bits: u8, words: &[u16; 33], values: &mut [u8
     }
 }
 
-/// The pixels of a row of map entries whose lines begin at these words.
+/// Puts the pixels of a row of map entries whose lines begin at these words, by the way that fits the entries.
 #[inline(always)]
 fn put_all(
     tiles: &TileCache,
@@ -241,7 +242,7 @@ fn put_all(
     }
 }
 
-/// The 33 columns of a row, side by side: their values and their attributes.
+/// Paints the 33 columns of a row, side by side: their values and their attributes.
 #[inline(always)]
 fn paint_small(
     p: &Ppu,
@@ -280,7 +281,7 @@ fn paint_small(
     put_all(tiles, bits, &entries, &words, values);
 }
 
-/// The byte of a pixel in the plane of ranks.
+/// Returns the byte of a pixel in the plane of ranks.
 #[inline(always)]
 fn rank(value: u8, attribute: u8, low: u8, high: u8) -> u8
     ensures { result ≡ (if value == 0 then 0 else (if attribute / 128 == 1 then high else low)) }
@@ -289,7 +290,7 @@ fn rank(value: u8, attribute: u8, low: u8, high: u8) -> u8
     if value == 0 { 0 } else { base }
 }
 
-/// The two planes from a painted row, from one of its first eight pixels on.
+/// Makes the two planes from a painted row, from one of its first eight pixels on.
 #[inline(always)]
 fn rank_pixels(
     values: &[u8; 264],
@@ -314,7 +315,7 @@ fn rank_pixels(
     }
 }
 
-/// A row of small tiles of 2 or 4 bits, without mosaic, of row `y` of the screen.
+/// Writes row `y` of the screen, of small tiles of 2 or 4 bits, without mosaic.
 #[inline(always)]
 pub fn small_row(
     p: &Ppu,

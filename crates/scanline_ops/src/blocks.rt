@@ -2,7 +2,7 @@
 
 ghost use Rattle.std.specs.Prelude.{◌≡◌, ℕ, ◌+◌, ◌-◌, ◌%◌, ◌<◌, ◌≤◌, slice_index};
 
-/// The place in a block of the dot after one.
+/// Returns the place in its block of the next dot.
 #[inline(always)]
 #[tactic(auto, using(crate::proofs::Mosaic::mod_next))]
 fn next_place(place: usize, size: usize) -> usize
@@ -14,7 +14,7 @@ fn next_place(place: usize, size: usize) -> usize
     if place + 1 == size { 0 } else { place + 1 }
 }
 
-/// Each byte becomes that of the first dot of its block of `size` dots.
+/// Replaces each byte by that of the first dot of its block of `size` dots.
 pub fn spread_blocks(row: &mut [u8; 256], size: usize)
     requires positive { 1 ≤ size }
     requires small { size ≤ 16 }

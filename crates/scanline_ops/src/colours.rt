@@ -5,7 +5,7 @@ ghost use Rattle.scanline_ops.specs.Colours.{component_with, colour_with, dimmed
 
 use crate::ranked_pixels::is_found_key;
 
-/// The sum or the difference, not below 0, of two components that stand in the same bits of their colours.
+/// Returns the sum or the difference, not below 0, of two components that are in the same bits of their colours.
 #[inline(always)]
 fn joined(subtracts: bool, one: u16, two: u16) -> u16
     requires { one + two < 65536 }
@@ -16,8 +16,8 @@ fn joined(subtracts: bool, one: u16, two: u16) -> u16
     if subtracts { difference } else { sum }
 }
 
-// Components stay in the bits where they stand in their colours: green has 32 as its unit, blue 1,024. So none is shifted
-// down and up again.
+// Components stay in their colours' bits: the unit of green is 32, that of blue 1,024. So none is shifted down and up
+// again.
 
 #[inline(always)]
 #[tactic(auto, unfolding(crate::specs::Colours::component_with))]
@@ -57,7 +57,7 @@ fn blue(subtracts: bool, halves: bool, one: u16, two: u16) -> u16
     }
 }
 
-/// Two colours joined component by component, all halved or none.
+/// Returns the sum or the difference of two colours, component by component, all halved or none.
 #[inline(always)]
 #[tactic(auto, unfolding(crate::specs::Colours::colour_with))]
 fn join_all(subtracts: bool, halves: bool, one: u16, two: u16) -> u16
@@ -69,8 +69,9 @@ fn join_all(subtracts: bool, halves: bool, one: u16, two: u16) -> u16
         + blue(subtracts, halves, one, two)
 }
 
-/// Two colours joined component by component: their sum or difference, halved or not, within 0 to 31. Both are made, so that
-/// a loop over pixels has one choice at each.
+/// Returns the sum or the difference of two colours, component by component, halved or not, within 0 to 31.
+///
+/// Both the whole and the half are computed, so that a loop over pixels has one choice at each.
 #[inline(always)]
 pub fn join_colours(subtracts: bool, halves: bool, one: u16, two: u16) -> u16
     ensures value { result ≡ colour_with subtracts halves one two }
@@ -81,7 +82,7 @@ pub fn join_colours(subtracts: bool, halves: bool, one: u16, two: u16) -> u16
     if halves { half } else { whole }
 }
 
-/// The colour of a direct byte with these palette bits.
+/// Returns the colour of a direct byte with these palette bits.
 #[inline(always)]
 #[tactic(auto, unfolding(crate::specs::Colours::direct_colour))]
 fn direct(byte: u8, tint: u8) -> u16
@@ -108,7 +109,7 @@ fn colour_at(cgram: &[u16], is_direct: bool, low: u8, high: u8, key: u8, number:
     }
 }
 
-/// The colours of a row of ranked pixels, some of which may be direct.
+/// Looks up the colours of a row of ranked pixels, some of which may be direct.
 fn look_up_direct(
     cgram: &[u16],
     low: u8,
@@ -126,7 +127,7 @@ fn look_up_direct(
     }
 }
 
-/// The colours of a row of numbers. Sixteen at a time, so that little is spent on counting them.
+/// Looks up the colours of a row of numbers, sixteen at a time, so that little is spent on counting them.
 fn look_up_numbers(cgram: &[u16], numbers: &[u8; 256], out: &mut [u16; 256])
     requires { length cgram.now ≡ 256 }
     ensures { (x : ℕ) → x < 256 → slice_index out.new x ≡ slice_index cgram.now (slice_index numbers.now x) }
@@ -139,8 +140,8 @@ fn look_up_numbers(cgram: &[u16], numbers: &[u8; 256], out: &mut [u16; 256])
     }
 }
 
-/// The colours of a row of ranked pixels by CGRAM. Where `is_direct`, those of the ranks `low` and
-/// `high` are direct colours.
+/// Looks up the colours of a row of ranked pixels in CGRAM. If `is_direct`, those of the ranks `low` and `high`
+/// are direct colours.
 #[tactic(auto, unfolding(crate::specs::Colours::pixel_colour))]
 pub fn look_up(
     cgram: &[u16],
@@ -162,7 +163,7 @@ pub fn look_up(
     }
 }
 
-/// A colour at a brightness of 0 to 15.
+/// Returns a colour at a brightness of 0, which is black, to 15, which is full.
 #[inline(always)]
 #[tactic(auto, unfolding(crate::specs::Colours::dimmed))]
 pub fn dim_colour(brightness: u8, colour: u16) -> u16
@@ -190,7 +191,7 @@ fn dim_each(brightness: u8, row: &mut [u16; 256])
     }
 }
 
-/// Dims a row of colours of 15 bits at a brightness of 0 to 15. At 15 they stay.
+/// Dims a row of colours of 15 bits at a brightness of 0 to 15. At 15 they stay unchanged.
 #[tactic(auto, using(crate::proofs::Small::full))]
 pub fn dim_small_row(brightness: u8, row: &mut [u16; 256])
     requires brightness { brightness < 16 }

@@ -1,10 +1,12 @@
-//! Passes over the 256 pixels of a picture row: what stands in front, colours, brightness, dots.
+//! Passes over the 256 pixels of a picture row: what is in front, colours, brightness, dots.
 //!
-//! A row is a fixed array, and each pass is one loop over such arrays that the compiler makes vector code
-//! of. What a pass does at a pixel is a function of the numbers at that pixel, defined in `specs/`
-//! (`RankedPixels`, `Colours`), and each pass promises it for every pixel. A pixel of a screen is an
-//! ranked pixel of two bytes: its key (rank, whether arithmetic is named, palette bits of a direct colour) and its
-//! number (in CGRAM). The crate stands on std alone, and knows neither layers nor registers.
+//! A row is a fixed array. Each pass is one loop over such arrays, and the compiler makes vector code of it. A pass
+//! promises for every pixel a function of the numbers there, defined in `specs/` (`RankedPixels`, `Colours`).
+//!
+//! A pixel of a screen is a ranked pixel of two bytes, its key and its number. The key has the rank in bits 7-4,
+//! whether arithmetic is named in bit 3, and the palette of a direct colour in bits 2-0. The number is that of a
+//! colour in CGRAM, or a direct colour's byte. The crate depends on std alone, and knows neither layers nor
+//! registers.
 #![tactic(auto)]
 
 mod blocks;

@@ -1,4 +1,4 @@
-//! RankedPixels: what stands in front at each pixel of a row.
+//! Ranked pixels: which of two is in front, at each pixel of a row.
 
 ghost use Rattle.std.specs.Prelude.{◌≡◌, ℕ, ◌+◌, ◌*◌, ◌/◌, ◌%◌, ◌<◌, slice_index, if◌then◌else◌};
 ghost use Rattle.scanline_ops.specs.RankedPixels.{RankedPixel, seen_key, chosen, nearest, seen, is_found, is_any_named};
@@ -19,7 +19,7 @@ fn second_is_nearer(first: u8, second: u8) -> bool
     first / 16 * 16 + 15 < second
 }
 
-/// One of two bytes, without a branch, so that loops become vector code.
+/// Returns one of two bytes, without a branch, so that loops become vector code.
 #[inline(always)]
 #[tactic(auto, unfolding(crate::specs::RankedPixels::chosen))]
 pub fn choose(which: bool, taken: u8, other: u8) -> u8
@@ -28,8 +28,8 @@ pub fn choose(which: bool, taken: u8, other: u8) -> u8
     taken * which as u8 + other * !which as u8
 }
 
-/// Lays a layer's ranked pixels over those of a screen: at each pixel the nearer to the front stays, the screen's where
-/// both stand alike, and the layer has none where `hidden` isn't 0.
+/// Lays a layer's ranked pixels over those of a screen. At each pixel the one nearer to the front stays, or the
+/// screen's if both have the same rank. The layer has no pixel where `hidden` isn't 0.
 #[tactic(auto, unfolding(crate::specs::RankedPixels::nearest, crate::specs::RankedPixels::seen))]
 pub fn lay(
     keys: &[u8; 256],
@@ -53,7 +53,8 @@ pub fn lay(
     }
 }
 
-/// The same of a layer that is hidden nowhere.
+/// Lays the ranked pixels of a layer that is hidden nowhere over those of a screen. At each pixel the one nearer to
+/// the front stays, or the screen's if both have the same rank.
 #[tactic(auto, unfolding(crate::specs::RankedPixels::nearest))]
 pub fn lay_unmasked(
     keys: &[u8; 256],
@@ -83,7 +84,7 @@ fn name_bit(key: u8) -> u8
     key / 8 % 2
 }
 
-/// Whether arithmetic is named for any ranked pixel of a row.
+/// Returns whether arithmetic is named for any ranked pixel of a row.
 pub fn any_named(keys: &[u8; 256]) -> bool
     ensures { result ≡ is_any_named keys.now 256 }
 {
@@ -94,7 +95,7 @@ pub fn any_named(keys: &[u8; 256]) -> bool
     most == 1
 }
 
-/// Whether a ranked pixel with this key stands on the screen at all.
+/// Returns whether a ranked pixel with this key is a pixel at all: its rank isn't 0.
 #[inline(always)]
 #[tactic(auto, unfolding(crate::specs::RankedPixels::is_found))]
 pub fn is_found_key(key: u8) -> bool
@@ -103,7 +104,7 @@ pub fn is_found_key(key: u8) -> bool
     key / 16 > 0
 }
 
-/// Writes one value into each place of a row.
+/// Writes one value into every place of a row.
 pub fn fill_row(value: u8, out: &mut [u8; 256])
     ensures { (x : ℕ) → x < 256 → slice_index out.new x ≡ value }
 {

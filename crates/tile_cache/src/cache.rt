@@ -1,3 +1,4 @@
+//! The decoded tiles as one value, in step with VRAM.
 ghost use Rattle.std.specs.Prelude.{◌≡◌, ◌≢◌, ℕ, ◌⊎◌, ◌+◌, ◌*◌, ◌/◌, ◌%◌, ◌<◌, ◌≤◌, ◌^◌, ◌==◌, List, length, slice_index, slice_set, All, IfOk, IsTrue, ◌||◌, ◌-◌, if◌then◌else◌};
 ghost use Rattle.ppu_regs.specs.Picture.{picture_start};
 ghost use Rattle.ppu_regs.specs.Writes.{after_write, word_written};
@@ -11,10 +12,10 @@ use std::marker::Model;
 
 mod copy;
 
-/// The words of VRAM.
+/// The number of words in VRAM.
 const WORDS: usize = 32_768;
 
-/// The pixels of VRAM: for each word eight numbers of two bits, as the bytes of one number.
+/// The decoded pixels of VRAM: for each word eight numbers of two bits, as the bytes of one number.
 #[derive(Drop)]
 pub struct TileCache {
     eights: Vec<u64>,
@@ -31,7 +32,7 @@ impl Model for TileCache {
 }
 
 impl TileCache {
-    /// The cache of a VRAM of zeros, as it is in a new unit. Refused only for want of memory.
+    /// Makes the cache of a VRAM of zeros, as a new PPU has it. Fails only if allocation fails.
     #[tactic(auto, using(crate::proofs::Steps::zeros_in_step, crate::proofs::Steps::small_zeros))]
     pub fn new(alloc: Global) -> Result<TileCache, NoMemory>
         ensures start { IfOk result (λ t. IsInStep t picture_start.vram) }
@@ -40,7 +41,7 @@ impl TileCache {
         Ok(TileCache { eights })
     }
 
-    /// The word of VRAM was written: its pixels are decoded anew.
+    /// Decodes a word of VRAM again after it was written.
     #[inline(always)]
     pub fn wrote(&mut self, p: &Ppu, word: u16)
         requires word { word < 32768 }
@@ -51,7 +52,7 @@ impl TileCache {
         self.eights[word as usize] = pixels;
     }
 
-    /// What the cache has of one word.
+    /// Returns what the cache has of one word.
     #[inline(always)]
     fn eight(&self, word: usize) -> u64
         requires word { word < 32768 }
@@ -61,7 +62,7 @@ impl TileCache {
         self.eights[word]
     }
 
-    /// The pixels of a line of 4 bits.
+    /// Returns the pixels of a line of 4 bits.
     #[inline(always)]
     fn eight_of_four(&self, word: usize) -> u64
         requires word { word < 32768 }
@@ -70,7 +71,7 @@ impl TileCache {
         self.eight(word) + 4 * self.eight((word + 8) % WORDS)
     }
 
-    /// The pixels of a line of 8 bits.
+    /// Returns the pixels of a line of 8 bits.
     #[inline(always)]
     fn eight_of_eight(&self, word: usize) -> u64
         requires word { word < 32768 }
@@ -83,7 +84,7 @@ impl TileCache {
             + 64 * self.eight((word + 24) % WORDS)
     }
 
-    /// The pixels of a line of 2, 4 or 8 bits.
+    /// Returns the pixels of a line of 2, 4 or 8 bits.
     #[inline(always)]
     #[tactic(auto, using(crate::proofs::Steps::lines))]
     fn pixels(&self, word: usize, depth: u8) -> u64
@@ -98,8 +99,8 @@ impl TileCache {
         }
     }
 
-    /// The eight pixels, left to right, of the line that begins at a word, at a depth of 2, 4 or 8 bits, turned over where
-    /// `flip`.
+    /// Returns the eight pixels, left to right, of the line that begins at a word, at a depth of 2, 4 or 8 bits.
+    /// If `flip`, they are mirrored.
     #[inline(always)]
     pub fn turned_line(&self, word: usize, depth: u8, flip: bool) -> [u8; 8]
         requires word { word < 32768 }
@@ -109,7 +110,8 @@ impl TileCache {
         bytes_of(self.pixels(word, depth), flip)
     }
 
-    /// The same as it stands in VRAM.
+    /// Returns the eight pixels, left to right, of the line that begins at a word, at a depth of 2, 4 or 8 bits.
+    /// They are not mirrored.
     #[inline(always)]
     pub fn line(&self, word: u16, depth: u8) -> [u8; 8]
         requires word { word < 32768 }
@@ -120,7 +122,8 @@ impl TileCache {
     }
 }
 
-/// A byte is written to the register 2100 plus `reg`, and the cache stays in step.
+/// Writes a byte to the PPU's register 2100 plus `reg`, and keeps the cache in step. Returns the word of VRAM
+/// that was written, if `reg` is 2118 or 2119.
 #[inline(always)]
 pub fn write(p: &mut Ppu, tiles: &mut TileCache, reg: u8, v: u8) -> Option<u16>
     requires reg { reg < 0x40 }

@@ -271,7 +271,7 @@ fn spread(byte: u8) -> u64
     EIGHTS[byte as usize]
 }
 
-/// The eight pixels of a word of VRAM.
+/// Returns the eight pixels, of two bits each, of a word of VRAM.
 #[inline(always)]
 pub fn pixels_of(word: u16) -> u64
     ensures value { result ≡ packed (pixel_of word) }
@@ -280,7 +280,7 @@ pub fn pixels_of(word: u16) -> u64
     spread((word % 256) as u8) + 2 * spread((word / 256) as u8)
 }
 
-/// Eight pixels as bytes, left to right, turned over where `flip`.
+/// Returns eight pixels as bytes, left to right, mirrored if `flip`.
 #[inline(always)]
 pub fn bytes_of(pixels: u64, flip: bool) -> [u8; 8]
     ensures { (f : ℕ → ℕ) → ((k : ℕ) → k < 8 → f k < 256) → pixels ≡ packed f → result ≡ eight (λ k. f (if flip then 7 - k else k)) }
@@ -289,7 +289,7 @@ pub fn bytes_of(pixels: u64, flip: bool) -> [u8; 8]
     turned.to_le_bytes()
 }
 
-/// The pixels, left to right, of a line of 4 bits from its two words, turned over where `flip`.
+/// Returns the pixels, left to right, of a line of 4 bits from its two words, mirrored if `flip`.
 #[inline(always)]
 pub fn line_of_words(first: u16, second: u16, flip: bool) -> [u8; 8]
     ensures { result ≡ eight (λ k. pixel_of first (if flip then 7 - k else k) + 4 * pixel_of second (if flip then 7 - k else k)) }

@@ -1,8 +1,8 @@
-//! VRAM with the two plane bytes of each word already taken apart: eight pixels a word.
+//! The decoded tiles: VRAM with the two plane bytes of each word already taken apart, eight pixels a word.
 //!
-//! The crate stands on `ppu_regs`. It promises that a line of the cache is what decoding VRAM gives,
-//! where the two are in step. `write` writes a register and keeps them so; a caller of `Ppu::write` itself
-//! tells `wrote` of the word. Nothing else changes VRAM.
+//! The crate depends on `ppu_regs`. It promises that a line of the cache is what decoding VRAM gives, while the
+//! two are in step. `write` writes a register and keeps them so. A caller of `Ppu::write` itself passes the word
+//! to `wrote`. Nothing else changes VRAM.
 #![tactic(auto)]
 
 mod cache;

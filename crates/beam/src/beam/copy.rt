@@ -1,10 +1,10 @@
-// The beam's place taken over into another one.
+// Copying the beam into another one.
 ghost use Rattle.std.specs.Prelude.{◌≡◌};
 
 use super::Beam;
 
 impl Beam {
-    /// Makes the other beam stand where this one does, in its region and with its timer. No memory is taken.
+    /// Copies the beam into another one: its place, its region and its timer. Does not allocate.
     pub fn copy_into(&self, into: &mut Beam)
         ensures same { into.new ≡ self.now }
     {

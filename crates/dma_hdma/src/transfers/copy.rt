@@ -1,11 +1,11 @@
-// The eight channels taken over into others.
+// Copying the eight channels into others.
 
 use super::Dma;
 
 impl Dma {
     ghost use Rattle.std.specs.Prelude.{◌≡◌};
 
-    /// Makes the other channels the same, with what they have begun. No memory is taken.
+    /// Copies the channels into others, with the transfers that they have begun. Does not allocate.
     pub fn copy_into(&self, into: &mut Dma)
         ensures same { into.new ≡ self.now }
     {

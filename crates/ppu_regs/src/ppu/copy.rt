@@ -1,10 +1,10 @@
-// A picture unit taken over whole into another one.
+// Copying a whole PPU into another one.
 ghost use Rattle.std.specs.Prelude.{◌≡◌};
 
 use super::Ppu;
 
 impl Ppu {
-    /// Makes the other unit the same one: all registers, and VRAM, CGRAM and OAM. No memory is taken.
+    /// Copies all registers, VRAM, CGRAM and OAM into another PPU. Does not allocate.
     pub fn copy_into(&self, into: &mut Ppu)
         ensures same { into.new ≡ self.now }
     {
