@@ -23,7 +23,7 @@ pub enum SpcMode {
     AbsoluteY,
     /// `(X)`: in the direct page at X.
     IndirectX,
-    /// `(X)+`: the same, and X grows by 1 afterwards.
+    /// `(X)+`: in the direct page at X, which grows by 1 afterwards.
     IndirectXIncrement,
     /// `[d+X]`: a pointer in the direct page; the index is added before it is read.
     DirectXPointer,
