@@ -22,7 +22,7 @@ use spc700::Spc;
 pub struct Parts {
     /// The processor.
     pub spc: Spc,
-    /// All of the sound side but its processor.
+    /// All of the sound side except its processor.
     pub hardware: Hardware,
     /// The clock, which counts cycles and knows the resets.
     pub clock: CycleClock,

@@ -150,7 +150,7 @@ impl AudioSide {
         self.parts.hardware.load(at, got)
     }
 
-    /// The processor stands for some instruction.
+    /// Promises that the processor stands for some instruction.
     #[inline(always)]
     fn running(&self)
         ensures { IsRunning self.now.processor }

@@ -13,7 +13,7 @@ pub(crate) struct Identity {
     pub(crate) node: u64,
 }
 
-/// What else a file to be written is.
+/// The other use of a file to be written.
 #[derive(Clone, Copy, Debug, PartialEq, Eq)]
 pub enum Clash {
     /// A file that was loaded.
@@ -53,7 +53,7 @@ impl KnownFiles {
         }
     }
 
-    /// What else the file is to which an output is to be written.
+    /// What else a file to be written is, if the shelf already uses it.
     pub(crate) fn clash(&self, out: Out, file: Identity) -> Option<Clash>
         ensures { result ≡ clash_of self.now out file }
     {

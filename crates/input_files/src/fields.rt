@@ -3,8 +3,8 @@ ghost use Rattle.input_files.specs.Fields.{number_of, count_of, is_hex_digit, he
 
 use snes_defs::Span;
 
-/// The span that a line `COUNT PAD1 PAD2` spells, with one or more spaces between: 1 to 5 decimal
-/// digits, and two words of four hexadecimal digits, of which the last counts as 0.
+/// The span that a line `COUNT PAD1 PAD2` spells, with one or more spaces between. COUNT has 1 to 5 decimal digits.
+/// Each pad is a word of four hexadecimal digits, whose last counts as 0.
 #[tactic(auto, unfolding(crate::specs::Fields::span_of))]
 pub(crate) fn span_of(line: &[u8]) -> Option<Span>
     ensures { result ≡ span_of line.now }

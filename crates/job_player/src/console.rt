@@ -19,7 +19,7 @@ use word_log::Words;
 /// The bytes of the buffer that a run is drained through: as many as can be pending in a side.
 pub(crate) const BUFFER: usize = 65_536;
 
-/// The console of a job: both sides at their starts, the ports between them by either wire, the end of the job's
+/// The console of a job, at its start. It has both sides, the ports between them by either wire, the end of the job's
 /// frames, and a buffer.
 #[derive(Drop)]
 pub struct Console {

@@ -131,7 +131,7 @@ fn down(envelope: u16) -> u16
     envelope.saturating_sub(envelope.saturating_sub(1) / 256 + 1)
 }
 
-/// The envelope in the attack phase.
+/// Moves a voice on in its attack.
 #[tactic(auto, unfolding(crate::specs::Envelope::after_attack))]
 #[inline(always)]
 fn attack(setting: &Setting, s: u64, voice: &mut Voice)
@@ -148,7 +148,7 @@ fn attack(setting: &Setting, s: u64, voice: &mut Voice)
     };
 }
 
-/// The envelope in the decay phase.
+/// Moves a voice on in its decay.
 #[tactic(auto, unfolding(crate::specs::Envelope::after_decay))]
 #[inline(always)]
 fn decay(setting: &Setting, s: u64, voice: &mut Voice)
@@ -164,7 +164,7 @@ fn decay(setting: &Setting, s: u64, voice: &mut Voice)
     };
 }
 
-/// The envelope in the sustain phase.
+/// Moves a voice on in its sustain.
 #[tactic(auto, unfolding(crate::specs::Envelope::after_sustain))]
 #[inline(always)]
 fn sustain(setting: &Setting, s: u64, voice: &mut Voice)
@@ -189,7 +189,7 @@ fn moved_by_gain(way: u8, envelope: u16) -> u16
     }
 }
 
-/// The envelope by GAIN instead of the phases.
+/// Moves a voice on by GAIN instead of its phases.
 #[tactic(auto, unfolding(crate::specs::Envelope::after_gain))]
 #[inline(always)]
 fn gain(setting: &Setting, s: u64, voice: &mut Voice)

@@ -7,8 +7,8 @@ use crate::micro::Micro;
 use crate::place::Place;
 use spc_alu::{inside, load, load_word, pop, step_word, word_after_step};
 
-// The steps that have results are out of line, and each is the last thing that a transition does: so
-// the transitions keep nothing over a call, and stay small.
+// The steps that have results are out of line, and each is the last thing that a transition does. So the transitions
+// keep nothing over a call, and stay small.
 impl Micro {
     ghost use Rattle.spc_modes.specs.Orders.{idles_for, step_word_high, x_grown};
     ghost use Rattle.spc_modes.specs.Plan.{after, ends, idles};

@@ -3,7 +3,7 @@ ghost use Rattle.spc_modes.specs.Uses.{use_of};
 
 use spc_tables::SpcOp;
 
-/// What an operation does, as far as its accesses go.
+/// What an operation does, as far as its accesses show.
 #[derive(Clone, Copy, PartialEq, Eq, Debug)]
 pub enum Use {
     /// Works inside the processor, in that many internal cycles.

@@ -6,8 +6,8 @@ ghost use Rattle.spc_player_laws.specs.PlaysOn.{GivesBack, StaysBlind, period, f
 
 /// States that a sound file plays what its job's sound side emits from where it was taken on, step by step.
 ///
-/// It does so as long as nobody writes to the ports. The job is NTSC without resets. The file was taken at the start
-/// of an instruction in a cycle that 983,040 divides, where it gives back the hardware. From there on no sample reads
+/// The law has these conditions. The job is NTSC without resets. The file was taken at the start of an instruction in a
+/// cycle that 983,040 divides, and gives back the hardware. From there on nobody writes to the ports, no sample reads
 /// RAM that the processor doesn't see, and F1 neither shows nor hides the boot ROM.
 #[tactic(none)]
 pub fn a_file_plays_on()

@@ -1,8 +1,8 @@
 // Keeps descriptors 0, 1 and 2 open before a program opens a file of its own.
 //
-// A shell can start a program without them (`>&-`). The system gives the lowest free number to the next file, so a
-// file to write could become standard output, and what the program prints would land in it. Each program here holds
-// the three before it opens anything: one that was closed then refuses every write, as a closed one should.
+// A shell can start a program without them (`>&-`). The system gives the lowest free number to the next file.
+// So a file to write could become standard output, and what the program prints would land in it. Each program here
+// holds the three before it opens anything. One that was closed then refuses every write, as a closed one should.
 #![tactic(auto)]
 
 ghost use Rattle.std.specs.Prelude.{pos, ◌<ℤ◌, ◌≤ℤ◌, IfSome};
