@@ -14,14 +14,15 @@ mod copy;
 /// The clock of the sound side.
 #[derive(Drop)]
 pub struct CycleClock {
+    /// The region, which says how long a frame and a cycle last.
     pub region: Region,
     /// The frames that begin with a reset, in order.
     pub resets: Vec<u32>,
     /// The number of the next cycle, from 0.
     pub cycle: u64,
-    /// The stamps of a cycle.
+    /// Stamps per cycle.
     rate: u64,
-    /// The stamp of the next cycle. It is kept, so that it is no product.
+    /// The stamp of the next cycle, kept so that no product is computed.
     stamp: u64,
 }
 
@@ -56,7 +57,7 @@ impl CycleClock {
         }
     }
 
-    /// The stamps of a cycle.
+    /// Stamps per cycle.
     #[inline(always)]
     fn rate(&self) -> u64
         ensures { result ≡ rate_of self.now.region Sound }
@@ -130,7 +131,7 @@ impl CycleClock {
         self.cycle
     }
 
-    /// A cycle has ended.
+    /// Moves the clock on to the next cycle.
     #[inline(always)]
     pub fn go_on(&mut self)
         requires { stamp_now self.old ≤ 2 ^ 62 }
@@ -151,8 +152,8 @@ impl CycleClock {
         }
     }
 
-    /// Whether it is seen at once that none of the next 32 cycles is a reset: there are none, or the frame has begun
-    /// and lasts for longer.
+    /// Whether a quick test shows that none of the next 32 cycles is a reset. Either there are no resets, or the frame
+    /// has begun and lasts for longer.
     #[inline(always)]
     fn is_far_from_reset(&self) -> bool
         ensures { IsTrue result → IsFarFromReset self.now }
@@ -167,8 +168,8 @@ impl CycleClock {
         passed + 32 * self.rate() <= self.frame_stamps()
     }
 
-    /// How many cycles come before the next one at whose end something may come: timer 2, where it is on (`fast`), comes
-    /// each 16 cycles, and the others and a sample only at the ends of 32.
+    /// Cycles before the next one at whose end something may come. Timer 2, if it is on (`fast`), ticks every 16
+    /// cycles. The others tick, and a sample comes, only at the ends of 32.
     #[inline(always)]
     fn cycles_to_end(&self, fast: bool) -> u8
         ensures { result + self.now.cycle % beat_of fast + 1 ≡ beat_of fast }
@@ -198,7 +199,8 @@ impl CycleClock {
         }
     }
 
-    /// How many cycles, each ended by a stamp, are seen at once to be no resets and to have nothing come at their ends.
+    /// Returns a number of cycles, each ended by the stamp `before`, that a quick test shows to be free. None of them
+    /// is a reset, and nothing comes at their ends.
     #[inline(always)]
     pub fn free_cycles(&self, before: u64, fast: bool) -> u8
         ensures free { AreFree fast before result self.now }
@@ -216,7 +218,7 @@ impl CycleClock {
         }
     }
 
-    /// So many cycles have ended.
+    /// Moves the clock on by this many cycles.
     #[inline(always)]
     pub fn go_on_by(&mut self, cycles: u8)
         requires { stamp_now self.old + rate_of self.old.region Sound * cycles ≤ 2 ^ 62 }

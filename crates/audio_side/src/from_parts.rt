@@ -45,7 +45,7 @@ fn is_on(byte: u8, k: u32) -> bool
     (byte >> k) % 2 == 1
 }
 
-/// A timer of which no tick has come since its counter last went on.
+/// A timer that has had no tick since its counter last advanced.
 #[tactic(auto, unfolding(crate::specs::FromParts::timer_from))]
 fn timer(on: bool, target: u8, count: u8) -> Timer
     ensures { result ≡ timer_from on target count }
@@ -58,7 +58,7 @@ fn timer(on: bool, target: u8, count: u8) -> Timer
     }
 }
 
-/// The last 64 bytes of RAM, where the boot ROM lies.
+/// The last 64 bytes of RAM, where the boot ROM is.
 fn boot_of(ram: &[u8]) -> [u8; 64]
     requires { length ram.now ≡ 65536 }
     ensures { result ≡ drop 0xFFC0 ram.now }
@@ -69,7 +69,7 @@ fn boot_of(ram: &[u8]) -> [u8; 64]
     boot
 }
 
-/// The hardware that begins with these.
+/// The hardware that begins with this RAM, these bytes of the S-DSP and this table.
 #[tactic(auto, unfolding(crate::specs::FromParts::hardware_from))]
 fn hardware_of(alloc: Global, ram: &[u8], dsp: &[u8], table: &Table) -> Result<Hardware, NoMemory>
     requires ram { length ram.now ≡ 65536 }
@@ -103,11 +103,13 @@ fn before_fetch(regs: SpcRegs) -> Spc
 }
 
 impl AudioSide {
-    /// A sound side that begins with registers, 65,536 bytes of RAM and the 128 bytes of the S-DSP: an
-    /// Ntsc machine before cycle 0 that is never reset. The processor stands before an opcode fetch. The
-    /// bytes of RAM under F1 (without bits 4 and 5), F2 and FA to FF are what those registers hold; the
-    /// boot ROM is what RAM has at FFC0 to FFFF. It takes the room for RAM and for the bytes that wait,
-    /// and refuses only for want of memory.
+    /// Returns a sound side that begins with registers, 65,536 bytes of RAM and the 128 bytes of the S-DSP.
+    ///
+    /// It is an NTSC machine before cycle 0 that is never reset, with its processor before an opcode fetch. The bytes
+    /// of RAM under F1 (without bits 4 and 5), F2 and FA to FF are what those registers hold. The boot ROM is what
+    /// RAM has at FFC0 to FFFF.
+    ///
+    /// Allocates RAM and the buffer of emitted bytes, and fails only if allocation fails.
     pub fn of_parts(
         alloc: Global,
         regs: SpcRegs,

@@ -13,17 +13,25 @@ use std::marker::Model;
 /// The sound side without its processor.
 #[derive(Drop)]
 pub struct Hardware {
+    /// The boot ROM, seen at FFC0 to FFFF while F1 bit 7 is set.
     pub boot: [u8; 64],
+    /// The interpolation table of the S-DSP.
     pub table: Table,
+    /// The 64 KiB of RAM.
     pub ram: Vec<u8>,
+    /// The voices of the S-DSP, with its registers.
     pub voices: Voices,
+    /// The echo unit of the S-DSP.
     pub echo: Echo,
+    /// Timer 0, which ticks every 128 cycles.
     pub timer0: Timer,
+    /// Timer 1, which ticks every 128 cycles.
     pub timer1: Timer,
+    /// Timer 2, which ticks every 16 cycles.
     pub timer2: Timer,
-    /// F1 bit 7.
+    /// F1 bit 7: whether the processor sees the boot ROM.
     pub boot_seen: bool,
-    /// F2.
+    /// F2: the register of the S-DSP that F3 reads and writes.
     pub address: u8,
 }
 
@@ -56,7 +64,7 @@ pub fn cleared(byte: u8) -> u8
     (if is_on(byte, 4) { 3 } else { 0 }) + (if is_on(byte, 5) { 12 } else { 0 })
 }
 
-/// The two bytes of a number, the low one first.
+/// The low byte of a number.
 #[inline(always)]
 fn low(number: i16) -> u8
     ensures { result ≡ low_byte (cast_unsigned w16 number) }
@@ -72,7 +80,7 @@ fn high(number: i16) -> u8
 }
 
 impl Hardware {
-    /// The byte that a fetch or a read at an address gets. `got` is the incoming port's.
+    /// Returns the byte that a fetch or a read at an address gets. `got` is the incoming port's.
     #[tactic(auto, unfolding(crate::specs::Effect::loaded))]
     #[inline(always)]
     pub fn load(&self, at: u16, got: u8) -> u8
@@ -89,7 +97,7 @@ impl Hardware {
         }
     }
 
-    /// The same where the address is none of F0 to FF.
+    /// Returns the byte that a fetch or a read gets at an address other than F0 to FF.
     #[tactic(auto, unfolding(crate::specs::Effect::loaded))]
     #[inline(always)]
     pub fn load_memory(&self, at: u16) -> u8
@@ -103,7 +111,7 @@ impl Hardware {
         }
     }
 
-    /// The same at F0 to FF.
+    /// Returns the byte that a fetch or a read at F0 to FF gets, out of line. `got` is the incoming port's.
     #[tactic(auto, unfolding(crate::specs::Effect::register_shown))]
     #[inline(never)]
     fn register(&self, at: u16, got: u8) -> u8
@@ -129,7 +137,7 @@ impl Hardware {
         }
     }
 
-    /// A counter that was read is 0.
+    /// Sets a timer's counter to 0 after a read of it.
     #[tactic(auto, unfolding(crate::specs::Effect::after_load))]
     #[inline(always)]
     pub fn finish_load(&mut self, at: u16)
@@ -147,8 +155,8 @@ impl Hardware {
         }
     }
 
-    /// The byte that a fetch or a read at an address gets, and a counter that was read is 0. A port is seen first, since
-    /// most accesses that are not made among others are of one.
+    /// Returns the byte that a fetch or a read at an address gets, and sets a counter that was read to 0. Tests for a
+    /// port first, since most accesses that are not made among others are of one.
     #[tactic(auto, unfolding(crate::specs::Effect::loaded, crate::specs::Effect::register_shown, crate::specs::Effect::after_load))]
     #[inline(always)]
     pub fn take(&mut self, at: u16, got: u8) -> u8
@@ -163,7 +171,7 @@ impl Hardware {
         byte
     }
 
-    /// A write of F1.
+    /// Writes F1.
     #[tactic(auto, unfolding(crate::specs::Effect::controlled))]
     #[inline(never)]
     fn control(&mut self, byte: u8)
@@ -175,7 +183,7 @@ impl Hardware {
         self.timer2 = switch(is_on(byte, 2), self.timer2);
     }
 
-    /// A write of F3.
+    /// Writes F3.
     #[tactic(auto, unfolding(crate::specs::Effect::dsp_written))]
     #[inline(never)]
     fn write_dsp(&mut self, byte: u8)
@@ -186,7 +194,7 @@ impl Hardware {
         }
     }
 
-    /// A write of RAM.
+    /// Writes a byte of RAM.
     #[inline(always)]
     fn write_ram(&mut self, at: u16, byte: u8)
         ensures { self.new ≡ stored_in_ram self.old at byte }
@@ -194,7 +202,7 @@ impl Hardware {
         self.ram[at as usize] = byte;
     }
 
-    /// A write at F0 to FF.
+    /// Writes at F0 to FF, out of line.
     #[tactic(auto, unfolding(crate::specs::Effect::register_stored))]
     #[inline(never)]
     fn write_register(&mut self, at: u16, byte: u8)
@@ -224,7 +232,7 @@ impl Hardware {
         }
     }
 
-    /// A write.
+    /// Writes a byte at an address.
     #[tactic(auto, unfolding(crate::specs::Effect::stored))]
     #[inline(always)]
     pub fn store(&mut self, at: u16, byte: u8)
@@ -237,7 +245,7 @@ impl Hardware {
         }
     }
 
-    /// The same. A port, which keeps nothing on this side, is seen first.
+    /// Writes a byte at an address, and tests for a port first, which keeps nothing on this side.
     #[tactic(auto, unfolding(crate::specs::Effect::stored, crate::specs::Effect::register_stored))]
     #[inline(always)]
     pub fn put(&mut self, at: u16, byte: u8)
@@ -249,7 +257,7 @@ impl Hardware {
         self.store(at, byte);
     }
 
-    /// A write where the address is none of F0 to FF.
+    /// Writes a byte at an address other than F0 to FF.
     #[tactic(auto, unfolding(crate::specs::Effect::stored))]
     #[inline(always)]
     pub fn store_memory(&mut self, at: u16, byte: u8)
@@ -259,7 +267,7 @@ impl Hardware {
         self.write_ram(at, byte);
     }
 
-    /// A reset.
+    /// Resets the hardware.
     #[tactic(auto, unfolding(crate::specs::Effect::reset_hardware))]
     #[inline(never)]
     pub fn reset(&mut self)
@@ -273,7 +281,7 @@ impl Hardware {
         self.voices.reset();
     }
 
-    /// Where the processor begins.
+    /// The reset vector: the address at which the processor begins.
     pub fn entry(&self) -> u16
         ensures { result ≡ vector self.now }
     {
@@ -288,7 +296,7 @@ impl Hardware {
         self.timer2.on
     }
 
-    /// The timers tick, at the end of every 16th cycle.
+    /// Ticks the timers, at the end of every 16th cycle.
     #[tactic(auto, unfolding(crate::specs::Effect::timed))]
     #[inline(always)]
     pub fn tick(&mut self, cycle: u64)
@@ -303,7 +311,7 @@ impl Hardware {
         self.timer2 = tick(self.timer2);
     }
 
-    /// Sample `s`, and its bytes.
+    /// Makes sample `s`, and returns its four bytes.
     #[tactic(auto, unfolding(crate::specs::Effect::sampled, crate::specs::Effect::sample_bytes))]
     pub fn sample(&mut self, s: u64) -> [u8; 4]
         ensures hardware { self.new ≡ sampled s self.old }

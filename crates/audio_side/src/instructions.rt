@@ -1,5 +1,5 @@
-// Accesses of an instruction one after another, where the one before says which comes next. Each function makes as many
-// as are left and are at none of the registers F0 to FF, and answers whether it came to its end.
+// Accesses of an instruction one after another, each of which determines the next. Each function makes as many as are
+// left and are not at a register F0 to FF. It returns whether it reached its end.
 ghost use Rattle.std.specs.Prelude.{◌≡◌, ◌<◌, ◌+◌, None, IfSome, IsTrue, false};
 ghost use Rattle.spc_tables.specs.declared.access.SpcAccess.TheVariants.{Fetch, Read};
 ghost use Rattle.spc_modes.specs.declared.place.Place.TheVariants.{Between, FirstByte, Load, ChangeRead, WriteCycle, BranchDistance, PullFirstCycle, CallCycle};
@@ -12,7 +12,7 @@ use crate::hardware::Hardware;
 use crate::step::{is_register, try_plain};
 use spc700::{Place, Spc};
 
-/// One access fewer is left, where there is one.
+/// Takes one from the accesses left, if any is left, and returns whether it did.
 #[inline(always)]
 fn one_fewer(left: &mut u8) -> bool
     ensures made { IsTrue result → left.new + 1 ≡ left.old }
@@ -25,7 +25,7 @@ fn one_fewer(left: &mut u8) -> bool
     true
 }
 
-/// The byte at an address, where that is no register and an access is left.
+/// The byte at an address, if that is not a register and an access is left.
 #[tactic(auto, unfolding(crate::specs::Effect::act_of_load, crate::specs::Effect::after_load))]
 #[inline(always)]
 fn byte_at(hardware: &Hardware, at: u16, left: &mut u8) -> Option<u8>
@@ -105,7 +105,7 @@ fn first_byte(spc: &mut Spc, hardware: &Hardware, left: &mut u8) -> bool
     }
 }
 
-/// The high byte of the operand, where it has one.
+/// The high byte of the operand, if it has one.
 #[inline(always)]
 fn operand_high(spc: &mut Spc, hardware: &Hardware, left: &mut u8) -> bool
     ensures { Follows spc.old spc.new hardware.now hardware.now left.old left.new }
@@ -122,7 +122,7 @@ fn operand_high(spc: &mut Spc, hardware: &Hardware, left: &mut u8) -> bool
     true
 }
 
-/// The cycle before the data, where there is one.
+/// The cycle before the data, if there is one.
 #[inline(always)]
 fn data_cycle(spc: &mut Spc, hardware: &Hardware, left: &mut u8) -> bool
     ensures { Follows spc.old spc.new hardware.now hardware.now left.old left.new }
@@ -136,7 +136,7 @@ fn data_cycle(spc: &mut Spc, hardware: &Hardware, left: &mut u8) -> bool
     true
 }
 
-/// Data that is read.
+/// The read of data.
 #[inline(always)]
 fn load(spc: &mut Spc, hardware: &Hardware, left: &mut u8) -> bool
     requires known { spc.old.micro.place ≡ Load }
@@ -151,7 +151,7 @@ fn load(spc: &mut Spc, hardware: &Hardware, left: &mut u8) -> bool
     }
 }
 
-/// Data that is to be changed is read.
+/// The read of data that is to be changed.
 #[inline(always)]
 fn change_read(spc: &mut Spc, hardware: &Hardware, left: &mut u8) -> bool
     requires known { spc.old.micro.place ≡ ChangeRead }
@@ -179,7 +179,7 @@ fn write_cycle(spc: &mut Spc, hardware: &Hardware, left: &mut u8) -> bool
     true
 }
 
-/// A byte is written at an address, where that is no register and an access is left.
+/// Writes a byte at an address, if that is not a register and an access is left.
 #[tactic(auto, unfolding(crate::specs::Effect::act_of_store, crate::specs::Effect::stored))]
 #[inline(always)]
 fn put_at(hardware: &mut Hardware, at: u16, byte: u8, left: &mut u8) -> bool
@@ -200,7 +200,7 @@ fn put_at(hardware: &mut Hardware, at: u16, byte: u8, left: &mut u8) -> bool
     true
 }
 
-/// The last write, where it is next.
+/// The last write, if it is next.
 #[inline(always)]
 fn last_write(spc: &mut Spc, hardware: &mut Hardware, left: &mut u8) -> bool
     ensures { Follows spc.old spc.new hardware.old hardware.new left.old left.new }
@@ -214,7 +214,7 @@ fn last_write(spc: &mut Spc, hardware: &mut Hardware, left: &mut u8) -> bool
     true
 }
 
-/// One of the last cycles, where it is next.
+/// One of the last cycles, if it is next.
 #[inline(always)]
 fn cycle(spc: &mut Spc, hardware: &Hardware, left: &mut u8) -> bool
     ensures { Follows spc.old spc.new hardware.now hardware.now left.old left.new }
@@ -290,7 +290,7 @@ fn approach(spc: &mut Spc, hardware: &Hardware, left: &mut u8) -> bool
     data_cycle(spc, hardware, left)
 }
 
-/// Data is written.
+/// The write of data.
 #[inline(always)]
 fn store(spc: &mut Spc, hardware: &mut Hardware, left: &mut u8) -> bool
     requires known { spc.old.micro.place ≡ WriteCycle }
@@ -302,7 +302,7 @@ fn store(spc: &mut Spc, hardware: &mut Hardware, left: &mut u8) -> bool
     last_write(spc, hardware, left)
 }
 
-/// Data is changed.
+/// The change of data.
 #[inline(always)]
 fn change(spc: &mut Spc, hardware: &mut Hardware, left: &mut u8) -> bool
     requires known { spc.old.micro.place ≡ ChangeRead }
@@ -341,7 +341,7 @@ fn pull_cycle(spc: &mut Spc, hardware: &Hardware, left: &mut u8) -> bool
     true
 }
 
-/// The low byte of the address to return to, where that is pulled.
+/// The low byte of the address to return to, if that is pulled.
 #[inline(always)]
 fn return_low(spc: &mut Spc, hardware: &Hardware, left: &mut u8) -> bool
     ensures { Follows spc.old spc.new hardware.now hardware.now left.old left.new }
@@ -358,7 +358,7 @@ fn return_low(spc: &mut Spc, hardware: &Hardware, left: &mut u8) -> bool
     true
 }
 
-/// Its high byte.
+/// The high byte of the address to return to, if that is pulled.
 #[inline(always)]
 fn return_high(spc: &mut Spc, hardware: &Hardware, left: &mut u8) -> bool
     ensures { Follows spc.old spc.new hardware.now hardware.now left.old left.new }
@@ -387,7 +387,7 @@ fn pull_cycles(spc: &mut Spc, hardware: &Hardware, left: &mut u8) -> bool
     pull_cycle(spc, hardware, left)
 }
 
-/// The address to return to, where that is pulled.
+/// The address to return to, if that is pulled.
 #[inline(always)]
 fn return_address(spc: &mut Spc, hardware: &Hardware, left: &mut u8) -> bool
     ensures { Follows spc.old spc.new hardware.now hardware.now left.old left.new }
@@ -423,7 +423,7 @@ fn call_cycle(spc: &mut Spc, hardware: &Hardware, left: &mut u8) -> bool
     true
 }
 
-/// The high byte of the program counter is pushed.
+/// The push of the program counter's high byte.
 #[inline(always)]
 fn push_high(spc: &mut Spc, hardware: &mut Hardware, left: &mut u8) -> bool
     ensures { Follows spc.old spc.new hardware.old hardware.new left.old left.new }
@@ -442,7 +442,7 @@ fn push_high(spc: &mut Spc, hardware: &mut Hardware, left: &mut u8) -> bool
     true
 }
 
-/// Its low byte is pushed.
+/// The push of the program counter's low byte.
 #[inline(always)]
 fn push_low(spc: &mut Spc, hardware: &mut Hardware, left: &mut u8) -> bool
     ensures { Follows spc.old spc.new hardware.old hardware.new left.old left.new }
@@ -461,7 +461,7 @@ fn push_low(spc: &mut Spc, hardware: &mut Hardware, left: &mut u8) -> bool
     true
 }
 
-/// Both are pushed.
+/// The push of both bytes of the program counter.
 #[inline(always)]
 fn push_counter(spc: &mut Spc, hardware: &mut Hardware, left: &mut u8) -> bool
     ensures { Follows spc.old spc.new hardware.old hardware.new left.old left.new }
@@ -562,7 +562,7 @@ fn any_access(spc: &mut Spc, hardware: &mut Hardware, left: &mut u8) -> bool
     true
 }
 
-/// An instruction, or what it takes to come to its end.
+/// Makes an instruction, or what is left of it.
 #[inline(always)]
 fn make_some(spc: &mut Spc, hardware: &mut Hardware, left: &mut u8) -> bool
     requires any { 0 < left.old }
@@ -575,8 +575,8 @@ fn make_some(spc: &mut Spc, hardware: &mut Hardware, left: &mut u8) -> bool
     }
 }
 
-/// Makes accesses as long as any are left and are at none of the registers F0 to FF. It has two callers, and stands once:
-/// what follows an opcode is built into one place alone.
+/// Makes accesses while any are left and the next one is not at a register F0 to FF. Its two callers share one copy,
+/// so that what follows an opcode is inlined into one place alone.
 #[inline(never)]
 pub fn make_all(spc: &mut Spc, hardware: &mut Hardware, left: &mut u8)
     ensures { Follows spc.old spc.new hardware.old hardware.new left.old left.new }

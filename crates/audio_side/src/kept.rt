@@ -9,7 +9,7 @@ use crate::hardware::Hardware;
 use crate::side::AudioSide;
 use spc700::SpcRegs;
 
-/// A weight, where a bit is set.
+/// The weight if the bit is set, else 0.
 fn weight(on: bool, weight: u8) -> u8
     ensures { result ≡ weight_of on weight }
 {
@@ -91,7 +91,7 @@ fn keep_ram(hardware: &Hardware, ports: [u8; 4], into: &mut [u8])
 }
 
 impl AudioSide {
-    /// The registers with which the next instruction begins, where the last one has ended.
+    /// The registers with which the next instruction begins, if the last one has ended.
     pub fn begins(&self) -> Option<SpcRegs>
         ensures now { result ≡ begins_with self.now.processor }
         ensures standing { IfSome result (λ regs. Stands self.now.processor (between regs)) }
@@ -99,8 +99,8 @@ impl AudioSide {
         self.parts.spc.begins()
     }
 
-    /// Copies the RAM of a sound file: the bytes of RAM, the boot ROM in its place where it is seen, and
-    /// under F1, F2, F4 to F7 and FA to FF what those registers hold. `ports` are the incoming bytes.
+    /// Copies the RAM of a sound file into `into`. It is the bytes of RAM, with the boot ROM in its place if it is
+    /// seen. Under F1, F2, F4 to F7 and FA to FF it has what those registers hold. `ports` are the incoming bytes.
     pub fn keep_ram(&self, ports: [u8; 4], into: &mut [u8])
         requires { length into.old ≡ 65536 }
         ensures { into.new ≡ kept_ram self.now.hardware ports }

@@ -1,10 +1,9 @@
 //! The sound side as a machine: the SPC700 with its memory, boot ROM, timers, ports and the S-DSP.
 //!
-//! Stands on `spc700`, `sdsp_voice` and `sdsp_echo`, and implements `side_law`'s trait `Machine`. One
-//! step is one cycle of the processor, or a reset that takes one cycle; each step is exactly that of
-//! `specs/Sound.antt`. After the access of a cycle the timers tick, and the last of each 32 cycles
-//! makes a sample and emits its four bytes. A caller answers a step whose act is a read of a port
-//! with the incoming byte; the other side's bytes are no part of this machine.
+//! Builds on `spc700`, `sdsp_voice` and `sdsp_echo`, and implements `side_law`'s trait `Machine`. One step is one
+//! cycle of the processor, or a reset that takes one cycle. Each step is exactly that of `specs/Sound.antt`. After
+//! the access of a cycle the timers tick. The last of every 32 cycles makes a sample and emits its four bytes. If a
+//! step reads a port, the caller passes it the incoming byte. The other side's bytes are not part of this machine.
 #![tactic(auto)]
 
 mod clock;

@@ -20,10 +20,13 @@ use spc700::Spc;
 /// The parts of a sound side.
 #[derive(Drop)]
 pub struct Parts {
+    /// The processor.
     pub spc: Spc,
+    /// All of the sound side except its processor.
     pub hardware: Hardware,
+    /// The clock, which counts cycles and knows the resets.
     pub clock: CycleClock,
-    /// The emitted bytes that wait.
+    /// The emitted bytes that are pending.
     pub waiting: HeapCircularBuffer<u8>,
 }
 
@@ -50,7 +53,7 @@ impl Parts {
         next_act(&self.spc, &self.hardware, &self.clock)
     }
 
-    /// A step.
+    /// Takes one step, in which a read of a port gets `got`.
     #[inline(always)]
     pub fn step(&mut self, got: u8)
         requires room { length self.old.waiting.items + 4 ≤ self.old.waiting.capacity }
@@ -70,8 +73,7 @@ impl Parts {
         self.clock.go_on();
     }
 
-    /// Makes a step where it is seen at once that it is quiet, and answers whether it did. Otherwise nothing has
-    /// changed.
+    /// If a quick test shows that the next step is quiet, takes it and returns true. Otherwise changes nothing.
     #[inline(always)]
     pub fn try_step(&mut self) -> bool
         requires room { length self.old.waiting.items + 4 ≤ self.old.waiting.capacity }
@@ -99,8 +101,8 @@ impl Parts {
         true
     }
 
-    /// Makes accesses of the memory and internal cycles, each begun before a stamp, at most up to the next cycle at whose
-    /// end something may come, and answers whether it came to an access of a register before.
+    /// Makes accesses of the memory and internal cycles, each begun before a stamp. It goes at most up to the next
+    /// cycle at whose end something may come. Returns whether it reached an access of a register before that.
     #[inline(always)]
     fn rush(&mut self, before: u64) -> bool
         requires early { before ≤ 2 ^ 62 }
@@ -120,8 +122,8 @@ impl Parts {
         made < free
     }
 
-    /// Makes accesses of the memory and the ports and internal cycles, each ended by a stamp until which the other side
-    /// stands still, at most up to the next cycle at whose end something may come.
+    /// Makes accesses of the memory and the ports, and internal cycles, each ended by the stamp `before`. Until then
+    /// the other side is stopped. It goes at most up to the next cycle at whose end something may come.
     #[inline(always)]
     fn talk_on(&mut self, incoming: &[u8; 4], outgoing: &mut [u8; 4], before: u64)
         requires early { before ≤ 2 ^ 62 }
@@ -140,7 +142,9 @@ impl Parts {
         self.clock.go_on_by(made);
     }
 
-    /// The same, where it is worth a call. A processor that has halted talks no more, and `quiet` passes its cycles.
+    /// Makes accesses of the memory and the ports, and internal cycles, if that is worth a call. Each ends by the
+    /// stamp `before`, until which the other side is stopped. A halted processor no longer talks, and `quiet` skips
+    /// its cycles.
     #[inline(always)]
     pub fn talk(&mut self, incoming: &[u8; 4], outgoing: &mut [u8; 4], before: u64)
         requires early { before ≤ 2 ^ 62 }
@@ -155,8 +159,7 @@ impl Parts {
         }
     }
 
-    /// Makes quiet steps, each begun before a stamp, up to the first that emits bytes, and answers where it stands
-    /// then.
+    /// Takes quiet steps, each begun before a stamp, up to the first that emits bytes. Returns where it has stopped.
     #[inline(always)]
     pub fn quiet(&mut self, before: u64) -> Pause
         requires room { length self.old.waiting.items + 4 ≤ self.old.waiting.capacity }
@@ -182,7 +185,7 @@ impl Parts {
                 return Pause { at, act };
             }
             if stopped {
-                // Where the register is a port, no step is tried in vain.
+                // If the register is a port, no step is tried in vain.
                 let act = self.act();
                 if !is_quiet(act) {
                     return Pause { at, act };

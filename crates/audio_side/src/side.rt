@@ -37,7 +37,7 @@ impl Model for AudioSide {
     ghost invariant = { λ s. IsRunning s.parts.spc × (s.parts.waiting.capacity ≡ 4096) × (length s.parts.waiting.items ≤ 4096) };
 }
 
-/// A frame put at the end of a list, if it has a reset.
+/// Puts a frame at the end of a list, if it has a reset.
 fn add_frame(frames: &mut Vec<u32>, frame: u32, has_reset: bool) -> Result<(), NoMemory>
     ensures { OnOk result (frames.new.items ≡ frames.old.items ++ (if has_reset then frame ∷ [] else [])) }
 {
@@ -75,7 +75,7 @@ fn empty_ram(alloc: Global) -> Result<Vec<u8>, NoMemory>
     zeroed(alloc, RAM)
 }
 
-/// So many zeros.
+/// A vector of `size` zeros.
 fn zeroed(alloc: Global, size: usize) -> Result<Vec<u8>, NoMemory>
     ensures size { IfOk result (λ bytes. length bytes.items ≡ size) }
     ensures zeros { IfOk result (λ bytes. All (λ b. b ≡ 0) bytes.items) }
@@ -86,7 +86,7 @@ fn zeroed(alloc: Global, size: usize) -> Result<Vec<u8>, NoMemory>
     }
 }
 
-/// A table of its own with the same numbers.
+/// A copy of a table.
 pub(crate) fn copied(table: &Table) -> Table
     ensures { result ≡ table_of table.now }
 {
@@ -98,8 +98,9 @@ pub(crate) fn copied(table: &Table) -> Table
 }
 
 impl AudioSide {
-    /// The sound side of a job before its first cycle. It takes the room for RAM and for the bytes
-    /// that wait, and refuses only for want of memory.
+    /// Returns the sound side of a job before its first cycle.
+    ///
+    /// Allocates RAM and the buffer of emitted bytes, and fails only if allocation fails.
     #[tactic(auto, unfolding(crate::specs::HardwareState::hardware_at_start))]
     pub fn new(alloc: Global, job: &Job) -> Result<AudioSide, NoMemory>
         ensures starts { IfOk result (λ s. StandsAt s (sound_start job.now.region job.now.script.resets job.now.boot job.now.table)) }
@@ -142,14 +143,14 @@ impl AudioSide {
         &self.parts.spc
     }
 
-    /// The byte that a fetch or a read of an address gets now, where an incoming port has `got`.
+    /// The byte that a fetch or a read of an address gets now, if an incoming port has `got`.
     pub fn byte_at(&self, at: u16, got: u8) -> u8
         ensures { result ≡ loaded self.now.hardware at got }
     {
         self.parts.hardware.load(at, got)
     }
 
-    /// The processor stands for some instruction.
+    /// Promises that the processor stands for some instruction.
     #[inline(always)]
     fn running(&self)
         ensures { IsRunning self.now.processor }

@@ -77,7 +77,7 @@ pub fn next_act(spc: &Spc, hardware: &Hardware, clock: &CycleClock) -> Act
     }
 }
 
-/// A byte of data is read.
+/// Reads a byte of data.
 #[inline(always)]
 fn read_data(spc: &mut Spc, hardware: &mut Hardware, got: u8)
     requires known { spc.old.micro.place ≡ Load }
@@ -88,7 +88,7 @@ fn read_data(spc: &mut Spc, hardware: &mut Hardware, got: u8)
     spc.took_data(byte);
 }
 
-/// The last write is made.
+/// Makes the last write.
 #[inline(always)]
 fn write_last(spc: &mut Spc, hardware: &mut Hardware)
     requires known { spc.old.micro.place ≡ WriteLast }
@@ -99,7 +99,7 @@ fn write_last(spc: &mut Spc, hardware: &mut Hardware)
     spc.wrote_last();
 }
 
-/// An access of any kind is made.
+/// Makes an access of any kind.
 #[inline(always)]
 fn other_access(spc: &mut Spc, hardware: &mut Hardware, got: u8)
     ensures processor { (s : SpcState) → Stands spc.old s → Stands spc.new (moved_on s (given hardware.old (next_of s) got)) }
@@ -118,7 +118,7 @@ fn other_access(spc: &mut Spc, hardware: &mut Hardware, got: u8)
     }
 }
 
-/// The processor's next access is made. Most that are not made among others are of a port, by the commonest modes.
+/// Makes the processor's next access. Most that are not made among others are of a port, by the commonest modes.
 #[inline(always)]
 fn access(spc: &mut Spc, hardware: &mut Hardware, got: u8)
     ensures processor { (s : SpcState) → Stands spc.old s → Stands spc.new (moved_on s (given hardware.old (next_of s) got)) }
@@ -139,7 +139,7 @@ pub fn is_register(at: u16) -> bool
     at / 16 == 15
 }
 
-/// The byte that a fetch or a read at F0 to FF gets, where it is at none of the ports.
+/// The byte that a fetch or a read at F0 to FF gets, unless it is at a port.
 #[inline(never)]
 fn try_register(hardware: &mut Hardware, at: u16) -> Option<u8>
     ensures quiet { IfSome result (λ _. act_of_load at ≡ Quiet) }
@@ -159,7 +159,7 @@ fn try_register(hardware: &mut Hardware, at: u16) -> Option<u8>
     }
 }
 
-/// A write at F0 to FF, where it is quiet.
+/// Writes at F0 to FF if that is quiet, and returns whether it did.
 #[inline(never)]
 fn try_register_store(hardware: &mut Hardware, at: u16, byte: u8) -> bool
     ensures quiet { IsTrue result → act_of_store at byte ≡ Quiet }
@@ -177,7 +177,7 @@ fn try_register_store(hardware: &mut Hardware, at: u16, byte: u8) -> bool
     }
 }
 
-/// A write where it is quiet.
+/// Writes a byte if that is quiet, and returns whether it did.
 #[tactic(auto, unfolding(crate::specs::Effect::act_of_store))]
 #[inline(always)]
 fn try_store(hardware: &mut Hardware, at: u16, byte: u8) -> bool
@@ -193,7 +193,7 @@ fn try_store(hardware: &mut Hardware, at: u16, byte: u8) -> bool
     }
 }
 
-/// The processor fetches or reads a byte, but none of a port.
+/// Fetches or reads the processor's next byte unless it is of a port, and returns whether it did.
 #[tactic(auto, unfolding(crate::specs::Effect::act_of_load, crate::specs::Effect::after_load))]
 #[inline(always)]
 fn try_load(spc: &mut Spc, hardware: &mut Hardware, at: u16) -> bool
@@ -216,8 +216,8 @@ fn try_load(spc: &mut Spc, hardware: &mut Hardware, at: u16) -> bool
     true
 }
 
-/// The processor's next access is made where it is at none of the ports, and no write that clears
-/// them, and whether it was is answered. Otherwise nothing has changed.
+/// Makes the processor's next access, unless it is at a port or is a write that clears ports, and returns whether it
+/// did. Otherwise changes nothing.
 #[inline(always)]
 pub fn try_access(spc: &mut Spc, hardware: &mut Hardware) -> bool
     ensures quiet { IsTrue result → (s : SpcState) → Stands spc.old s → act_of (next_of s) ≡ Quiet }
@@ -242,8 +242,8 @@ pub fn try_access(spc: &mut Spc, hardware: &mut Hardware) -> bool
     }
 }
 
-/// The processor's next access is made where it is an internal cycle or at none of the registers F0 to FF, and whether
-/// it was is answered. Otherwise nothing has changed.
+/// Makes the processor's next access if it is an internal cycle or not at a register F0 to FF, and returns whether it
+/// did. Otherwise changes nothing.
 #[tactic(auto, unfolding(crate::specs::Effect::act_of_load, crate::specs::Effect::after_load, crate::specs::Effect::act_of_store, crate::specs::Effect::stored))]
 #[inline(always)]
 pub fn try_plain(spc: &mut Spc, hardware: &mut Hardware) -> bool
@@ -278,8 +278,8 @@ pub fn try_plain(spc: &mut Spc, hardware: &mut Hardware) -> bool
     }
 }
 
-/// Makes the processor's accesses one after another, at most so many, as long as they are internal cycles or at none of
-/// the registers F0 to FF, and answers how many it made.
+/// Makes the processor's accesses one after another, at most `most`, and returns how many it made. It stops before an
+/// access of a register F0 to FF.
 #[inline(always)]
 pub fn make_accesses(spc: &mut Spc, hardware: &mut Hardware, most: u8) -> u8
     ensures run { (s : SpcState) → Stands spc.old s → HasRun spc.new hardware.new s hardware.old result }
@@ -294,7 +294,7 @@ pub fn make_accesses(spc: &mut Spc, hardware: &mut Hardware, most: u8) -> u8
     most - left
 }
 
-/// A processor at the vector `pc`.
+/// A processor after a reset, whose vector is `pc`.
 pub fn fresh(pc: u16) -> Spc
     ensures stands { Stands result (at_reset pc) }
     ensures runs { IsRunning result }
@@ -302,7 +302,7 @@ pub fn fresh(pc: u16) -> Spc
     Spc::new(pc)
 }
 
-/// A reset.
+/// Resets the processor and the hardware.
 #[inline(never)]
 fn restart(spc: &mut Spc, hardware: &mut Hardware)
     ensures processor { Stands spc.new (at_reset (vector hardware.old)) }
@@ -312,7 +312,7 @@ fn restart(spc: &mut Spc, hardware: &mut Hardware)
     hardware.reset();
 }
 
-/// The next step but for its end: a reset, or an access.
+/// Takes the next step except its end: makes a reset or an access.
 #[inline(always)]
 pub fn begin(spc: &mut Spc, hardware: &mut Hardware, clock: &CycleClock, got: u8)
     ensures processor { (s : SpcState) → Stands spc.old s
@@ -324,7 +324,7 @@ pub fn begin(spc: &mut Spc, hardware: &mut Hardware, clock: &CycleClock, got: u8
     make(spc, hardware, clock, got);
 }
 
-/// The same, by the instruction that the processor stands for.
+/// Makes the reset or the access of the next step, without the claim that the processor keeps running.
 #[tactic(auto, unfolding(crate::specs::Sound::processor_after, crate::specs::Sound::hardware_before_end))]
 #[inline(always)]
 fn make(spc: &mut Spc, hardware: &mut Hardware, clock: &CycleClock, got: u8)
@@ -340,7 +340,7 @@ fn make(spc: &mut Spc, hardware: &mut Hardware, clock: &CycleClock, got: u8)
     }
 }
 
-/// The end of every 16th step: the timers, and of every second of these a sample, whose bytes wait.
+/// Ends every 16th step: ticks the timers, and at every second of these makes a sample, whose bytes are then pending.
 #[tactic(auto, unfolding(crate::specs::Effect::passed, crate::specs::Effect::emitted))]
 #[inline(never)]
 fn finish_tick(hardware: &mut Hardware, cycle: u64, waiting: &mut HeapCircularBuffer<u8>)
@@ -359,7 +359,7 @@ fn finish_tick(hardware: &mut Hardware, cycle: u64, waiting: &mut HeapCircularBu
     }
 }
 
-/// The end of a step: the timers, and by the last of each 32 cycles a sample, whose bytes wait.
+/// Ends a step: ticks the timers, and after the last of every 32 cycles makes a sample, whose bytes are then pending.
 #[tactic(auto, using(crate::proofs::Ticks::passes_nothing, crate::proofs::Ticks::emits_nothing))]
 #[inline(always)]
 pub fn finish(hardware: &mut Hardware, cycle: u64, waiting: &mut HeapCircularBuffer<u8>)

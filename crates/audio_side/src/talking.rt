@@ -1,5 +1,5 @@
-// Many accesses while the other side stands still: its bytes at the ports don't change meanwhile, so that a port is
-// read and written between runs of accesses of the memory.
+// Many accesses while the other side is stopped. Its bytes at the ports don't change meanwhile, so ports are read and
+// written between runs of memory accesses.
 ghost use Rattle.std.specs.Prelude.{IfSome, IsTrue, ◌≡◌, false, ◌<◌, ◌≤◌, ℕ, List};
 ghost use Rattle.side_law.specs.Serial.{got_of, incoming_after, outgoing_after};
 ghost use Rattle.spc700.specs.Instruction.{SpcState, moved_on, next_of};
@@ -12,7 +12,7 @@ use crate::hardware::Hardware;
 use crate::instructions::make_all;
 use spc700::{Spc, SpcAccess};
 
-/// The byte that a fetch or a read gets, where it is of a port (F4 to F7 CPUIO0 to CPUIO3).
+/// The byte that a fetch or a read gets, if it is of a port (F4 to F7 CPUIO0 to CPUIO3).
 #[tactic(auto, unfolding(crate::specs::Effect::act_of_load, crate::specs::Effect::after_load, crate::specs::Effect::loaded, crate::specs::Effect::register_shown))]
 #[inline(always)]
 fn port_byte(hardware: &Hardware, incoming: &[u8; 4], at: u16) -> Option<u8>
@@ -28,7 +28,7 @@ fn port_byte(hardware: &Hardware, incoming: &[u8; 4], at: u16) -> Option<u8>
     None
 }
 
-/// A write, where it is of a port. Answers whether it was made.
+/// Writes a byte if the address is a port, and returns whether it did.
 #[tactic(auto, unfolding(crate::specs::Effect::act_of_store, crate::specs::Effect::stored, crate::specs::Effect::register_stored))]
 #[inline(always)]
 fn send(hardware: &Hardware, outgoing: &mut [u8; 4], at: u16, byte: u8) -> bool
@@ -45,8 +45,7 @@ fn send(hardware: &Hardware, outgoing: &mut [u8; 4], at: u16, byte: u8) -> bool
     false
 }
 
-/// The processor's next access is made where it is of a port, and whether it was is answered. Otherwise nothing has
-/// changed.
+/// Makes the processor's next access if it is at a port, and returns whether it did. Otherwise changes nothing.
 #[inline(always)]
 fn try_port(spc: &mut Spc, hardware: &Hardware, incoming: &[u8; 4], outgoing: &mut [u8; 4]) -> bool
     ensures processor { IsTrue result → (s : SpcState) → Stands spc.old s → Stands spc.new (moved_on s (given hardware.now (next_of s) (got_of (act_of (next_of s)) incoming.now))) }
@@ -75,7 +74,7 @@ fn try_port(spc: &mut Spc, hardware: &Hardware, incoming: &[u8; 4], outgoing: &m
     }
 }
 
-/// The same, with one access fewer left.
+/// Makes the processor's next access if it is at a port, counts it off `left`, and returns whether it did.
 #[inline(always)]
 fn make_port(
     spc: &mut Spc,
@@ -95,8 +94,8 @@ fn make_port(
     true
 }
 
-/// Makes the processor's accesses one after another, at most so many, as long as they are internal cycles or of the
-/// memory or the ports, and answers how many it made.
+/// Makes the processor's accesses one after another, at most `most`, and returns how many it made. They are internal
+/// cycles, or of the memory or the ports.
 #[inline(always)]
 pub fn talk_accesses(
     spc: &mut Spc,

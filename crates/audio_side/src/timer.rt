@@ -4,12 +4,13 @@ ghost use Rattle.audio_side.specs.Timer.{stopped, switched, ticked};
 /// One of the three timers.
 #[derive(Clone, Copy, Debug, PartialEq, Eq)]
 pub struct Timer {
+    /// Whether the timer runs: its bit of F1.
     pub on: bool,
-    /// At how many ticks the counter goes on; 0 stands for 256.
+    /// The number of ticks after which the counter advances, 0 for 256.
     pub target: u8,
-    /// The ticks since the counter last went on.
+    /// Ticks since the counter last advanced.
     pub stage: u8,
-    /// Four bits.
+    /// The counter, four bits.
     pub counter: u8,
 }
 

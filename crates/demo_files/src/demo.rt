@@ -3,7 +3,7 @@ ghost use Rattle.demo_files.specs.Demo.{demo_boot};
 
 use snes_defs::Table;
 
-/// The program: it sets up one voice and its volumes, and answers port 0 by one more.
+/// The program: it sets up one voice and its volumes, and replies at port 0 with what comes in there plus 1.
 static BOOT: [u8; 64] = [
     0x8f, 0x00, 0xf2, 0x8f, 0x7f, 0xf3, 0x8f, 0x01, 0xf2, 0x8f, 0x7f, 0xf3, 0x8f, 0x07, 0xf2, 0x8f,
     0x7f, 0xf3, 0x8f, 0x0c, 0xf2, 0x8f, 0x7f, 0xf3, 0x8f, 0x1c, 0xf2, 0x8f, 0x7f, 0xf3, 0x8f, 0x3d,
@@ -11,8 +11,8 @@ static BOOT: [u8; 64] = [
     0xe4, 0xf4, 0xbc, 0xc4, 0xf4, 0x2f, 0xf9, 0x00, 0x00, 0x00, 0x00, 0x00, 0x00, 0x00, 0xc0, 0xff,
 ];
 
-/// The demo's boot ROM: a program of the sound processor that plays one voice and gives back what
-/// comes in at port 0, with its address in the last two bytes.
+/// The demo's boot ROM, with its address in the last two bytes. It is a program of the sound processor that plays one
+/// voice, and replies at port 0 with what comes in there plus 1.
 #[tactic(auto, unfolding(crate::specs::Demo::demo_boot))]
 pub fn demo_boot_rom() -> [u8; 64]
     ensures { result ≡ demo_boot }

@@ -9,7 +9,7 @@ const SIZE: usize = 0x8_0000;
 
 const HEAD: usize = 0x8000;
 
-/// Where the header begins in the image.
+/// The place of the header in the image.
 const HEADER_AT: usize = 0x7fc0;
 
 /// The program, at 8000 of bank 00: it moves tiles and colours by DMA, and scrolls by what port 0 gives.
@@ -32,8 +32,8 @@ static HEADER: [u8; 64] = [
     0x00, 0x00, 0x00, 0x00, 0x00, 0x00, 0x00, 0x00, 0x00, 0x00, 0x00, 0x00, 0x00, 0x80, 0x00, 0x00,
 ];
 
-/// The cartridge that a number makes: 512 KiB of LoROM with a small program, whose other pages are
-/// the upper bytes of x = 1664525 x + 1013904223 modulo 2^32, from the number on.
+/// The cartridge that a number makes: 512 KiB of LoROM with a small program. Its other pages are the upper bytes of x
+/// = 1664525 x + 1013904223 modulo 2^32, from the number on.
 #[tactic(auto, using(crate::proofs::Numbers::number_none, crate::proofs::Numbers::number_more, crate::proofs::Numbers::byte_head, crate::proofs::Numbers::byte_behind))]
 pub fn image(alloc: Global, number: u32) -> Result<Vec<u8>, NoMemory>
     ensures size { IfOk result (λ image. vec_len image ≡ 524288) }

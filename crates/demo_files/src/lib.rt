@@ -1,7 +1,6 @@
-// The files that the program makes by itself: the cartridge of a number, and the boot ROM and table of
-// the demo that is run on it.
+// The files that the program makes by itself: the cartridge of a number, and the boot ROM and table of the demo on it.
 //
-// Stands on the plain types. Every byte is said by a definition; only `image` takes memory.
+// Builds on the plain types. A definition gives every byte; only `image` allocates.
 #![tactic(auto)]
 
 mod demo;

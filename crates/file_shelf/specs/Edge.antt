@@ -44,7 +44,7 @@ kept_in e Sound = e.sound
 kept_in e Image = e.image
 kept_in e Say = record { is_open = true; given = None; unwritten = 0 }
 
--- the same after one more fault of an output
+-- the edge after one more fault of an output
 abbrev pub faulted : Edge → Out → Edge
 faulted e out = record e { writes = counted e.writes out }
 

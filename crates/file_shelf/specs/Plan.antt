@@ -50,7 +50,7 @@ abbrev pub put_fails : Planned → Out → Bool
 put_fails p out = is_failure p.failures (Put None) (next p.puts)
     || is_failure p.failures (Put (Some out)) (next (count_of p.own_puts out))
 
--- the same after a load, a create or a put on an output
+-- a plan after a load, a create or a put on an output
 abbrev pub after_load : Planned → Planned
 after_load p = record p { loads = next p.loads }
 

@@ -34,7 +34,7 @@ held_in files name = option_map (λ file. file.bytes) (find (λ file. bytes_eq f
 abbrev pub place_of : List NamedBytes → List ℕ → Option ℕ
 place_of files name = position (λ file. bytes_eq file.name name) files
 
--- the same with one more file, which takes the place of any other of its name
+-- a store with one more file, which takes the place of any other of its name
 abbrev pub holding : Stored → List ℕ → List ℕ → Stored
 holding s name bytes = record s { files = record { name = name; bytes = bytes } ∷ s.files }
 
@@ -60,7 +60,7 @@ output_of s Sound = s.sound
 output_of s Image = s.image
 output_of s Say = s.say
 
--- the same with another value for one of the outputs
+-- a store with another value for one of the outputs
 abbrev pub with_output : Stored → Out → Written → Stored
 with_output s Video w = record s { video = w }
 with_output s Sound w = record s { sound = w }

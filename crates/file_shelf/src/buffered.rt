@@ -6,11 +6,11 @@ use crate::cause::Cause;
 use crate::gathered::Gathered;
 use std::io::Write;
 
-/// A file that is written, and the bytes that it was given and that are not yet written.
+/// A file that is written, and the bytes given to it that are not yet written.
 ///
-/// A frame comes as some 240 rows and 530 samples, each in a put of its own, and a call of the system for each
-/// would take a tenth to a fifth of the time of a run. After a fault nothing more is written or taken: what was
-/// not written stays gathered, as the measure of what the file lacks.
+/// A frame comes as about 240 rows and 530 samples, each in a put of its own. A system call for each would take a
+/// tenth to a fifth of a run's time. After a fault nothing more is written or taken. What was not written stays
+/// gathered, as the measure of what the file lacks.
 pub(crate) struct Buffered<F: Write> {
     file: F,
     gathered: Gathered,
@@ -18,7 +18,7 @@ pub(crate) struct Buffered<F: Write> {
 }
 
 impl<F: Write + Drop> Buffered<F> {
-    /// A file to which nothing was given yet.
+    /// A file that was given nothing yet.
     pub(crate) fn new(file: F) -> Buffered<F>
         ensures file { result.file ≡ file }
         ensures empty { result.gathered ≡ [] }
@@ -31,7 +31,7 @@ impl<F: Write + Drop> Buffered<F> {
         }
     }
 
-    /// Writes the gathered bytes. Where that fails those that were not written stay gathered.
+    /// Writes the gathered bytes. If that fails, those that were not written stay gathered.
     #[tactic(auto, using(crate::proofs::EdgeLemmas::written_first))]
     pub(crate) fn flush(&mut self) -> Result<(), Cause>
         ensures kept { Keeps (given_to F.contents self.old) (given_to F.contents self.new) }
@@ -98,14 +98,14 @@ impl<F: Write + Drop> Drop for Buffered<F> {
     }
 }
 
-/// Where writes stopped: how many bytes were written, and why no more.
+/// How a write stopped: how many bytes were written, and why no more.
 #[derive(Clone, Copy, Debug, PartialEq, Eq)]
 pub(crate) struct Stopped {
     pub(crate) count: usize,
     pub(crate) cause: Cause,
 }
 
-/// Writes all these bytes, by as many writes as it takes. A write that takes nothing is a fault.
+/// Writes all these bytes, by as many writes as needed. A write that takes nothing is a fault.
 pub(crate) fn write_whole<W: Write>(file: &mut W, bytes: &[u8]) -> Result<(), Stopped>
     ensures whole { OnOk result (AppendsKnown (W.contents file.old) (W.contents file.new) bytes.now) }
     ensures first { IfErr result (λ stopped. AppendsKnown (W.contents file.old) (W.contents file.new) (take stopped.count bytes.now)) }

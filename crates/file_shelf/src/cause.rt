@@ -5,11 +5,11 @@ use std::io::{Error, ErrorKind};
 /// Why a call of a shelf over real files failed.
 #[derive(Clone, Copy, Debug, PartialEq, Eq)]
 pub enum Cause {
-    /// The system answered with an error of this kind.
+    /// The system returned an error of this kind.
     System(ErrorKind),
     /// A write took nothing.
     TookNothing,
-    /// The output is a file that the program has to do with already.
+    /// The output is a file that the program already uses.
     Same(Clash),
     /// The output was not created, or took no more bytes after a fault.
     Closed,
@@ -22,7 +22,7 @@ impl From<Error> for Cause {
 }
 
 impl Display for Cause {
-    /// What the system said, or what else was wrong, for the user.
+    /// Writes what the system said, or what else was wrong, for the user.
     fn fmt<W: fmt::Write>(&self, f: &mut Formatter<W>) -> fmt::Result {
         match *self {
             Cause::System(ErrorKind::NotFound) => f.write_str("no such file or folder"),

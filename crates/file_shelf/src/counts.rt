@@ -3,7 +3,7 @@ ghost use Rattle.file_shelf.specs.Counts.{count_of, counted, none_counted};
 
 use crate::shelves::Out;
 
-/// A count for each output, which stands still at the end of its 64 bits.
+/// A count for each output, which stays at the highest 64-bit number.
 #[derive(Clone, Copy)]
 pub(crate) struct Counts {
     video: u64,

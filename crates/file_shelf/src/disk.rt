@@ -22,14 +22,14 @@ const READ: usize = 8192;
 
 /// The shelf over real files, with standard output as `Out::Say`: the edge of what is proved.
 ///
-/// It tells nothing of what it holds or has written. It counts the faults of all names together, and
-/// those of each output; every error of the system is a fault, and so is a write that takes nothing.
-/// A run comes in many small puts, so the bytes of a file are gathered before they are written. After a fault
-/// an output takes nothing until it is created again.
+/// It shows nothing of what it holds or has written. It counts the faults of all names together, and those of each
+/// output. Every error of the system is a fault, and so is a write that takes nothing. A run comes in many small
+/// puts, so the bytes of a file are gathered before they are written. After a fault an output takes nothing until it
+/// is created again.
 ///
-/// An output is refused, before anything of it is lost, where it is a regular file that was loaded, that another
-/// output is written to, or that standard output or standard error goes to, whatever its names. A terminal, a pipe or
-/// a device never is.
+/// An output is refused, before anything of it is lost, if it is a regular file already in use, whatever its names.
+/// In use is a file that was loaded, that another output is written to, or that standard output or standard error
+/// goes to. A terminal, a pipe or a device is never refused.
 #[derive(Drop)]
 pub struct FileShelf<'a, R: Files + Print> {
     rt: &'a R,
@@ -70,7 +70,7 @@ impl<'a, R: Files + Print> FileShelf<'a, R> {
         }
     }
 
-    /// Why the first call failed that did, for the user.
+    /// The cause of the first call that failed, for the user.
     pub fn first_fault(&self) -> Option<Cause> {
         self.first_fault
     }
@@ -219,7 +219,7 @@ enum ReadEnd {
     NoMemory,
 }
 
-/// Reads all that is left, of which the end is where a read gives nothing.
+/// Reads all that is left, up to a read that gives nothing.
 fn read_whole<F: Read>(file: &mut F, limit: usize, into: &mut Vec<u8>) -> Result<(), ReadEnd>
     requires { into.old.items ≡ [] }
     ensures whole { OnOk result (IfSome (F.remaining file.old) (λ bytes. into.new.items ≡ bytes)) }
@@ -244,7 +244,7 @@ fn read_whole<F: Read>(file: &mut F, limit: usize, into: &mut Vec<u8>) -> Result
     }
 }
 
-/// Writes to standard output, at once.
+/// Writes to standard output immediately.
 fn say<R: Print>(rt: &R, bytes: &[u8]) -> Result<(), Cause> {
     match write_whole(&mut io::writer(rt), bytes) {
         Ok(()) => Ok(()),
@@ -264,7 +264,7 @@ fn put_created<F: Write + Drop>(file: &mut Option<Buffered<F>>, bytes: &[u8]) ->
     }
 }
 
-/// Writes what an output that was created holds back.
+/// Writes what is held back of an output that was created.
 fn flush_created<F: Write + Drop>(file: &mut Option<Buffered<F>>) -> Result<(), Cause>
     ensures wrote { OnOk result (Wrote (kept_of F.contents file.old) (kept_of F.contents file.new)) }
     ensures some { OnErr result (WroteSome (kept_of F.contents file.old) (kept_of F.contents file.new)) }

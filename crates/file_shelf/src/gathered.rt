@@ -6,8 +6,8 @@ use std::marker::Model;
 /// How many bytes are gathered before they are written: 16 rows of a frame.
 const MOST_GATHERED: usize = 16_384;
 
-/// Bytes that wait to be written, in the order in which they came. Those that were written are forgotten by their
-/// count alone, since 16 KiB that are blanked for each write of 16 rows would be a tenth of what a program costs that waits.
+/// Bytes waiting to be written, in the order in which they came. Once written they are dropped by their count alone.
+/// Zeroing 16 KiB at every write of 16 rows would be a tenth of the cost of an idle program.
 #[derive(Drop)]
 pub(crate) struct Gathered {
     bytes: [u8; MOST_GATHERED],
@@ -23,7 +23,7 @@ impl Model for Gathered {
 }
 
 impl Gathered {
-    /// None yet.
+    /// No bytes yet.
     pub(crate) fn new() -> Gathered
         ensures { result ≡ [] }
     {
@@ -33,14 +33,14 @@ impl Gathered {
         }
     }
 
-    /// All of them.
+    /// All pending bytes.
     pub(crate) fn as_slice(&self) -> &[u8]
         ensures { result.now ≡ self.now }
     {
         &self.bytes[..self.count]
     }
 
-    /// Puts bytes behind those that wait. Refused exactly where there is no room for them.
+    /// Appends bytes to those that are pending. Fails if and only if there is no room for them.
     #[tactic(auto, using(crate::proofs::GatheredLemmas::behind))]
     pub(crate) fn add(&mut self, bytes: &[u8]) -> Result<(), Failed>
         ensures added { OnOk result (self.new ≡ self.old ++ bytes.now) }
@@ -57,14 +57,14 @@ impl Gathered {
         Ok(())
     }
 
-    /// None waits any more.
+    /// Drops all bytes.
     pub(crate) fn clear(&mut self)
         ensures { self.new ≡ [] }
     {
         self.count = 0;
     }
 
-    /// The first ones wait no more, so many.
+    /// Drops the first `count` bytes.
     pub(crate) fn forget_first(&mut self, count: usize)
         requires { count ≤ length self.old }
         ensures { self.new ≡ drop count self.old }

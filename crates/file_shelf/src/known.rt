@@ -6,14 +6,14 @@ use crate::shelves::Out;
 /// How many loads are remembered: more than any command has inputs.
 const MOST_LOADED: usize = 8;
 
-/// Which file a name leads to, whatever names it has: the device that it is on, and its number there.
+/// The file that a name leads to, whatever names it has: its device, and its number there.
 #[derive(Clone, Copy, Debug)]
 pub(crate) struct Identity {
     pub(crate) device: u64,
     pub(crate) node: u64,
 }
 
-/// What else a file to write is.
+/// The other use of a file to be written.
 #[derive(Clone, Copy, Debug, PartialEq, Eq)]
 pub enum Clash {
     /// A file that was loaded.
@@ -24,8 +24,8 @@ pub enum Clash {
     Stream,
 }
 
-/// The regular files that a shelf has to do with: the last eight that were loaded, the outputs, and those that standard
-/// output and standard error go to.
+/// The regular files that a shelf already uses. They are the last eight that were loaded, the outputs, and those that
+/// standard output and standard error go to.
 #[derive(Clone, Copy)]
 pub(crate) struct KnownFiles {
     loaded: [Option<Identity>; MOST_LOADED],
@@ -38,7 +38,7 @@ pub(crate) struct KnownFiles {
 }
 
 impl KnownFiles {
-    /// Those that the two streams go to, and no others.
+    /// The files that the two streams go to, and no others.
     pub(crate) fn of_streams(said: Option<Identity>, warned: Option<Identity>) -> KnownFiles
         ensures { result ≡ none_known said warned }
     {
@@ -53,7 +53,7 @@ impl KnownFiles {
         }
     }
 
-    /// What else the file is that an output is to be written to.
+    /// What else a file to be written is, if the shelf already uses it.
     pub(crate) fn clash(&self, out: Out, file: Identity) -> Option<Clash>
         ensures { result ≡ clash_of self.now out file }
     {
@@ -88,14 +88,14 @@ impl KnownFiles {
         }
     }
 
-    /// A file was loaded.
+    /// Records a file that was loaded.
     pub(crate) fn add_loaded(&mut self, file: Option<Identity>) {
         let place = self.next % MOST_LOADED;
         self.loaded[place] = file;
         self.next = (place + 1) % MOST_LOADED;
     }
 
-    /// An output is written to a file now.
+    /// Records the file to which an output is now written.
     pub(crate) fn set_created(&mut self, out: Out, file: Option<Identity>) {
         match out {
             Out::Video => self.video = file,

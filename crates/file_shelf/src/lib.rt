@@ -1,11 +1,11 @@
 // The shelf of files: named files that a run loads whole, and four outputs that it writes.
 //
-// Stands on std alone, beside the plain types. `Shelf` is the trait that the layers above are
-// generic over: it tells what is held and written, or keeps it to itself, and it counts its faults,
-// so that a caller can show the cause of each failure. `SureShelf` and `MemShelf` lie in memory and
-// tell all; `FileShelf` is the edge to the system's files and tells nothing.
+// Builds on std alone, apart from the plain types. `Shelf` is the trait that the layers above are generic over. It
+// shows what is held and written, or keeps it to itself. It counts its faults, so that a caller can show the cause of
+// each failure. `SureShelf` and `MemShelf` are in memory and show all. `FileShelf` is the edge to the system's files
+// and shows nothing.
 //
-// A caller loads into an empty `Vec`, and creates each output but `Out::Say` before it puts to it.
+// A caller loads into an empty `Vec`, and creates each output except `Out::Say` before it puts to it.
 #![tactic(auto)]
 
 mod buffered;

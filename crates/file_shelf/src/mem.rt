@@ -16,8 +16,8 @@ use snes_defs::NoMemory;
 use std::alloc::{AllocError, Global};
 use std::marker::Model;
 
-/// The faults of loads: a count for each file, in the order of the files, and one that all names
-/// which are not held share.
+/// The faults of loads: a count for each file, in the order of the files, and one shared by all names that are not
+/// held.
 #[derive(Drop)]
 struct LoadFaults {
     held: Vec<u64>,
@@ -69,11 +69,11 @@ impl LoadFaults {
     }
 }
 
-/// A shelf in memory whose calls fail where it was planned.
+/// A shelf in memory whose calls fail when planned.
 ///
-/// A load, a create or a put fails exactly where that was planned, and a load also where no file of
-/// that name is held. A call that fails changes no output. The shelf keeps the first `room` bytes of
-/// each output, and tells what was written as long as no more were put.
+/// A load, a create or a put fails if and only if that was planned. A load also fails if no file of that name is held.
+/// A call that fails changes no output. The shelf keeps the first `room` bytes of each output, and shows what was
+/// written as long as no more were put.
 #[derive(Drop)]
 pub struct MemShelf {
     store: Store,
@@ -94,8 +94,8 @@ impl Model for MemShelf {
 }
 
 impl MemShelf {
-    /// A shelf that holds nothing, with no failure planned and all counts 0. It takes the memory for
-    /// `room` bytes and a name of each output.
+    /// A shelf that holds nothing, with no failure planned and all counts 0. It allocates `room` bytes and a name for
+    /// each output.
     pub fn new(alloc: Global, room: usize) -> Result<MemShelf, NoMemory>
         ensures empty { IfOk result (λ shelf. shelf ≡ empty_memory room) }
     {
@@ -113,8 +113,8 @@ impl MemShelf {
         })
     }
 
-    /// Gives the shelf a file, in place of any former one of that name. Its count of faults begins
-    /// where that of its name stood.
+    /// Gives the shelf a file, which replaces any former one of that name. Its count of faults begins at that of its
+    /// name.
     pub fn hold(&mut self, name: &str, bytes: &[u8]) -> Result<(), NoMemory>
         ensures ok { OnOk result (self.new ≡ given self.old name.now bytes.now) }
         ensures err { OnErr result (self.new ≡ self.old) }
@@ -130,7 +130,7 @@ impl MemShelf {
         Ok(())
     }
 
-    /// Plans that the nth call of this kind, from 1, fails. All calls count, also those made before.
+    /// Plans that the nth call of this kind fails, counted from 1. All calls count, also those made before.
     pub fn fail(&mut self, call: ShelfCall, nth: u32) -> Result<(), NoMemory>
         ensures ok { OnOk result (self.new ≡ planned self.old call nth) }
         ensures err { OnErr result (self.new ≡ self.old) }

@@ -5,7 +5,8 @@ use std::fs::{self, Metadata, OpenFile, OpenOptions};
 use std::os::unix::fs::MetadataExt;
 use std::rt::Files;
 
-/// Which regular file this is. A terminal, a pipe or a device is none; nor is a file of a runtime that gives no number.
+/// The regular file that this metadata is of. A terminal, a pipe or a device is not one, nor is a file of a runtime
+/// that gives no number.
 fn identity_of(file: &Metadata) -> Option<Identity> {
     if !file.is_file() || file.ino() == 0 {
         return None;
@@ -16,7 +17,7 @@ fn identity_of(file: &Metadata) -> Option<Identity> {
     })
 }
 
-/// The regular file that a name leads to, where it leads to one.
+/// The regular file that a name leads to, if it leads to one.
 pub(crate) fn identity_at<R: Files>(rt: &R, name: &str) -> Option<Identity> {
     match fs::metadata(rt, name) {
         Ok(file) => identity_of(&file),
@@ -24,7 +25,7 @@ pub(crate) fn identity_at<R: Files>(rt: &R, name: &str) -> Option<Identity> {
     }
 }
 
-/// Opens a file to be read, and tells which regular file it is.
+/// Opens a file to be read, and returns which regular file it is.
 pub(crate) fn open_known<R: Files>(
     rt: &R,
     name: &str,
@@ -34,7 +35,7 @@ pub(crate) fn open_known<R: Files>(
     Ok((file, identity))
 }
 
-/// Opens a file to be written, and empties it. One that the shelf has to do with already is left as it is. A pipe or a
+/// Opens a file to be written, and empties it. A file that the shelf already uses is left as it is. A pipe or a
 /// device is not emptied: it has no length.
 pub(crate) fn create_apart<R: Files>(
     rt: &R,

@@ -17,7 +17,7 @@ pub enum ShelfCall {
     Put(Option<Out>),
 }
 
-/// The nth call of this kind, from 1, is to fail.
+/// A plan that the nth call of this kind, from 1, fails.
 #[derive(Clone, Copy)]
 pub(crate) struct Failure {
     call: ShelfCall,
@@ -63,7 +63,7 @@ impl Plan {
         Ok(())
     }
 
-    /// Counts a load, and tells whether it is to fail.
+    /// Counts a load, and returns whether it is to fail.
     pub(crate) fn load(&mut self) -> bool
         ensures fails { result ≡ load_fails self.old }
         ensures after { self.new ≡ after_load self.old }
@@ -72,7 +72,7 @@ impl Plan {
         is_planned(self.failures.as_slice(), ShelfCall::Load, self.loads)
     }
 
-    /// Counts a create, and tells whether it is to fail.
+    /// Counts a create, and returns whether it is to fail.
     pub(crate) fn create(&mut self) -> bool
         ensures fails { result ≡ create_fails self.old }
         ensures after { self.new ≡ after_create self.old }
@@ -81,7 +81,7 @@ impl Plan {
         is_planned(self.failures.as_slice(), ShelfCall::Create, self.creates)
     }
 
-    /// Counts a put on an output, and tells whether it is to fail.
+    /// Counts a put on an output, and returns whether it is to fail.
     pub(crate) fn put(&mut self, out: Out) -> bool
         ensures fails { result ≡ put_fails self.old out }
         ensures after { self.new ≡ after_put self.old out }

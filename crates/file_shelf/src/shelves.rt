@@ -39,26 +39,27 @@ pub enum LoadEnd {
     Failed,
     /// More bytes are held than the limit allows.
     TooLong,
-    /// There was no memory for the bytes.
+    /// The allocation for the bytes failed.
     NoMemory,
 }
 
-/// The shelf failed to write, and counted a fault of that output.
+/// A failure of the shelf to write, which it counted as a fault of that output.
 #[derive(Clone, Copy, Debug, PartialEq, Eq)]
 pub struct Failed;
 
 /// A shelf of files: named files that can be loaded, and four outputs that can be written.
 ///
-/// Contracts see what a shelf holds and what was written as far as the shelf tells it: one in memory
-/// does, one over real files tells nothing. Each shelf tells how many of the bytes that were put to an output are
-/// not yet written: the last so many; the output has all before them, and never loses one. Each shelf counts its
-/// faults, so that every failure that it answers has a cause which the program cannot make up. A count of
-/// 2^64 - 1 stays there.
+/// Contracts see what a shelf holds and what was written as far as the shelf shows it. One in memory does; one over
+/// real files shows nothing. Each shelf shows how many of the bytes that were put to an output are not yet written.
+/// These are the last ones: the output has all before them, and never loses one.
+///
+/// Each shelf counts its faults, so every failure that it returns has a cause which the program cannot make up. A
+/// count of 2^64 - 1 stays there.
 pub trait Shelf {
-    // All that it shows.
+    // All that the shelf shows.
     ghost shown: { Self → Shown };
 
-    /// Loads the whole file of that name, of at most `limit` bytes.
+    /// Loads the whole file of that name, of at most `limit` bytes, into `into`.
     fn load(&mut self, name: &str, limit: usize, into: &mut Vec<u8>) -> Result<(), LoadEnd>
         requires { into.old.items ≡ [] }
         ensures whole { OnOk result (Holds ((shown self.old).held name.now) into.new.items) }
@@ -76,7 +77,7 @@ pub trait Shelf {
         ensures untouched { OnErr result (IsUntouched (shown self.old) (shown self.new) out) }
         ensures only { OnlyCreates (shown self.old) (shown self.new) out };
 
-    /// Appends these bytes to what was put to an output. Some of it may be held back, and be written later.
+    /// Appends these bytes to what was put to an output. Some may be held back, and be written later.
     fn put(&mut self, out: Out, bytes: &[u8]) -> Result<(), Failed>
         ensures appended { OnOk result (Appends ((shown self.old).written out) ((shown self.new).written out) bytes.now) }
         ensures failed { OnErr result (HasRisen ((shown self.old).write_faults out) ((shown self.new).write_faults out)) }

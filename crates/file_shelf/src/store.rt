@@ -40,7 +40,7 @@ impl HeldFile {
     }
 }
 
-/// What a shelf in memory keeps of one output. Its memory is taken when it is made.
+/// The bytes and the name that a shelf in memory keeps of one output. All of it is allocated when it is made.
 #[derive(Drop)]
 struct Output {
     name: String,
@@ -128,7 +128,7 @@ impl Model for Store {
 }
 
 impl Store {
-    /// Nothing is held or written yet. It takes the memory for `room` bytes and a name of each output.
+    /// A store in which nothing is held or written yet. It allocates `room` bytes and a name for each output.
     pub(crate) fn new(alloc: Global, room: usize) -> Result<Store, AllocError>
         ensures empty { IfOk result (λ store. store ≡ nothing_stored room) }
     {
@@ -142,7 +142,7 @@ impl Store {
         })
     }
 
-    /// Gives a file, in place of any former one of that name.
+    /// Gives a file, which replaces any former one of that name.
     pub(crate) fn hold(&mut self, name: &str, bytes: &[u8]) -> Result<(), AllocError>
         ensures ok { OnOk result (self.new ≡ holding self.old name.now bytes.now) }
         ensures err { OnErr result (self.new ≡ self.old) }

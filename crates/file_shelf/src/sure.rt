@@ -10,8 +10,8 @@ use std::marker::Model;
 
 /// A shelf in memory that never fails.
 ///
-/// It keeps the first `room` bytes of each output, and tells what was written as long as no more
-/// were put. A name that it holds no file of has no bytes.
+/// It keeps the first `room` bytes of each output, and shows what was written as long as no more were put. A name of
+/// which it holds no file has no bytes.
 #[derive(Drop)]
 pub struct SureShelf {
     store: Store,
@@ -26,7 +26,7 @@ impl Model for SureShelf {
 }
 
 impl SureShelf {
-    /// A shelf that holds nothing. It takes the memory for `room` bytes and a name of each output.
+    /// A shelf that holds nothing. It allocates `room` bytes and a name for each output.
     pub fn new(alloc: Global, room: usize) -> Result<SureShelf, NoMemory>
         ensures empty { IfOk result (λ shelf. shelf ≡ nothing_stored room) }
     {
@@ -36,7 +36,7 @@ impl SureShelf {
         }
     }
 
-    /// Gives the shelf a file, in place of any former one of that name.
+    /// Gives the shelf a file, which replaces any former one of that name.
     pub fn hold(&mut self, name: &str, bytes: &[u8]) -> Result<(), NoMemory>
         ensures ok { OnOk result (self.new ≡ holding self.old name.now bytes.now) }
         ensures err { OnErr result (self.new ≡ self.old) }

@@ -6,7 +6,7 @@ use film_formats::{push_little2, push_little4, push_little8, push_low4};
 use snes_defs::Region;
 use std::alloc::{AllocError, Global};
 
-/// The number by which a region's frames a second are told, and the one that divides it.
+/// The frame rate of a region as two numbers, the first divided by the second.
 pub(crate) fn rate(region: Region) -> (u32, u32)
     ensures rate { result.0 ≡ rate_of region }
     ensures scale { result.1 ≡ scale_of region }
@@ -36,7 +36,7 @@ pub fn push_chunk(out: &mut Vec<u8>, name: &[u8], bytes: &[u8]) -> Result<(), Al
     out.extend_from_slice(bytes)
 }
 
-/// Adds the head of a chunk whose bytes come later: so many.
+/// Adds the head of a chunk whose bytes, this many, come later.
 pub fn push_head(out: &mut Vec<u8>, name: &[u8], bytes: u64) -> Result<(), AllocError>
     ensures { OnOk result (out.new.items ≡ out.old.items ++ (name.now ++ little4 bytes)) }
 {

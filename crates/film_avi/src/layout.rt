@@ -4,10 +4,10 @@ ghost use Rattle.film_avi.specs.Layout.{samples_upto_of, chunks_of};
 use clock_ratio::{end_stamp_in, samples_before_in};
 use snes_defs::Region;
 
-/// The frames of a part.
+/// The most frames of a part.
 pub const PART_FRAMES: u32 = 1800;
 
-/// How many samples the first frames of a region have.
+/// The number of samples in the first `frames` frames of a region.
 pub fn samples_upto(region: Region, frames: u32) -> u64
     requires { frames ≤ 36000 }
     ensures number { result ≡ samples_upto_of region frames }
@@ -16,7 +16,7 @@ pub fn samples_upto(region: Region, frames: u32) -> u64
     samples_before_in(region, end_stamp_in(region, frames))
 }
 
-/// The bytes of the chunks of the frames from one on up to, but without, another.
+/// The bytes of the chunks of the frames from `from` up to, but without, `upto`.
 pub fn chunk_bytes(region: Region, from: u32, upto: u32) -> u64
     requires order { from ≤ upto }
     requires limit { upto ≤ 36000 }
@@ -27,10 +27,12 @@ pub fn chunk_bytes(region: Region, from: u32, upto: u32) -> u64
     489_488 * (upto - from) as u64 + 4 * samples
 }
 
-/// A film's frames, which say where the parts of its file lie.
+/// The layout of an AVI file: its film's frames, which determine where its parts are.
 #[derive(Clone, Copy, Debug, PartialEq, Eq)]
 pub struct Layout {
+    /// The region of the film.
     pub region: Region,
+    /// The number of frames of the film.
     pub frames: u32,
     ghost limit: { frames ≤ 36000 },
 }
@@ -38,7 +40,7 @@ pub struct Layout {
 impl Layout {
     ghost use Rattle.film_avi.specs.Layout.{part_from, part_upto, index_of, movi_of};
 
-    /// The layout of a film of so many frames.
+    /// The layout of a film of `frames` frames.
     pub fn new(region: Region, frames: u32) -> Layout
         requires { frames ≤ 36000 }
         ensures region { result.region ≡ region }
@@ -47,7 +49,7 @@ impl Layout {
         Layout { region, frames }
     }
 
-    /// How many parts there are: one at least.
+    /// The number of parts, at least one.
     pub fn parts(&self) -> u32
         ensures { result ≤ 21 }
     {
@@ -66,7 +68,7 @@ impl Layout {
         (PART_FRAMES * part).min(self.frames)
     }
 
-    /// The frame behind the last of a part.
+    /// The frame after the last of a part.
     pub fn upto(&self, part: u32) -> u32
         requires { part < 32 }
         ensures { result ≡ part_upto self.now.frames part }
@@ -74,7 +76,7 @@ impl Layout {
         (PART_FRAMES * part + PART_FRAMES).min(self.frames)
     }
 
-    /// The bytes of a part's list `movi`, behind its length.
+    /// The bytes of a part's list `movi`, after its length.
     pub(crate) fn movi_bytes(&self, part: u32) -> u64
         requires { part < 32 }
         ensures number { result ≡ movi_of self.now.region (part_from self.now.frames part) (part_upto self.now.frames part) }

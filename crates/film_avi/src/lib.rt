@@ -1,7 +1,7 @@
 // The bytes of AVI files: a film's picture and sound in one file, uncompressed and in step.
 //
-// `blocks` has the headers and entries, each exact by its clause; `layout` says where the parts of a file lie; `parts`
-// puts the two together. Nothing here opens a file: what a caller writes, in which order, is told at `parts`.
+// `blocks` has the headers and entries, each exact by its clause; `layout` says where the parts of a file are;
+// `parts` puts the two together. Nothing here opens a file: `parts` says what a caller writes, in which order.
 #![tactic(auto)]
 
 mod blocks;

@@ -11,7 +11,7 @@ use std::alloc::{AllocError, Global};
 /// The bytes of a picture's chunk.
 pub const PICTURE_BYTES: u64 = 489_472;
 
-/// The bytes of the list `hdrl`, with its head. They are as many in each file.
+/// The bytes of the list `hdrl`, with its head: the same number in each file.
 const HEADERS: u64 = 1658;
 
 /// The entries of a stream's index of parts, of which a file uses the first.
@@ -21,7 +21,7 @@ const ENTRIES: u32 = 32;
 static CHUNKS: [&[u8; 4]; 2] = [b"00db", b"01wb"];
 
 impl Layout {
-    /// The bytes of a part's `RIFF`, behind its length.
+    /// The bytes of a part's `RIFF`, after its length.
     fn riff_bytes(&self, part: u32) -> u64
         requires { part < 32 }
         ensures { result < 2 ^ 38 }
@@ -34,7 +34,7 @@ impl Layout {
         }
     }
 
-    /// Where a part begins in the file.
+    /// The place in the file at which a part begins.
     pub fn start(&self, part: u32) -> u64
         requires { part < 32 }
     {
@@ -47,7 +47,7 @@ impl Layout {
         at
     }
 
-    /// Where the name `movi` of a part stands in the file.
+    /// The place in the file of a part's name `movi`.
     fn movi_at(&self, part: u32) -> u64
         requires { part < 32 }
     {
@@ -55,7 +55,7 @@ impl Layout {
         self.start(part).saturating_add(ahead)
     }
 
-    /// Where the first index of a part stands in the file: behind its chunks.
+    /// The place in the file of a part's first index, after its chunks.
     fn indexes_at(&self, part: u32) -> u64
         requires { part < 32 }
     {
@@ -138,8 +138,8 @@ fn whole_list(alloc: Global, layout: Layout) -> Result<Vec<u8>, AllocError> {
     Ok(list)
 }
 
-/// What a file begins with: the head of its first part, and what is told of both streams. It has as many bytes
-/// whatever the frames are, so it can be written again once they are counted.
+/// The start of a file: the head of its first part, and the description of both streams. It has the same number of
+/// bytes whatever the frames are, so it can be written again once they are counted.
 pub fn file_head(alloc: Global, layout: Layout) -> Result<Vec<u8>, AllocError> {
     let mut headers = Vec::new(alloc);
     headers.extend_from_slice(b"hdrl")?;
@@ -160,7 +160,7 @@ pub fn file_head(alloc: Global, layout: Layout) -> Result<Vec<u8>, AllocError> {
     Ok(out)
 }
 
-/// What a part begins with; of the first part it is the head of the file.
+/// The start of a part; of the first part it is the head of the file.
 pub fn part_head(alloc: Global, layout: Layout, part: u32) -> Result<Vec<u8>, AllocError>
     requires { part < 32 }
 {
@@ -213,8 +213,7 @@ fn push_index(
     )
 }
 
-/// The indexes of a part, which stand behind its chunks; behind those of the first part stands the index in the old
-/// form.
+/// The indexes of a part, which come after its chunks. After those of the first part comes the index in the old form.
 pub fn indexes(alloc: Global, layout: Layout, part: u32) -> Result<Vec<u8>, AllocError>
     requires { part < 32 }
 {

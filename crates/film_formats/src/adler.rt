@@ -21,7 +21,7 @@ impl Adler {
         }
     }
 
-    /// One byte more.
+    /// The sums after one more byte.
     #[inline(always)]
     #[tactic(auto, unfolding(crate::specs::Checksums::adler_byte))]
     fn fed(self, byte: u8) -> Adler
@@ -34,7 +34,7 @@ impl Adler {
         }
     }
 
-    /// These bytes more.
+    /// The sums after these bytes too.
     pub fn fed_all(self, bytes: &[u8]) -> Adler
         ensures { result ≡ adler_over self bytes.now }
     {

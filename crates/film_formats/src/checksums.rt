@@ -13,7 +13,7 @@ fn divided(crc: u32) -> u32
     }
 }
 
-/// One byte goes into a CRC.
+/// A CRC after one more byte.
 #[inline(always)]
 #[tactic(auto, unfolding(crate::specs::Checksums::crc_byte))]
 fn fed(crc: u32, byte: u8) -> u32
@@ -23,7 +23,7 @@ fn fed(crc: u32, byte: u8) -> u32
     divided(divided(divided(divided(divided(divided(divided(divided(first))))))))
 }
 
-/// The bytes go into a CRC.
+/// A CRC after these bytes too.
 pub fn crc_fed(crc: u32, bytes: &[u8]) -> u32
     ensures { result ≡ crc_over crc bytes.now }
 {

@@ -3,12 +3,15 @@ ghost use Rattle.std.specs.Prelude.{◌≡◌, ◌+◌, ◌*◌, ◌/◌, ◌<�
 /// A colour of 24 bits.
 #[derive(Clone, Copy, Debug, PartialEq, Eq)]
 pub struct Colour {
+    /// Red, 8 bits.
     pub red: u8,
+    /// Green, 8 bits.
     pub green: u8,
+    /// Blue, 8 bits.
     pub blue: u8,
 }
 
-/// A channel of 5 bits in 8.
+/// A channel of 5 bits widened to 8.
 #[inline(always)]
 fn widened_channel(channel: u16) -> u8
     requires { channel < 32 }

@@ -13,11 +13,11 @@ pub enum Piece {
     Whole,
     /// Nothing was left.
     End,
-    /// Only so many bytes were left, and they are fewer than the piece has.
+    /// Only this many bytes were left, fewer than the piece has.
     Cut(usize),
 }
 
-/// Reads a piece as long as the buffer.
+/// Reads a piece as long as the buffer, and returns how the read ended.
 pub fn read_piece<R: Read>(reader: &mut R, into: &mut [u8]) -> io::Result<Piece>
     requires { 0 < length into.old }
     ensures { IfOk result (TakesPiece (R.remaining reader.old) (R.remaining reader.new) into.new) }

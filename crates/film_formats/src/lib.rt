@@ -1,8 +1,8 @@
-// The files that `snes` writes, and the ones that other programs open: their bytes.
+// The formats of the files that `snes` writes, and of the ones that other programs open, byte for byte.
 //
-// `film` reads raw frames and samples piece by piece from any reader, and tells a cut file from a whole one.
-// `colours` makes 24-bit colours of 15-bit ones; `png` and `wav` make whole files of pictures and of samples.
-// Every call that makes bytes says them exactly, by the definitions in `specs/`; nothing here opens a file.
+// `film` reads raw frames and samples piece by piece from any reader, and detects a cut file. `colours` makes 24-bit
+// colours of 15-bit ones; `png` and `wav` make whole files of pictures and of samples. Every call that makes bytes
+// says exactly which, by the definitions in `specs/`. Nothing here opens a file.
 #![tactic(auto)]
 
 mod adler;

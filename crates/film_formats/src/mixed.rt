@@ -31,8 +31,8 @@ fn marked_dot(first: u16, second: u16) -> Colour
     }
 }
 
-/// Adds a row of the picture of where two films differ: red where they do, else the dot of both at a quarter of its
-/// brightness.
+/// Adds a row of the picture of where two films differ. A dot is red where they do, else the dot of both at a quarter
+/// of its brightness.
 pub fn push_marked_row(out: &mut Vec<u8>, first: &[u8], second: &[u8]) -> Result<(), AllocError>
     requires first { length first.now ≡ ROW_BYTES }
     requires second { length second.now ≡ ROW_BYTES }

@@ -4,7 +4,7 @@ ghost use Rattle.film_formats.specs.Wav.{wav_header_of};
 use crate::numbers::{push_little2, push_little4};
 use std::alloc::{AllocError, Global};
 
-/// What stands before so many bytes of samples in a WAV file: 44 bytes.
+/// The header of a WAV file with this many bytes of samples: 44 bytes.
 pub fn wav_header(alloc: Global, bytes: u32) -> Result<Vec<u8>, AllocError>
     requires { 36 + bytes < 2 ^ 32 }
     ensures { IfOk result (λ v. v.items ≡ wav_header_of bytes) }

@@ -47,7 +47,7 @@ impl<F: Read + Drop> Chunks<'_, F> {
         Ok(())
     }
 
-    /// The chunk of the next picture, or nothing behind the last one.
+    /// The chunk of the next picture, or nothing after the last one.
     fn next(&mut self, alloc: Global) -> Result<Option<Vec<u8>>> {
         self.fill(alloc)?;
         Ok(self.ahead.pop_front())
@@ -60,7 +60,7 @@ impl<F: Read + Drop> Chunks<'_, F> {
     }
 }
 
-/// The film that becomes an AVI, and the file.
+/// The film that becomes an AVI, and the file that it is written to.
 #[derive(Drop)]
 struct Making<'a, F: Read + Drop, W: Write + Drop> {
     chunks: Chunks<'a, F>,
@@ -69,7 +69,7 @@ struct Making<'a, F: Read + Drop, W: Write + Drop> {
 }
 
 impl<F: Read + Drop, W: Write + Drop> Making<'_, F, W> {
-    /// Writes the chunks of a part's frames, as many as are left; says how many.
+    /// Writes the chunks of a part's frames, as many as are left, and returns how many.
     fn write_chunks(&mut self, alloc: Global) -> Result<u32> {
         let mut written = 0u32;
         for frame in 0..PART_FRAMES {
@@ -88,7 +88,7 @@ impl<F: Read + Drop, W: Write + Drop> Making<'_, F, W> {
     }
 }
 
-/// Writes all parts, whose heads tell so many frames; says how many there are.
+/// Writes all parts, whose heads say that there are `told` frames, and returns how many there are.
 fn write_parts<F: Read + Drop, W: Write + Drop>(
     alloc: Global,
     making: &mut Making<'_, F, W>,
@@ -117,7 +117,7 @@ fn write_parts<F: Read + Drop, W: Write + Drop>(
     Ok(frames)
 }
 
-/// Writes the heads of the first and of the last part once more, now that the frames are counted.
+/// Writes the heads of the first and of the last part again, once the frames are counted.
 fn write_heads<W: Write + Seek + Drop>(
     alloc: Global,
     out: &mut BufWriter<W>,
@@ -133,7 +133,7 @@ fn write_heads<W: Write + Seek + Drop>(
     Ok(())
 }
 
-/// The frames of a film whose length is known, which has to be a whole number of them.
+/// The frames of a film whose length is known. It has to be a whole number of them.
 fn known_frames<R: Files>(rt: &R, name: &str) -> Result<Option<u32>> {
     let Some(length) = films::length(rt, name) else {
         return Ok(None);
@@ -149,7 +149,7 @@ fn known_frames<R: Files>(rt: &R, name: &str) -> Result<Option<u32>> {
     }
 }
 
-/// The samples of a film whose frames are known have to be as many, where their length is known too.
+/// Checks that a sound has as many samples as a film with this many frames, if its length is known.
 fn check_sound<R: Files>(rt: &R, name: &str, region: Region, frames: u32) -> Result<()> {
     let wanted = samples_upto(region, frames)?;
     match films::length(rt, name) {
@@ -161,8 +161,8 @@ fn check_sound<R: Files>(rt: &R, name: &str, region: Region, frames: u32) -> Res
     }
 }
 
-/// `look avi VIDEO AUDIO OUT`. Where the frames of VIDEO can't be known before, as of a pipe, OUT has to be a file:
-/// two heads in it are written once more at the end.
+/// Obeys `look avi VIDEO AUDIO OUT`. If the number of frames can't be known before, as of a pipe, OUT has to be a
+/// file. Two heads in it are then written again at the end.
 pub fn write_avi<R: Files + Print + AllocGlobal>(rt: &R, words: &ArgMatches<'_>) -> Result<u8> {
     let alloc = rt.alloc();
     let video = words.get_str("VIDEO").unwrap_or("-");

@@ -1,4 +1,4 @@
-//! Whether two films or two sounds are alike.
+//! The comparison of two films or two sounds, in `look diff`.
 
 ghost use Rattle.std.specs.Prelude.{◌≡◌, length};
 
@@ -11,7 +11,7 @@ use std::fmt;
 use std::io::Read;
 use std::rt::Files;
 
-/// A dot's 15 bits and its colour of 24, as they are told.
+/// A dot's 15 bits and its 24-bit colour, as they are printed.
 #[derive(Clone, Copy)]
 struct Dot(u16);
 
@@ -37,7 +37,7 @@ struct Place {
     second: u16,
 }
 
-/// What was found of two films.
+/// What the comparison of two films found.
 #[derive(Drop)]
 struct Found {
     both: u64,
@@ -63,7 +63,7 @@ fn place_in(frame: u64, first: &[u8], second: &[u8]) -> Option<Place>
     })
 }
 
-/// The frames that a film has left.
+/// Counts the frames that a film has left.
 fn count_rest<F: Read + Drop>(frames: &mut Frames<'_, F>) -> Result<u64> {
     let mut count = 0u64;
     for _ in 0..u64::MAX {
@@ -75,7 +75,7 @@ fn count_rest<F: Read + Drop>(frames: &mut Frames<'_, F>) -> Result<u64> {
     Ok(count)
 }
 
-/// Compares two films, frame by frame; a picture of the first frame that differs is written where one is wanted.
+/// Compares two films, frame by frame. Writes a picture of the first frame that differs, if one is wanted.
 fn compare_films<R: Files + AllocGlobal>(
     rt: &R,
     a: &mut Frames<'_, R::File>,
@@ -118,7 +118,7 @@ fn compare_films<R: Files + AllocGlobal>(
     Ok(found)
 }
 
-/// Says what was found, and gives the status.
+/// Prints what was found, and returns the status.
 fn tell<R: Print>(rt: &R, found: &Found) -> Result<u8> {
     let Found {
         both,
@@ -151,7 +151,7 @@ fn tell<R: Print>(rt: &R, found: &Found) -> Result<u8> {
     Ok(DIFFERENT)
 }
 
-/// `look diff A B`.
+/// Obeys `look diff A B`.
 pub fn say_difference<R: Files + Print + AllocGlobal>(
     rt: &R,
     words: &ArgMatches<'_>,

@@ -9,25 +9,25 @@ use std::fs;
 use std::io::Read;
 use std::rt::Files;
 
-/// The file of a name; `-` is standard input.
+/// Opens the file of a name; `-` is standard input.
 pub fn open<R: Files>(rt: &R, name: &str) -> Result<R::File> {
     let path = if name == "-" { "/dev/stdin" } else { name };
     fs::open(rt, path).context(format_args!("cannot read {name}"))
 }
 
-/// A new file of a name; `-` is standard output.
+/// Creates a file of a name; `-` is standard output.
 pub fn create<R: Files>(rt: &R, name: &str) -> Result<R::File> {
     let path = if name == "-" { "/dev/stdout" } else { name };
     fs::create(rt, path).context(format_args!("cannot write {name}"))
 }
 
-/// Writes a file of a name whole.
+/// Writes a whole file of a name.
 pub fn write<R: Files>(rt: &R, name: &str, bytes: &[u8]) -> Result<()> {
     let path = if name == "-" { "/dev/stdout" } else { name };
     fs::write(rt, path, bytes).context(format_args!("cannot write {name}"))
 }
 
-/// The length of a regular file, and nothing of anything else, as a pipe.
+/// The length of a regular file, or none for anything else, such as a pipe.
 pub fn length<R: Files>(rt: &R, name: &str) -> Option<u64> {
     let path = if name == "-" { "/dev/stdin" } else { name };
     match fs::metadata(rt, path) {
@@ -47,7 +47,7 @@ pub struct Frames<'a, F: Read + Drop> {
 }
 
 impl<'a, F: Read + Drop> Frames<'a, F> {
-    /// The frames of a file of this name, none of which is read yet.
+    /// The frames of a file of this name, of which none is read yet.
     pub fn new(alloc: Global, name: &'a str, file: F) -> Result<Frames<'a, F>, AllocError> {
         let bytes = vec![in alloc; 0u8; FRAME_BYTES]?;
         Ok(Frames {
@@ -58,7 +58,7 @@ impl<'a, F: Read + Drop> Frames<'a, F> {
         })
     }
 
-    /// Reads the next frame; false where there is none. A cut frame is an error that tells its number.
+    /// Reads the next frame, and returns false if there is none. A cut frame is an error that names its number.
     pub fn next(&mut self) -> Result<bool> {
         let piece = read_piece(&mut self.file, self.bytes.as_mut_slice()).context(format_args!(
             "cannot read {}",

@@ -1,4 +1,4 @@
-//! A frame as PNG.
+//! A frame as PNG, for `look png`.
 
 use crate::films::{self, Frames};
 use anyhow::{Result, bail};
@@ -6,7 +6,7 @@ use clap::ArgMatches;
 use film_formats::frame_png;
 use std::rt::Files;
 
-/// `look png VIDEO FRAME OUT`.
+/// Obeys `look png VIDEO FRAME OUT`.
 pub fn write_png<R: Files + Print + AllocGlobal>(rt: &R, words: &ArgMatches<'_>) -> Result<u8> {
     let name = words.get_str("VIDEO").unwrap_or("-");
     let wanted = words.get_one::<u64>("FRAME").unwrap_or(0);

@@ -1,4 +1,4 @@
-//! Which region a film is of, and how many samples its frames have.
+//! The region of a film, and how many samples its frames have.
 
 use crate::films;
 use anyhow::{Result, bail};
@@ -11,7 +11,7 @@ use std::rt::Files;
 /// The most frames of a run.
 pub const MOST_FRAMES: u32 = 36_000;
 
-/// How many samples the first frames have.
+/// The number of samples in the first `frames` frames.
 pub fn samples_upto(region: Region, frames: u32) -> Result<u64> {
     if frames > MOST_FRAMES {
         bail!("a run has at most {MOST_FRAMES} frames");
@@ -36,7 +36,7 @@ fn fits(region: Region, video: u64, audio: u64) -> bool {
     }
 }
 
-/// The region of a film: as it is told, else as the lengths of the two files say. Of a pipe it is Ntsc.
+/// The region of a film: the one given, else the one that the lengths of the two files fit. For a pipe it is NTSC.
 pub fn region_of<R: Files>(rt: &R, words: &ArgMatches<'_>, video: &str, audio: &str) -> Region {
     match words.get_str("region") {
         Some("pal") => Region::Pal,

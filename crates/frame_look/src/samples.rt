@@ -1,4 +1,4 @@
-//! Whether two sounds are alike.
+//! The comparison of two sounds, in `look diff --audio`.
 
 use crate::{DIFFERENT, films};
 use anyhow::{Context, Result, bail};
@@ -7,7 +7,7 @@ use std::alloc::Global;
 use std::io::{BufReader, Read};
 use std::rt::Files;
 
-/// A sample: what the two loudspeakers are given.
+/// A stereo sample.
 #[derive(Clone, Copy, PartialEq, Eq)]
 struct Sample {
     left: i16,
@@ -32,7 +32,7 @@ impl<'a, F: Read + Drop> Samples<'a, F> {
         })
     }
 
-    /// The next sample, or nothing behind the last one.
+    /// The next sample, or nothing after the last one.
     fn next(&mut self) -> Result<Option<Sample>> {
         let mut bytes = [0u8; SAMPLE_BYTES];
         match read_piece(&mut self.file, &mut bytes).context(format_args!(
@@ -69,7 +69,7 @@ impl<'a, F: Read + Drop> Samples<'a, F> {
     }
 }
 
-/// What was found of two sounds.
+/// What the comparison of two sounds found.
 #[derive(Drop)]
 struct Found {
     both: u64,
@@ -113,7 +113,7 @@ fn compare<F: Read + Drop>(a: &mut Samples<'_, F>, b: &mut Samples<'_, F>) -> Re
     Ok(found)
 }
 
-/// `look diff --audio A B`.
+/// Obeys `look diff --audio A B`.
 pub fn say_difference<R: Files + Print + AllocGlobal>(
     rt: &R,
     first: &str,

@@ -1,4 +1,4 @@
-//! A sheet of small pictures.
+//! A sheet of small pictures, for `look sheet`.
 
 ghost use Rattle.std.specs.Prelude.{◌≡◌, ◌+◌, ◌*◌, ◌/◌, ◌<◌, ◌≤◌, length, vec_len};
 
@@ -63,7 +63,7 @@ impl Sheet {
         }
     }
 
-    /// Puts bytes at a place. What lies outside the sheet is left out.
+    /// Puts bytes at a place, and leaves out what lies outside the sheet.
     fn put(&mut self, at: usize, bytes: &[u8]) {
         for (i, byte) in bytes.iter().enumerate() {
             if let Some(place) = self.dots.get_mut(at.saturating_add(i)) {
@@ -99,7 +99,7 @@ impl Sheet {
         }
     }
 
-    /// Makes place for the next picture, and gives where it begins.
+    /// Makes room for the next picture, and returns where it begins.
     fn make_place(&mut self) -> Result<usize, AllocError>
         requires { self.old.pictures < 2048 }
     {
@@ -163,7 +163,7 @@ fn fill<F: Read + Drop>(
     Ok(())
 }
 
-/// `look sheet VIDEO OUT --every FRAMES`.
+/// Obeys `look sheet VIDEO OUT --every FRAMES`.
 pub fn write_sheet<R: Files + Print + AllocGlobal>(rt: &R, words: &ArgMatches<'_>) -> Result<u8> {
     let name = words.get_str("VIDEO").unwrap_or("-");
     let out = words.get_str("OUT").unwrap_or("-");

@@ -34,7 +34,7 @@ impl<'a, F: Read + Drop> Sounds<'a, F> {
         })
     }
 
-    /// The bytes of the samples of the next frame, which has to be there whole.
+    /// Returns the bytes of the next frame's samples, which must all be there.
     pub fn next(&mut self) -> Result<&[u8]> {
         let before = samples_upto(self.region, self.frames)?;
         let upto = samples_upto(self.region, self.frames.saturating_add(1))?;
@@ -58,7 +58,7 @@ impl<'a, F: Read + Drop> Sounds<'a, F> {
         Ok(self.bytes.as_slice())
     }
 
-    /// Nothing may be left behind the last frame.
+    /// Fails if anything is left after the last frame.
     pub fn end(&mut self) -> Result<()> {
         let mut byte = [0u8; 1];
         match read_piece(&mut self.file, &mut byte).context(format_args!(
@@ -75,17 +75,17 @@ impl<'a, F: Read + Drop> Sounds<'a, F> {
     }
 }
 
-/// Bytes that are copied at once.
+/// How many bytes are copied in one piece.
 const COPIED: usize = 65_536;
 
-/// Room for the bytes that are copied at once.
+/// Room for one piece of a copy.
 fn part_of_copy(alloc: Global) -> Result<Vec<u8>, AllocError>
     ensures { IfOk result (λ v. vec_len v ≡ COPIED) }
 {
     vec![in alloc; 0u8; COPIED]
 }
 
-/// Copies all samples, and says how many bytes they have.
+/// Copies all samples, and returns how many bytes they have.
 fn copy_samples<F: Read, W: Write>(
     alloc: Global,
     name: &str,
@@ -113,7 +113,7 @@ fn copy_samples<F: Read, W: Write>(
     Ok(copied)
 }
 
-/// What stands before so many bytes of samples.
+/// The header before this many bytes of samples.
 fn header_of(alloc: Global, name: &str, bytes: u64) -> Result<Vec<u8>> {
     ensure!(
         bytes % SAMPLE_BYTES as u64 == 0,
@@ -125,8 +125,8 @@ fn header_of(alloc: Global, name: &str, bytes: u64) -> Result<Vec<u8>> {
     }
 }
 
-/// `look wav AUDIO OUT`. The header tells the length: where that isn't known before, as of a pipe, OUT has to be a
-/// file, whose header is written once more at the end.
+/// Obeys `look wav AUDIO OUT`. The header has the length. If that isn't known before, as of a pipe, OUT has to be a
+/// file, whose header is written again at the end.
 pub fn write_wav<R: Files + Print + AllocGlobal>(rt: &R, words: &ArgMatches<'_>) -> Result<u8> {
     let alloc = rt.alloc();
     let name = words.get_str("AUDIO").unwrap_or("-");

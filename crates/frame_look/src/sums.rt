@@ -1,4 +1,4 @@
-//! SHA-256 of each frame, and of both files.
+//! SHA-256 of each frame, and of both files, for `look sums`.
 
 use crate::films::{self, Frames};
 use crate::regions::{MOST_FRAMES, region_of};
@@ -13,10 +13,10 @@ use std::rt::Files;
 use std::{fmt, io};
 
 /// How many frames of the picture are read before the first one's samples. A run gathers the sound of up to eight
-/// frames before it writes it, so where both come through pipes the picture has to be taken meanwhile.
+/// frames before it writes it. If both come through pipes, the picture has to be read meanwhile.
 const AHEAD: usize = 12;
 
-/// A sum as it is written.
+/// A sum as it is printed.
 #[derive(Clone, Copy)]
 struct Sum([u8; 32]);
 
@@ -39,7 +39,7 @@ struct Pictures<'a, F: Read + Drop> {
 }
 
 impl<F: Read + Drop> Pictures<'_, F> {
-    /// The sum of the next picture, or nothing behind the last one.
+    /// The sum of the next picture, or nothing after the last one.
     fn next(&mut self) -> Result<Option<[u8; 32]>> {
         for _ in self.ahead.len()..AHEAD {
             if self.ended {
@@ -56,7 +56,7 @@ impl<F: Read + Drop> Pictures<'_, F> {
     }
 }
 
-/// The sound of a film, or none where only the pictures are summed.
+/// The sound of a film, or none if only the pictures are summed.
 #[derive(Drop)]
 struct Heard<'a, F: Read + Drop> {
     sounds: Option<Sounds<'a, F>>,
@@ -74,7 +74,7 @@ impl<F: Read + Drop> Heard<'_, F> {
         Ok(Some(Sha256::digest(bytes)))
     }
 
-    /// Nothing may be left behind the last frame.
+    /// Fails if anything is left after the last frame.
     fn end(&mut self) -> Result<()> {
         match &mut self.sounds {
             Some(sounds) => sounds.end(),
@@ -90,7 +90,7 @@ enum Form {
     Json,
 }
 
-/// Writes what stands before the lines of the frames.
+/// Writes what comes before the lines of the frames.
 fn write_head<W: Write>(out: &mut W, form: Form, with_sound: bool) -> io::Result<()> {
     match (form, with_sound) {
         (Form::Csv, true) => writeln!(out, "frame,picture,sound"),
@@ -180,7 +180,7 @@ fn write_sums<F: Read + Drop, W: Write>(
     Ok(())
 }
 
-/// `look sums VIDEO [AUDIO]`.
+/// Obeys `look sums VIDEO [AUDIO]`.
 pub fn say_sums<R: Files + Print + AllocGlobal>(rt: &R, words: &ArgMatches<'_>) -> Result<u8> {
     let alloc = rt.alloc();
     let video = words.get_str("VIDEO").unwrap_or("-");

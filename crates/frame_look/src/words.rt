@@ -1,4 +1,4 @@
-//! The words of the command line: a table of them, and the one place that hands them to `clap`.
+//! The arguments of the command line: a table of them, and the one place that passes them to `clap`.
 
 use clap::builder::ValueParser;
 use clap::{Arg, ArgAction, Command, value_parser};
@@ -39,26 +39,26 @@ static COMMANDS: [About; 6] = [
     },
 ];
 
-/// What a word is, and which values it takes.
+/// The kind of an argument, and the values it takes.
 #[derive(Clone, Copy)]
 enum Kind {
-    /// It has to be there, by its place.
+    /// A required argument, by position.
     Placed,
-    /// A number that has to be there, by its place.
+    /// A required number, by position.
     Number,
-    /// It may be there, by its place.
+    /// An optional argument, by position.
     MayBePlaced,
-    /// It is there or not.
+    /// A flag, present or not.
     Flag,
     /// An option whose value is any text.
     Text,
     /// An option whose value is a region.
     Region,
-    /// An option whose value is a number of 32 bits from 1 on; it is 60 where the option is not there.
+    /// An option whose value is a 32-bit number from 1 on, 60 if it is absent.
     Every,
 }
 
-/// A word of a command.
+/// An argument of a command.
 #[derive(Clone, Copy)]
 struct Word {
     command: &'static str,
@@ -69,7 +69,7 @@ struct Word {
     help: &'static str,
 }
 
-/// A table of words: of each its command, kind, name, value and help.
+/// Makes a table of arguments: of each its command, kind, name, value and help.
 macro_rules! words {
     ($($command:literal $kind:ident $name:literal $value:literal $help:literal,)*) => {
         [$(Word {
@@ -82,7 +82,7 @@ macro_rules! words {
     };
 }
 
-/// The words of all commands. Those of one command stand in the order in which the help tells them.
+/// The arguments of all commands. Those of one command are in the order in which the help lists them.
 static WORDS: [Word; 21] = words![
     "png" Placed "VIDEO" "" "raw frames; - is standard input",
     "png" Number "FRAME" "" "its number, from 0",
@@ -110,7 +110,7 @@ static WORDS: [Word; 21] = words![
 /// The names of the regions.
 static REGIONS: [&str; 2] = ["ntsc", "pal"];
 
-/// A word as `clap` takes it.
+/// An argument as `clap` takes it.
 fn argument<'a>(alloc: Global, word: &Word) -> Arg<'a> {
     let plain = Arg::new(alloc, word.name).help(word.help);
     match word.kind {
@@ -139,7 +139,7 @@ fn argument<'a>(alloc: Global, word: &Word) -> Arg<'a> {
     }
 }
 
-/// The words of a command.
+/// The arguments of a command.
 fn arguments<'a>(alloc: Global, command: &str) -> Result<Vec<Arg<'a>>, AllocError> {
     let mut list = Vec::new(alloc);
     for word in WORDS.iter() {
@@ -150,13 +150,13 @@ fn arguments<'a>(alloc: Global, command: &str) -> Result<Vec<Arg<'a>>, AllocErro
     Ok(list)
 }
 
-/// A command with its words.
+/// A command with its arguments.
 fn subcommand<'a>(alloc: Global, about: &About) -> Result<Command<'a>, AllocError> {
     let list = arguments(alloc, about.name)?;
     Command::new(alloc, about.name).about(about.text).args(list)
 }
 
-/// The commands with their words.
+/// The commands with their arguments.
 fn subcommands<'a>(alloc: Global) -> Result<Vec<Command<'a>>, AllocError> {
     let mut list = Vec::new(alloc);
     for about in COMMANDS.iter() {

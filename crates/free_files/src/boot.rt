@@ -9,8 +9,8 @@ static BOOT: [u8; 64] = [
     0xf5, 0xf8, 0xf4, 0xd8, 0xf4, 0xd7, 0x00, 0xfc, 0xd0, 0xed, 0xab, 0x01, 0x2f, 0xe9, 0xc0, 0xff,
 ];
 
-/// The free boot ROM: it offers AA and BB at ports 0 and 1, takes blocks of bytes from the console, and jumps to the
-/// program that it is told. It lies at FFC0 to FFFF.
+/// The free boot ROM, at FFC0 to FFFF. It offers AA and BB at ports 0 and 1 and takes blocks of bytes from the
+/// console. Then it jumps to the program that the console names.
 #[tactic(auto, unfolding(crate::specs::Boot::free_boot))]
 pub fn free_boot_rom() -> [u8; 64]
     ensures { result ≡ free_boot }

@@ -33,7 +33,7 @@ static NUMBERS: [u16; 512] = [
     1300, 1301, 1302, 1302, 1303, 1303, 1303, 1304, 1304, 1304, 1304, 1304, 1305, 1305,
 ];
 
-/// The interpolation table of the S-DSP: entry i is what a voice's four samples are weighed by, 2,048 being the whole.
+/// The interpolation table of the S-DSP: entry i is a weight for a voice's four samples, of which 2,048 is the whole.
 #[tactic(auto, unfolding(crate::specs::Interpolation::interpolation))]
 pub fn interpolation_table() -> Table
     ensures { result ≡ interpolation }

@@ -1,7 +1,7 @@
 ghost use Rattle.std.specs.Prelude.{◌≡◌, ◌≢◌, MatchOption, length};
 
-/// The boot ROM of the sound processor, FFC0 to FFFF of its addresses: the file, where it has 64
-/// bytes.
+/// Reads the boot ROM of the sound processor, FFC0 to FFFF of its addresses. Returns the bytes of the file if it has
+/// 64, else none.
 pub fn read_boot(file: &[u8]) -> Option<[u8; 64]>
     ensures { MatchOption result (length file.now ≢ 64) (λ boot. boot ≡ file.now) }
 {

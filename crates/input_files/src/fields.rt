@@ -3,8 +3,8 @@ ghost use Rattle.input_files.specs.Fields.{number_of, count_of, is_hex_digit, he
 
 use snes_defs::Span;
 
-/// The span that a line `COUNT PAD1 PAD2` spells, with one or more spaces between: 1 to 5 decimal
-/// digits, and two words of four hexadecimal digits, of which the last counts as 0.
+/// The span that a line `COUNT PAD1 PAD2` spells, with one or more spaces between. COUNT has 1 to 5 decimal digits.
+/// Each pad is a word of four hexadecimal digits, whose last counts as 0.
 #[tactic(auto, unfolding(crate::specs::Fields::span_of))]
 pub(crate) fn span_of(line: &[u8]) -> Option<Span>
     ensures { result ≡ span_of line.now }
@@ -18,7 +18,7 @@ pub(crate) fn span_of(line: &[u8]) -> Option<Span>
     })
 }
 
-/// The bytes up to the first space, and those behind the spaces that follow.
+/// The bytes up to the first space, and those after the spaces that follow.
 #[tactic(auto, unfolding(crate::specs::Fields::word_of, crate::specs::Fields::behind))]
 pub(crate) fn split_word(text: &[u8]) -> (&[u8], &[u8])
     ensures word { result.0.now ≡ word_of text.now }
@@ -29,7 +29,7 @@ pub(crate) fn split_word(text: &[u8]) -> (&[u8], &[u8])
     (word, rest)
 }
 
-/// Where the first space stands, or the end.
+/// The place of the first space, or the end.
 fn end_of_word(text: &[u8]) -> usize
     ensures place { result ≡ first_place (λ b. nat_eq b 32) text.now }
     ensures inside { result ≤ length text.now }
@@ -44,7 +44,7 @@ fn first_space(text: &[u8]) -> Option<usize>
     text.iter().position(|b| *b == b' ')
 }
 
-/// Where the first byte stands that is no space, or the end.
+/// The place of the first byte that is not a space, or the end.
 fn end_of_gap(text: &[u8]) -> usize
     ensures place { result ≡ first_place (λ b. not (nat_eq b 32)) text.now }
     ensures inside { result ≤ length text.now }
@@ -112,7 +112,7 @@ fn is_hex_digit(byte: u8) -> bool
     matches!(byte, b'0'..=b'9' | b'A'..=b'F' | b'a'..=b'f')
 }
 
-/// What a hexadecimal digit stands for.
+/// The value of a hexadecimal digit.
 #[tactic(auto, unfolding(crate::specs::Fields::hex_value))]
 fn hex_value(digit: u8) -> u16
     ensures value { result ≡ hex_value digit }

@@ -1,8 +1,8 @@
-// The readers of the input files beside the cartridge: the sound processor's boot ROM, the sound
-// unit's interpolation table, the script of the controllers, and the plan of a rewinder.
+// The readers of all input files except the cartridge. These are the sound processor's boot ROM, the S-DSP's
+// interpolation table, the script of the controllers, and the plan of a rewinder.
 //
-// Stands on the plain types. Each reader is exact: what it answers, and where it refuses, is said by a
-// definition on the file's bytes. Only `read_script` and `read_plan` take memory.
+// Builds on the plain types. Each reader is exact: a definition on the file's bytes says what it returns, and when it
+// refuses. Only `read_script` and `read_plan` allocate.
 #![tactic(auto)]
 
 mod boot;

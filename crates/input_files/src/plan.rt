@@ -9,11 +9,11 @@ use std::marker::Model;
 /// A step of a plan.
 #[derive(Clone, Copy, Debug, PartialEq, Eq)]
 pub enum PlanStep {
-    /// So many frames with these pads.
+    /// Plays `count` frames with these pads.
     Go { count: u32, pad1: u16, pad2: u16 },
-    /// The present moment is kept in a slot, 0 to 7.
+    /// Keeps the present moment in a slot, 0 to 7, as a save state.
     Keep(u8),
-    /// The moment that a slot holds is the present one again.
+    /// Goes back to the moment that a slot holds.
     Back(u8),
 }
 
@@ -37,7 +37,7 @@ impl Model for Plan {
 }
 
 impl Plan {
-    /// Keeps the steps. No memory is taken.
+    /// A plan of these steps. Nothing is allocated.
     pub(crate) fn of(steps: Vec<PlanStep>) -> Plan
         requires few { frames_in steps.items ≤ 36000 }
         requires slots { NamesBelow 8 steps.items }
@@ -46,7 +46,7 @@ impl Plan {
         Plan { steps }
     }
 
-    /// The steps, in order. Its goes last at most 36,000 frames, and its slots are below 8.
+    /// Returns the steps, in order. Its goes last at most 36,000 frames, and its slots are below 8.
     pub fn steps(&self) -> &[PlanStep]
         ensures all { result.now ≡ self.now }
         ensures few { frames_in self.now ≤ 36000 }
@@ -59,18 +59,19 @@ impl Plan {
 /// Why a plan was not read.
 #[derive(Clone, Copy, Debug, PartialEq, Eq)]
 pub enum PlanEnd {
-    /// The first line, from 1, that is of no form.
+    /// The first invalid line, by its number from 1.
     Line(u32),
-    /// There was no memory for its steps.
+    /// The allocation of its steps failed.
     NoMemory,
 }
 
 /// Reads the plan of a rewinder.
 ///
-/// Lines end with LF or CR LF, and the last end may be missing. An empty line says nothing. Every other line is
-/// `go COUNT PAD1 PAD2`, with the fields of a script, `keep SLOT` or `back SLOT`, a slot being a digit 0 to 7, with one
-/// or more spaces between. The first line of none of these forms, at which the sum of the counts passes 36,000, or that
-/// goes back to a slot which no line before it keeps, is told by its number.
+/// Lines end with LF or CR LF, and the last end may be missing. An empty line says nothing. Every other line is `go
+/// COUNT PAD1 PAD2`, with the fields of a script, `keep SLOT` or `back SLOT`. A slot is a digit 0 to 7, and one or
+/// more spaces separate the fields. The first invalid line is reported by its number. Invalid is a line of none of
+/// these forms, or at which the sum of the counts passes 36,000. So is a line that goes back to a slot which no line
+/// before it keeps.
 #[tactic(auto, unfolding(crate::specs::Plan::plan_of))]
 pub fn read_plan(alloc: Global, file: &[u8]) -> Result<Plan, PlanEnd>
     ensures plan { IfOk result (λ plan. plan_of file.now ≡ Ok plan) }

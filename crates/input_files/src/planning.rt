@@ -51,7 +51,7 @@ impl Planning {
     ghost use Rattle.std.specs.Prelude.{◌≡◌, ℕ, Some, None, Err, OnOk};
     ghost use Rattle.input_files.specs.Plan.{no_plan, after_plan_line, after_go, after_keep, after_back};
 
-    /// Nothing was read yet.
+    /// A plan of which nothing was read yet.
     pub(crate) fn new(alloc: Global) -> Planning
         ensures { result ≡ no_plan }
     {

@@ -51,7 +51,7 @@ impl Reading {
     ghost use Rattle.std.specs.Prelude.{◌≡◌, ℕ, Some, None, Err, OnOk};
     ghost use Rattle.input_files.specs.Script.{nothing_read, after_line, after_plain, after_span, after_reset, script_in};
 
-    /// Nothing was read yet.
+    /// A script of which nothing was read yet.
     pub(crate) fn new(alloc: Global) -> Reading
         ensures { result ≡ nothing_read }
     {
@@ -126,7 +126,7 @@ impl Reading {
         Ok(())
     }
 
-    /// Takes a reset at the present sum, where there was none.
+    /// Takes a reset at the present sum, if there was none yet.
     #[tactic(auto, using(crate::proofs::Resets::rise_more))]
     fn reset(&mut self, number: u32) -> Result<(), ScriptEnd>
         ensures ok { OnOk result (after_reset self.old ≡ Some self.new) }

@@ -9,20 +9,21 @@ use std::alloc::Global;
 /// Why a script was not read.
 #[derive(Clone, Copy, Debug, PartialEq, Eq)]
 pub enum ScriptEnd {
-    /// The first line, from 1, that is of no form.
+    /// The first invalid line, by its number from 1.
     Line(u32),
-    /// There was no memory for its spans and resets.
+    /// The allocation of its spans and resets failed.
     NoMemory,
 }
 
 /// Reads a controller script.
 ///
-/// Lines end with LF or CR LF, and the last end may be missing. A first line `version 2 ntsc` or
-/// `version 2 pal` makes it of version 2 and that region; otherwise it is of version 1 and Ntsc. An
-/// empty line says nothing. In version 2 a line `reset` begins the next frame with a reset. Every other
-/// line is `COUNT PAD1 PAD2`: so many frames with these pads. The first line of none of these forms, at
-/// which the counts' sum passes 36,000, or that is a reset at the sum 0 or a second one at the same
-/// sum, is told by its number.
+/// Lines end with LF or CR LF, and the last end may be missing. A first line `version 2 ntsc` or `version 2 pal`
+/// makes it of version 2 and that region. Otherwise it is of version 1 and NTSC. An empty line says nothing. In
+/// version 2 a line `reset` begins the next frame with a reset. Every other line is `COUNT PAD1 PAD2`: COUNT frames
+/// with these pads.
+///
+/// The first invalid line is reported by its number. Invalid is a line of none of these forms, or at which the
+/// counts' sum passes 36,000. So is a reset at the sum 0, or a second one at the same sum.
 #[tactic(auto, unfolding(crate::specs::Script::script_of))]
 pub fn read_script(alloc: Global, file: &[u8]) -> Result<Spans, ScriptEnd>
     ensures script { IfOk result (λ script. script_of file.now ≡ Ok script) }

@@ -9,8 +9,8 @@ const ENTRIES: usize = 512;
 
 const GREATEST: u16 = 2047;
 
-/// The interpolation table of the sound unit: 512 numbers of 16 bits, low byte first, each at most
-/// 2047. A file of another length is refused at 512, and else at its first entry above 2047.
+/// Reads the interpolation table of the S-DSP: 512 numbers of 16 bits, low byte first, each at most 2047. A file of
+/// another length is refused at 512, any other at its first entry above 2047.
 pub fn read_table(file: &[u8]) -> Result<Table, u16>
     ensures table { IfOk result (λ table. IsTableFile file.now table) }
     ensures refused { IfErr result (λ place. IsRefusedAt file.now place) }

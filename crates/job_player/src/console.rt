@@ -16,10 +16,10 @@ use std::thread::Threads;
 use turn_drive::run_turns;
 use word_log::Words;
 
-/// The bytes of the buffer that a run is drained through: as many as can wait in a side.
+/// The bytes of the buffer that a run is drained through: as many as can be pending in a side.
 pub(crate) const BUFFER: usize = 65_536;
 
-/// The console of a job: both sides at their starts, the ports between them by either wire, the end of the job's
+/// The console of a job, at its start. It has both sides, the ports between them by either wire, the end of the job's
 /// frames, and a buffer.
 #[derive(Drop)]
 pub struct Console {
@@ -42,8 +42,8 @@ pub enum Carrier {
     Words,
 }
 
-/// Runs a job's console on two workers, each of which passes the gate as it sets out on a turn, and
-/// answers how many turns it made: no more than the frames of the job have.
+/// Runs a job's console on two workers, each of which reports to the gate as it starts a turn. Returns how many turns
+/// it made: no more than the frames of the job have.
 pub fn play_by_turns<R: Threads, G: Gate, K: Sink>(
     player: Console,
     rt: &R,

@@ -1,9 +1,9 @@
 // The player of jobs: the console that a job makes, and all memory of its run.
 //
-// Stands on both sides of the console and on the loops that run two machines. `Console` is made from a job,
-// with both sides at their starts, and is a player: what it emits is the output of the serial console of
-// the two, from their starts to the end of the job's frames, however it is run (`specs/Start.antt`). It also plays
-// plans, by a rewinder of the two sides (`Planned`).
+// Builds on both sides of the console and on the loops that run two machines. `Console` is made from a job, with both
+// sides at their starts, and is a player. However it is run, it emits the output of the serial console of the two.
+// That goes from their starts to the end of the job's frames (`specs/Start.antt`). It also plays plans, by a rewinder
+// of the two sides (`Planned`).
 #![tactic(auto)]
 
 mod console;

@@ -6,16 +6,16 @@ ghost use Rattle.plan_drive.specs.Samples.{samples_to, samples_in};
 use clock_ratio::{end_stamp, samples_before};
 use input_files::{Plan, PlanStep};
 
-/// How long a plan is.
+/// The length of a plan.
 #[derive(Clone, Copy, Debug, PartialEq, Eq)]
 pub struct Lengths {
-    /// How many frames its goes last.
+    /// The number of frames that its goes last.
     pub frames: u32,
-    /// How many samples they last.
+    /// The number of samples that its goes last.
     pub samples: u64,
 }
 
-/// How many samples lie before the end of so many frames.
+/// The number of samples before the end of the first `frames` frames.
 fn samples_to(frames: u32) -> u64
     requires { frames ≤ 36000 }
     ensures { result ≡ samples_to frames }
@@ -23,14 +23,14 @@ fn samples_to(frames: u32) -> u64
     samples_before(end_stamp(frames))
 }
 
-/// How many frames and samples the goes of a plan last.
+/// The number of frames and of samples that the goes of a plan last.
 pub fn measure(plan: &Plan) -> Lengths
     ensures frames { result.frames ≡ frames_in plan.now }
     ensures samples { result.samples ≡ samples_in plan.now no_paths }
 {
     let mut frames = 0u32;
     let mut samples = 0u64;
-    // How long the path is, and the path that each slot holds.
+    // The length of the path, and the path that each slot holds.
     let mut path = 0u32;
     let mut held = [0u32; 8];
     for step in plan.steps() {

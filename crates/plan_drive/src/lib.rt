@@ -1,9 +1,9 @@
-// What a plan of kept moments emits, and what plays one.
+// What a plan of save states emits, and the trait of what plays one.
 //
-// Stands on the reader of plans and on the trait of what plays a job; it knows no machine. A plan goes along paths, keeps
-// some and goes back to them (`specs/Paths.antt`). What it emits is the join of its goes (`specs/Joins.antt`), each of
-// them what the run of the path after it has beyond that of the path before. `PlanPlayer` is what emits just that, and
-// `measure` tells how many frames and samples it is. `docs/use/REWIND.md` has the rules.
+// Builds on the reader of plans and on the trait of what plays a job; it knows no machine. A plan goes along paths,
+// keeps some and goes back to them (`specs/Paths.antt`). It emits the concatenation of its goes (`specs/Joins.antt`).
+// Each is what the run of the path after it has beyond that of the path before. A `PlanPlayer` emits exactly that,
+// and `measure` returns how many frames and samples it is. `docs/use/REWIND.md` has the rules.
 #![tactic(auto)]
 
 mod lengths;

@@ -11,25 +11,25 @@ use run_drive::{Player, Sink};
 use snes_defs::{Job, NoMemory, Side};
 use std::alloc::Global;
 
-/// What plays a plan: a console whose moments can be kept and gone back to.
+/// A player of plans: a console whose moments can be kept and gone back to, as save states.
 ///
-/// A plan emits what runs of the player's jobs emit, piece by piece: that of its goes, each the run of its path from the
-/// start on, without what the path before had emitted.
+/// A plan emits, one after another, what its goes emit. Each go emits the run of its path from the start on, without
+/// what the path before had emitted.
 pub trait PlanPlayer: Player {
-    /// The machines of a job, and all the memory that a plan takes.
+    /// The machines of a job, and all the memory that a plan needs.
     type Planned: Drop;
 
-    // It stands at the start of the job, and has the memory for a plan of these steps.
+    // The machines are at the start of the job, and have the memory for a plan of these steps.
     ghost plans: { Self.Planned → Job → List PlanStep → Type 0 };
 
-    /// Makes the machines of an Ntsc job without a script, and takes all the memory that a plan needs.
+    /// Makes the machines of an NTSC job without a script, and allocates all the memory that a plan needs.
     fn ready_plan(alloc: Global, job: &Job, plan: &Plan) -> Result<Self::Planned, NoMemory>
         requires script { job.now.script ≡ path_script 0 [] }
         requires region { job.now.region ≡ Ntsc }
         ensures starts { IfOk result (λ planned. plans planned job.now plan.now) }
         ensures ends { OnOk result (IsPlayable (PlanEmits Self.emits job.now plan.now)) };
 
-    /// Plays a plan.
+    /// Plays a plan, and passes the sink what it emits.
     fn play_plan<K: Sink>(planned: Self::Planned, plan: &Plan, sink: &mut K) -> Result<(), Side>
         requires at_start { (job : Job) × plans planned job plan.now }
         requires no_video { K.holds sink.old Side.Console [] }

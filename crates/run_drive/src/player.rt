@@ -8,18 +8,18 @@ use snes_defs::{Job, NoMemory, Side};
 use std::alloc::Global;
 use std::thread::Threads;
 
-/// What plays a job: two machines at their start and all memory that the run of them takes.
+/// A player of a job: two machines at their start, and all the memory that their run needs.
 ///
-/// The top of the program is proved of every player. That of the console says what it emits: the
-/// output of the serial console for that job.
+/// The top of the program is proved for every player. That of the console says what it emits: the output of the
+/// serial console for that job.
 pub trait Player: Drop {
     // A run of the job emits this video and this audio.
     ghost emits: { Job → List ℕ → List ℕ → Type 0 };
 
-    // The player stands at the start of the job.
+    // The player is at the start of the job.
     ghost plays: { Self → Job → Type 0 };
 
-    /// Makes the machines at the start of a job, and takes all the memory of their run.
+    /// Makes the machines at the start of a job, and allocates all the memory of their run.
     fn ready(alloc: Global, job: &Job) -> Result<Self, NoMemory>
         requires { job.now.frames ≤ 36000 }
         ensures starts { IfOk result (λ player. plays player job.now) }
@@ -35,7 +35,7 @@ pub trait Player: Drop {
         ensures failed { IfErr result (K.failed sink.old sink.new) }
         ensures only { K.only_takes sink.old sink.new };
 
-    /// Runs the job by two workers, each of which passes the gate as it sets out on a turn.
+    /// Runs the job by two workers, each of which reports to the gate as it starts a turn.
     fn play_turns<R: Threads, K: Sink>(
         self,
         rt: &R,

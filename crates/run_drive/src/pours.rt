@@ -7,7 +7,7 @@ use file_shelf::Failed;
 use side_law::Machine;
 use snes_defs::Side;
 
-/// Moves the bytes that wait in a machine to the sink, all at once. Where none waits nothing is taken.
+/// Moves all pending bytes of a machine to the sink, in one call. If none is pending nothing is taken.
 #[inline(always)]
 pub fn pour<M: Machine, K: Sink>(
     machine: &mut M,

@@ -7,9 +7,11 @@ use serial_console::Serial;
 use side_law::Machine;
 use snes_defs::Side;
 
-/// Runs two machines of one region until both stamps are at least `end`, and hands the sink what the serial
-/// console of the two emits, the bytes of one step at a time. Each side goes on while its steps are quiet; what
-/// it emitted ahead of the other waits for it. Err names the side of which the sink failed to take some.
+/// Runs two machines of one region until both stamps are at least `end`, and passes the sink what they emit.
+///
+/// That is what the serial console of the two emits, the bytes of one step at a time. Each side runs on while its
+/// steps are quiet; what it emitted ahead of the other stays pending. Err names the side of which the sink failed to
+/// take some.
 pub fn run_serial<C: Machine + Drop, S: Machine + Drop, K: Sink>(
     console: C,
     sound: S,
@@ -38,7 +40,7 @@ pub fn run_serial<C: Machine + Drop, S: Machine + Drop, K: Sink>(
     while !serial.is_over(end) {
         video_at = serial.console_leads(end, video_at);
         audio_at = serial.sound_leads(end, audio_at);
-        // Of two bytes that wait the one that a serial console emits first, ties to the console.
+        // Of two pending bytes, the one that a serial console emits first; the console wins ties.
         if video_at <= audio_at {
             let Ok(()) = pour(serial.console(), Side::Console, buffer, sink) else {
                 return Err(Side::Console);

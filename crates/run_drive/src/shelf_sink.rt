@@ -1,4 +1,4 @@
-// Any shelf takes the bytes of a run: the console's go to video, the sound side's to sound.
+// Any shelf as the sink of a run: the console's bytes go to video, the sound side's to sound.
 ghost use Rattle.std.specs.Prelude.{◌≡◌, ◌≢◌, ℕ, List, OnOk, OnErr};
 ghost use Rattle.snes_defs.specs.declared.ports.Side.{Side};
 ghost use Rattle.file_shelf.specs.Told.{Holds, Appends, HasRisen};

@@ -5,7 +5,7 @@ ghost use Rattle.run_drive.specs.Run.{Adds, AddsSome};
 use file_shelf::Failed;
 use snes_defs::Side;
 
-/// What takes the bytes that the two machines of a run emit.
+/// A sink for the bytes that the two machines of a run emit.
 pub trait Sink {
     // These may be all the bytes that were taken of a side.
     ghost holds: { Self → Side → List ℕ → Type 0 };

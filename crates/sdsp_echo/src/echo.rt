@@ -43,12 +43,12 @@ const SILENCE: History = History {
     h7: 0,
 };
 
-/// The echo unit. Its delay line lies in RAM.
+/// The echo unit, whose delay line is in RAM.
 #[derive(Clone, Copy, Debug, PartialEq, Eq)]
 pub struct Echo {
     left: History,
     right: History,
-    /// How many bytes into the delay line the next number lies.
+    /// The offset in bytes of the next number in the delay line.
     offset: u16,
     /// The length of the delay line in bytes, as it was when the offset was 0.
     length: u16,
@@ -179,7 +179,7 @@ fn hear(ram: &[u8], address: u32) -> i16
     word(ram, address).cast_signed() >> 1
 }
 
-/// A number put into RAM.
+/// Puts a number into RAM.
 #[tactic(auto, unfolding(crate::specs::Echo::put_word))]
 #[inline(always)]
 fn put(ram: &mut [u8], address: u32, number: u16)
@@ -217,7 +217,7 @@ impl Echo {
         }
     }
 
-    /// The length in force.
+    /// The length in force in this sample.
     #[tactic(auto, unfolding(crate::specs::Echo::length_now))]
     #[inline(always)]
     fn length_in_force(&self, voices: &Voices) -> u16
@@ -231,7 +231,7 @@ impl Echo {
         }
     }
 
-    /// Where in RAM the next numbers lie.
+    /// The address in RAM of the next numbers.
     #[tactic(auto, unfolding(crate::specs::Echo::place_of))]
     #[inline(always)]
     fn place(&self, voices: &Voices) -> u32
@@ -261,7 +261,7 @@ impl Echo {
         push(self.right, hear(ram, self.place(voices) + 2))
     }
 
-    /// The histories with what the delay line holds, and the place for the next sample.
+    /// Takes what the delay line holds into the histories, and moves on to the place of the next sample.
     #[tactic(auto, unfolding(crate::specs::Echo::after_mix))]
     #[inline(always)]
     fn go_on(&mut self, voices: &Voices, ram: &[u8])
@@ -278,7 +278,7 @@ impl Echo {
         self.length = length;
     }
 
-    /// What goes back into the delay line, unless FLG stops it.
+    /// Puts what goes back into the delay line, unless FLG stops it.
     #[inline(always)]
     fn write_back(ram: &mut [u8], place: u32, left: u16, right: u16)
         requires ram { length ram.old ≡ 65536 }
@@ -289,8 +289,7 @@ impl Echo {
         put(ram, place + 2, right);
     }
 
-    /// Whether the filter is for nothing: the echo has no volume, and nothing goes back into the delay
-    /// line.
+    /// Whether the filter has no effect: the echo has no volume, and nothing goes back into the delay line.
     #[inline(always)]
     fn is_unheard(voices: &Voices) -> bool
         ensures { IsTrue result → IsUnheard voices.now }
@@ -298,7 +297,7 @@ impl Echo {
         voices.kept(0x2C) == 0 && voices.kept(0x3C) == 0 && voices.kept(0x6C) / 32 % 2 == 1
     }
 
-    /// The left number where the filter is for nothing.
+    /// The left number when the filter has no effect.
     #[tactic(auto, using(crate::proofs::Unheard::left_unheard))]
     #[inline(always)]
     fn left_unheard(&self, voices: &Voices, sums: Sums, ram: &[u8]) -> i16
@@ -309,7 +308,7 @@ impl Echo {
         out(voices, sums.left, voices.kept(0x0C), 0, 0)
     }
 
-    /// The right number where the filter is for nothing.
+    /// The right number when the filter has no effect.
     #[tactic(auto, using(crate::proofs::Unheard::right_unheard))]
     #[inline(always)]
     fn right_unheard(&self, voices: &Voices, sums: Sums, ram: &[u8]) -> i16
@@ -320,7 +319,7 @@ impl Echo {
         out(voices, sums.right, voices.kept(0x1C), 0, 0)
     }
 
-    /// A sample where the filter is for nothing: the delay line is read, and no more.
+    /// Makes a sample when the filter has no effect: only reads the delay line.
     #[tactic(auto, using(crate::proofs::Unheard::ram_unheard))]
     #[inline(always)]
     fn mix_unheard(&mut self, voices: &Voices, sums: Sums, ram: &[u8]) -> (i16, i16)
@@ -337,7 +336,7 @@ impl Echo {
         (left, right)
     }
 
-    /// Any sample.
+    /// Makes any sample.
     #[tactic(auto, unfolding(crate::specs::Echo::after_mix, crate::specs::Echo::left_out, crate::specs::Echo::right_out, crate::specs::Echo::ram_after))]
     #[inline(always)]
     fn mix_heard(&mut self, voices: &Voices, sums: Sums, ram: &mut [u8]) -> (i16, i16)
@@ -374,8 +373,8 @@ impl Echo {
         )
     }
 
-    /// The two numbers of a sample, left and right, from what the voices add up to. RAM holds the
-    /// delay line; what goes back into it is written over what was heard.
+    /// Makes the two numbers of a sample, left and right, from the sums of the voices. RAM holds the delay line; what
+    /// goes back into it overwrites what was heard.
     #[inline(always)]
     pub fn mix(&mut self, voices: &Voices, sums: Sums, ram: &mut [u8]) -> (i16, i16)
         requires { length ram.old ≡ 65536 }

@@ -7,7 +7,7 @@ ghost use Rattle.sdsp_laws.specs.Silence.{HasNoTaps, IsMuted};
 use sdsp_echo::Echo;
 use sdsp_voice::{Sums, Voices};
 
-/// A muted unit puts out nothing, whatever the voices and the echo hold.
+/// Mixes a sample of a muted unit, which puts out nothing, whatever the voices and the echo hold.
 #[tactic(auto, unfolding(sdsp_echo::specs::Echo::left_out, sdsp_echo::specs::Echo::right_out, sdsp_echo::specs::Echo::heard_out))]
 pub fn mix_muted(echo: &mut Echo, voices: &Voices, sums: Sums, ram: &mut [u8]) -> (i16, i16)
     requires ram { length ram.old ≡ 65536 }
@@ -18,8 +18,8 @@ pub fn mix_muted(echo: &mut Echo, voices: &Voices, sums: Sums, ram: &mut [u8]) -
     echo.mix(voices, sums, ram)
 }
 
-/// A filter without taps adds nothing: what is heard are the voices alone, by the main volume, at
-/// any feedback and echo volume.
+/// Mixes a sample by a filter without taps, which adds nothing. Only the voices are heard, by the main volume, at any
+/// feedback and echo volume.
 #[tactic(auto, using(crate::proofs::Taps::left_without_taps, crate::proofs::Taps::right_without_taps))]
 pub fn mix_without_taps(echo: &mut Echo, voices: &Voices, sums: Sums, ram: &mut [u8]) -> (i16, i16)
     requires ram { length ram.old ≡ 65536 }

@@ -1,6 +1,6 @@
-//! Laws above the definitions of the S-DSP, each a call of `sdsp_voice` or `sdsp_echo` with the law as
-//! its contract: a muted unit is silent; a filter without taps adds nothing; a voice that is started
-//! forgets what it sounded before; an envelope stays in its eleven bits.
+//! Laws over the definitions of the S-DSP, each a call of `sdsp_voice` or `sdsp_echo` with the law as its contract. A
+//! muted unit is silent. A filter without taps adds nothing. A voice that is started forgets what it sounded before.
+//! An envelope stays in its eleven bits.
 #![tactic(auto)]
 
 mod echo;

@@ -5,8 +5,8 @@ use sdsp_voice::keys::start;
 use sdsp_voice::setting::Setting;
 use sdsp_voice::voice::Voice;
 
-/// Two voices that are started with one source are the same from then on, whatever they sounded
-/// before: nothing of it is heard. ENVX and OUTX show the last sample still.
+/// Starts two voices with one source, which are the same from then on, whatever they sounded before. Nothing of that
+/// is heard. ENVX and OUTX still show the last sample.
 #[tactic(auto, unfolding(sdsp_voice::specs::Keys::started))]
 pub fn start_both(ram: &[u8], entry: u16, one: &mut Voice, other: &mut Voice)
     requires ram { length ram.now ≡ 65536 }
@@ -18,7 +18,7 @@ pub fn start_both(ram: &[u8], entry: u16, one: &mut Voice, other: &mut Voice)
     start(ram, entry, other);
 }
 
-/// An envelope of at most 7FF stays so, by whichever phase and setting.
+/// Moves an envelope of at most 7FF on, in whichever phase and setting. It stays at most 7FF.
 #[tactic(auto, using(crate::proofs::Envelopes::after_envelope_within))]
 pub fn step_within(setting: &Setting, s: u64, voice: &mut Voice)
     requires { voice.old.envelope ≤ 2047 }

@@ -162,7 +162,7 @@ fn sample(header: u8, digit: u8, p: i16, q: i16) -> i16
     low_15(clamped(sum) as i32)
 }
 
-/// Digit `place` of a byte, the high one first.
+/// Digit `place` of a byte, counted from the high one.
 #[inline(always)]
 fn digit_of(byte: u8, place: u8) -> u8
     ensures value { result ≡ digit byte place }
@@ -180,7 +180,7 @@ pub fn byte_at(ram: &[u8], address: u32) -> u8
     ram[(address % 65536) as usize]
 }
 
-/// Two bytes of RAM, the low one first.
+/// A word of RAM, the low byte first.
 #[inline(always)]
 pub fn word(ram: &[u8], address: u32) -> u16
     requires ram { length ram.now ≡ 65536 }
@@ -190,7 +190,7 @@ pub fn word(ram: &[u8], address: u32) -> u16
     byte_at(ram, address) as u16 + 256 * byte_at(ram, address + 1) as u16
 }
 
-/// The sample at a voice's place.
+/// The sample at a voice's place in its block.
 #[tactic(auto, unfolding(crate::specs::Brr::next_sample))]
 #[inline(always)]
 fn sample_here(ram: &[u8], voice: &Voice) -> i16
@@ -204,7 +204,7 @@ fn sample_here(ram: &[u8], voice: &Voice) -> i16
     sample(header, digit_of(byte, place), voice.newest, voice.newer)
 }
 
-/// A voice with one sample more.
+/// Adds a decoded sample to a voice.
 #[tactic(auto, unfolding(crate::specs::Brr::with_sample))]
 #[inline(always)]
 fn add_sample(voice: &mut Voice, x: i16)
@@ -216,7 +216,7 @@ fn add_sample(voice: &mut Voice, x: i16)
     voice.newest = x;
 }
 
-/// The block's sixteenth sample was decoded.
+/// Ends a block, whose sixteenth sample was decoded.
 #[tactic(auto, unfolding(crate::specs::Brr::after_block))]
 #[inline(always)]
 fn end_block(ram: &[u8], entry: u16, voice: &mut Voice)
@@ -237,7 +237,7 @@ fn end_block(ram: &[u8], entry: u16, voice: &mut Voice)
     }
 }
 
-/// The voice's place goes on.
+/// Moves the voice's place on.
 #[tactic(auto, unfolding(crate::specs::Brr::placed_on))]
 #[inline(always)]
 fn place_on(ram: &[u8], entry: u16, voice: &mut Voice)
@@ -251,7 +251,7 @@ fn place_on(ram: &[u8], entry: u16, voice: &mut Voice)
     }
 }
 
-/// One sample is decoded.
+/// Decodes one sample.
 #[tactic(auto, unfolding(crate::specs::Brr::decoded))]
 #[inline(always)]
 fn decode(ram: &[u8], entry: u16, voice: &mut Voice)
@@ -263,7 +263,7 @@ fn decode(ram: &[u8], entry: u16, voice: &mut Voice)
     place_on(ram, entry, voice);
 }
 
-/// So many samples are decoded.
+/// Decodes `times` samples.
 #[tactic(auto, using(crate::proofs::Steps::no_sample, crate::proofs::Steps::one_more_sample))]
 #[inline(always)]
 pub fn decode_times(ram: &[u8], entry: u16, times: u32, voice: &mut Voice)

@@ -14,8 +14,8 @@ ghost use Rattle.sdsp_voice.specs.Envelope.{
 use crate::setting::Setting;
 use crate::voice::{Phase, Voice};
 
-/// Whether a rate has an event at sample `s`. Three samples of four are told at once: of the slow rates, up to 23,
-/// each period is a multiple of 4.
+/// Whether a rate has an event at sample `s`. Three samples of four need no look at the period: of the slow rates, up
+/// to 23, each period is a multiple of 4.
 #[inline(always)]
 pub fn due(rate: u8, s: u64) -> bool
     requires { rate < 32 }
@@ -28,7 +28,7 @@ pub fn due(rate: u8, s: u64) -> bool
     }
 }
 
-/// The same where 4 doesn't divide the sample's number.
+/// Whether a rate has an event at sample `s`, for a number that 4 doesn't divide.
 #[tactic(auto, unfolding(crate::specs::Envelope::is_due))]
 #[inline(always)]
 fn due_between(rate: u8, s: u64) -> bool
@@ -72,7 +72,7 @@ fn due_between(rate: u8, s: u64) -> bool
     }
 }
 
-/// The same by the rate's period.
+/// Whether a rate has an event at sample `s`, by the rate's period, out of line.
 #[tactic(auto, unfolding(crate::specs::Envelope::is_due))]
 #[inline(never)]
 fn due_by_period(rate: u8, s: u64) -> bool
@@ -115,7 +115,7 @@ fn due_by_period(rate: u8, s: u64) -> bool
     }
 }
 
-/// Up by some, to 7FF at most.
+/// An envelope raised by an amount, to 7FF at most.
 #[inline(always)]
 fn up(envelope: u16, by: u16) -> u16
     ensures { result ≡ raised envelope by }
@@ -123,7 +123,7 @@ fn up(envelope: u16, by: u16) -> u16
     (envelope as u32 + by as u32).min(2047) as u16
 }
 
-/// Down by a 256th.
+/// An envelope lowered by a 256th.
 #[inline(always)]
 fn down(envelope: u16) -> u16
     ensures { result ≡ fallen envelope }
@@ -131,7 +131,7 @@ fn down(envelope: u16) -> u16
     envelope.saturating_sub(envelope.saturating_sub(1) / 256 + 1)
 }
 
-/// The attack.
+/// Moves a voice on in its attack.
 #[tactic(auto, unfolding(crate::specs::Envelope::after_attack))]
 #[inline(always)]
 fn attack(setting: &Setting, s: u64, voice: &mut Voice)
@@ -148,7 +148,7 @@ fn attack(setting: &Setting, s: u64, voice: &mut Voice)
     };
 }
 
-/// The decay.
+/// Moves a voice on in its decay.
 #[tactic(auto, unfolding(crate::specs::Envelope::after_decay))]
 #[inline(always)]
 fn decay(setting: &Setting, s: u64, voice: &mut Voice)
@@ -164,7 +164,7 @@ fn decay(setting: &Setting, s: u64, voice: &mut Voice)
     };
 }
 
-/// The sustain.
+/// Moves a voice on in its sustain.
 #[tactic(auto, unfolding(crate::specs::Envelope::after_sustain))]
 #[inline(always)]
 fn sustain(setting: &Setting, s: u64, voice: &mut Voice)
@@ -189,7 +189,7 @@ fn moved_by_gain(way: u8, envelope: u16) -> u16
     }
 }
 
-/// GAIN in place of the phases.
+/// Moves a voice on by GAIN instead of its phases.
 #[tactic(auto, unfolding(crate::specs::Envelope::after_gain))]
 #[inline(always)]
 fn gain(setting: &Setting, s: u64, voice: &mut Voice)
@@ -203,7 +203,7 @@ fn gain(setting: &Setting, s: u64, voice: &mut Voice)
     }
 }
 
-/// The envelope after sample `s`.
+/// Moves a voice's envelope on after sample `s`.
 #[tactic(auto, unfolding(crate::specs::Envelope::after_envelope))]
 #[inline(always)]
 pub fn step_envelope(setting: &Setting, s: u64, voice: &mut Voice)

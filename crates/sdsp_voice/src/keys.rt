@@ -4,7 +4,7 @@ ghost use Rattle.sdsp_voice.specs.Keys.{keyed_off, muted, started};
 use crate::brr::word;
 use crate::voice::{Phase, Voice};
 
-/// Key on.
+/// Starts a voice: key on.
 #[tactic(auto, unfolding(crate::specs::Keys::started))]
 #[inline(always)]
 pub fn start(ram: &[u8], entry: u16, voice: &mut Voice)
@@ -23,7 +23,7 @@ pub fn start(ram: &[u8], entry: u16, voice: &mut Voice)
     voice.ended = false;
 }
 
-/// FLG's bit 7: silent, and in release.
+/// Silences a voice and puts it into release, as FLG's bit 7 does.
 #[inline(always)]
 pub fn mute(voice: &mut Voice)
     ensures { voice.new ≡ muted voice.old }
@@ -32,7 +32,7 @@ pub fn mute(voice: &mut Voice)
     voice.envelope = 0;
 }
 
-/// Key off.
+/// Puts a voice into release: key off.
 #[inline(always)]
 pub fn key_off(voice: &mut Voice)
     ensures { voice.new ≡ keyed_off voice.old }

@@ -38,7 +38,7 @@ fn with_volume(out: i32, volume: i8) -> i32
     (out * volume as i32) >> 6
 }
 
-/// A sum with an output more.
+/// A sum with one more output added.
 #[tactic(auto, unfolding(crate::specs::Sample::added))]
 #[inline(always)]
 fn add(sum: i16, out: i32, volume: i8) -> i16
@@ -48,7 +48,7 @@ fn add(sum: i16, out: i32, volume: i8) -> i16
     clamped(sum as i32 + with_volume(out, volume))
 }
 
-/// The sums with an output more.
+/// The sums with one more output added.
 #[tactic(auto, unfolding(crate::specs::Sample::mixed))]
 #[inline(always)]
 pub fn mix(sums: Sums, out: i32, setting: &Setting) -> Sums
@@ -71,7 +71,7 @@ pub fn mix(sums: Sums, out: i32, setting: &Setting) -> Sums
     }
 }
 
-/// The sums with a voice's output, and the output. An envelope of 0 is silence, and is seen at once.
+/// The sums with a voice's output added, and the output. An envelope of 0 is silence, and is tested first.
 #[tactic(auto, using(crate::proofs::Quiet::output_of_none, crate::proofs::Quiet::mixed_silence))]
 #[inline(always)]
 pub fn sound(table: &Table, noise: u16, setting: &Setting, voice: &Voice, sums: Sums) -> (Sums, i32)
@@ -87,7 +87,7 @@ pub fn sound(table: &Table, noise: u16, setting: &Setting, voice: &Voice, sums: 
     }
 }
 
-/// ENVX and OUTX of this sample.
+/// Sets ENVX and OUTX to those of this sample.
 #[tactic(auto, unfolding(crate::specs::Sample::shown))]
 #[inline(always)]
 fn show(out: i32, voice: &mut Voice)
@@ -135,7 +135,7 @@ fn pitch(setting: &Setting, before: i32) -> u32
     }
 }
 
-/// The position grows by the pitch, and the samples that it passes are decoded.
+/// Adds the pitch to the position, and decodes the samples that it passes.
 #[tactic(auto, unfolding(crate::specs::Sample::moved))]
 #[inline(always)]
 fn advance(ram: &[u8], entry: u16, pitch: u32, voice: &mut Voice)
@@ -148,7 +148,7 @@ fn advance(ram: &[u8], entry: u16, pitch: u32, voice: &mut Voice)
     decode_times(ram, entry, position / 4096, voice);
 }
 
-/// A voice after its output.
+/// Moves a voice on after its output.
 #[tactic(auto, unfolding(crate::specs::Sample::gone_on))]
 #[inline(always)]
 pub fn go_on(ram: &[u8], setting: &Setting, s: u64, before: i32, out: i32, voice: &mut Voice)

@@ -1,4 +1,4 @@
-/// Where a voice's envelope stands.
+/// The phase of a voice's envelope.
 #[derive(Clone, Copy, Debug, PartialEq, Eq)]
 pub enum Phase {
     Attack,
@@ -11,17 +11,21 @@ pub enum Phase {
 /// One of the eight voices.
 #[derive(Clone, Copy, Debug, PartialEq, Eq)]
 pub struct Voice {
+    /// The phase of the envelope.
     pub phase: Phase,
     /// The envelope, 0 to 7FF.
     pub envelope: u16,
-    /// How far the voice is between its samples, in parts of 1000 (hexadecimal) to a sample.
+    /// The position between two samples, in parts of 1000 (hexadecimal) to a sample.
     pub position: u16,
-    /// The last four decoded samples, signed 15 bits each.
+    /// The oldest of the last four decoded samples, signed 15 bits each.
     pub oldest: i16,
+    /// The second oldest of the four samples.
     pub older: i16,
+    /// The second newest of the four samples.
     pub newer: i16,
+    /// The newest of the four samples.
     pub newest: i16,
-    /// Where the BRR block lies that is being decoded.
+    /// The address of the BRR block that is being decoded.
     pub address: u16,
     /// The next sample of the block, 0 to 15.
     pub place: u8,

@@ -35,10 +35,10 @@ const EON: usize = 0x4D;
 /// 5D DIR: the page of the directory of sources.
 const DIR: usize = 0x5D;
 
-/// 7C ENDX: each set bit tells that a voice came to the end of a block with the end bit.
+/// 7C ENDX: each set bit shows that a voice reached the end of a block with the end bit.
 const ENDX: u8 = 0x7C;
 
-/// What voices add up to that are silent.
+/// The sums of voices that are all silent.
 const SILENCE: Sums = Sums {
     left: 0,
     right: 0,
@@ -150,7 +150,7 @@ impl Voices {
         self.registers[reg as usize]
     }
 
-    /// The reset button: FLG is E0 again, and what was written to KON is forgotten. All else stays.
+    /// Presses the reset button: FLG becomes E0 again, and what was written to KON is forgotten. All else stays.
     #[tactic(auto, unfolding(crate::specs::Registers::at_reset))]
     pub fn reset(&mut self)
         ensures { self.new ≡ at_reset self.old }
@@ -170,7 +170,7 @@ impl Voices {
         voice
     }
 
-    /// ENDX is cleared.
+    /// Clears ENDX.
     fn clear_ended(&mut self)
         ensures { self.new ≡ record self.old { voices = all_unended self.old } }
     {
@@ -186,7 +186,7 @@ impl Voices {
         ];
     }
 
-    /// A register is written.
+    /// Writes a register.
     #[tactic(auto, unfolding(crate::specs::Registers::written))]
     pub fn write(&mut self, reg: u8, v: u8)
         requires { reg < 128 }
@@ -230,7 +230,7 @@ impl Voices {
         }
     }
 
-    /// One voice of the keys.
+    /// A voice after the keys were applied to it.
     #[tactic(auto, unfolding(crate::specs::Keys::keyed))]
     #[inline(always)]
     fn keyed(&self, ram: &[u8], v: usize, voice: Voice) -> Voice
@@ -250,7 +250,7 @@ impl Voices {
         voice
     }
 
-    /// The keys of voice `v`.
+    /// Applies the keys to voice `v`.
     #[inline(always)]
     fn take_key(&mut self, ram: &[u8], v: usize)
         requires ram { length ram.now ≡ 65536 }
@@ -260,7 +260,7 @@ impl Voices {
         self.voices[v] = self.keyed(ram, v, self.voices[v]);
     }
 
-    /// The keys of all voices.
+    /// Applies the keys to all voices.
     #[tactic(auto, using(crate::proofs::Steps::no_key, crate::proofs::Steps::one_more_key, crate::proofs::Steps::key_of_same))]
     #[inline(always)]
     fn take_all_keys(&mut self, ram: &[u8])
@@ -272,7 +272,7 @@ impl Voices {
         }
     }
 
-    /// The keys, which a sample looks at first.
+    /// Applies the keys, as a sample does first.
     #[tactic(auto, using(crate::proofs::Quiet::keys_idle), unfolding(crate::specs::Keys::after_keys))]
     #[inline(always)]
     fn take_keys(&mut self, ram: &[u8])
@@ -285,7 +285,7 @@ impl Voices {
         }
     }
 
-    /// The noise generator.
+    /// Moves the noise generator on.
     #[tactic(auto, unfolding(crate::specs::Noise::after_noise))]
     #[inline(always)]
     fn step_noise(&mut self, s: u64)
@@ -319,7 +319,7 @@ impl Voices {
             && self.pitch(v) == 0
     }
 
-    /// A voice at rest shows zeros.
+    /// Makes a voice at rest show zeros.
     #[inline(always)]
     fn rest(&mut self, v: usize)
         requires { v < 8 }
@@ -339,8 +339,8 @@ impl Voices {
         self.is_resting(v) && self.voices[v].envx == 0 && self.voices[v].outx == 0
     }
 
-    /// Whether no voice is written to KON, and all are at rest and show zeros: the sample is silent, and
-    /// leaves them as they are.
+    /// Whether no voice is written to KON, and all are at rest and show zeros. The sample is then silent, and leaves
+    /// them as they are.
     #[inline(always)]
     fn are_all_still(&self) -> bool
         ensures notes { IsTrue result → self.now.notes ≡ 0 }
@@ -354,7 +354,7 @@ impl Voices {
         self.notes == 0
     }
 
-    /// The turn of any voice, whatever it does.
+    /// Takes the turn of any voice, whatever it does.
     #[tactic(auto, unfolding(crate::specs::Sample::turn))]
     #[inline(always)]
     fn full_turn(
@@ -380,7 +380,7 @@ impl Voices {
         (sums, out)
     }
 
-    /// The turn of voice `v` in a sample: its output goes into the sums, and it goes on.
+    /// Takes the turn of voice `v` in a sample: adds its output to the sums, and moves it on.
     #[tactic(auto, using(crate::proofs::Quiet::turn_at_rest))]
     #[inline(always)]
     fn turn(
@@ -408,7 +408,7 @@ impl Voices {
         }
     }
 
-    /// Sample `s` of voices that do something.
+    /// Makes sample `s` when some voice does something.
     #[tactic(auto, using(crate::proofs::Steps::no_turn, crate::proofs::Steps::one_more_turn, crate::proofs::Steps::turn_of_same), unfolding(crate::specs::Sample::after_sample, crate::specs::Sample::sums_of, crate::specs::Sample::prepared))]
     #[inline(always)]
     fn play(&mut self, ram: &[u8], table: &Table, s: u64) -> Sums
@@ -426,7 +426,7 @@ impl Voices {
         sums
     }
 
-    /// Sample `s`: keys, noise, and then each voice's output, envelope and position.
+    /// Makes sample `s`: keys, noise, and then each voice's output, envelope and position. Returns the sums.
     pub fn sample(&mut self, ram: &[u8], table: &Table, s: u64) -> Sums
         requires { length ram.now ≡ 65536 }
         ensures after { self.new ≡ after_sample ram.now table.now s self.old }

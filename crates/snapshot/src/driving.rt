@@ -1,4 +1,4 @@
-// The serial run from where two machines stand to an end, in the form of the serial loop.
+// The serial run of two machines from where they are to an end, in the form of the serial loop.
 ghost use Rattle.std.specs.Prelude.{◌≡◌, ◌^◌, ◌≤◌, ℕ, List, [], length, OnOk, OnErr, IfErr};
 ghost use Rattle.snes_defs.specs.declared.ports.Side.{Side};
 ghost use Rattle.side_law.specs.Serial.{serial_of};
@@ -12,9 +12,9 @@ use serial_console::Serial;
 use side_law::Machine;
 use snes_defs::Side;
 
-/// Steps two machines until both stamps are at least `end`, and hands the sink what they emit, the bytes of one step
-/// at a time, in the order in which the serial console emits them. Err names the side of which the sink failed to take
-/// some.
+/// Steps two machines until both stamps are at least `end`, and passes the sink what they emit. The sink gets the
+/// bytes of one step at a time, in the order in which the serial console emits them. Err names the side of which the
+/// sink failed to take some.
 pub fn drive<C: Machine, S: Machine, K: Sink>(
     serial: &mut Serial<C, S>,
     end: u64,
@@ -46,7 +46,7 @@ pub fn drive<C: Machine, S: Machine, K: Sink>(
     while !serial.is_over(end) {
         video_at = serial.console_leads(end, video_at);
         audio_at = serial.sound_leads(end, audio_at);
-        // Of two bytes that wait the one that a serial console emits first, ties to the console.
+        // Of two pending bytes, the one that a serial console emits first; the console wins ties.
         if video_at <= audio_at {
             let Ok(()) = pour(serial.console(), Side::Console, buffer, sink) else {
                 return Err(Side::Console);

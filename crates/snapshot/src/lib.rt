@@ -1,12 +1,13 @@
-//! Moments of a run that are kept in slots and gone back to.
+//! Save states of a run: moments that are kept in slots and gone back to.
 //!
-//! Stands on the two machines and on the serial console. A `Rewind` is on a path, the spans that its console has played
-//! since the start of its job, and its machines stand where the serial run of that path's job ends (`specs/Path.antt`,
-//! `specs/Positions.antt`): however it went back, what a span hands out is what the run of the longer path has beyond that
-//! of the shorter one. That a script which goes on leaves the run so far as it was is `proofs/Runs.antt`.
+//! Builds on the two machines and on the serial console. A `Rewind` is on a path: the spans that its console has
+//! played since the start of its job. Its machines are where the serial run of that path's job ends
+//! (`specs/Path.antt`, `specs/Positions.antt`). However it went back, a span emits exactly what the run of the longer
+//! path has beyond that of the shorter one. `proofs/Runs.antt` shows that a longer script leaves the run so far as it
+//! was.
 //!
-//! A caller begins a span, makes its steps and takes their bytes until both stamps have come to the end, and keeps or
-//! goes back only there. `docs/use/REWIND.md` has the rules. Only `Rewind::new` takes memory.
+//! A caller begins a span, then steps and takes the bytes until both stamps have reached the end. It keeps or goes
+//! back only there. `docs/use/REWIND.md` has the rules. Only `Rewind::new` allocates.
 #![tactic(auto)]
 
 mod driving;

@@ -10,7 +10,7 @@ use input_files::PlanStep;
 use snes_defs::{Job, NoMemory};
 use std::alloc::Global;
 
-/// How many goes a plan has.
+/// The number of goes in a plan.
 pub fn count_goes(steps: &[PlanStep]) -> usize
     ensures { result ≡ goes_of steps.now }
 {
@@ -25,7 +25,7 @@ pub fn count_goes(steps: &[PlanStep]) -> usize
     count
 }
 
-/// How many slots there are up to the highest that a plan names.
+/// The number of slots up to the highest that a plan names.
 pub fn count_slots(steps: &[PlanStep]) -> usize
     ensures { result ≡ slots_of steps.now }
 {
@@ -40,7 +40,7 @@ pub fn count_slots(steps: &[PlanStep]) -> usize
     count
 }
 
-/// So many runs of an Ntsc job at its start. Refused only for want of memory.
+/// Returns `spans` runs of an NTSC job at its start. Fails only if allocation fails.
 pub fn first_runs(
     alloc: Global,
     job: &Job,

@@ -23,7 +23,7 @@ use std::alloc::Global;
 mod going;
 mod playing;
 
-/// A console and a sound side on a path, and the moments that are kept in slots.
+/// A console and a sound side on a path, and their save states in slots.
 #[derive(Drop)]
 pub struct Rewind {
     run: Run,
@@ -31,8 +31,10 @@ pub struct Rewind {
 }
 
 impl Rewind {
-    /// The machines of an Ntsc job with an empty script, at its start, and the slots of a plan, which hold the start too.
-    /// It takes all memory that the plan needs, and refuses only for want of it.
+    /// Returns the machines of an NTSC job with an empty script, at its start, and the slots of a plan, which hold
+    /// the start too.
+    ///
+    /// Allocates all memory that the plan needs, and fails only if allocation fails.
     pub fn new(alloc: Global, job: &Job, plan: &Plan) -> Result<Rewind, NoMemory>
         requires script { job.now.script ≡ path_script job.now.script.room [] }
         requires region { job.now.region ≡ Ntsc }
@@ -47,22 +49,22 @@ impl Rewind {
         Ok(Rewind { run, slots })
     }
 
-    /// How many slots there are.
+    /// The number of slots.
     pub fn slots(&self) -> usize
         ensures { result ≡ slot_count self.now }
     {
         self.slots.len()
     }
 
-    /// By how many stamps the machines were stepped since `new`, both together. It stops at its highest number.
+    /// The stamps by which the two machines were stepped since `new`, added up. It stays at its highest number.
     pub fn stepped(&self) -> u64
         ensures { result ≡ stepped_of self.now }
     {
         self.run.stepped()
     }
 
-    /// Puts a span at the end of the path, and sets out on it. The machines stay, but for the console's script and the
-    /// pads that it gives. No memory is taken.
+    /// Puts a span at the end of the path, and starts to play it. The machines stay, except for the console's script
+    /// and the pads that it gives. Nothing is allocated.
     pub fn begin(&mut self, span: Span)
         requires rested { (job : Job) × (n : ℕ) × (paths : Paths) × IsRested job n paths self.old × (length paths.path < n) × (frames_of paths.path + span.count ≤ 36000) }
         ensures going { (job : Job) (n : ℕ) (paths : Paths) → IsRested job n paths self.old → IsGoing job n (gone paths span) paths.path [] [] self.new }
@@ -75,8 +77,8 @@ impl Rewind {
         self.run.play(span);
     }
 
-    /// Makes one step of the earlier side, ties to the console, and answers that side; none exactly where both stamps
-    /// have come to the end of the path.
+    /// Takes one step of the earlier side, and returns that side; the console wins ties. Returns none if and only if
+    /// both stamps have reached the end of the path.
     pub fn turn(&mut self) -> Option<Side>
         requires going { (job : Job) × (n : ℕ) × (paths : Paths) × (before : List Span) × (video : List ℕ) × (audio : List ℕ) × IsGoing job n paths before video audio self.old }
         requires console_room { length (video_waiting self.old) + 1024 ≤ 65536 }
@@ -97,7 +99,7 @@ impl Rewind {
         Some(self.run.turn())
     }
 
-    /// Stores the path and its machines in a slot. No memory is taken.
+    /// Stores the path and its machines in a slot. Nothing is allocated.
     pub fn keep(&mut self, slot: u8)
         requires rested { (job : Job) × (n : ℕ) × (paths : Paths) × IsRested job n paths self.old }
         requires slot { slot < slot_count self.old }
@@ -108,7 +110,7 @@ impl Rewind {
         copy_run(&self.run, &mut self.slots[slot as usize]);
     }
 
-    /// Makes the path that a slot holds the path, with its machines. No memory is taken.
+    /// Replaces the path and its machines by those that a slot holds. Nothing is allocated.
     pub fn back(&mut self, slot: u8)
         requires rested { (job : Job) × (n : ℕ) × (paths : Paths) × IsRested job n paths self.old }
         requires slot { slot < slot_count self.old }

@@ -5,7 +5,7 @@ ghost use Rattle.snes_defs.specs.declared.script.Span.{Span};
 ghost use Rattle.snes_defs.specs.Script.{frames_of};
 ghost use Rattle.snapshot.specs.Path.{PathEmits};
 
-/// What the run of a path's job emits is the same for whatever number of spans its script has memory.
+/// States that what the run of a path's job emits is the same for whatever number of spans its script has memory.
 pub fn room_is_not_seen()
     ensures { (job : Job) (n m : ℕ) (path : List Span) (video audio : List ℕ) → frames_of path ≤ 36000 → PathEmits job n path video audio → PathEmits job m path video audio }
 {}

@@ -1,5 +1,5 @@
 // The machines of a path: how they are stepped and copied. Nothing else steps or copies them, so the count of a run
-// tells how far its machines were stepped.
+// shows how far its machines were stepped.
 ghost use Rattle.std.specs.Prelude.{◌≡◌, ◌+◌, ◌*◌, ◌^◌, ◌<◌, ◌≤◌, ◌++◌, ◌↔◌, ℕ, List, [], length, max, min, take, drop, IsTrue, IfOk, IfErr, OnOk, OnErr};
 ghost use Rattle.snes_defs.specs.declared.ports.Side.{Side};
 ghost use Rattle.snes_defs.specs.declared.region.Region.TheVariants.{Ntsc};
@@ -35,12 +35,13 @@ use std::alloc::Global;
 pub struct Run {
     serial: Serial<ConsoleSide, AudioSide>,
     end: u64,
-    /// By how many stamps each machine was stepped since it was made, both together. It stops at its highest number.
+    /// The stamps by which the two machines were stepped since they were made, added up. It stays at its highest
+    /// number.
     stepped: u64,
 }
 
-/// The machines of an Ntsc job at their start, with an empty path and memory for so many spans. Refused only for want
-/// of memory.
+/// Returns the machines of an NTSC job at their start, with an empty path and memory for `spans` spans. Fails only if
+/// allocation fails.
 pub fn first_run(alloc: Global, job: &Job, spans: usize) -> Result<Run, NoMemory>
     requires script { job.now.script ≡ path_script job.now.script.room [] }
     requires region { job.now.region ≡ Ntsc }
@@ -57,8 +58,8 @@ pub fn first_run(alloc: Global, job: &Job, spans: usize) -> Result<Run, NoMemory
     })
 }
 
-/// Makes the other run the same one: both machines, the bytes between them, and the end. Its count stays. No memory is
-/// taken.
+/// Copies a run over another one: both machines, the bytes between them, and the end. The other's count stays.
+/// Nothing is allocated.
 pub fn copy_run(from: &Run, into: &mut Run)
     requires { CanCopy from.now into.old }
     ensures { into.new ≡ copy_of from.now into.old.serial.console.rest.script.room into.old.stepped }
@@ -72,7 +73,7 @@ pub fn copy_run(from: &Run, into: &mut Run)
 }
 
 impl Run {
-    /// By how many stamps the machines were stepped.
+    /// The stamps by which the two machines were stepped, added up.
     pub fn stepped(&self) -> u64
         ensures { result ≡ self.now.stepped }
     {
@@ -88,7 +89,7 @@ impl Run {
         (console.stamp(), sound.stamp())
     }
 
-    /// Counts the steps since both machines stood at these stamps.
+    /// Counts the steps taken since both machines were at these stamps.
     fn count_from(&mut self, console: u64, sound: u64)
         ensures { self.new ≡ record self.old { stepped = counted self.old.stepped (rise_from console sound self.old.serial.console.stamp (stamp_now self.old.serial.sound.clock)) } }
     {
@@ -99,7 +100,7 @@ impl Run {
             .saturating_add(later_sound.saturating_sub(sound));
     }
 
-    /// Puts a span at the end of the path. No memory is taken.
+    /// Puts a span at the end of the path. Nothing is allocated.
     pub fn play(&mut self, span: Span)
         requires room { length self.old.serial.console.rest.script.spans < self.old.serial.console.rest.script.room }
         requires frames { frames_of self.old.serial.console.rest.script.spans + span.count ≤ 36000 }
@@ -111,7 +112,7 @@ impl Run {
         self.end += FRAME_STAMPS * span.count as u64;
     }
 
-    /// Whether both stamps have come to the end of the path.
+    /// Whether both stamps have reached the end of the path.
     pub fn finished(&self) -> bool
         ensures stamps { IsTrue result ↔ ((self.now.end ≤ self.now.serial.console.stamp) × (self.now.end ≤ stamp_now self.now.serial.sound.clock)) }
         ensures past { (w : SerialState ConsoleState SoundState) → IsAt console_side.StandsAt sound_side.StandsAt self.now.serial w → IsTrue result ↔ IsPast console_moves sound_moves self.now.end w }
@@ -119,14 +120,14 @@ impl Run {
         self.serial.finished(self.end)
     }
 
-    /// Whether both stamps have come to the end of the path and no byte waits.
+    /// Whether both stamps have reached the end of the path and no byte is pending.
     pub fn is_over(&self) -> bool
         ensures { IsTrue result ↔ ((self.now.end ≤ self.now.serial.console.stamp) × (self.now.end ≤ stamp_now self.now.serial.sound.clock) × (length self.now.serial.console.waiting ≡ 0) × (length self.now.serial.sound.waiting ≡ 0)) }
     {
         self.serial.is_over(self.end)
     }
 
-    /// Makes one step of the earlier side, ties to the console, and answers that side.
+    /// Takes one step of the earlier side, and returns that side; the console wins ties.
     pub fn turn(&mut self) -> Side
         requires console_room { length self.old.serial.console.waiting + 1024 ≤ 65536 }
         requires sound_room { length self.old.serial.sound.waiting + 4 ≤ 4096 }
@@ -146,7 +147,7 @@ impl Run {
         side
     }
 
-    /// Moves out the first of the bytes that wait in the console, as many as wait or fit, and answers how many.
+    /// Moves out the first of the console's pending bytes, as many as are pending or fit, and returns how many.
     pub fn drain_video(&mut self, into: &mut [u8]) -> usize
         ensures count { result ≡ min (length self.old.serial.console.waiting) (length into.old) }
         ensures moved { into.new ≡ take result self.old.serial.console.waiting ++ drop result into.old }
@@ -157,7 +158,7 @@ impl Run {
         self.serial.console().drain(into)
     }
 
-    /// Moves out the first of the bytes that wait in the sound side, as many as wait or fit, and answers how many.
+    /// Moves out the first of the sound side's pending bytes, as many as are pending or fit, and returns how many.
     pub fn drain_audio(&mut self, into: &mut [u8]) -> usize
         ensures count { result ≡ min (length self.old.serial.sound.waiting) (length into.old) }
         ensures moved { into.new ≡ take result self.old.serial.sound.waiting ++ drop result into.old }
@@ -168,7 +169,7 @@ impl Run {
         self.serial.sound().drain(into)
     }
 
-    /// Makes all steps to the end of the path, and hands the sink what they emit (`drive`).
+    /// Takes all steps to the end of the path, and passes the sink what they emit (`drive`).
     pub fn go_on<K: Sink>(&mut self, buffer: &mut [u8], sink: &mut K) -> Result<(), Side>
         requires early { self.old.end ≤ 2 ^ 62 }
         requires fits { 1024 ≤ length buffer.old }

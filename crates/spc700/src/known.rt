@@ -1,5 +1,5 @@
-// For a caller that knows the place in the instruction's order: where the next access goes, and what it makes of the
-// processor. Built into that caller, each is that place's transition alone.
+// Calls for a caller that knows the place of the next access in the instruction's order. They return the address of
+// that access, and move the processor past it. Inlined into that caller, each is that place's transition alone.
 ghost use Rattle.std.specs.Prelude.{◌≡◌};
 ghost use Rattle.spc_modes.specs.declared.place.Place.TheVariants.{Between, FirstByte, OperandHigh, DataCycle, Load, ChangeRead, WriteCycle, WriteLast, Cycles, BranchDistance, ReturnLow, ReturnHigh, PullFirstCycle, PullCycle, CallCycle, PushHigh, PushLow};
 
@@ -11,7 +11,7 @@ impl Spc {
     ghost use Rattle.spc_modes.specs.Addresses.{pulled, stack};
     ghost use Rattle.spc700.specs.Stands.{Advances};
 
-    /// The place in the instruction's order.
+    /// The place of the next access in the instruction's order.
     #[inline(always)]
     pub fn place(&self) -> Place
         ensures { result ≡ self.now.micro.place }
@@ -19,7 +19,7 @@ impl Spc {
         self.micro.place
     }
 
-    /// Where the program's next byte is fetched.
+    /// The address from which the program's next byte is fetched.
     #[inline(always)]
     pub fn counter(&self) -> u16
         ensures { result ≡ self.now.micro.here.pc }
@@ -43,7 +43,7 @@ impl Spc {
         self.micro.byte
     }
 
-    /// An opcode was fetched.
+    /// Moves past the opcode fetch, which got `byte`.
     #[inline(always)]
     pub fn took_opcode(&mut self, byte: u8)
         requires known { self.old.micro.place ≡ Between }
@@ -52,7 +52,7 @@ impl Spc {
         self.micro.took_opcode(byte);
     }
 
-    /// The first byte after an opcode was fetched.
+    /// Moves past the fetch of the first byte after an opcode, which got `byte`.
     #[inline(always)]
     pub fn took_first_byte(&mut self, byte: u8)
         requires known { self.old.micro.place ≡ FirstByte }
@@ -61,7 +61,7 @@ impl Spc {
         self.micro.took_first_byte(byte);
     }
 
-    /// The high byte of an operand was fetched.
+    /// Moves past the fetch of an operand's high byte, which got `byte`.
     #[inline(always)]
     pub fn took_operand_high(&mut self, byte: u8)
         requires known { self.old.micro.place ≡ OperandHigh }
@@ -70,7 +70,7 @@ impl Spc {
         self.micro.took_operand_high(byte);
     }
 
-    /// A branch's distance was fetched.
+    /// Moves past the fetch of a branch's distance, which got `byte`.
     #[inline(always)]
     pub fn took_distance(&mut self, is_taken: bool, byte: u8)
         requires known { self.old.micro.place ≡ BranchDistance is_taken }
@@ -79,7 +79,7 @@ impl Spc {
         self.micro.took_distance(is_taken, byte);
     }
 
-    /// A byte of data was read.
+    /// Moves past the read of a byte of data, which got `byte`.
     #[inline(always)]
     pub fn took_data(&mut self, byte: u8)
         requires known { self.old.micro.place ≡ Load }
@@ -88,7 +88,7 @@ impl Spc {
         self.micro.took_data(byte);
     }
 
-    /// A byte that is to be changed was read.
+    /// Moves past the read of a byte that is to be changed, which got `byte`.
     #[inline(always)]
     pub fn took_data_to_change(&mut self, byte: u8)
         requires known { self.old.micro.place ≡ ChangeRead }
@@ -97,7 +97,7 @@ impl Spc {
         self.micro.took_data_to_change(byte);
     }
 
-    /// The cycle before the data at an address was made.
+    /// Moves past the cycle before the data at an address.
     #[inline(always)]
     pub fn passed_data_cycle(&mut self)
         requires known { self.old.micro.place ≡ DataCycle }
@@ -106,7 +106,7 @@ impl Spc {
         self.micro.passed_data_cycle();
     }
 
-    /// The cycle before the last write was made.
+    /// Moves past the cycle before the last write.
     #[inline(always)]
     pub fn passed_write_cycle(&mut self)
         requires known { self.old.micro.place ≡ WriteCycle }
@@ -115,7 +115,7 @@ impl Spc {
         self.micro.passed_write_cycle();
     }
 
-    /// One of the last cycles was made.
+    /// Moves past one of the last cycles.
     #[inline(always)]
     pub fn passed_cycle(&mut self)
         requires known { self.old.micro.place ≡ Cycles }
@@ -124,7 +124,7 @@ impl Spc {
         self.micro.passed_cycle();
     }
 
-    /// The last write was made.
+    /// Moves past the last write.
     #[inline(always)]
     pub fn wrote_last(&mut self)
         requires known { self.old.micro.place ≡ WriteLast }
@@ -133,7 +133,7 @@ impl Spc {
         self.micro.wrote_last();
     }
 
-    /// Where a push writes.
+    /// The address that a push writes.
     #[inline(always)]
     pub fn push_place(&self) -> u16
         ensures { result ≡ stack self.now.micro.here }
@@ -141,7 +141,7 @@ impl Spc {
         stack_place(&self.micro.here)
     }
 
-    /// Where a pull reads.
+    /// The address that a pull reads.
     #[inline(always)]
     pub fn pull_place(&self) -> u16
         ensures { result ≡ stack (pulled self.now.micro.here) }
@@ -149,7 +149,7 @@ impl Spc {
         pull_place(&self.micro.here)
     }
 
-    /// The low byte of the address to return to was pulled.
+    /// Moves past the pull of the return address's low byte, which got `byte`.
     #[inline(always)]
     pub fn took_return_low(&mut self, byte: u8)
         requires known { self.old.micro.place ≡ ReturnLow }
@@ -158,7 +158,7 @@ impl Spc {
         self.micro.took_return_low(byte);
     }
 
-    /// Its high byte was pulled.
+    /// Moves past the pull of the return address's high byte, which got `byte`.
     #[inline(always)]
     pub fn took_return_high(&mut self, byte: u8)
         requires known { self.old.micro.place ≡ ReturnHigh }
@@ -167,7 +167,7 @@ impl Spc {
         self.micro.took_return_high(byte);
     }
 
-    /// The first cycle before a pull was made.
+    /// Moves past the first cycle before a pull.
     #[inline(always)]
     pub fn passed_pull_first_cycle(&mut self)
         requires known { self.old.micro.place ≡ PullFirstCycle }
@@ -176,7 +176,7 @@ impl Spc {
         self.micro.passed_pull_first_cycle();
     }
 
-    /// The second cycle before a pull was made.
+    /// Moves past the second cycle before a pull.
     #[inline(always)]
     pub fn passed_pull_cycle(&mut self)
         requires known { self.old.micro.place ≡ PullCycle }
@@ -185,7 +185,7 @@ impl Spc {
         self.micro.passed_pull_cycle();
     }
 
-    /// The cycle before the program counter is pushed was made.
+    /// Moves past the cycle before the program counter is pushed.
     #[inline(always)]
     pub fn passed_call_cycle(&mut self)
         requires known { self.old.micro.place ≡ CallCycle }
@@ -194,7 +194,7 @@ impl Spc {
         self.micro.passed_call_cycle();
     }
 
-    /// The high byte of the program counter was pushed.
+    /// Moves past the push of the program counter's high byte.
     #[inline(always)]
     pub fn wrote_counter_high(&mut self)
         requires known { self.old.micro.place ≡ PushHigh }
@@ -203,7 +203,7 @@ impl Spc {
         self.micro.wrote_counter_high();
     }
 
-    /// Its low byte was pushed.
+    /// Moves past the push of the program counter's low byte.
     #[inline(always)]
     pub fn wrote_counter_low(&mut self)
         requires known { self.old.micro.place ≡ PushLow }

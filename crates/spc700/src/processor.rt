@@ -38,7 +38,7 @@ impl Spc {
         })
     }
 
-    /// A processor before an opcode fetch, with some registers.
+    /// A processor before an opcode fetch, with these registers.
     pub fn at(regs: SpcRegs) -> Spc
         ensures { Stands result (between regs) }
     {
@@ -66,7 +66,7 @@ impl Spc {
         next(&self.micro)
     }
 
-    /// Whether the processor has halted: all that comes are internal cycles, which leave it as it is.
+    /// Whether the processor has halted: only internal cycles follow, which leave it as it is.
     #[tactic(auto, using(crate::proofs::Moves::halted_stays))]
     #[inline(always)]
     pub fn is_halted(&self) -> bool
@@ -79,7 +79,7 @@ impl Spc {
         }
     }
 
-    /// The next access got a byte.
+    /// Moves past the next access, which got `got`.
     #[inline(always)]
     fn advance_by(&mut self, got: u8)
         requires { IsTrue (gets_byte (access_of self.old)) }
@@ -88,7 +88,7 @@ impl Spc {
         self.micro.took(got);
     }
 
-    /// The next access was a write.
+    /// Moves past the next access, a write.
     #[inline(always)]
     fn advance_written(&mut self)
         requires { IsTrue (is_write (access_of self.old)) }
@@ -97,7 +97,7 @@ impl Spc {
         self.micro.wrote();
     }
 
-    /// The next access was an internal cycle.
+    /// Moves past the next access, an internal cycle.
     #[inline(always)]
     fn advance_idle(&mut self)
         requires { IsTrue (is_inner (access_of self.old)) }
@@ -106,7 +106,7 @@ impl Spc {
         self.micro.idle();
     }
 
-    /// The next access, a fetch or a read, got a byte.
+    /// Moves past the next access, a fetch or a read, which got `byte`.
     #[inline(always)]
     pub fn took(&mut self, byte: u8)
         requires { IsTrue (gets_byte (access_of self.old)) }
@@ -115,7 +115,7 @@ impl Spc {
         self.advance_by(byte);
     }
 
-    /// The next access, a write, was made.
+    /// Moves past the next access, a write.
     #[inline(always)]
     pub fn wrote(&mut self)
         requires { IsTrue (is_write (access_of self.old)) }
@@ -124,7 +124,7 @@ impl Spc {
         self.advance_written();
     }
 
-    /// The next access, an internal cycle, was made.
+    /// Moves past the next access, an internal cycle.
     #[inline(always)]
     pub fn idle(&mut self)
         requires { IsTrue (is_inner (access_of self.old)) }
@@ -133,8 +133,8 @@ impl Spc {
         self.advance_idle();
     }
 
-    /// The registers with which the next instruction begins, where the last one has ended: the processor
-    /// stands before an opcode fetch. Within an instruction there are none.
+    /// The registers with which the next instruction begins, if the last one has ended. The processor is then before
+    /// an opcode fetch. Within an instruction there are none.
     pub fn begins(&self) -> Option<SpcRegs>
         ensures now { result ≡ begins_with self.now }
         ensures standing { IfSome result (λ regs. Stands self.now (between regs)) }
@@ -145,8 +145,7 @@ impl Spc {
         }
     }
 
-    /// The registers at the start of the instruction in hand; where the last one has ended, those
-    /// after it.
+    /// The registers at the start of the present instruction, or after the last one if that has ended.
     #[inline(always)]
     pub fn regs(&self) -> SpcRegs
         ensures { (s : SpcState) → Stands self.now s → result ≡ registers_of s }

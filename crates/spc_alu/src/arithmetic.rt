@@ -42,7 +42,7 @@ fn has_quotient(regs: SpcRegs) -> bool
     (regs.y as u16) < 2 * regs.x as u16
 }
 
-/// The quotient of DIV, or what the divider leaves in its place.
+/// The quotient of DIV, or what the divider leaves instead.
 #[inline(always)]
 fn quotient_of(regs: SpcRegs) -> u8
     ensures { result ≡ quotient regs }
@@ -57,7 +57,7 @@ fn quotient_of(regs: SpcRegs) -> u8
     }
 }
 
-/// The remainder of DIV, or what the divider leaves in its place.
+/// The remainder of DIV, or what the divider leaves instead.
 #[inline(always)]
 fn remainder_of(regs: SpcRegs) -> u8
     ensures { result ≡ remainder regs }
@@ -159,7 +159,7 @@ pub fn adjusted_after_subtraction(regs: SpcRegs) -> SpcRegs
     a_loaded(flag_set(regs, CARRY, !borrows_high(regs)), a)
 }
 
-/// XCN: the digits of A change places.
+/// XCN: the two digits of A are exchanged.
 #[tactic(auto, unfolding(crate::specs::Arithmetic::exchange_digits))]
 #[inline(always)]
 pub fn digits_exchanged(regs: SpcRegs) -> SpcRegs

@@ -67,7 +67,7 @@ pub fn shifted_right(psw: u8, m: u8) -> Changed
     shifted(m / 2, m % 2 == 1, psw)
 }
 
-/// ROL: a turn to the left through the carry.
+/// ROL: a rotation to the left through the carry.
 #[tactic(auto, unfolding(crate::specs::Changes::rotate_left))]
 #[inline(always)]
 pub fn rotated_left(psw: u8, m: u8) -> Changed
@@ -78,7 +78,7 @@ pub fn rotated_left(psw: u8, m: u8) -> Changed
     shifted(value, m / 128 % 2 == 1, psw)
 }
 
-/// ROR: a turn to the right through the carry.
+/// ROR: a rotation to the right through the carry.
 #[tactic(auto, unfolding(crate::specs::Changes::rotate_right))]
 #[inline(always)]
 pub fn rotated_right(psw: u8, m: u8) -> Changed

@@ -50,7 +50,7 @@ pub fn is_taken_by(op: SpcOp, mode: SpcMode, a: u8, byte: u8) -> bool
     }
 }
 
-/// The place at a signed byte's distance from the program counter.
+/// The address at a signed byte's distance from the program counter.
 #[tactic(auto, unfolding(crate::specs::Flow::relative))]
 #[inline(always)]
 pub fn place_at(pc: u16, distance: u8) -> u16

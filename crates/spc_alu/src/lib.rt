@@ -1,9 +1,10 @@
 //! The results of the SPC700's operations: registers, flags and written bytes.
 //!
-//! The crate stands on `spc_tables` and `status_bits`. Each call is exact by the definition of its
-//! name in `specs/`: an operation between two operands, on a register and a byte that was read, a
-//! changed byte, a stored byte, a word, a bit, a branch's condition, or what happens inside the
-//! processor. All are total: an operation that a call isn't for changes nothing. What changes registers writes them in place, and each operation those alone that it changes.
+//! Builds on `spc_tables` and `status_bits`. Each call follows the definition of its name in `specs/` exactly. It is
+//! an operation between two operands, or on a register and a byte that was read. Or it is a changed byte, a stored
+//! byte, a word, a bit, a branch's condition, or what happens inside the processor. All are total: an operation that
+//! a call isn't for changes nothing. A call that changes registers writes in place only those that its operation
+//! changes.
 #![tactic(auto)]
 
 pub mod arithmetic;

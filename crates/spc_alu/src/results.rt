@@ -56,7 +56,7 @@ pub fn combine(op: SpcOp, psw: u8, first: u8, second: u8) -> Changed
     }
 }
 
-/// A takes a changed value.
+/// Puts a changed value into A.
 #[inline(always)]
 fn put_changed(regs: &mut SpcRegs, changed: Changed)
     ensures { regs.new ≡ with_a regs.old changed }
@@ -65,7 +65,7 @@ fn put_changed(regs: &mut SpcRegs, changed: Changed)
     regs.psw = changed.psw;
 }
 
-/// An operation between a register and a byte that was read.
+/// Applies an operation between a register and a byte that was read.
 #[tactic(auto, unfolding(crate::specs::Results::loaded))]
 #[inline(always)]
 pub fn load(regs: &mut SpcRegs, op: SpcOp, byte: u8)
@@ -84,7 +84,7 @@ pub fn load(regs: &mut SpcRegs, op: SpcOp, byte: u8)
     }
 }
 
-/// A byte that is changed, in memory or in A.
+/// Changes a byte, in memory or in A.
 #[tactic(auto, unfolding(crate::specs::Results::changed))]
 #[inline(always)]
 pub fn change(op: SpcOp, mode: SpcMode, psw: u8, byte: u8) -> Changed
@@ -103,7 +103,7 @@ pub fn change(op: SpcOp, mode: SpcMode, psw: u8, byte: u8) -> Changed
     }
 }
 
-/// A byte that TSET1 or TCLR1 changes by the bits of A.
+/// Changes a byte by the bits of A, as TSET1 and TCLR1 do.
 #[tactic(auto, unfolding(crate::specs::Results::changed_by_a))]
 #[inline(always)]
 pub fn change_by_a(op: SpcOp, regs: SpcRegs, byte: u8) -> Changed
@@ -134,7 +134,7 @@ pub fn stored_byte(op: SpcOp, regs: SpcRegs) -> u8
     }
 }
 
-/// The registers after a byte was pulled into one of them.
+/// Puts a byte that was pulled into one of the registers.
 #[tactic(auto, unfolding(crate::specs::Results::popped))]
 #[inline(always)]
 pub fn pop(regs: &mut SpcRegs, op: SpcOp, byte: u8)
@@ -149,7 +149,7 @@ pub fn pop(regs: &mut SpcRegs, op: SpcOp, byte: u8)
     }
 }
 
-/// An operation between YA and a word that was read.
+/// Applies an operation between YA and a word that was read.
 #[tactic(auto, unfolding(crate::specs::Results::word_loaded))]
 #[inline(always)]
 pub fn load_word(regs: &mut SpcRegs, op: SpcOp, word: u16)
@@ -189,7 +189,7 @@ fn change_a(regs: &mut SpcRegs, op: SpcOp, mode: SpcMode)
     put_changed(regs, changed);
 }
 
-/// What happens inside the processor, in registers and flags alone.
+/// Applies what happens inside the processor, in registers and flags alone.
 #[tactic(auto, unfolding(crate::specs::Results::internal))]
 #[inline(always)]
 pub fn inside(regs: &mut SpcRegs, op: SpcOp, mode: SpcMode)

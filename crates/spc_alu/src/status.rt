@@ -48,7 +48,7 @@ pub fn with_word_result(value: u16, psw: u8) -> u8
     )
 }
 
-/// A byte is loaded into A, and sets N and Z.
+/// Loads a byte into A, and sets N and Z by it.
 #[tactic(auto, unfolding(crate::specs::Status::load_a))]
 #[inline(always)]
 pub fn a_loaded(regs: SpcRegs, value: u8) -> SpcRegs
@@ -61,7 +61,7 @@ pub fn a_loaded(regs: SpcRegs, value: u8) -> SpcRegs
     }
 }
 
-/// The same in place.
+/// Loads a byte into A in place, and sets N and Z by it.
 #[tactic(auto, unfolding(crate::specs::Status::load_a))]
 #[inline(always)]
 pub fn put_a(regs: &mut SpcRegs, value: u8)
@@ -71,7 +71,7 @@ pub fn put_a(regs: &mut SpcRegs, value: u8)
     regs.psw = with_result(value, regs.psw);
 }
 
-/// A byte is loaded into X in place, and sets N and Z.
+/// Loads a byte into X in place, and sets N and Z by it.
 #[tactic(auto, unfolding(crate::specs::Status::load_x))]
 #[inline(always)]
 pub fn put_x(regs: &mut SpcRegs, value: u8)
@@ -81,7 +81,7 @@ pub fn put_x(regs: &mut SpcRegs, value: u8)
     regs.psw = with_result(value, regs.psw);
 }
 
-/// A byte is loaded into Y in place, and sets N and Z.
+/// Loads a byte into Y in place, and sets N and Z by it.
 #[tactic(auto, unfolding(crate::specs::Status::load_y))]
 #[inline(always)]
 pub fn put_y(regs: &mut SpcRegs, value: u8)
@@ -91,7 +91,7 @@ pub fn put_y(regs: &mut SpcRegs, value: u8)
     regs.psw = with_result(value, regs.psw);
 }
 
-/// A flag is put on or off in place.
+/// Sets or clears a flag in place.
 #[inline(always)]
 pub fn put_flag(regs: &mut SpcRegs, weight: u8, on: bool)
     requires { IsTrue (is_weight weight) }
@@ -100,7 +100,7 @@ pub fn put_flag(regs: &mut SpcRegs, weight: u8, on: bool)
     regs.psw = with_bit(regs.psw, weight, on);
 }
 
-/// A flag is put on or off.
+/// Sets or clears a flag.
 #[inline(always)]
 pub fn flag_set(regs: SpcRegs, weight: u8, on: bool) -> SpcRegs
     requires { IsTrue (is_weight weight) }

@@ -26,7 +26,7 @@ pub fn ya_of(regs: SpcRegs) -> u16
     regs.a as u16 + 256 * regs.y as u16
 }
 
-/// A word is put into Y and A.
+/// Puts a word into Y and A.
 #[inline(always)]
 pub fn with_ya(regs: SpcRegs, value: u16) -> SpcRegs
     ensures { result ≡ put_ya regs value }

@@ -18,8 +18,8 @@ pub enum Pushed {
     Status,
 }
 
-/// PUSH and POP of a register: the pull reads where the push wrote, and the register and the stack
-/// pointer are as they were, whatever the registers were meanwhile.
+/// States that POP of a register brings back what PUSH stored. The pull reads where the push wrote. The register and
+/// the stack pointer are as they were, whatever the registers were meanwhile.
 pub fn comes_back(which: Pushed, before: SpcRegs, inside: SpcRegs)
     requires { inside.sp ≡ (before.sp + 255) % 256 }
     ensures pushed { accesses_of before (push_opcode which ∷ 0 ∷ 0 ∷ 0 ∷ [])
@@ -31,6 +31,6 @@ pub fn comes_back(which: Pushed, before: SpcRegs, inside: SpcRegs)
     ensures after_pull { left_after inside (pull_opcode which ∷ 0 ∷ 0 ∷ byte_of which before ∷ [])
         ≡ ends (with_byte which (byte_of which before) (record inside { pc = (inside.pc + 1) % 65536; sp = before.sp })) }
 {
-    // The read tells the proof that the stack pointer is a byte.
+    // This read shows the proof that the stack pointer is a byte.
     let _pointer = before.sp;
 }

@@ -4,9 +4,9 @@ ghost use Rattle.spc_laws.specs.Accesses.{accesses_of, left_after};
 
 use spc_tables::{SpcAccess, SpcRegs};
 
-/// CALL pushes the address after it and goes on at its operand; a RET that finds the stack pointer as
-/// the call left it pulls that address from the same two places, and goes on there with the stack
-/// pointer as it was before the call, whatever the other registers are by then.
+/// States that RET returns to the instruction after its CALL. CALL pushes the address after it and continues at its
+/// operand. A RET that finds the stack pointer as the call left it pulls that address from the same two places. It
+/// continues there with the stack pointer as it was before the call, whatever the other registers are by then.
 pub fn call_and_return(before: SpcRegs, low: u8, high: u8, inside: SpcRegs)
     requires { inside.sp ≡ (before.sp + 254) % 256 }
     ensures pushed { let back = (before.pc + 3) % 65536 in
@@ -24,6 +24,6 @@ pub fn call_and_return(before: SpcRegs, low: u8, high: u8, inside: SpcRegs)
         left_after inside (0x6F ∷ 0 ∷ 0 ∷ (back % 256) ∷ (back / 256) ∷ [])
         ≡ ends (record inside { pc = back; sp = before.sp }) }
 {
-    // The read tells the proof that the stack pointer is a byte.
+    // This read shows the proof that the stack pointer is a byte.
     let _pointer = before.sp;
 }

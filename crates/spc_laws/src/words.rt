@@ -7,8 +7,8 @@ ghost use Rattle.spc_laws.specs.Accesses.{accesses_of, left_after};
 
 use spc_tables::{DIRECT_PAGE, SpcAccess, SpcRegs};
 
-/// MOVW to a place of the direct page and MOVW back from it: the load reads where the store wrote, with
-/// the same direct page, and YA is as it was stored, whatever the registers were meanwhile.
+/// States that MOVW loads from a place of the direct page the word that MOVW stored there. The load reads where the
+/// store wrote, with the same direct page. YA is as it was stored, whatever the registers were meanwhile.
 pub fn word_comes_back(before: SpcRegs, after: SpcRegs, offset: u8)
     requires { flag after.psw DIRECT_PAGE ≡ flag before.psw DIRECT_PAGE }
     ensures written { let at = direct before offset in
@@ -29,6 +29,6 @@ pub fn word_comes_back(before: SpcRegs, after: SpcRegs, offset: u8)
           psw = with_nz_word (before.a + 256 * before.y) after.psw;
         }) }
 {
-    // The read tells the proof that A is a byte.
+    // This read shows the proof that A is a byte.
     let _low = before.a;
 }

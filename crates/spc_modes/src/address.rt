@@ -21,7 +21,7 @@ pub fn join_bytes(low: u8, high: u8) -> u16
     low as u16 + 256 * high as u16
 }
 
-/// The place at an offset in the direct page; the offset wraps in the page.
+/// The address at an offset in the direct page; the offset wraps in the page.
 #[inline(always)]
 pub fn direct_place(regs: &SpcRegs, offset: u16) -> u16
     ensures { result ≡ direct regs.now offset }
@@ -34,7 +34,7 @@ pub fn direct_place(regs: &SpcRegs, offset: u16) -> u16
     page + offset % 256
 }
 
-/// The next place in the page.
+/// The next address in the same page, which wraps at the page's end.
 #[inline(always)]
 pub fn place_after_in_page(at: u16) -> u16
     ensures { result ≡ next_in_page at }
@@ -42,7 +42,7 @@ pub fn place_after_in_page(at: u16) -> u16
     at / 256 * 256 + ((at as u32 + 1) % 256) as u16
 }
 
-/// The next place in memory.
+/// The next address in memory.
 #[inline(always)]
 pub fn place_after(at: u16) -> u16
     ensures { result ≡ next_place at }
@@ -50,7 +50,7 @@ pub fn place_after(at: u16) -> u16
     ((at as u32 + 1) % 65536) as u16
 }
 
-/// A place with an index added.
+/// An address with an index added.
 #[inline(always)]
 pub fn indexed_place(at: u16, index: u8) -> u16
     ensures { result ≡ indexed at index }
@@ -58,7 +58,7 @@ pub fn indexed_place(at: u16, index: u8) -> u16
     ((at as u32 + index as u32) % 65536) as u16
 }
 
-/// Where a push writes.
+/// The address that a push writes.
 #[inline(always)]
 pub fn stack_place(regs: &SpcRegs) -> u16
     ensures { result ≡ stack regs.now }
@@ -66,7 +66,7 @@ pub fn stack_place(regs: &SpcRegs) -> u16
     256 + regs.sp as u16
 }
 
-/// Where a pull reads.
+/// The address that a pull reads.
 #[inline(always)]
 pub fn pull_place(regs: &SpcRegs) -> u16
     ensures { result ≡ stack (pulled regs.now) }

@@ -7,14 +7,14 @@ use crate::micro::Micro;
 use crate::place::Place;
 use spc_alu::{inside, load, load_word, pop, step_word, word_after_step};
 
-// The steps that have results are out of line, and each is the last thing that a transition does: so
-// the transitions keep nothing over a call, and stay small.
+// The steps that have results are out of line, and each is the last thing that a transition does. So the transitions
+// keep nothing over a call, and stay small.
 impl Micro {
     ghost use Rattle.spc_modes.specs.Orders.{idles_for, step_word_high, x_grown};
     ghost use Rattle.spc_modes.specs.Plan.{after, ends, idles};
     ghost use Rattle.spc_modes.specs.Remaining.{remaining};
 
-    /// A byte of the program was fetched.
+    /// Moves past the fetch of a byte of the program.
     #[inline(always)]
     pub(crate) fn pass_fetch(&mut self)
         ensures here { self.new ≡ record self.old { here = fetched self.old.here } }
@@ -22,7 +22,7 @@ impl Micro {
         self.here.pc = place_after(self.here.pc);
     }
 
-    /// A byte was pushed.
+    /// Moves past the push of a byte.
     #[inline(always)]
     pub(crate) fn pass_push(&mut self)
         ensures here { self.new ≡ record self.old { here = pushed self.old.here } }
@@ -30,7 +30,7 @@ impl Micro {
         self.here.sp = pushed_pointer(self.here.sp);
     }
 
-    /// A byte was pulled.
+    /// Moves past the pull of a byte.
     #[inline(always)]
     pub(crate) fn pass_pull(&mut self)
         ensures here { self.new ≡ record self.old { here = pulled self.old.here } }
@@ -38,7 +38,7 @@ impl Micro {
         self.here.sp = one_more(self.here.sp);
     }
 
-    /// The byte that an operation reads last is there.
+    /// Moves past the read of the byte that an operation reads last.
     #[inline(never)]
     pub(crate) fn pass_load(&mut self, byte: u8)
         ensures left { remaining self.new ≡ ends (loaded self.old.row.op self.old.here byte) }
@@ -48,7 +48,7 @@ impl Micro {
         self.place = Place::Between;
     }
 
-    /// `(X)+`: the byte was read, and X grows by 1.
+    /// `(X)+`: moves past the read of the byte, after which X grows by 1.
     #[inline(never)]
     pub(crate) fn pass_increment(&mut self, byte: u8)
         ensures left { remaining self.new ≡ idles (ends (x_grown (loaded self.old.row.op self.old.here byte))) }
@@ -60,7 +60,7 @@ impl Micro {
         self.place = Place::Cycles;
     }
 
-    /// A word's high byte was read.
+    /// Moves past the read of a word's high byte.
     #[inline(never)]
     pub(crate) fn pass_word(&mut self, high: u8)
         ensures left { remaining self.new ≡ ends (word_loaded self.old.row.op self.old.here (join self.old.byte high)) }
@@ -70,7 +70,7 @@ impl Micro {
         self.place = Place::Between;
     }
 
-    /// INCW and DECW: the high byte was read.
+    /// INCW and DECW: moves past the read of the high byte.
     #[inline(never)]
     pub(crate) fn pass_word_step(&mut self, high: u8)
         ensures left { remaining self.new ≡ after (step_word_high self.old.row self.old.here self.old.base self.old.byte) high }
@@ -82,7 +82,7 @@ impl Micro {
         self.place = Place::WriteLast;
     }
 
-    /// A register's byte was pulled.
+    /// Moves past the pull of a register's byte.
     #[inline(never)]
     pub(crate) fn pass_pop(&mut self, byte: u8)
         ensures left { remaining self.new ≡ ends (popped self.old.row.op (pulled self.old.here) byte) }
@@ -93,7 +93,7 @@ impl Micro {
         self.place = Place::Between;
     }
 
-    /// What happens inside the processor, before its cycles.
+    /// Does what happens inside the processor, before its cycles.
     #[inline(always)]
     pub(crate) fn pass_inside(&mut self, cycles: u8)
         ensures left { remaining self.new ≡ idles_for cycles (ends (internal self.old.row.op self.old.row.mode self.old.here)) }

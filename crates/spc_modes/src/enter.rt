@@ -8,7 +8,7 @@ use crate::uses::{Use, use_of};
 use spc_alu::{counted_down, is_taken, stored_byte};
 use spc_tables::SpcMode;
 
-/// Where the target of a call by a vector stands in memory.
+/// The address in memory of the target of a call by a vector.
 #[inline(always)]
 fn vector_place(mode: SpcMode) -> u16
     ensures { result ≡ vector mode }
@@ -23,7 +23,7 @@ impl Micro {
     ghost use Rattle.spc_modes.specs.Orders.{by_mode, order, order_by};
     ghost use Rattle.spc_modes.specs.Remaining.{remaining};
 
-    /// An operation with operands begins.
+    /// Begins the accesses of an operation with operands.
     #[inline(always)]
     pub(crate) fn enter_mode(&mut self)
         ensures left { remaining self.new ≡ by_mode self.old.row.mode self.old.row self.old.here }
@@ -51,7 +51,7 @@ impl Micro {
         }
     }
 
-    /// The row's accesses after the opcode begin.
+    /// Begins the row's accesses after the opcode.
     #[inline(always)]
     pub fn enter(&mut self)
         ensures left { remaining self.new ≡ order self.old.row self.old.here }

@@ -8,7 +8,7 @@ impl Micro {
     ghost use Rattle.spc_modes.specs.Plan.{after, first_access, is_inner};
     ghost use Rattle.spc_modes.specs.Remaining.{ahead, remaining, start_of};
 
-    /// The cycle before the data at an address was made.
+    /// Moves past the cycle before the data at an address.
     #[inline(always)]
     pub fn passed_data_cycle(&mut self)
         requires known { self.old.place ≡ DataCycle }
@@ -18,7 +18,7 @@ impl Micro {
         self.reach_data(self.base);
     }
 
-    /// The cycle before the last write was made.
+    /// Moves past the cycle before the last write.
     #[inline(always)]
     pub fn passed_write_cycle(&mut self)
         requires known { self.old.place ≡ WriteCycle }
@@ -28,7 +28,7 @@ impl Micro {
         self.place = Place::WriteLast;
     }
 
-    /// One of the last cycles was made.
+    /// Moves past one of the last cycles.
     #[inline(always)]
     pub fn passed_cycle(&mut self)
         requires known { self.old.place ≡ Cycles }
@@ -38,7 +38,7 @@ impl Micro {
         self.end_after(self.byte);
     }
 
-    /// The first cycle before a pull was made.
+    /// Moves past the first cycle before a pull.
     #[inline(always)]
     pub fn passed_pull_first_cycle(&mut self)
         requires known { self.old.place ≡ PullFirstCycle }
@@ -48,7 +48,7 @@ impl Micro {
         self.place = Place::PullCycle;
     }
 
-    /// The second cycle before a pull was made.
+    /// Moves past the second cycle before a pull.
     #[inline(always)]
     pub fn passed_pull_cycle(&mut self)
         requires known { self.old.place ≡ PullCycle }
@@ -58,7 +58,7 @@ impl Micro {
         self.reach_pulls();
     }
 
-    /// The cycle before the program counter is pushed was made.
+    /// Moves past the cycle before the program counter is pushed.
     #[inline(always)]
     pub fn passed_call_cycle(&mut self)
         requires known { self.old.place ≡ CallCycle }
@@ -68,7 +68,7 @@ impl Micro {
         self.place = Place::PushHigh;
     }
 
-    /// The next access, an internal cycle, was made.
+    /// Moves past the next access, an internal cycle.
     #[inline(always)]
     pub fn idle(&mut self)
         requires { IsTrue (is_inner (first_access (ahead (remaining self.old)))) }

@@ -1,10 +1,9 @@
 //! The order of accesses of each SPC700 instruction.
 //!
-//! The crate stands on `spc_alu` (results) and `spc_tables` (rows). `Micro` is an instruction in the
-//! middle of its accesses. `specs/Orders.antt` has each instruction's accesses as a tree, which reads
-//! like a table of cycles; `next` and `took`, `wrote` and `idle` of `Micro` are exact by it: the access
-//! that comes next, and what is left after it. A micro-state forgets the accesses that were made; `specs/Remaining.antt` says
-//! what it leaves to do.
+//! Builds on `spc_alu` (results) and `spc_tables` (rows). `Micro` is an instruction in the middle of its accesses.
+//! `specs/Orders.antt` has each instruction's accesses as a tree, which reads like a table of cycles. `next` and
+//! `took`, `wrote` and `idle` of `Micro` follow it exactly: the access that comes next, and what is left after it. A
+//! micro-state forgets the accesses that were made; `specs/Remaining.antt` says what it leaves to do.
 #![tactic(auto)]
 
 pub mod address;

@@ -8,7 +8,7 @@ pub struct Micro {
     pub start: SpcRegs,
     /// The registers as the accesses so far left them.
     pub here: SpcRegs,
-    /// What the instruction is.
+    /// The instruction's row: what it is.
     pub row: SpcRow,
     /// The next access.
     pub place: Place,

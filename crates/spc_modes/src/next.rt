@@ -8,7 +8,7 @@ use crate::place::Place;
 use spc_alu::low_after_step;
 use spc_tables::SpcAccess;
 
-/// The next access of an instruction; where it has ended, the opcode fetch of the next one.
+/// The next access of an instruction, or the opcode fetch of the next one if it has ended.
 #[inline(always)]
 pub fn next(m: &Micro) -> SpcAccess
     ensures { result ≡ first_access (ahead (remaining m.now)) }

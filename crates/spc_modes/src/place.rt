@@ -58,7 +58,7 @@ pub enum Place {
     WriteCycle,
     /// The last write, which ends the instruction.
     WriteLast,
-    /// The last cycles, one and as many as the kept byte says.
+    /// The last internal cycles: one, and as many more as the kept byte says.
     Cycles,
     /// `d,#`: the fetch of the offset.
     ImmediatePairOffset,
@@ -72,7 +72,7 @@ pub enum Place {
     IndirectPairSource,
     /// The read of the place that takes the result.
     PairRead,
-    /// DBNZ Y: the first cycle. Whether the branch will be taken.
+    /// DBNZ Y: the first cycle, with whether the branch will be taken.
     BranchFirstCycle(bool),
     /// The cycle before a branch's distance.
     BranchCycle(bool),
@@ -80,7 +80,7 @@ pub enum Place {
     BranchDistance(bool),
     /// CBNE `d+X`: the cycle before the read.
     TestCycle,
-    /// The read of the byte that a branch is taken by.
+    /// The read of the byte that decides a branch.
     TestRead,
     /// DBNZ: the write of the count.
     CountWrite(bool),
@@ -98,7 +98,7 @@ pub enum Place {
     ReturnStatus,
     /// The pull of the program counter's low byte.
     ReturnLow,
-    /// The pull of its high byte.
+    /// The pull of the program counter's high byte.
     ReturnHigh,
     /// TCALL: the first cycle.
     CallFirstCycle,
@@ -106,7 +106,7 @@ pub enum Place {
     CallCycle,
     /// The push of the program counter's high byte.
     PushHigh,
-    /// The push of its low byte.
+    /// The push of the program counter's low byte.
     PushLow,
     /// BRK: the push of PSW.
     BreakStatus,
@@ -114,8 +114,8 @@ pub enum Place {
     TargetCycle,
     /// The read of a target's low byte.
     TargetLow,
-    /// The read of its high byte.
+    /// The read of a target's high byte.
     TargetHigh,
-    /// SLEEP and STOP: a cycle of standing still.
+    /// SLEEP and STOP: a cycle of a halted processor.
     Halted,
 }

@@ -11,7 +11,7 @@ impl Micro {
     ghost use Rattle.spc_modes.specs.Plan.{after, first_access, gets_byte};
     ghost use Rattle.spc_modes.specs.Remaining.{ahead, remaining, start_of};
 
-    /// An opcode was fetched.
+    /// Moves past the opcode fetch, which got `got`.
     #[inline(always)]
     pub fn took_opcode(&mut self, got: u8)
         requires known { self.old.place ≡ Between }
@@ -28,7 +28,7 @@ impl Micro {
         }
     }
 
-    /// The first byte after an opcode was fetched.
+    /// Moves past the fetch of the first byte after an opcode, which got `got`.
     #[inline(always)]
     pub fn took_first_byte(&mut self, got: u8)
         requires known { self.old.place ≡ FirstByte }
@@ -39,7 +39,7 @@ impl Micro {
         self.pass_first(got);
     }
 
-    /// The high byte of an operand was fetched.
+    /// Moves past the fetch of an operand's high byte, which got `got`.
     #[inline(always)]
     pub fn took_operand_high(&mut self, got: u8)
         requires known { self.old.place ≡ OperandHigh }
@@ -50,7 +50,7 @@ impl Micro {
         self.pass_operand(join_bytes(self.byte, got));
     }
 
-    /// A branch's distance was fetched.
+    /// Moves past the fetch of a branch's distance, which got `got`.
     #[inline(always)]
     pub fn took_distance(&mut self, is_taken: bool, got: u8)
         requires known { self.old.place ≡ BranchDistance is_taken }
@@ -61,7 +61,7 @@ impl Micro {
         self.pass_distance(is_taken, got);
     }
 
-    /// A byte of data was read.
+    /// Moves past the read of a byte of data, which got `got`.
     #[inline(always)]
     pub fn took_data(&mut self, got: u8)
         requires known { self.old.place ≡ Load }
@@ -71,7 +71,7 @@ impl Micro {
         self.pass_load(got);
     }
 
-    /// A byte that is to be changed was read.
+    /// Moves past the read of a byte that is to be changed, which got `got`.
     #[inline(always)]
     pub fn took_data_to_change(&mut self, got: u8)
         requires known { self.old.place ≡ ChangeRead }
@@ -81,7 +81,7 @@ impl Micro {
         self.pass_change(got);
     }
 
-    /// The low byte of the address to return to was pulled.
+    /// Moves past the pull of the return address's low byte, which got `got`.
     #[inline(always)]
     pub fn took_return_low(&mut self, got: u8)
         requires known { self.old.place ≡ ReturnLow }
@@ -93,7 +93,7 @@ impl Micro {
         self.place = Place::ReturnHigh;
     }
 
-    /// Its high byte was pulled.
+    /// Moves past the pull of the return address's high byte, which got `got`.
     #[inline(always)]
     pub fn took_return_high(&mut self, got: u8)
         requires known { self.old.place ≡ ReturnHigh }
@@ -105,7 +105,7 @@ impl Micro {
         self.place = Place::Between;
     }
 
-    /// The next access, a fetch or a read, got a byte.
+    /// Moves past the next access, a fetch or a read, which got `got`.
     #[inline(always)]
     pub fn took(&mut self, got: u8)
         requires { IsTrue (gets_byte (first_access (ahead (remaining self.old)))) }

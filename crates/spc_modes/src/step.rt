@@ -36,7 +36,7 @@ impl Micro {
     ghost use Rattle.spc_modes.specs.Remaining.{remaining};
     ghost use Rattle.spc_modes.specs.Uses.{use_of};
 
-    /// Some internal cycles are left, and then the instruction ends.
+    /// Leaves this many internal cycles, after which the instruction ends.
     #[inline(always)]
     #[tactic(auto, using(crate::proofs::Cycles::idles_for_less))]
     pub(crate) fn end_after(&mut self, cycles: u8)
@@ -51,7 +51,7 @@ impl Micro {
         }
     }
 
-    /// A changed byte is written back at once.
+    /// Leaves the write of a changed byte, with no cycle before it.
     #[inline(always)]
     fn write_back(&mut self, changed: Changed)
         ensures left { remaining self.new ≡ written_back self.old.here self.old.base changed }
@@ -62,7 +62,7 @@ impl Micro {
         self.place = Place::WriteLast;
     }
 
-    /// The byte that is changed was read.
+    /// Moves past the read of the byte that is changed.
     #[inline(never)]
     pub(crate) fn pass_change(&mut self, byte: u8)
         ensures left { remaining self.new ≡ written_back self.old.here self.old.base (changed self.old.row.op self.old.row.mode self.old.here.psw byte) }
@@ -72,7 +72,7 @@ impl Micro {
         self.write_back(changed);
     }
 
-    /// The byte that is changed by the bits of A was read.
+    /// Moves past the read of the byte that is changed by the bits of A.
     #[inline(never)]
     pub(crate) fn pass_change_by_a(&mut self, byte: u8)
         ensures left { remaining self.new ≡ written_back_slowly self.old.here self.old.base (changed_by_a self.old.row.op self.old.here byte) }
@@ -84,7 +84,7 @@ impl Micro {
         self.place = Place::WriteCycle;
     }
 
-    /// The data is next, at an address.
+    /// Moves to the data at an address.
     #[inline(always)]
     pub(crate) fn reach_data(&mut self, at: u16)
         ensures left { remaining self.new ≡ data_at self.old.row self.old.here at }
@@ -108,7 +108,7 @@ impl Micro {
         }
     }
 
-    /// The byte of a bit was read.
+    /// Moves past the read of the byte that holds a bit.
     #[inline(never)]
     pub(crate) fn pass_bit(&mut self, byte: u8)
         ensures left { remaining self.new ≡ bit_end (use_of self.old.row.op) self.old.row self.old.here self.old.base self.old.byte byte }
@@ -135,7 +135,7 @@ impl Micro {
         }
     }
 
-    /// A pointer's two bytes were read.
+    /// Moves past the reads of a pointer's two bytes.
     #[inline(always)]
     pub(crate) fn pass_pointer(&mut self, kind: PointerKind, word: u16)
         ensures left { remaining self.new ≡ after_pointer kind self.old.row self.old.here word }
@@ -150,7 +150,7 @@ impl Micro {
         }
     }
 
-    /// The data at X is next, and X grows by 1.
+    /// Moves to the data at X, which then grows by 1.
     #[inline(always)]
     pub(crate) fn reach_increment(&mut self)
         ensures left { remaining self.new ≡ increment_at (use_of self.old.row.op) self.old.row self.old.here self.old.base }
@@ -166,7 +166,7 @@ impl Micro {
         }
     }
 
-    /// Both operands in memory were read.
+    /// Moves past the reads of both operands in memory.
     #[inline(never)]
     pub(crate) fn pass_pair(&mut self, first: u8)
         ensures left { remaining self.new ≡ pair_end (use_of self.old.row.op) self.old.here self.old.base (combined self.old.row.op self.old.here.psw first self.old.byte) }
@@ -183,7 +183,7 @@ impl Micro {
         }
     }
 
-    /// `d,#`: the place that takes the result is next.
+    /// `d,#`: moves to the place that takes the result.
     #[inline(always)]
     pub(crate) fn reach_immediate_pair(&mut self, at: u16)
         ensures left { remaining self.new ≡ immediate_pair_at (use_of self.old.row.op) self.old.row self.old.here at self.old.byte }
@@ -196,7 +196,7 @@ impl Micro {
         }
     }
 
-    /// `d,d`: the place that takes the result is next.
+    /// `d,d`: moves to the place that takes the result.
     #[inline(always)]
     pub(crate) fn reach_direct_pair(&mut self, at: u16)
         ensures left { remaining self.new ≡ direct_pair_at (use_of self.old.row.op) self.old.row self.old.here at self.old.byte }
@@ -209,7 +209,7 @@ impl Micro {
         }
     }
 
-    /// A branch's distance was fetched.
+    /// Moves past the fetch of a branch's distance.
     #[inline(always)]
     pub(crate) fn pass_distance(&mut self, is_taken: bool, distance: u8)
         ensures left { remaining self.new ≡ branched is_taken self.old.here distance }
@@ -224,7 +224,7 @@ impl Micro {
         }
     }
 
-    /// The byte that a branch is taken by was read.
+    /// Moves past the read of the byte that decides a branch.
     #[inline(always)]
     pub(crate) fn pass_test(&mut self, byte: u8)
         ensures left { remaining self.new ≡ tested (use_of self.old.row.op) self.old.row self.old.here self.old.base byte }
@@ -240,7 +240,7 @@ impl Micro {
         }
     }
 
-    /// The program counter was pushed.
+    /// Moves past the pushes of the program counter.
     #[inline(always)]
     pub(crate) fn pass_pushes(&mut self)
         ensures left { remaining self.new ≡ after_pushes (use_of self.old.row.op) self.old.here self.old.base }
@@ -262,7 +262,7 @@ impl Micro {
         }
     }
 
-    /// What is pulled first.
+    /// Moves to what is pulled first.
     #[inline(always)]
     pub(crate) fn reach_pulls(&mut self)
         ensures left { remaining self.new ≡ pulls (use_of self.old.row.op) self.old.row self.old.here }
@@ -275,7 +275,7 @@ impl Micro {
         };
     }
 
-    /// An absolute address was fetched.
+    /// Moves past the fetches of an absolute address.
     #[inline(always)]
     pub(crate) fn pass_absolute(&mut self, word: u16)
         ensures left { remaining self.new ≡ absolute (use_of self.old.row.op) self.old.row self.old.here word }
@@ -294,7 +294,7 @@ impl Micro {
         }
     }
 
-    /// An operand's two bytes were fetched.
+    /// Moves past the fetches of an operand's two bytes.
     #[inline(always)]
     pub(crate) fn pass_operand(&mut self, word: u16)
         ensures left { remaining self.new ≡ after_operand self.old.row.mode self.old.row self.old.here word }
@@ -323,7 +323,7 @@ impl Micro {
         }
     }
 
-    /// The first byte after the opcode was fetched.
+    /// Moves past the fetch of the first byte after the opcode.
     #[inline(always)]
     pub(crate) fn pass_first(&mut self, byte: u8)
         ensures left { remaining self.new ≡ after_first self.old.row.mode self.old.row self.old.here byte }

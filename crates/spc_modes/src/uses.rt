@@ -3,46 +3,46 @@ ghost use Rattle.spc_modes.specs.Uses.{use_of};
 
 use spc_tables::SpcOp;
 
-/// What an operation does, as far as its accesses go.
+/// What an operation does, as far as its accesses show.
 #[derive(Clone, Copy, PartialEq, Eq, Debug)]
 pub enum Use {
-    /// It happens inside the processor, in that many internal cycles.
+    /// Works inside the processor, in that many internal cycles.
     Internal(u8),
-    /// Its operand is read.
+    /// Reads its operand.
     Load,
-    /// Its operand is read; between two places in memory nothing is written.
+    /// Reads its operand. Between two places in memory it writes nothing.
     Compare,
-    /// A byte is moved into memory.
+    /// Moves a byte into memory.
     Move,
-    /// A register is written.
+    /// Writes a register to memory.
     Store,
-    /// A byte is read, changed and written back.
+    /// Reads a byte, changes it and writes it back.
     Change,
-    /// The same by the bits of A, with a cycle before the write.
+    /// Reads a byte, changes it by the bits of A and writes it back, with a cycle before the write.
     ChangeByA,
-    /// A word is read, with a cycle between its bytes.
+    /// Reads a word, with a cycle between its bytes.
     LoadWord,
-    /// A word is read.
+    /// Reads a word.
     CompareWord,
-    /// YA is written.
+    /// Writes YA to memory.
     StoreWord,
-    /// A word is changed, byte by byte.
+    /// Changes a word, byte by byte.
     StepWord,
-    /// A bit is read.
+    /// Reads a bit.
     ReadBit,
-    /// A bit is read, and a cycle follows.
+    /// Reads a bit, after which a cycle follows.
     ReadBitSlowly,
-    /// A bit is changed.
+    /// Changes a bit.
     ChangeBit,
-    /// A bit is written, with a cycle before the write.
+    /// Writes a bit, with a cycle before the write.
     StoreBit,
-    /// A branch by PSW.
+    /// Branches by PSW.
     Branch,
-    /// A branch by a byte of memory.
+    /// Branches by a byte of memory.
     Test,
-    /// A branch by a count.
+    /// Branches by a count.
     Count,
-    /// A jump.
+    /// Jumps.
     Jump,
     /// CALL.
     Call,
@@ -52,9 +52,9 @@ pub enum Use {
     VectorCall,
     /// BRK.
     Break,
-    /// A register is pushed.
+    /// Pushes a register.
     Push,
-    /// A register is pulled.
+    /// Pulls a register.
     Pull,
     /// RET.
     Return,

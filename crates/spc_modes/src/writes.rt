@@ -10,7 +10,7 @@ impl Micro {
     ghost use Rattle.spc_modes.specs.Plan.{after, first_access, is_write};
     ghost use Rattle.spc_modes.specs.Remaining.{ahead, remaining, start_of};
 
-    /// The last write was made.
+    /// Moves past the last write.
     #[inline(always)]
     pub fn wrote_last(&mut self)
         requires known { self.old.place ≡ WriteLast }
@@ -20,7 +20,7 @@ impl Micro {
         self.place = Place::Between;
     }
 
-    /// The high byte of the program counter was pushed.
+    /// Moves past the push of the program counter's high byte.
     #[inline(always)]
     pub fn wrote_counter_high(&mut self)
         requires known { self.old.place ≡ PushHigh }
@@ -31,7 +31,7 @@ impl Micro {
         self.place = Place::PushLow;
     }
 
-    /// Its low byte was pushed.
+    /// Moves past the push of the program counter's low byte.
     #[inline(always)]
     pub fn wrote_counter_low(&mut self)
         requires known { self.old.place ≡ PushLow }
@@ -42,7 +42,7 @@ impl Micro {
         self.pass_pushes();
     }
 
-    /// The next access, a write, was made.
+    /// Moves past the next access, a write.
     #[inline(always)]
     pub fn wrote(&mut self)
         requires { IsTrue (is_write (first_access (ahead (remaining self.old)))) }

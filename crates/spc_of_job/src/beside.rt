@@ -1,4 +1,4 @@
-// A sound file that is played beside the job that it was taken from.
+// A sound file that is played to compare it with the job that it was taken from.
 
 use crate::cause::Cause;
 use crate::taken::Taken;
@@ -12,20 +12,22 @@ use snes_defs::{Act, Table};
 use spc_player::{Player, read_spc};
 use std::alloc::Global;
 
-/// More turns than it takes to come to the next sample.
+/// More turns than are needed to reach the next sample.
 const MOST_TURNS: u64 = 1 << 40;
 
 /// The last stamp at which a turn is made.
 const LAST: u64 = 1 << 62;
 
-/// What a job emits from a place on, and how many writes of the console to the ports there were meanwhile.
+/// What a job emits from a place on, and how often the console wrote to the ports meanwhile.
 #[derive(Drop)]
 pub struct Heard {
+    /// The emitted pairs (stereo samples), four bytes each.
     pub pairs: Vec<u8>,
+    /// How often the console wrote to the ports meanwhile.
     pub writes: u64,
 }
 
-/// The first pairs of a sound file.
+/// Plays the first `samples` pairs (stereo samples) of a sound file.
 pub fn play(alloc: Global, file: &[u8], table: &Table, samples: u32) -> Result<SureShelf, Cause> {
     let Ok(image) = read_spc(alloc, file) else {
         return Err(Cause::Ended);
@@ -52,7 +54,7 @@ fn writes(console: &ConsoleSide) -> bool {
     }
 }
 
-/// Makes the next turn of a job, and appends what the sound side emits.
+/// Takes the next turn of a job, and appends what the sound side emits.
 fn turn(
     serial: &mut Serial<ConsoleSide, AudioSide>,
     bytes: &mut [u8],
@@ -74,7 +76,7 @@ fn turn(
     }
 }
 
-/// So many pairs of the job from where it stands.
+/// Runs the job on for `samples` pairs (stereo samples), and returns what it emits.
 pub fn listen(alloc: Global, taken: &mut Taken, samples: u32) -> Result<Heard, Cause> {
     let mut heard = Heard {
         pairs: Vec::new(alloc),
@@ -89,7 +91,7 @@ pub fn listen(alloc: Global, taken: &mut Taken, samples: u32) -> Result<Heard, C
     Err(Cause::Ended)
 }
 
-/// How many pairs in front are alike.
+/// The number of pairs (stereo samples) that are alike before the first that differs.
 pub fn alike(one: &[u8], other: &[u8]) -> usize {
     for (place, (a, b)) in one.iter().zip(other.iter()).enumerate() {
         if *a != *b {

@@ -1,11 +1,11 @@
-// Why no file is taken, or none is compared.
+// Why a file is not taken, or not compared.
 
-/// Why no file is taken, or none is compared.
+/// Why a file is not taken, or not compared.
 #[derive(Clone, Copy, Debug, PartialEq, Eq)]
 pub enum Cause {
-    /// The words of the command line are at fault.
+    /// The command line is invalid.
     Words,
-    /// No number of frames, or more than a run has.
+    /// The number of frames is not a number, or more than a run has.
     Frames,
     /// A file cannot be read.
     Unreadable,
@@ -17,17 +17,17 @@ pub enum Cause {
     Script,
     /// The sound file cannot be written.
     Unwritten,
-    /// What is told cannot be printed.
+    /// A line cannot be printed.
     Unsaid,
     NoMemory,
-    /// The sound side's processor begins no more instruction.
+    /// The sound side's processor begins no further instruction.
     NoInstruction,
-    /// The job cannot go on.
+    /// The job cannot continue.
     Ended,
 }
 
 impl Cause {
-    /// What is told of it.
+    /// The message that is printed for this cause.
     pub fn text(self) -> &'static str {
         match self {
             Cause::Words => "spc_of_job CART BOOT TABLE SCRIPT FRAMES FILE [SAMPLES]",
@@ -46,7 +46,7 @@ impl Cause {
         }
     }
 
-    /// The exit status: as those of `snes` up to 5, and 6 where the job cannot go on.
+    /// The exit status: up to 5 as those of `snes`, and 6 if the job cannot continue.
     pub fn status(self) -> u8 {
         match self {
             Cause::Words | Cause::Frames => 1,
@@ -59,15 +59,17 @@ impl Cause {
     }
 }
 
-/// Why there is no job or no file, and the name of the file that it is of, or none.
+/// Why there is no job or no file, and the name of the file concerned, or none.
 #[derive(Clone, Copy, Debug)]
 pub struct Fault<'a> {
+    /// The cause.
     pub cause: Cause,
+    /// The name of the file concerned, if it is about a file.
     pub name: Option<&'a str>,
 }
 
 impl<'a> Fault<'a> {
-    /// A fault of a file.
+    /// A fault of the file of this name.
     pub fn of(cause: Cause, name: &'a str) -> Fault<'a> {
         Fault {
             cause,
@@ -75,7 +77,7 @@ impl<'a> Fault<'a> {
         }
     }
 
-    /// A fault that is of no file.
+    /// A fault that concerns no file.
     pub fn plain(cause: Cause) -> Fault<'a> {
         Fault { cause, name: None }
     }

@@ -8,7 +8,7 @@ use snes_defs::NoMemory;
 use spc700::SpcRegs;
 use std::alloc::Global;
 
-/// What a file begins with: the text with its version, and that no tags follow.
+/// The start of a file: the text with its version, and that no tags follow.
 const HEADER: &[u8; 37] = b"SNES-SPC700 Sound File Data v0.30\x1A\x1A\x1B\x1E";
 
 /// Appends some bytes.
@@ -62,9 +62,9 @@ fn registers(regs: SpcRegs) -> [u8; 7]
     ]
 }
 
-/// The sound file of a sound side, whose next instruction begins with these registers and whose incoming ports have
-/// these bytes: the header, RAM, what the S-DSP shows, 64 bytes without a meaning, and the last 64 of RAM once more, which
-/// other players want.
+/// Returns the sound file of a sound side, whose next instruction begins with these registers and whose incoming
+/// ports have these bytes. It has the header, RAM, what the S-DSP shows, 64 bytes without a meaning, and the last 64
+/// of RAM again. Other players want these last ones.
 pub fn sound_file(
     alloc: Global,
     regs: SpcRegs,

@@ -1,4 +1,4 @@
-// The job of the files that are named.
+// The job of the files that are named on the command line.
 ghost use Rattle.std.specs.Prelude.{◌≤◌, IfOk, IfSome};
 
 use crate::cause::{Cause, Fault};
@@ -17,7 +17,7 @@ const TABLE: usize = 1024;
 
 const SCRIPT: usize = 1_048_576;
 
-/// A whole file.
+/// Loads a whole file.
 fn load<'a, H: Shelf>(
     alloc: Global,
     shelf: &mut H,
@@ -33,7 +33,7 @@ fn load<'a, H: Shelf>(
     }
 }
 
-/// The number of frames that a word says.
+/// The number of frames that an argument gives.
 fn frames_of(word: &str) -> Option<u32>
     ensures { IfSome result (λ frames. frames ≤ 36000) }
 {
@@ -46,8 +46,8 @@ fn frames_of(word: &str) -> Option<u32>
     Some(frames)
 }
 
-/// The job of a cartridge, a boot ROM, a table and a script of these names, and of as many frames as the last word says.
-/// No file is read where that says none.
+/// The job of a cartridge, a boot ROM, a table and a script of these names, with the number of frames in the last
+/// word. No file is read if that word is not a number of frames.
 pub fn job_of<'a, H: Shelf>(
     alloc: Global,
     shelf: &mut H,

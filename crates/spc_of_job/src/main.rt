@@ -1,16 +1,18 @@
 //! Takes a sound file out of a running job, so that the music of a cartridge can be played by itself.
 //!
-//! `spc_of_job CART BOOT TABLE SCRIPT FRAMES FILE [SAMPLES]` runs the job of these four files for so many frames, and
-//! from there on up to the start of an instruction of the sound side at a cycle that 128 divides, so that samples and
-//! ticks come as in the job. Where none comes within 100,000 cycles it takes the next start of an instruction. FILE
-//! gets the sound file of that moment; `take` says by its contract what it holds (`specs/Taken.antt`). The first line
-//! that is printed tells the cycle. With SAMPLES the job goes on for so many pairs, and the file is played beside it: the
-//! second line tells how many pairs are alike before the first that differs, and how often the console wrote to the
-//! ports meanwhile, which a player of the file doesn't hear.
+//! `spc_of_job CART BOOT TABLE SCRIPT FRAMES FILE [SAMPLES]` runs the job of these four files for FRAMES frames. It
+//! then continues to the start of an instruction of the sound side at a cycle that 128 divides. Samples and ticks then
+//! come as in the job. If there is none within 100,000 cycles, it takes the next start of an instruction. FILE
+//! gets the sound file of that moment; the contract of `take` says what it holds (`specs/Taken.antt`). The first
+//! printed line gives the cycle.
 //!
-//! The status is 0 only where FILE was written and all lines were printed: 1 for words at fault, 2 for a file that
-//! cannot be read, 3 for one that is refused, 4 where FILE or a line cannot be written, 5 for no memory, 6 where the job
-//! cannot go on. One line on standard error says which.
+//! With SAMPLES the job runs on for that many pairs (stereo samples), and the file is played for comparison. The
+//! second line gives how many pairs are alike before the first that differs. It also gives how often the console
+//! wrote to the ports meanwhile, which a player of the file doesn't hear.
+//!
+//! The status is 0 only if FILE was written and all lines were printed. It is 1 for an invalid command line, 2 for a
+//! file that cannot be read, and 3 for one that is refused. It is 4 if FILE or a line cannot be written, 5 if
+//! allocation fails, and 6 if the job cannot continue. One line on standard error says which.
 #![tactic(auto)]
 
 mod beside;
@@ -44,7 +46,7 @@ struct Wanted<'a> {
     samples: Option<u32>,
 }
 
-/// How many pairs are compared, by a word.
+/// The number of pairs to compare, from an argument.
 fn samples_of(word: &str) -> Option<u32> {
     match word.parse::<u32>() {
         Ok(samples) if samples <= MOST_SAMPLES => Some(samples),
@@ -52,7 +54,7 @@ fn samples_of(word: &str) -> Option<u32> {
     }
 }
 
-/// What the words behind the program's own name ask for.
+/// What the arguments after the program's own name ask for.
 fn wanted_of<'a>(given: &'a [String]) -> Option<Wanted<'a>> {
     if given.len() < 7 || given.len() > 8 {
         return None;
@@ -90,7 +92,7 @@ fn write<'a, H: Shelf>(shelf: &mut H, name: &'a str, bytes: &[u8]) -> Result<(),
     Ok(())
 }
 
-/// Lets the job go on for so many pairs, plays the file beside it, and prints how many are alike.
+/// Runs the job on for `samples` pairs, plays the file, and prints how many pairs are alike.
 fn compare(
     rt: &impl Print,
     alloc: Global,
@@ -118,7 +120,7 @@ fn told(rt: &impl Print, cycle: u64) -> Result<(), Cause> {
     }
 }
 
-/// Takes a file out of a job, and prints where.
+/// Takes a file out of a job, and prints its cycle.
 fn obey<'a, R: Files + Print>(rt: &R, alloc: Global, wanted: &Wanted<'a>) -> Result<(), Fault<'a>> {
     let mut shelf = FileShelf::new(rt);
     let job = job_of(alloc, &mut shelf, &wanted.job)?;
@@ -137,7 +139,7 @@ fn obey<'a, R: Files + Print>(rt: &R, alloc: Global, wanted: &Wanted<'a>) -> Res
     }
 }
 
-/// Says why it ends so, and gives the status.
+/// Prints why the program failed, and returns the status.
 fn tell(rt: &impl Eprint, fault: Fault<'_>) -> u8 {
     let text = fault.cause.text();
     let _ = match fault.name {
@@ -147,7 +149,7 @@ fn tell(rt: &impl Eprint, fault: Fault<'_>) -> u8 {
     fault.cause.status()
 }
 
-/// Does what the words ask for, and gives the status.
+/// Does what the arguments ask for, and returns the status.
 fn status_of<R: Files + Print + Eprint + AllocGlobal>(rt: &R, given: &[String]) -> u8 {
     let Some(wanted) = wanted_of(given) else {
         return tell(rt, Fault::plain(Cause::Words));
@@ -158,7 +160,7 @@ fn status_of<R: Files + Print + Eprint + AllocGlobal>(rt: &R, given: &[String]) 
     }
 }
 
-/// The words of the command line.
+/// The arguments of the command line.
 fn words_of<R: Env + AllocGlobal>(rt: &R) -> io::Result<Vec<String>> {
     let words: Vec<String> = env::args(rt)?.collect(rt.alloc())?;
     Ok(words)

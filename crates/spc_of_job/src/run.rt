@@ -20,16 +20,16 @@ use side_law::Machine;
 use snes_defs::Region;
 use spc700::SpcRegs;
 
-/// How many cycles an instruction's start is looked for at one that 128 divides.
+/// For how many cycles a start of an instruction at a cycle that 128 divides is searched for.
 const FAR: u64 = 100_000;
 
-/// More turns than it takes to come to the next start of an instruction.
+/// More turns than are needed to reach the next start of an instruction.
 const MOST_TURNS: u32 = 1 << 31;
 
 /// The last stamp at which a turn is made.
 const LAST: u64 = 1 << 62;
 
-/// Drops the bytes that wait in a machine.
+/// Drops the bytes that are pending in a machine.
 fn hush<M: Machine>(machine: &mut M, bytes: &mut [u8])
     requires { length (M.waiting machine.old) ≤ length bytes.old }
     ensures state { (m : M.State) → M.stands machine.old m → M.stands machine.new m }
@@ -39,7 +39,7 @@ fn hush<M: Machine>(machine: &mut M, bytes: &mut [u8])
     let _count = machine.drain(bytes);
 }
 
-/// Makes the next turn, and drops what is emitted.
+/// Takes the next turn, and drops what is emitted.
 pub fn silent_turn<C: Machine, S: Machine>(serial: &mut Serial<C, S>, bytes: &mut [u8])
     requires console_room { C.MOST ≤ C.CAP }
     requires sound_room { S.MOST ≤ S.CAP }
@@ -61,7 +61,7 @@ pub fn silent_turn<C: Machine, S: Machine>(serial: &mut Serial<C, S>, bytes: &mu
     hush(serial.sound(), bytes);
 }
 
-/// Runs to the end stamp.
+/// Runs both sides to the end stamp.
 pub fn go_to_end<C: Machine, S: Machine>(serial: &mut Serial<C, S>, end: u64, bytes: &mut [u8])
     requires console_room { C.MOST ≤ C.CAP }
     requires sound_room { S.MOST ≤ S.CAP }
@@ -79,7 +79,7 @@ pub fn go_to_end<C: Machine, S: Machine>(serial: &mut Serial<C, S>, end: u64, by
     }
 }
 
-/// The stamps of a cycle of the sound side.
+/// Stamps per cycle of the sound side.
 fn rate(region: Region) -> u64
     ensures value { result ≡ rate_of region Sound }
     ensures positive { 0 < result }
@@ -97,8 +97,8 @@ pub fn cycle_of(sound: &AudioSide) -> u64
     sound.stamp() / rate(sound.region())
 }
 
-/// The registers with which the sound side's next instruction begins, where the last one has ended, and a file is taken
-/// there: at a cycle that 128 divides, and anywhere far behind the first one.
+/// The registers with which the sound side's next instruction begins, if the last one has ended and a file is taken
+/// there. That is at a cycle that 128 divides, or anywhere far after the first one.
 fn begins(sound: &AudioSide, first: u64) -> Option<SpcRegs>
     ensures { IfSome result (λ regs. Stands sound.now.processor (between regs)) }
 {
@@ -110,8 +110,8 @@ fn begins(sound: &AudioSide, first: u64) -> Option<SpcRegs>
     }
 }
 
-/// Goes on to where a file is taken, and answers the registers with which the next instruction begins there. None where
-/// the processor begins no more instruction.
+/// Runs on to where a file is taken, and returns the registers with which the next instruction begins there. Returns
+/// none if the processor begins no further instruction.
 pub fn go_to_instruction(
     serial: &mut Serial<ConsoleSide, AudioSide>,
     bytes: &mut [u8],

@@ -15,17 +15,19 @@ use serial_console::Serial;
 use snes_defs::Job;
 use std::alloc::Global;
 
-/// How many bytes of a step are dropped at once.
+/// How many bytes of a step are dropped in one call.
 const ROOM: usize = 65_536;
 
 /// A sound file, and the job under way from which it was taken.
 #[derive(Drop)]
 pub struct Taken {
+    /// The bytes of the sound file.
     pub file: Vec<u8>,
+    /// The job under way, at the moment when the file was taken.
     pub serial: Serial<ConsoleSide, AudioSide>,
     /// The number of the sound side's next cycle.
     pub cycle: u64,
-    /// Where emitted bytes are dropped.
+    /// Room into which emitted bytes are dropped.
     pub bytes: Vec<u8>,
 }
 
@@ -41,8 +43,8 @@ fn serial_of(alloc: Global, job: &Job) -> Result<Serial<ConsoleSide, AudioSide>,
     Ok(Serial::new(console, sound))
 }
 
-/// Runs a job to the end of its frames, and on to where a file can be taken: the next start of an instruction of the
-/// sound side at a cycle that 128 divides, or, where none comes within 100,000 cycles, the next one at all.
+/// Runs a job to the end of its frames, and on to where a file can be taken. That is the next start of an instruction
+/// of the sound side at a cycle that 128 divides. If there is none within 100,000 cycles, it is the next one at all.
 pub fn take(alloc: Global, job: &Job) -> Result<Taken, Cause>
     requires { job.now.frames ≤ 36000 }
     ensures { IfOk result (λ t. IsTaken job.now t.file.items t.cycle) }

@@ -6,28 +6,28 @@ use spc700::SpcRegs;
 use std::alloc::Global;
 use std::marker::Model;
 
-/// What a sound file begins with.
+/// The text that a sound file begins with.
 const TEXT: &[u8; 27] = b"SNES-SPC700 Sound File Data";
 
 /// The most bytes that a sound file has.
 const MOST: usize = 1_048_576;
 
-/// The fewest: up to 64 bytes after those of the S-DSP.
+/// The fewest bytes that it has: up to 64 bytes after those of the S-DSP.
 const LEAST: usize = 65_920;
 
-/// Where a file has RAM, and the bytes of the S-DSP.
+/// The places of RAM and of the bytes of the S-DSP in a file.
 const RAM: usize = 0x100;
 
 const DSP: usize = 0x1_0100;
 
-/// Why a file is no sound file.
+/// Why a file is not a sound file.
 #[derive(Clone, Copy, Debug, PartialEq, Eq)]
 pub enum SpcRefused {
-    /// It has more than 1,048,576 bytes.
+    /// The file has more than 1,048,576 bytes.
     TooLong,
-    /// It has fewer than 65,920 bytes.
+    /// The file has fewer than 65,920 bytes.
     TooShort,
-    /// It does not begin with the 27 bytes `SNES-SPC700 Sound File Data`.
+    /// The file does not begin with the 27 bytes `SNES-SPC700 Sound File Data`.
     NoText,
 }
 
@@ -143,8 +143,8 @@ fn image(alloc: Global, file: &[u8]) -> Result<SpcImage, NoMemory>
     })
 }
 
-/// Reads a sound file. One of more than 1,048,576 bytes, of fewer than 65,920, or without the text is
-/// refused, by the first of these. An accepted one takes the room for its RAM.
+/// Reads a sound file. One of more than 1,048,576 bytes, of fewer than 65,920, or without the text is refused, by the
+/// first of these. For an accepted file its RAM is allocated.
 pub fn read_spc(alloc: Global, file: &[u8]) -> Result<SpcImage, SpcEnd>
     ensures image { IfOk result (λ image. image ≡ image_of file.now) }
     ensures accepted { OnOk result (refusal_of file.now ≡ None) }

@@ -1,10 +1,10 @@
-//! A player of sound files: the sound side alone, begun where a file says.
+//! A player of sound files: the sound side alone, started from the state in a file.
 //!
-//! Stands on `audio_side`, and on the sink of `run_drive`, into which `Player::play` hands exactly the
-//! first pairs that the machine emits. `read_spc` says which files are accepted, and what they hold
-//! (`specs/SoundFile.antt`); `Player` is the machine that begins there (`specs/Play.antt`): nobody is at
-//! the other side of its ports, so a read gets the byte that the file has there, and a write changes
-//! none. `docs/use/SPC-FILES.md` has the format and what a file leaves out.
+//! Builds on `audio_side`, and on the sink of `run_drive`. `Player::play` passes that sink exactly the first pairs
+//! (stereo samples) that the machine emits. `read_spc` says which files are accepted, and what they hold
+//! (`specs/SoundFile.antt`). `Player` is the machine that begins there (`specs/Play.antt`). Nobody is at the other
+//! side of its ports, so a read gets the byte that the file has there, and a write changes none.
+//! `docs/use/SPC-FILES.md` has the format and what a file leaves out.
 #![tactic(auto)]
 
 mod image;

@@ -1,4 +1,4 @@
-// The first pairs that a player emits, into a sink.
+// The first pairs (stereo samples) that a player emits, into a sink.
 ghost use Rattle.std.specs.Prelude.{◌≡◌, ◌≢◌, ◌^◌, ◌≤◌, ℕ, List, [], length, OnOk, OnErr};
 ghost use Rattle.snes_defs.specs.declared.ports.Side.{Side};
 ghost use Rattle.spc_player.specs.Play.{Playing};
@@ -10,13 +10,14 @@ use run_drive::{Sink, pour};
 use side_law::Machine;
 use snes_defs::Side;
 
-/// How many bytes may wait before they are handed on: a thousand samples.
+/// How many bytes may be pending before they are passed on: a thousand samples.
 const MANY: usize = 4000;
 
 impl Player {
-    /// Plays so many samples, and hands the sink exactly these pairs, as the sound side's bytes. It then stands behind
-    /// the last of them. Where the sink fails to take some it has taken the first bytes of them, and the player stands
-    /// behind as many samples as it had played by then. No byte waits in either case.
+    /// Plays `samples` samples, and passes the sink exactly these pairs (stereo samples), as the sound side's bytes.
+    ///
+    /// The player is then behind the last of them. If the sink fails to take some, it has taken a prefix of them.
+    /// The player is then behind as many samples as it had played. No byte is pending in either case.
     pub fn play<K: Sink>(&mut self, samples: u32, sink: &mut K) -> Result<(), Failed>
         requires early { stamp_of self.old ≤ 2 ^ 60 }
         requires empty { waiting_of self.old ≡ [] }

@@ -34,7 +34,7 @@ impl Model for Player {
     ghost invariant = { λ p. p.side.clock.region ≡ Ntsc };
 }
 
-/// The stamp at which the steps to the next sample have been made.
+/// The stamp at which the steps to the next sample have been taken.
 #[inline(always)]
 fn after_sample(stamp: u64) -> u64
     requires { stamp ≤ 2 ^ 61 }
@@ -46,8 +46,9 @@ fn after_sample(stamp: u64) -> u64
 }
 
 impl Player {
-    /// The player of a sound file at its start, with an interpolation table. It takes the room for RAM
-    /// and for the bytes that wait, and refuses only for want of memory.
+    /// The player of a sound file at its start, with an interpolation table.
+    ///
+    /// Allocates RAM and the buffer of emitted bytes, and fails only if allocation fails.
     pub fn new(alloc: Global, image: &SpcImage, table: &Table) -> Result<Player, NoMemory>
         ensures starts { IfOk result (λ p. IsPlaying p (play_start image.now table.now)) }
         ensures empty { IfOk result (λ p. waiting_of p ≡ []) }
@@ -61,7 +62,7 @@ impl Player {
         })
     }
 
-    /// Makes a step.
+    /// Takes one step.
     #[inline(always)]
     pub fn turn(&mut self)
         requires room { length (waiting_of self.old) + 4 ≤ 4096 }
@@ -76,7 +77,7 @@ impl Player {
         step(&mut self.side, &mut self.ports, &mut unheard);
     }
 
-    /// Makes all steps up to the next sample, and that one, which emits its four bytes.
+    /// Takes all steps up to the next sample, and that one, which emits its four bytes.
     #[inline(never)]
     pub fn to_next_sample(&mut self)
         requires room { length (waiting_of self.old) + 4 ≤ 4096 }
@@ -92,7 +93,7 @@ impl Player {
         }
     }
 
-    /// Moves out the first of the bytes that wait, as many as wait or fit, and answers how many.
+    /// Moves out the first of the pending bytes, as many as are pending or fit, and returns how many.
     pub fn drain(&mut self, into: &mut [u8]) -> usize
         ensures count { result ≡ min (length (waiting_of self.old)) (length into.old) }
         ensures moved { into.new ≡ take result (waiting_of self.old) ++ drop result into.old }

@@ -1,6 +1,6 @@
-//! What a sound file plays beside the job that it was taken out of.
+//! What a sound file plays, compared with the job that it was taken from.
 //!
-//! Stands on `spc_player` and on the definitions of the sound side, and has no code: the law is the contract of a
+//! Builds on `spc_player` and on the definitions of the sound side, and has no code. The law is the contract of a
 //! function that does nothing. `specs/PlaysOn.antt` says which file gives back all that is heard of a sound side.
 #![tactic(auto)]
 

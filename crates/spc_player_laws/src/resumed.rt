@@ -4,10 +4,11 @@ ghost use Rattle.audio_side.specs.HardwareState.{HardwareState};
 ghost use Rattle.spc_player.specs.Play.{output, play_start};
 ghost use Rattle.spc_player_laws.specs.PlaysOn.{GivesBack, StaysBlind, period, file_of, goes_on};
 
-/// A sound file plays what its job's sound side emits from where it was taken, step by step, as long as nobody writes
-/// to the ports: of a job in Ntsc without resets, at the start of an instruction in a cycle that 983,040 divides, where
-/// the file gives back the hardware, and from there on no sample looks at RAM that the processor doesn't see, and F1
-/// neither shows nor hides the boot ROM.
+/// States that a sound file plays what its job's sound side emits from where it was taken on, step by step.
+///
+/// The law has these conditions. The job is NTSC without resets. The file was taken at the start of an instruction in a
+/// cycle that 983,040 divides, and gives back the hardware. From there on nobody writes to the ports, no sample reads
+/// RAM that the processor doesn't see, and F1 neither shows nor hides the boot ROM.
 #[tactic(none)]
 pub fn a_file_plays_on()
     ensures { (regs : SpcRegs) (b : HardwareState) (dsp table ports : List ℕ) (times : ℕ)

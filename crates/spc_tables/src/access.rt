@@ -1,12 +1,12 @@
 /// One cycle of the processor. Addresses have 16 bits.
 #[derive(Clone, Copy, PartialEq, Eq, Debug)]
 pub enum SpcAccess {
-    /// A byte of the program is read, at the program counter.
+    /// The fetch of a byte of the program, at the program counter.
     Fetch(u16),
-    /// A byte of data, of a pointer, of the stack or of a vector is read.
+    /// The read of a byte of data, of a pointer, of the stack or of a vector.
     Read(u16),
-    /// A byte is written.
+    /// The write of a byte.
     Write(u16, u8),
-    /// An internal cycle: memory isn't used. Reads whose byte is dropped count as such.
+    /// An internal cycle, which doesn't use memory. Reads whose byte is dropped count as such.
     Inner,
 }

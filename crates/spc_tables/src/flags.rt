@@ -8,7 +8,7 @@ pub const INTERRUPT_ENABLE: u8 = 0x04;
 pub const HALF_CARRY: u8 = 0x08;
 /// Bit 4 of PSW, B: BRK was executed.
 pub const BREAK: u8 = 0x10;
-/// Bit 5 of PSW, P: the direct page is page 1, and page 0 where it is clear.
+/// Bit 5 of PSW, P: the direct page is page 1 if it is set, page 0 if it is clear.
 pub const DIRECT_PAGE: u8 = 0x20;
 /// Bit 6 of PSW, V: the signed result did not fit.
 pub const OVERFLOW: u8 = 0x40;

@@ -1,8 +1,8 @@
 //! What the SPC700 is made of: operations, kinds of operands, opcodes, registers and accesses.
 //!
-//! The crate stands on std alone. It promises that `row` is the processor's opcode matrix, and gives
-//! the layers above their types: an `SpcRow` is what an opcode means, `SpcRegs` are the registers
-//! that a program sees, an `SpcAccess` is one cycle of the processor.
+//! Builds on std alone. It promises that `row` is the processor's opcode matrix, and gives the layers above their
+//! types. An `SpcRow` is what an opcode means, `SpcRegs` are the registers that a program sees, and an `SpcAccess` is
+//! one cycle of the processor.
 #![tactic(auto)]
 
 pub mod access;

@@ -1,6 +1,7 @@
-/// Where the operands of an operation are. In the comments `d` is a byte's offset in the direct page,
-/// `!a` an address of two bytes, `r` a signed distance of a byte, a round bracket a place in the
-/// direct page, and a square bracket a pointer.
+/// The place of an operation's operands: its addressing mode.
+///
+/// In the comments `d` is a byte's offset in the direct page, `!a` an address of two bytes, and `r` a signed distance
+/// of a byte. A round bracket is a place in the direct page, a square bracket a pointer.
 #[derive(Clone, Copy, PartialEq, Eq, Debug)]
 pub enum SpcMode {
     /// No operand but the registers that the operation names.
@@ -23,7 +24,7 @@ pub enum SpcMode {
     AbsoluteY,
     /// `(X)`: in the direct page at X.
     IndirectX,
-    /// `(X)+`: the same, and X grows by 1 afterwards.
+    /// `(X)+`: in the direct page at X, which grows by 1 afterwards.
     IndirectXIncrement,
     /// `[d+X]`: a pointer in the direct page; the index is added before it is read.
     DirectXPointer,
@@ -39,8 +40,8 @@ pub enum SpcMode {
     DirectBit(u8),
     /// `d.k,r`: bit k of a byte of the direct page, and the distance of a branch.
     DirectBitRelative(u8),
-    /// `m.b`: a bit anywhere in the first 8 KiB, by an operand of two bytes: the address in its low
-    /// 13 bits, and the bit's number in its top three.
+    /// `m.b`: a bit anywhere in the first 8 KiB, by an operand of two bytes. It has the address in its low 13 bits, and
+    /// the bit's number in its top three.
     MemoryBit,
     /// `r`: the distance of a branch.
     Relative,

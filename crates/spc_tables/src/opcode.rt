@@ -1,11 +1,11 @@
 use crate::mode::SpcMode;
 use crate::operation::SpcOp;
 
-/// What an opcode means: what is done, and where its operands are.
+/// What an opcode means: its operation, and where its operands are.
 #[derive(Clone, Copy, PartialEq, Eq, Debug)]
 pub struct SpcRow {
-    /// What is done.
+    /// The operation.
     pub op: SpcOp,
-    /// Where its operands are.
+    /// Where the operands are.
     pub mode: SpcMode,
 }

@@ -43,7 +43,7 @@ pub enum SpcOp {
     CmpY,
     /// The operands plus the carry.
     Adc,
-    /// The first operand minus the second, minus 1 where the carry is clear.
+    /// The first operand minus the second, minus 1 if the carry is clear.
     Sbc,
     /// A shift to the left.
     Asl,
@@ -99,11 +99,11 @@ pub enum SpcOp {
     Tclr1,
     /// C or a bit of memory.
     Or1,
-    /// C or a bit of memory turned over: OR1 `C,/m.b`.
+    /// C or the inverse of a bit of memory: OR1 `C,/m.b`.
     OrNot1,
     /// C and a bit of memory.
     And1,
-    /// C and a bit of memory turned over: AND1 `C,/m.b`.
+    /// C and the inverse of a bit of memory: AND1 `C,/m.b`.
     AndNot1,
     /// C exclusive or a bit of memory.
     Eor1,
@@ -111,7 +111,7 @@ pub enum SpcOp {
     MovC1,
     /// C into a bit of memory: MOV1 `m.b,C`.
     StoreC1,
-    /// A bit of memory turned over.
+    /// A bit of memory inverted.
     Not1,
     /// The direct page is page 0.
     Clrp,
@@ -121,7 +121,7 @@ pub enum SpcOp {
     Clrc,
     /// C set.
     Setc,
-    /// C turned over.
+    /// C inverted.
     Notc,
     /// V and H clear.
     Clrv,
@@ -129,31 +129,31 @@ pub enum SpcOp {
     Ei,
     /// Interrupts off.
     Di,
-    /// A branch where N is clear.
+    /// A branch if N is clear.
     Bpl,
-    /// A branch where N is set.
+    /// A branch if N is set.
     Bmi,
-    /// A branch where V is clear.
+    /// A branch if V is clear.
     Bvc,
-    /// A branch where V is set.
+    /// A branch if V is set.
     Bvs,
-    /// A branch where C is clear.
+    /// A branch if C is clear.
     Bcc,
-    /// A branch where C is set.
+    /// A branch if C is set.
     Bcs,
-    /// A branch where Z is clear.
+    /// A branch if Z is clear.
     Bne,
-    /// A branch where Z is set.
+    /// A branch if Z is set.
     Beq,
     /// A branch that is always taken.
     Bra,
-    /// A branch where a bit of the direct page is set.
+    /// A branch if a bit of the direct page is set.
     Bbs,
-    /// A branch where a bit of the direct page is clear.
+    /// A branch if a bit of the direct page is clear.
     Bbc,
-    /// A branch where A differs from a byte of the direct page.
+    /// A branch if A differs from a byte of the direct page.
     Cbne,
-    /// A count down, and a branch where it is not at 0.
+    /// A count down, and a branch if it is not at 0.
     Dbnz,
     /// A jump.
     Jmp,

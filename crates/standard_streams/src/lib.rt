@@ -1,8 +1,8 @@
-// Descriptors 0, 1 and 2 are open before a program opens a file of its own.
+// Keeps descriptors 0, 1 and 2 open before a program opens a file of its own.
 //
-// A shell can start a program without them (`>&-`). The system gives the lowest free number to the next file, so a
-// file to write could become standard output, and what the program prints would land in it. Each program here holds
-// the three before it opens anything: one that was closed then refuses every write, as a closed one should.
+// A shell can start a program without them (`>&-`). The system gives the lowest free number to the next file.
+// So a file to write could become standard output, and what the program prints would land in it. Each program here
+// holds the three before it opens anything. One that was closed then refuses every write, as a closed one should.
 #![tactic(auto)]
 
 ghost use Rattle.std.specs.Prelude.{pos, ◌<ℤ◌, ◌≤ℤ◌, IfSome};
@@ -13,7 +13,7 @@ use std::fs;
 use std::fs::File;
 use std::os::fd::AsRawFd;
 
-/// What keeps the descriptors 0 to 2 open. It is kept for as long as the program opens files.
+/// The files that keep descriptors 0 to 2 open, held for as long as the program opens files.
 #[derive(Drop)]
 pub struct HeldStreams {
     first: Option<File>,
@@ -22,8 +22,8 @@ pub struct HeldStreams {
     above: Option<File>,
 }
 
-/// Opens files that nothing can be written to until one has a number above 2, and holds them. Where the system opens
-/// no more files, those that it opened are held.
+/// Opens files that nothing can be written to until one has a number above 2, and holds them. If the system opens no
+/// more files, those that it opened are held.
 pub fn hold_standard_streams(rt: &HostRuntime) -> HeldStreams
     ensures { AreHeld result }
 {

@@ -7,7 +7,7 @@ use run_drive::{Sink, pour};
 use side_law::Machine;
 use snes_defs::Side;
 
-/// Whether both machines have come to a stamp.
+/// Whether both machines have reached a stamp.
 #[inline(always)]
 pub(crate) fn both_at<C: Machine, S: Machine>(console: &C, sound: &S, stamp: u64) -> bool
     ensures { IsTrue result ↔ ((stamp ≤ C.stamp_of console.now) × (stamp ≤ S.stamp_of sound.now)) }
@@ -15,8 +15,8 @@ pub(crate) fn both_at<C: Machine, S: Machine>(console: &C, sound: &S, stamp: u64
     console.stamp() >= stamp && sound.stamp() >= stamp
 }
 
-/// Moves the bytes that wait in both machines to the sink, the console's first. Err names the side of which
-/// the sink failed to take some.
+/// Moves the pending bytes of both machines to the sink, the console's first. Err names the side of which the sink
+/// failed to take some.
 pub(crate) fn pour_both<C: Machine, S: Machine, K: Sink>(
     console: &mut C,
     sound: &mut S,

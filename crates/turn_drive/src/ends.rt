@@ -6,14 +6,14 @@ use snes_defs::{Region, Side};
 /// Master clocks of a line.
 const LINE: u64 = 1364;
 
-/// After so many lines the console's room is full: it holds 64 rows, and a leg wants room for two.
+/// The number of lines after which the console's room is full: it holds 64 rows, and a leg needs room for two.
 const ROWS: u64 = 62;
 
 /// The line of the third near end of a frame. The fourth is at the frame's end.
 const THIRD: u64 = 3 * ROWS;
 
-/// The near ends of a run, one after another: the stamps of lines 62, 124 and 186 of each frame and of its
-/// end, counted from where the run begins, and at last the end of the run.
+/// The near ends of a run, one after another: the stamps of lines 62, 124 and 186 of each frame and of its end. They
+/// are counted from where the run begins, and the last one is the end of the run.
 #[derive(Drop)]
 pub(crate) struct Ends {
     region: Region,
@@ -25,7 +25,7 @@ pub(crate) struct Ends {
     ghost within: { near ≤ end },
 }
 
-/// How many lines a frame has.
+/// The number of lines of a frame.
 fn frame_lines(region: Region) -> u64
     ensures least { 186 < result }
     ensures most { result ≤ 312 }
@@ -52,7 +52,7 @@ impl Ends {
         ends
     }
 
-    /// Goes on to the next near end, and stays at the end of the run.
+    /// Moves on to the next near end, and stays at the end of the run.
     pub(crate) fn go_on(&mut self)
         ensures end { self.new.end ≡ self.old.end }
         ensures within { self.new.near ≤ self.new.end }

@@ -17,10 +17,11 @@ use side_law::Machine;
 use snes_defs::Side;
 use std::thread::Threads;
 
-/// Runs two machines of one region by turns, each in a worker of its own, until both stamps are at least
-/// `end`, and hands the sink what they emit: after each turn the bytes of that turn. It answers how many turns
-/// it made: just so many lead from the start to the end, and no more than the serial run has. Err names the side
-/// of which the sink failed to take some.
+/// Runs two machines of one region by turns, each in a worker of its own, until both stamps are at least `end`.
+///
+/// It passes the sink what they emit: after each turn the bytes of that turn. Returns how many turns it made. Exactly
+/// that many lead from the start to the end, and no more than the serial run has. Err names the side of which the
+/// sink failed to take some.
 pub fn run_turns<R: Threads, W: Wire, C: Machine + Drop, S: Machine + Drop, G: Gate, K: Sink>(
     rt: &R,
     wire: &W,

@@ -1,10 +1,10 @@
-// A clock taken over into another one.
+// A clock copied over another one.
 ghost use Rattle.std.specs.Prelude.{◌≡◌, []};
 
 use super::CycleClock;
 
 impl CycleClock {
-    /// Makes the other clock the same one, where neither has resets.
+    /// Copies this clock over the other one. Neither may have resets.
     pub fn copy_into(&self, into: &mut CycleClock)
         requires no_resets { self.now.resets ≡ [] }
         requires none_there { into.old.resets ≡ [] }

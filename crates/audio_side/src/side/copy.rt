@@ -1,4 +1,4 @@
-// A sound side taken over whole into another one.
+// A whole sound side copied over another one.
 ghost use Rattle.std.specs.Prelude.{◌≡◌, []};
 ghost use Rattle.audio_side.specs.Sound.{SoundState, StandsAt};
 
@@ -6,7 +6,7 @@ use super::AudioSide;
 use crate::hardware::Hardware;
 use side_law::copy_waiting;
 
-/// Makes the other hardware the same one, where both have one boot ROM and one table.
+/// Copies this hardware over the other one, which has the same boot ROM and table.
 fn copy_hardware(from: &Hardware, into: &mut Hardware)
     requires boot { from.now.boot ≡ into.old.boot }
     requires table { from.now.table ≡ into.old.table }
@@ -23,8 +23,10 @@ fn copy_hardware(from: &Hardware, into: &mut Hardware)
 }
 
 impl AudioSide {
-    /// Makes the other sound side the same one, with an instruction under way, the echo, the timers and the bytes
-    /// that wait. Both need one boot ROM and one table, and no resets. No memory is taken.
+    /// Copies this sound side over the other one, with an instruction under way, the echo, the timers and the pending
+    /// bytes.
+    ///
+    /// Both need the same boot ROM and table, and no resets. Nothing is allocated.
     pub fn copy_into(&self, into: &mut AudioSide)
         requires boot { self.now.hardware.boot ≡ into.old.hardware.boot }
         requires table { self.now.hardware.table ≡ into.old.hardware.table }

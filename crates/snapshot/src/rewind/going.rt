@@ -16,8 +16,8 @@ use run_drive::Sink;
 use snes_defs::Side;
 
 impl Rewind {
-    /// Moves out the first of the bytes that wait in a side, as many as wait or fit, and answers how many. The machines
-    /// stay.
+    /// Moves out the first of a side's pending bytes, as many as are pending or fit, and returns how many. The
+    /// machines stay.
     pub fn drain(&mut self, side: Side, into: &mut [u8]) -> usize
         ensures video_count { side ≡ Side.Console → result ≡ min (length (video_waiting self.old)) (length into.old) }
         ensures video_moved { side ≡ Side.Console → into.new ≡ take result (video_waiting self.old) ++ drop result into.old }
@@ -41,7 +41,7 @@ impl Rewind {
         }
     }
 
-    /// Whether both stamps have come to the end of the path and no byte waits.
+    /// Whether both stamps have reached the end of the path and no byte is pending.
     pub fn is_over(&self) -> bool
         ensures exact { IsTrue result ↔ (HasEnded self.now × (video_waiting self.now ≡ []) × (audio_waiting self.now ≡ [])) }
         ensures over { IsTrue result → (job : Job) (n : ℕ) (paths : Paths) (before : List Span) (video audio : List ℕ) → IsGoing job n paths before video audio self.now
@@ -50,8 +50,8 @@ impl Rewind {
         self.run.is_over()
     }
 
-    /// Makes all steps to the end of the path, and hands the sink what they emit. Err names the side of which the sink
-    /// failed to take some.
+    /// Takes all steps to the end of the path, and passes the sink what they emit. Err names the side of which the
+    /// sink failed to take some.
     pub fn go_on<K: Sink>(&mut self, buffer: &mut [u8], sink: &mut K) -> Result<(), Side>
         requires going { (job : Job) × (n : ℕ) × (paths : Paths) × (before : List Span) × IsGoing job n paths before [] [] self.old }
         requires no_video { video_waiting self.old ≡ [] }

@@ -15,8 +15,8 @@ use run_drive::Sink;
 use snes_defs::{Side, Span};
 
 impl Rewind {
-    /// Makes the steps of a plan, from the start of its job on, and hands the sink what its goes emit. Err names the side
-    /// of which the sink failed to take some. The machines make the steps of the goes, and no others.
+    /// Plays a plan from the start of its job, and passes the sink what its goes emit. Err names the side of which
+    /// the sink failed to take some. The machines take the steps of the goes, and no others.
     pub fn play<K: Sink>(
         &mut self,
         plan: &Plan,
