@@ -77,10 +77,11 @@ program_of() { echo "${folder:-$top/crates/${crates[$1]}/out}/${crates[$1]}"; }
 for name in "${names[@]}"; do install -m 755 "$(program_of "$name")" "$usr/lib/snes/$name"; done
 install -m 755 tools/package/run.sh "$usr/bin/snes"
 for name in "${names[@]:1}"; do ln -s snes "$usr/bin/$name"; done
-install -m 644 tools/with_progress.sh tools/package/scene.help "$usr/lib/snes"
+install -m 644 tools/with_progress.sh "$usr/lib/snes"
 printf 'snes %s\ncommit %s\n%s\n' "$version" "$commit" "$shown" >"$usr/lib/snes/about"
 
-tools/package/texts.py "$usr/share" "$(program_of snes-look)" "$(program_of snes-trace)" "$version" "$(date -d "@$SOURCE_DATE_EPOCH" +%F)" ||
+programs=("$(program_of snes-look)" "$(program_of snes-trace)" "$(program_of snes-scene)")
+tools/package/texts.py "$usr/share" "${programs[@]}" "$version" "$(date -d "@$SOURCE_DATE_EPOCH" +%F)" ||
   give_up 'the man pages were not made'
 
 mkdir -p "$usr/share/lintian/overrides"

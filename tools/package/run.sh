@@ -8,26 +8,10 @@ library=$top/lib/snes
 program=$library/$name
 [ -f "$program" ] && [ -x "$program" ] || { echo "$name: there is no program $program" >&2; exit 70; }
 quiet=no
-case $name in
-  snes)
-    if [ "${1-}" = --quiet ]; then
-      quiet=yes
-      shift
-    fi
-    ;;
-  snes-scene)
-    words=("$@")
-    [ "${1-}" = --version ] || {
-      [ "${1-}" != --measured ] || shift
-      if [ $# -ne 1 ] || [ "$1" = --help ]; then
-        sed 's/^/snes-scene /' "$library/scene.help" >&2
-        [ "${1-}" = --help ] && exit 0
-        exit 1
-      fi
-      set -- "${words[@]}"
-    }
-    ;;
-esac
+if [ "$name,${1-}" = snes,--quiet ]; then
+  quiet=yes
+  shift
+fi
 if [ "$#,${1-}" = 1,--version ]; then
   # The program snes says its version itself; the others have none.
   if [ "$name" = snes ]; then "$program" --version || exit; else sed -n "1s/^snes /$name /p" "$library/about"; fi

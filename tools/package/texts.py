@@ -1,10 +1,10 @@
 #!/usr/bin/env python3
 """Writes the man pages and the completions of an installed snes, of the texts by which its programs help.
 
-    tools/package/texts.py OUT LOOK TRACE VERSION DATE
+    tools/package/texts.py OUT LOOK TRACE SCENE VERSION DATE
 
-OUT is a folder, as `usr/share` of a package. LOOK and TRACE are the programs frame_look and snes_trace, whose --help is read. The
-help of snes is in crates/run_io/src/help.rt, that of the scene in tools/package/scene.help, the formats are in docs/use/COMMANDS.md.
+OUT is a folder, as `usr/share` of a package. LOOK, TRACE and SCENE are the programs frame_look, snes_trace and scene_cart, whose
+--help is read. The help of snes is in crates/run_io/src/help.rt, the formats are in docs/use/COMMANDS.md.
 So an option that a program has is in its page and in its completions, and none is that it has not. DATE is 2026-11-29, for one.
 """
 import os
@@ -247,14 +247,17 @@ def trace_page(program, version, date):
     return page + list(ending([("snes", 1), ("snes", 5)])), whole
 
 
-def scene_page(version, date):
-    page = head("snes-scene", 1, date, version, "free cartridges and the files that a run of snes needs") + [".SH SYNOPSIS"]
-    body = []
-    for number, line in enumerate(text_of("tools/package/scene.help").strip().split("\n")):
-        words, what = line.split(": ", 1)
-        page += ([".br"] if number else []) + [f"\\fBsnes\\-scene\\fR {escaped(words)}"]
-        body += [".TP", f"\\fBsnes\\-scene\\fR {escaped(words)}", inline(sentence(what))]
-    return page + [".SH DESCRIPTION", "The folder is made if it is missing.", *body, *ending([("snes", 1), ("snes", 5)])]
+def scene_page(program, version, date):
+    whole, parts, after = clap_help(program)
+    page = head("snes-scene", 1, date, version, "free cartridges and the files that a run of snes needs") + [".SH SYNOPSIS", f"\\fBsnes\\-scene\\fR {escaped(whole.synopsis)}"]
+    page += [".SH DESCRIPTION", escaped(sentence(whole.what))]
+    for argument, meaning in parts.get("Arguments", []):
+        page += [".TP", f"\\fI{argument.strip('<>[]')}\\fR", escaped(sentence(meaning))]
+    page += [".SH OPTIONS"]
+    for option, value, meaning in whole.options:
+        page += [".TP", option_tag(option, value), escaped(sentence(meaning))]
+    page += [".SH EXIT STATUS", escaped(sentence(" ".join(after.removeprefix("Statuses: ").split())))]
+    return page + list(ending([("snes", 1), ("snes", 5)])), whole
 
 
 def formats_page(version, date):
@@ -343,23 +346,23 @@ def write(out, name, lines):
 
 
 def main():
-    if len(sys.argv) != 6:
+    if len(sys.argv) != 7:
         sys.exit(__doc__)
-    out, look, trace, version, date = sys.argv[1:]
+    out, look, trace, scene, version, date = sys.argv[1:]
     commands, _, _ = snes_help()
     look_text, look_commands = look_page(look, version, date)
     trace_text, trace_whole = trace_page(trace, version, date)
+    scene_text, scene_whole = scene_page(scene, version, date)
     write(out, "man/man1/snes.1", snes_page(version, date))
     write(out, "man/man1/snes-look.1", look_text)
     write(out, "man/man1/snes-trace.1", trace_text)
-    write(out, "man/man1/snes-scene.1", scene_page(version, date))
+    write(out, "man/man1/snes-scene.1", scene_text)
     write(out, "man/man5/snes.5", formats_page(version, date))
-    scene = Command("", "", "", [("--measured", None, "the files by which speed is measured")])
     programs = {
         "snes": (commands, ["--help", "--version", "--quiet"]),
         "snes-look": ([it for it, _ in look_commands], ["--help", "--version"]),
         "snes-trace": ([trace_whole], ["--version"]),
-        "snes-scene": ([scene], ["--help", "--version"]),
+        "snes-scene": ([scene_whole], ["--version"]),
     }
     for name, (known, first) in programs.items():
         write(out, f"bash-completion/completions/{name}", bash(name, known, first))

@@ -2,10 +2,10 @@
 
 ghost use Rattle.std.specs.Prelude.{◌≡◌, length};
 
-use crate::DIFFERENT;
 use crate::films::{self, Frames};
 use anyhow::Result;
 use clap::ArgMatches;
+use companion_words::NO;
 use film_formats::{Colour, FRAME_BYTES, ROW_BYTES, first_apart, marked_png};
 use std::fmt;
 use std::io::Read;
@@ -148,7 +148,7 @@ fn tell<R: Print>(rt: &R, found: &Found) -> Result<u8> {
     if *only_second > 0 {
         println!(rt; "the second film has {only_second} frames more")?;
     }
-    Ok(DIFFERENT)
+    Ok(NO)
 }
 
 /// Obeys `look diff A B`.

@@ -1,7 +1,8 @@
 //! The comparison of two sounds, in `look diff --audio`.
 
-use crate::{DIFFERENT, films};
+use crate::films;
 use anyhow::{Context, Result, bail};
+use companion_words::NO;
 use film_formats::{Piece, SAMPLE_BYTES, read_piece};
 use std::alloc::Global;
 use std::io::{BufReader, Read};
@@ -145,5 +146,5 @@ pub fn say_difference<R: Files + Print + AllocGlobal>(
     if only_second > 0 {
         println!(rt; "the second sound has {only_second} samples more")?;
     }
-    Ok(DIFFERENT)
+    Ok(NO)
 }

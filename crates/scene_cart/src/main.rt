@@ -4,11 +4,11 @@
 //! `scene_cart FOLDER` writes into FOLDER, which it makes, the cartridge `scene.sfc`, the game `game.sfc`, and what else a
 //! run of them needs: the free boot ROM `boot.bin`, the interpolation table `table.bin` and the empty `script.txt`. Both
 //! cartridges send a sound program to the sound side. `scene_cart --measured FOLDER` writes the scene without its tune, with
-//! the demo's boot ROM and table: the files by which speed has always been measured. Without a word it writes nothing.
+//! the demo's boot ROM and table: the files by which speed has always been measured. Without a folder it writes nothing.
 //! It prints the length of each cartridge, once all is written.
 //!
-//! The status is 0 only where all was written and printed: 1 for words at fault, 4 where the folder, a file or the line
-//! cannot be written, 5 for no memory. Standard error says which, and what the system said.
+//! The status is 0 only if all was written and printed, else 2, as of every companion. Standard error says which file could
+//! not be written, and what the system said.
 #![tactic(auto)]
 
 mod assembler;
@@ -20,17 +20,19 @@ mod objects;
 mod program;
 mod sound;
 
+use anyhow::{Context, Result, bail};
 use assembler::Code;
+use clap::ArgMatches;
+use companion_words::{Companion, DONE, Kind, Program, Word, run, words};
 use demo_files::{demo_boot_rom, demo_table};
 use free_files::{free_boot_rom, interpolation_table};
 use free_game::game_cartridge;
 use image::{Image, NUMBERS};
 use snes_defs::Table;
-use standard_streams::hold_standard_streams;
 use std::alloc::{AllocError, Global};
+use std::fs;
 use std::process::ExitCode;
-use std::rt::{Env, Files};
-use std::{env, fs, io};
+use std::rt::Files;
 
 /// What a run of the scene needs, whole, and the game, which is not among the files that speed is measured by.
 #[derive(Drop)]
@@ -92,61 +94,21 @@ fn table_bytes(alloc: Global, table: &Table) -> Result<Vec<u8>, AllocError> {
     Ok(bytes)
 }
 
-/// Why it does not end well: the exit status, which is as those of `snes`.
-#[derive(Clone, Copy)]
-enum End {
-    Words,
-    Unwritten,
-    NoMemory,
-}
-
-impl End {
-    fn status(self) -> u8 {
-        match self {
-            End::Words => 1,
-            End::Unwritten => 4,
-            End::NoMemory => 5,
-        }
-    }
-}
-
-/// Says what cannot be written, and what the system said.
-fn unwritten(rt: &impl Eprint, name: &str, error: io::Error) -> End {
-    if error.kind() == io::ErrorKind::OutOfMemory {
-        return End::NoMemory;
-    }
-    let _ = eprintln!(rt; "scene: cannot write {name}: {error}");
-    End::Unwritten
-}
-
 /// Writes a file of a folder.
-fn write_file<R: Files + Eprint + AllocGlobal>(
+fn write_file<R: Files + AllocGlobal>(
     rt: &R,
     folder: &str,
     name: &str,
     bytes: &[u8],
-) -> Result<(), End> {
-    let Ok(path) = format!(in rt.alloc(); "{folder}/{name}") else {
-        return Err(End::NoMemory);
-    };
-    match fs::write(rt, path.as_str(), bytes) {
-        Ok(()) => Ok(()),
-        Err(error) => Err(unwritten(rt, path.as_str(), error)),
-    }
+) -> Result<()> {
+    let path = format!(in rt.alloc(); "{folder}/{name}")?;
+    fs::write(rt, path.as_str(), bytes).context(format_args!("cannot write {path}"))
 }
 
 /// Makes a folder, and writes the files into it.
-fn write_all<R: Files + Eprint + AllocGlobal>(
-    rt: &R,
-    folder: &str,
-    files: &Scene,
-) -> Result<(), End> {
-    if let Err(error) = fs::create_dir_all(rt, folder) {
-        return Err(unwritten(rt, folder, error));
-    }
-    let Ok(table) = table_bytes(rt.alloc(), &files.table) else {
-        return Err(End::NoMemory);
-    };
+fn write_all<R: Files + AllocGlobal>(rt: &R, folder: &str, files: &Scene) -> Result<()> {
+    fs::create_dir_all(rt, folder).context(format_args!("cannot write {folder}"))?;
+    let table = table_bytes(rt.alloc(), &files.table)?;
     write_file(rt, folder, "scene.sfc", files.cartridge.bytes())?;
     if let Some(game) = &files.game {
         write_file(rt, folder, "game.sfc", game.as_slice())?;
@@ -156,86 +118,53 @@ fn write_all<R: Files + Eprint + AllocGlobal>(
     write_file(rt, folder, "script.txt", b"")
 }
 
-/// The words of the command line, without the program's own name.
-fn words_of<R: Env + AllocGlobal>(rt: &R) -> Result<Vec<String>, End> {
-    let Ok(args) = env::args(rt) else {
-        return Err(End::Words);
-    };
-    match args.skip(1).collect::<Vec<String>>(rt.alloc()) {
-        Ok(words) => Ok(words),
-        Err(_) => Err(End::NoMemory),
-    }
-}
-
-/// What the words ask for: the files of the scene or those that speed is measured by, and the folder, if one is named.
-#[derive(Clone, Copy)]
-struct Wanted<'a> {
-    is_measured: bool,
-    folder: Option<&'a str>,
-}
-
-/// What the words ask for, or nothing where they are at fault.
-fn wanted_of(words: &[String]) -> Option<Wanted<'_>> {
-    let (is_measured, rest) = match words.split_first() {
-        Some((first, rest)) if first.as_str() == "--measured" => (true, rest),
-        _ => (false, words),
-    };
-    match rest.split_first() {
-        None => Some(Wanted {
-            is_measured,
-            folder: None,
-        }),
-        Some((folder, more)) if more.is_empty() => Some(Wanted {
-            is_measured,
-            folder: Some(folder.as_str()),
-        }),
-        Some(_) => None,
-    }
-}
-
 /// Prints the length of a cartridge.
-fn told<R: Print + Eprint>(rt: &R, name: &str, bytes: &[u8]) -> Result<(), End> {
-    match println!(rt; "{name}: {} bytes", bytes.len()) {
-        Ok(()) => Ok(()),
-        Err(error) => Err(unwritten(rt, "standard output", error)),
-    }
+fn print_length<R: Print>(rt: &R, name: &str, bytes: &[u8]) -> Result<()> {
+    println!(rt; "{name}: {} bytes", bytes.len()).context("cannot write standard output")
 }
 
-/// Does what the words ask for.
-fn obey<R: Files + Env + Print + Eprint + AllocGlobal>(rt: &R) -> Result<(), End> {
-    let words = words_of(rt)?;
-    let Some(wanted) = wanted_of(words.as_slice()) else {
-        return Err(End::Words);
-    };
-    let files = match files(rt.alloc(), wanted.is_measured) {
-        Ok(Some(files)) => files,
-        // The program is the same at each run, and fits.
-        Ok(None) => return Err(End::Unwritten),
-        Err(_) => return Err(End::NoMemory),
-    };
-    if let Some(folder) = wanted.folder {
-        write_all(rt, folder, &files)?;
+/// The words of the command line.
+static WORDS: [Word; 2] = words![
+    "" Kind::MayBePlaced, "FOLDER" "" "" "where the files go; it is made; without it only the lengths are printed";
+    "" Kind::Flag, "measured" "" "" "the scene without its tune, with the boot ROM and table of snes demo, by which speed is measured";
+];
+
+/// This program, as a companion of `snes`.
+#[derive(Drop)]
+struct SceneCart;
+
+impl Companion for SceneCart {
+    fn program(&self) -> Program {
+        Program {
+            name: "scene",
+            about: "Writes scene.sfc, game.sfc, boot.bin, table.bin and script.txt into a folder: all that snes needs for a first run",
+            commands: &[],
+            words: &WORDS,
+            needs_words: false,
+            after: "Statuses: 0 all is written; 2 a file could not be written, or the command line is at fault: standard error says which.",
+        }
     }
-    told(rt, "scene.sfc", files.cartridge.bytes())?;
-    match &files.game {
-        Some(game) => told(rt, "game.sfc", game.as_slice()),
-        None => Ok(()),
+
+    fn obey<R: Files + Print + Eprint + AllocGlobal>(
+        &self,
+        rt: &R,
+        _command: &str,
+        words: &ArgMatches<'_>,
+    ) -> Result<u8> {
+        let Some(files) = files(rt.alloc(), words.get_flag("measured"))? else {
+            bail!("the program doesn't fit into the cartridge");
+        };
+        if let Some(folder) = words.get_str("FOLDER") {
+            write_all(rt, folder, &files)?;
+        }
+        print_length(rt, "scene.sfc", files.cartridge.bytes())?;
+        if let Some(game) = &files.game {
+            print_length(rt, "game.sfc", game.as_slice())?;
+        }
+        Ok(DONE)
     }
 }
 
 fn main(rt: HostRuntime) -> ExitCode {
-    let _streams = hold_standard_streams(&rt);
-    match obey(&rt) {
-        Ok(()) => ExitCode::from(0),
-        Err(end) => {
-            let _ = match end {
-                End::Words => eprintln!(rt;
-                    "scene FOLDER: writes scene.sfc, game.sfc, boot.bin, table.bin and script.txt into it"
-                ),
-                End::NoMemory => eprintln!(rt; "scene: no memory"),
-                End::Unwritten => Ok(()),
-            };
-            ExitCode::from(end.status())
-        }
-    }
+    run(&rt, &SceneCart)
 }

@@ -30,23 +30,17 @@ mod words;
 use anyhow::{Context, Result, bail};
 use clap::ArgMatches;
 use clock_ratio::end_stamp_in;
+use companion_words::{Companion, DONE, NO, Program, run};
 use ends::tell_ends;
 use inputs::{Names, job_of};
 use pair::Pair;
 use snes_defs::{Job, MOST_FRAMES, Region, Side};
-use standard_streams::hold_standard_streams;
 use std::alloc::Global;
 use std::fs;
 use std::io::{self, BufWriter};
 use std::process::ExitCode;
-use std::rt::{Env, Files};
+use std::rt::Files;
 use trace::{Wanted, write_trace};
-
-/// There are breakpoints, and none was hit.
-const NO_HIT: u8 = 1;
-
-/// Something could not be read or written or is refused, or the command line is at fault.
-const FAULT: u8 = 2;
 
 /// The stamp at which a frame begins.
 fn frame_stamp(region: Region, frame: u64) -> Result<u64> {
@@ -129,8 +123,11 @@ fn job_in<R: Files + Print>(rt: &R, alloc: Global, words: &ArgMatches<'_>) -> Re
     job_of(rt, alloc, names)
 }
 
-/// Does what the words ask for, and gives the status.
-fn obey<R: Files + Print + Eprint + AllocGlobal>(rt: &R, words: &ArgMatches<'_>) -> Result<u8> {
+/// Traces the job that the words name, and gives the status.
+fn write_job<R: Files + Print + Eprint + AllocGlobal>(
+    rt: &R,
+    words: &ArgMatches<'_>,
+) -> Result<u8> {
     let alloc = rt.alloc();
     let stamps = stamps_of(words)?;
     let job = job_in(rt, alloc, words)?;
@@ -153,30 +150,28 @@ fn obey<R: Files + Print + Eprint + AllocGlobal>(rt: &R, words: &ArgMatches<'_>)
     let told = write_trace(alloc, &mut pair, &wanted, &mut out)?;
     // That nobody hears of it changes no status.
     let _ = tell_ends(rt, &pair);
-    Ok(if told.is_hit { 0 } else { NO_HIT })
+    Ok(if told.is_hit { DONE } else { NO })
 }
 
-/// Reads the words of the command line, and does what they ask for.
-fn run<R: Files + Print + Eprint + AllocGlobal + Env>(rt: &R) -> Result<u8> {
-    let alloc = rt.alloc();
-    let given: Vec<String> = std::env::args(rt)?.collect(alloc)?;
-    let command = words::command(alloc)?;
-    match command.try_get_matches_from(given.as_slice()) {
-        Ok(matches) => obey(rt, &matches),
-        Err(error) => {
-            error.print(rt)?;
-            Ok(if error.exit_code() == 0 { 0 } else { FAULT })
-        }
+/// This program, as a companion of `snes`.
+#[derive(Drop)]
+struct Tracer;
+
+impl Companion for Tracer {
+    fn program(&self) -> Program {
+        words::program()
+    }
+
+    fn obey<R: Files + Print + Eprint + AllocGlobal>(
+        &self,
+        rt: &R,
+        _command: &str,
+        words: &ArgMatches<'_>,
+    ) -> Result<u8> {
+        write_job(rt, words)
     }
 }
 
 fn main(rt: HostRuntime) -> ExitCode {
-    let _streams = hold_standard_streams(&rt);
-    match run(&rt) {
-        Ok(status) => ExitCode::from(status),
-        Err(error) => {
-            let _ = eprintln!(rt; "trace: {error:#}");
-            ExitCode::from(FAULT)
-        }
-    }
+    run(&rt, &Tracer)
 }

@@ -1,118 +1,32 @@
-//! The words of the command line: a table of them, and the one place that hands them to `clap`.
+//! The command line of `trace`, as a table.
 
-use clap::{Arg, ArgAction, Command, value_parser};
-use std::alloc::{AllocError, Global};
-
-/// What a word is, and which values it takes.
-#[derive(Clone, Copy)]
-enum Kind {
-    /// The name of a file, which has to be there.
-    File,
-    /// The name of a file that may be there.
-    MayBeFile,
-    /// A number.
-    Number,
-    /// A stamp, which no frame stands beside.
-    Stamp,
-    /// A side, or both.
-    Side,
-    /// It is there or not.
-    Flag,
-}
-
-/// A word of the command line.
-#[derive(Clone, Copy)]
-struct Word {
-    kind: Kind,
-    name: &'static str,
-    /// What the help calls its value.
-    value: &'static str,
-    /// Its value where it is not there, or the empty text for none.
-    default: &'static str,
-    help: &'static str,
-}
-
-/// A table of words: of each its kind, name, value, default and help.
-macro_rules! words {
-    ($($kind:ident $name:literal $value:literal $default:literal $help:literal,)*) => {
-        [$(Word {
-            kind: Kind::$kind,
-            name: $name,
-            value: $value,
-            default: $default,
-            help: $help,
-        },)*]
-    };
-}
-
-/// The words, in the order in which the help tells them.
-static WORDS: [Word; 14] = words![
-    File "cart" "FILE" "" "the cartridge",
-    File "boot" "FILE" "" "the sound side's boot ROM",
-    File "table" "FILE" "" "the interpolation table",
-    File "script" "FILE" "" "the controllers' script",
-    Number "frame" "N" "0" "the first frame that is told, from 0",
-    Number "frames" "COUNT" "1" "how many frames are told",
-    Stamp "from" "STAMP" "" "tell the steps from this stamp on, in place of --frame; with --to",
-    Stamp "to" "STAMP" "" "and before this stamp, which is no earlier",
-    Side "side" "SIDE" "both" "whose steps are told: console, sound or both",
-    Flag "instructions" "" "" "tell opcode fetches, resets and hits, no other step",
-    MayBeFile "break" "FILE" "" "tell only the steps that hit a breakpoint of this file (below)",
-    Number "then" "STEPS" "0" "and so many steps behind each hit; a large number goes on from the first hit",
-    Number "lines" "COUNT" "" "end after so many lines",
-    Flag "csv" "" "" "CSV in place of text, with a head",
-];
+use companion_words::{Kind, Program, Word, words};
 
 /// The values of a side.
-static SIDES: [&str; 3] = ["console", "sound", "both"];
+const SIDES: &[&str] = &["console", "sound", "both"];
 
-/// A word as `clap` takes it, without a default.
-fn plain<'a>(alloc: Global, word: &Word) -> Result<Arg<'a>, AllocError> {
-    let plain = Arg::new(alloc, word.name).long(word.name).help(word.help);
-    let plain = match word.kind {
-        Kind::File => plain
-            .action(ArgAction::Set)
-            .value_name(word.value)
-            .required(true),
-        Kind::MayBeFile => plain.action(ArgAction::Set).value_name(word.value),
-        Kind::Number => plain
-            .action(ArgAction::Set)
-            .value_name(word.value)
-            .value_parser(value_parser!(u64)),
-        Kind::Stamp => plain
-            .action(ArgAction::Set)
-            .value_name(word.value)
-            .value_parser(value_parser!(u64))
-            .conflicts_with_all(&["frame", "frames"])?,
-        Kind::Side => plain
-            .action(ArgAction::Set)
-            .value_name(word.value)
-            .value_parser(SIDES.as_slice()),
-        Kind::Flag => plain.action(ArgAction::SetTrue),
-    };
-    Ok(plain)
-}
+/// What no stamp is given with.
+const BY_FRAMES: &[&str] = &["frame", "frames"];
 
-/// A word as `clap` takes it.
-fn argument<'a>(alloc: Global, word: &Word) -> Result<Arg<'a>, AllocError> {
-    let plain = plain(alloc, word)?;
-    Ok(if word.default.is_empty() {
-        plain
-    } else {
-        plain.default_value(word.default)
-    })
-}
+/// The words, in the help's order.
+static WORDS: [Word; 14] = words![
+    "" Kind::Needed, "cart" "FILE" "" "the cartridge";
+    "" Kind::Needed, "boot" "FILE" "" "the sound side's boot ROM";
+    "" Kind::Needed, "table" "FILE" "" "the interpolation table";
+    "" Kind::Needed, "script" "FILE" "" "the controllers' script";
+    "" Kind::Number, "frame" "N" "0" "the first frame that is told, from 0";
+    "" Kind::Number, "frames" "COUNT" "1" "how many frames are told";
+    "" Kind::Number, "from" "STAMP" "" against BY_FRAMES, "tell the steps from this stamp on, in place of --frame; with --to";
+    "" Kind::Number, "to" "STAMP" "" against BY_FRAMES, "and before this stamp, which is no earlier";
+    "" Kind::Choice(SIDES), "side" "SIDE" "both" "whose steps are told: console, sound or both";
+    "" Kind::Flag, "instructions" "" "" "tell opcode fetches, resets and hits, no other step";
+    "" Kind::Text, "break" "FILE" "" "tell only the steps that hit a breakpoint of this file (below)";
+    "" Kind::Number, "then" "STEPS" "0" "and so many steps behind each hit; a large number goes on from the first hit";
+    "" Kind::Number, "lines" "COUNT" "" "end after so many lines";
+    "" Kind::Flag, "csv" "" "" "CSV in place of text, with a head";
+];
 
-/// All words as `clap` takes them.
-fn arguments<'a>(alloc: Global) -> Result<Vec<Arg<'a>>, AllocError> {
-    let mut list = Vec::new(alloc);
-    for word in WORDS.iter() {
-        list.push(argument(alloc, word)?)?;
-    }
-    Ok(list)
-}
-
-/// What the help says behind the options.
+/// What the help says last.
 static AFTER: &str =
     "A file of breakpoints has one a line: ADDRESS or FIRST-LAST in hexadecimal digits, then, where
 wanted, a side (console or sound) and a kind (opcode, fetch, read, write, dma or hdma). Five or six
@@ -123,19 +37,14 @@ that of the A side and 002100 to 0021FF. # begins a comment.
 Statuses: 0 done; 1 there are breakpoints, and none was hit; 2 a file could not be read or is refused,
 the trace could not be written, or the words are at fault: standard error says which.";
 
-/// The program without its words.
-fn program<'a>(alloc: Global) -> Result<Command<'a>, AllocError> {
-    Command::new(alloc, "trace")
-        .about(
-            "Tells each step of a run of snes: its time, address, byte and kind, and instructions with registers",
-        )
-        .arg_required_else_help(true)
-        .after_help(AFTER)
-        .bin_name("trace")
-}
-
-/// The command.
-pub fn command<'a>(alloc: Global) -> Result<Command<'a>, AllocError> {
-    let list = arguments(alloc)?;
-    program(alloc)?.args(list)
+/// The command line.
+pub fn program() -> Program {
+    Program {
+        name: "trace",
+        about: "Tells each step of a run of snes: its time, address, byte and kind, and instructions with registers",
+        commands: &[],
+        words: &WORDS,
+        needs_words: true,
+        after: AFTER,
+    }
 }

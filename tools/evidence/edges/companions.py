@@ -14,14 +14,14 @@ def scene(room):
     end = room.run([program, "out"]).came(0)
     assert end.out.startswith(b"scene.sfc: 131072 bytes\n"), end.out
     for folder in ("/proc/x", "/dev/null/x", "/dev/null"):
-        room.run([program, folder]).came(4, b"", b"cannot write " + folder.encode())
+        room.run([program, folder]).came(2, b"", b"cannot write " + folder.encode())
     os.makedirs(room.path("shut"))
     os.chmod(room.path("shut"), 0o555)
-    room.run(room.nobody([program, "shut"])).came(4, b"", b"cannot write shut/scene.sfc")
-    room.run(room.nobody([program, "shut/below"])).came(4, b"", b"cannot write shut/below")
-    room.run([program, "out"], tail=">/dev/full").came(4, b"", b"cannot write standard output")
-    room.run([program, "out", "more"]).came(1, b"", b"FOLDER: writes")
-    room.run([program, b"\xff"]).came(1, b"")
+    room.run(room.nobody([program, "shut"])).came(2, b"", b"cannot write shut/scene.sfc")
+    room.run(room.nobody([program, "shut/below"])).came(2, b"", b"cannot write shut/below")
+    room.run([program, "out"], tail=">/dev/full").came(2, b"", b"cannot write standard output")
+    room.run([program, "out", "more"]).came(2, b"", b"unexpected argument 'more'")
+    room.run([program, b"\xff"]).came(2, b"")
     os.chmod(room.path("shut"), 0o755)
 
 

@@ -30,7 +30,7 @@ class Stage:
         os.makedirs(room.path("programs"))
         os.makedirs(f"{self.top}/tools/package")
         for file in ("snes", "look", "scene", "trace", "CHANGELOG.md", "HANDLES", "tools/run_built.sh", "tools/built_from.sh",
-                     "tools/lines_below.sh", "tools/with_progress.sh", "tools/package/scene.help", "tools/many_runs.sh",
+                     "tools/lines_below.sh", "tools/with_progress.sh", "tools/many_runs.sh",
                      "tools/many_runs.sbatch"):
             shutil.copy(f"{lab.TREE}/{file}", f"{self.top}/{file}")
         write(f"{self.top}/crates.txt", "".join(f"{crate}:\n" for crate in TOOLS.values()).encode())

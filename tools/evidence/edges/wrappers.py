@@ -192,7 +192,7 @@ def limit(room):
         same("status on a terminal", terminal.status(), 4)
     room.run(room.words("serial")).came(0)
     room.run([f"{stage.top}/look", "png", "video", "3", "out"], shell="ulimit -f 100;", env=env).came(2, b"", b"cannot write")
-    room.run([f"{stage.top}/scene", "out.d"], shell="ulimit -f 10;", env=env).came(4, b"", b"cannot write out.d/scene.sfc")
+    room.run([f"{stage.top}/scene", "out.d"], shell="ulimit -f 10;", env=env).came(2, b"", b"cannot write out.d/scene.sfc")
     trace = [f"{stage.top}/trace", *(it for name in ("cart", "boot", "table", "script") for it in (f"--{name}", room.bench.inputs[name]))]
     room.run(trace, shell="ulimit -f 100;", tail=">trace", env=env).came(2, None, b"cannot write the trace")
     same("bytes of the trace", os.path.getsize(room.path("trace")), 102_400)
