@@ -1,38 +1,38 @@
-//! The words of the command line: a table of them, and the one place that hands them to `clap`.
+//! The options of the command line: a table of them, and the one place that passes them to `clap`.
 
 use clap::{Arg, ArgAction, Command, value_parser};
 use std::alloc::{AllocError, Global};
 
-/// What a word is, and which values it takes.
+/// What an option is, and which values it takes.
 #[derive(Clone, Copy)]
 enum Kind {
-    /// The name of a file, which has to be there.
+    /// The name of a file; the option is required.
     File,
-    /// The name of a file that may be there.
+    /// The name of a file; the option may be missing.
     MayBeFile,
     /// A number.
     Number,
-    /// A stamp, which no frame stands beside.
+    /// A stamp; it cannot be given together with a frame.
     Stamp,
     /// A side, or both.
     Side,
-    /// It is there or not.
+    /// A flag without a value.
     Flag,
 }
 
-/// A word of the command line.
+/// An option of the command line.
 #[derive(Clone, Copy)]
 struct Word {
     kind: Kind,
     name: &'static str,
     /// What the help calls its value.
     value: &'static str,
-    /// Its value where it is not there, or the empty text for none.
+    /// Its value if it is not given, or the empty text for none.
     default: &'static str,
     help: &'static str,
 }
 
-/// A table of words: of each its kind, name, value, default and help.
+/// Makes a table of options: the kind, name, value, default and help of each.
 macro_rules! words {
     ($($kind:ident $name:literal $value:literal $default:literal $help:literal,)*) => {
         [$(Word {
@@ -45,7 +45,7 @@ macro_rules! words {
     };
 }
 
-/// The words, in the order in which the help tells them.
+/// The options, in the order of the help.
 static WORDS: [Word; 14] = words![
     File "cart" "FILE" "" "the cartridge",
     File "boot" "FILE" "" "the sound side's boot ROM",
@@ -66,7 +66,7 @@ static WORDS: [Word; 14] = words![
 /// The values of a side.
 static SIDES: [&str; 3] = ["console", "sound", "both"];
 
-/// A word as `clap` takes it, without a default.
+/// Returns an option as `clap` takes it, without a default.
 fn plain<'a>(alloc: Global, word: &Word) -> Result<Arg<'a>, AllocError> {
     let plain = Arg::new(alloc, word.name).long(word.name).help(word.help);
     let plain = match word.kind {
@@ -93,7 +93,7 @@ fn plain<'a>(alloc: Global, word: &Word) -> Result<Arg<'a>, AllocError> {
     Ok(plain)
 }
 
-/// A word as `clap` takes it.
+/// Returns an option as `clap` takes it.
 fn argument<'a>(alloc: Global, word: &Word) -> Result<Arg<'a>, AllocError> {
     let plain = plain(alloc, word)?;
     Ok(if word.default.is_empty() {
@@ -103,7 +103,7 @@ fn argument<'a>(alloc: Global, word: &Word) -> Result<Arg<'a>, AllocError> {
     })
 }
 
-/// All words as `clap` takes them.
+/// Returns all options as `clap` takes them.
 fn arguments<'a>(alloc: Global) -> Result<Vec<Arg<'a>>, AllocError> {
     let mut list = Vec::new(alloc);
     for word in WORDS.iter() {
@@ -112,7 +112,7 @@ fn arguments<'a>(alloc: Global) -> Result<Vec<Arg<'a>>, AllocError> {
     Ok(list)
 }
 
-/// What the help says behind the options.
+/// The text of the help after the options.
 static AFTER: &str =
     "A file of breakpoints has one a line: ADDRESS or FIRST-LAST in hexadecimal digits, then, where
 wanted, a side (console or sound) and a kind (opcode, fetch, read, write, dma or hdma). Five or six
@@ -123,7 +123,7 @@ that of the A side and 002100 to 0021FF. # begins a comment.
 Statuses: 0 done; 1 there are breakpoints, and none was hit; 2 a file could not be read or is refused,
 the trace could not be written, or the words are at fault: standard error says which.";
 
-/// The program without its words.
+/// Returns the program without its options.
 fn program<'a>(alloc: Global) -> Result<Command<'a>, AllocError> {
     Command::new(alloc, "trace")
         .about(
@@ -134,7 +134,7 @@ fn program<'a>(alloc: Global) -> Result<Command<'a>, AllocError> {
         .bin_name("trace")
 }
 
-/// The command.
+/// Returns the command with its options.
 pub fn command<'a>(alloc: Global) -> Result<Command<'a>, AllocError> {
     let list = arguments(alloc)?;
     program(alloc)?.args(list)
