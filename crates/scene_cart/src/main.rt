@@ -1,14 +1,14 @@
-//! Makes a cartridge to look at: an evening over a lake, in mode 1 with three backgrounds, 128 moving objects, a
+//! Makes a demonstration cartridge: an evening over a lake, in mode 1 with three backgrounds, 128 moving objects, a
 //! window, colour arithmetic, three channels of HDMA, and a program that works as a game does.
 //!
-//! `scene_cart FOLDER` writes into FOLDER, which it makes, the cartridge `scene.sfc`, the game `game.sfc`, and what else a
-//! run of them needs: the free boot ROM `boot.bin`, the interpolation table `table.bin` and the empty `script.txt`. Both
-//! cartridges send a sound program to the sound side. `scene_cart --measured FOLDER` writes the scene without its tune, with
-//! the demo's boot ROM and table: the files by which speed has always been measured. Without a word it writes nothing.
-//! It prints the length of each cartridge, once all is written.
+//! `scene_cart FOLDER` writes into FOLDER, which it makes, the cartridge `scene.sfc`, the game `game.sfc`, and what
+//! else a run of them needs: the free boot ROM `boot.bin`, the interpolation table `table.bin` and the empty
+//! `script.txt`. Both cartridges send a sound program to the APU. `scene_cart --measured FOLDER` writes the scene
+//! without its tune, with the demo's boot ROM and table: the files by which speed has always been measured. Without an
+//! argument it writes nothing. It prints the length of each cartridge, once all is written.
 //!
-//! The status is 0 only where all was written and printed: 1 for words at fault, 4 where the folder, a file or the line
-//! cannot be written, 5 for no memory. Standard error says which, and what the system said.
+//! The status is 0 only if all was written and printed. It is 1 for invalid arguments, 4 if the folder, a file or the
+//! line cannot be written, and 5 if allocation fails. Standard error says which, and what the system reported.
 #![tactic(auto)]
 
 mod assembler;
@@ -32,7 +32,7 @@ use std::process::ExitCode;
 use std::rt::{Env, Files};
 use std::{env, fs, io};
 
-/// What a run of the scene needs, whole, and the game, which is not among the files that speed is measured by.
+/// All that a run of the scene needs, and the game, which is not among the files that speed is measured by.
 #[derive(Drop)]
 struct Scene {
     cartridge: Image,
@@ -41,7 +41,7 @@ struct Scene {
     table: Table,
 }
 
-/// The whole cartridge with its tune or without, or nothing where the program doesn't fit.
+/// Returns the whole cartridge with its tune or without; `None` if the program doesn't fit.
 fn cartridge(alloc: Global, with_tune: bool) -> Result<Option<Image>, AllocError> {
     let mut image = Image::new(alloc)?;
     let mut code = Code::new();
@@ -59,7 +59,7 @@ fn cartridge(alloc: Global, with_tune: bool) -> Result<Option<Image>, AllocError
     Ok(if code.fits() { Some(image) } else { None })
 }
 
-/// The files of the scene, or of the one that speed is measured by.
+/// Returns the files of the scene, or of the one that speed is measured by.
 fn files(alloc: Global, is_measured: bool) -> Result<Option<Scene>, AllocError> {
     let Some(cartridge) = cartridge(alloc, !is_measured)? else {
         return Ok(None);
@@ -81,7 +81,7 @@ fn files(alloc: Global, is_measured: bool) -> Result<Option<Scene>, AllocError> 
     }))
 }
 
-/// The bytes of an interpolation table.
+/// Returns the bytes of an interpolation table.
 fn table_bytes(alloc: Global, table: &Table) -> Result<Vec<u8>, AllocError> {
     let mut bytes = Vec::new(alloc);
     for i in 0..512 {
@@ -92,7 +92,7 @@ fn table_bytes(alloc: Global, table: &Table) -> Result<Vec<u8>, AllocError> {
     Ok(bytes)
 }
 
-/// Why it does not end well: the exit status, which is as those of `snes`.
+/// The reason why the program fails; its exit statuses are those of `snes`.
 #[derive(Clone, Copy)]
 enum End {
     Words,
@@ -110,7 +110,7 @@ impl End {
     }
 }
 
-/// Says what cannot be written, and what the system said.
+/// Prints what cannot be written, and what the system reported.
 fn unwritten(rt: &impl Eprint, name: &str, error: io::Error) -> End {
     if error.kind() == io::ErrorKind::OutOfMemory {
         return End::NoMemory;
@@ -156,7 +156,7 @@ fn write_all<R: Files + Eprint + AllocGlobal>(
     write_file(rt, folder, "script.txt", b"")
 }
 
-/// The words of the command line, without the program's own name.
+/// Returns the arguments of the command line, without the program's own name.
 fn words_of<R: Env + AllocGlobal>(rt: &R) -> Result<Vec<String>, End> {
     let Ok(args) = env::args(rt) else {
         return Err(End::Words);
@@ -167,14 +167,15 @@ fn words_of<R: Env + AllocGlobal>(rt: &R) -> Result<Vec<String>, End> {
     }
 }
 
-/// What the words ask for: the files of the scene or those that speed is measured by, and the folder, if one is named.
+/// What the arguments ask for: the files of the scene or those that speed is measured by, and the folder, if one is
+/// named.
 #[derive(Clone, Copy)]
 struct Wanted<'a> {
     is_measured: bool,
     folder: Option<&'a str>,
 }
 
-/// What the words ask for, or nothing where they are at fault.
+/// Returns what the arguments ask for; `None` if they are invalid.
 fn wanted_of(words: &[String]) -> Option<Wanted<'_>> {
     let (is_measured, rest) = match words.split_first() {
         Some((first, rest)) if first.as_str() == "--measured" => (true, rest),
@@ -201,7 +202,7 @@ fn told<R: Print + Eprint>(rt: &R, name: &str, bytes: &[u8]) -> Result<(), End> 
     }
 }
 
-/// Does what the words ask for.
+/// Does what the arguments ask for.
 fn obey<R: Files + Env + Print + Eprint + AllocGlobal>(rt: &R) -> Result<(), End> {
     let words = words_of(rt)?;
     let Some(wanted) = wanted_of(words.as_slice()) else {
