@@ -16,8 +16,8 @@
 //! - `bytes TO` prints the bytes that are written to the ports, up to a clock.
 //! - `picture FRAME` prints a frame from 0 on, equal rows in one line, each by runs of equal dots.
 //!
-//! An argument `workers` or `plans` instead of a file runs rows about what no clause and no output byte shows: that the
-//! two workers of a run are active concurrently, and through how many frames a rewinder steps its machines. After an
+//! An argument `workers` or `plans` instead of a file runs rows about what no output byte and no clause shows. They are
+//! that a run's two workers overlap, and through how many frames a rewinder steps its machines. After an
 //! argument `job` come those of one run over real files. It is run as `snes` runs it, its workers are counted, and the
 //! status is that of `snes`.
 //!

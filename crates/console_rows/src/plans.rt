@@ -1,8 +1,8 @@
 //! Counts through how many frames a rewinder steps its machines.
 //!
-//! It plays plans over a cartridge that passes bytes between both sides all the time, and prints through how many
-//! frames the machines were stepped: those of the `go` lines alone, and not those of the path before them again. The
-//! clauses of the rewinder say so (`steps` of `Rewind::play`); here a run is measured.
+//! It plays plans over a cartridge that passes bytes between both sides all the time. It prints through how many frames
+//! the machines were stepped. These are the frames of the `go` lines alone, and not those of the path before them
+//! again. The clauses of the rewinder say so (`steps` of `Rewind::play`); here a run is measured.
 
 ghost use Rattle.std.specs.Prelude.{◌≡◌, []};
 ghost use Rattle.snes_defs.specs.declared.region.Region.TheVariants.{Ntsc};

@@ -1,5 +1,5 @@
-//! Counts the two workers of the whole program: calls `run`, `lockless` and `demo` as a user does, over a shelf in
-//! memory, with a gate that counts what their workers do (`turn_watch`).
+//! Counts the two workers of the whole program. It calls `run`, `lockless` and `demo` as a user does, over a shelf in
+//! memory. Their gate counts what the workers do (`turn_watch`).
 //!
 //! What a line says of the workers is missing if a command makes its run, or a part of it, in one thread:
 //! `tools/evidence/try_one_worker.sh` tries such bodies.
@@ -11,7 +11,8 @@
 //!
 //! The rows are computed by hand: sixty frames of a cartridge that shows red and touches no port take fewer than
 //! 100,000 turns; two frames of two processors that read each other's ports for ever take no more than the bound
-//! that is proved of every run, 76,602 a frame and 2, by `run` and by `lockless`; and sixty frames of a made cartridge too.
+//! that is proved of every run, 76,602 a frame and 2, by `run` and by `lockless`; and sixty frames of a made cartridge
+//! too.
 
 mod files;
 

@@ -1,5 +1,5 @@
-//! Runs the jobs of the given files, such as `data/console.txt`, on the whole console and the whole sound side, and
-//! compares each frame of the picture and of the sound.
+//! Runs the jobs of the given files, such as `data/console.txt`, on the whole console and the whole sound side. Each
+//! frame of the picture and of the sound is compared.
 //!
 //! Each job is run by the serial console's loop, and by turns of two workers over either wire. The jobs are external
 //! test vectors: two other programs agreed on them. The program uses `console_machine`, `audio_side` and `run_drive`,

@@ -39,7 +39,7 @@ pub fn play<P: SerialPlayer>(
 }
 
 /// Plays a job, and fills the slices with what it emits. The run fills copies, which are copied to the slices at its
-/// end: for a slice kept in a sink, nothing would say that it is still the caller's.
+/// end. If a sink kept a slice itself, nothing would say that it is still the caller's.
 fn fill_from<P: SerialPlayer>(
     alloc: Global,
     player: P,

@@ -2,8 +2,8 @@
 //!
 //! The crate has tests alone, in a module for each part:
 //!
-//! - `picture`, `backgrounds`: objects over their limits, mode 7, a window, arithmetic, text, and the dots of backgrounds. Each
-//!   sets a unit by writes of its registers and compares what the public calls give.
+//! - `picture`, `backgrounds`: objects over their limits, mode 7, a window, arithmetic, text, and the dots of
+//!   backgrounds. Each sets up a PPU by writes of its registers and compares what the public calls give.
 //! - `readers`, `shelf`: the readers, the files of the demo, the shelf over real files and the lines for the user, as
 //!   an outside reader expects them: each call that may allocate is made once with plenty of memory, and its result is
 //!   compared.

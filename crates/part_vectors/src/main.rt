@@ -1,5 +1,5 @@
-//! Runs external test vectors of the console's parts through the proved code: which files are cartridges and what
-//! is at an address, transfers, the processor's registers, and the events of the beam.
+//! Runs external test vectors of the console's parts through the proved code. The parts are cartridges (which files
+//! are one, and what is at an address), transfers, the processor's registers, and the events of the beam.
 //!
 //! The arguments are files of cases. A file is of one part, that of the word which begins its first case: `cart`,
 //! `dma`, `io` or `beam`. It may have lines of comment, from `#` on; each other line is done or compared. The comment

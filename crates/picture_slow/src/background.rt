@@ -68,8 +68,8 @@ pub fn block_start(on: bool, size: u8, n: u32) -> u32
     if on { n - n % (size as u32 + 1) } else { n }
 }
 
-/// Returns how far a layer is scrolled at pixel `x`, across and down: by its own scroll, or in the modes 2, 4 and 6 by
-/// the entries of BG3's map, which has one for every eight pixels from the second on.
+/// Returns how far a layer is scrolled at pixel `x`, across and down. Its own scroll says so, or in the modes 2, 4 and
+/// 6 the entries of BG3's map. There is one entry for every eight pixels from the second on.
 fn moved_by(p: &Ppu, layer: u8, x: u32) -> (u32, u32)
     requires { x < 256 }
     ensures across { result.0 < 1024 }

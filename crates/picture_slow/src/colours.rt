@@ -38,8 +38,8 @@ fn joined(c: &ColourMath, one: i32, other: i32, halves: bool) -> u16
     }
 }
 
-/// Returns the main screen's dot at a pixel, from what is in front there (with whether 2131 names it) and from what is
-/// in front on the sub screen.
+/// Returns the main screen's dot at a pixel, from what is in front on both screens. `front` also says whether 2131
+/// names its layer.
 pub fn mixed(p: &Ppu, x: u8, front: Option<(u16, bool)>, sub: Option<u16>) -> u16 {
     let r = p.registers();
     let c = &r.colour;

@@ -7,10 +7,10 @@
 //!
 //! A file has a case a line, with the registers before and after:
 //!
-//! - `cpu LABEL A X Y S D PC PBR DBR P E | BYTES | ACCESSES | A X Y S D PC PBR DBR P E`. An access is `F` (fetch), `R` or
-//!   `W` with an address of six digits and a byte, or `I`; `S` with two digits gives the levels of NMI and IRQ;
-//! - `spc LABEL A X Y SP PC PSW | BYTES | ACCESSES | A X Y SP PC PSW`. An access is `F` (fetch), `R` or `W` with an address
-//!   of four digits and a byte, or `I`.
+//! - `cpu LABEL A X Y S D PC PBR DBR P E | BYTES | ACCESSES | A X Y S D PC PBR DBR P E`. An access is `F` (fetch), `R`
+//!   or `W` with an address of six digits and a byte, or `I`; `S` with two digits gives the levels of NMI and IRQ;
+//! - `spc LABEL A X Y SP PC PSW | BYTES | ACCESSES | A X Y SP PC PSW`. An access is `F` (fetch), `R` or `W` with an
+//!   address of four digits and a byte, or `I`.
 //!
 //! The files after the argument `orders` are pages with a table of access orders (`orders`).
 #![tactic(auto)]

@@ -172,8 +172,8 @@ impl Puts {
     }
 }
 
-/// Prints what a failed put left that it should not: anything but a prefix of what the row leaves without a failure,
-/// or less than all if the line was printed.
+/// Prints what a failed put left that it should not. This is anything but a prefix of what the row leaves without a
+/// failure, or less than all if the line was printed.
 fn tell<R: Print>(rt: &R, nth: u32, part: &Outcome, whole: &Outcome) -> io::Result<()> {
     if !is_begun(part, whole) {
         println!(rt; "  put {nth}: other bytes are left")?;
@@ -253,8 +253,9 @@ fn each<R: AllocGlobal + Threads + Print>(rt: &R, rows: &Rows, words: &str) -> i
     }
 }
 
-/// Runs a row of which some put fails, and prints the status, and whether it left a prefix of what the row leaves
-/// without a failure, with a byte at least of the output that failed. Its length depends on where the two workers met.
+/// Runs a row of which some put fails, and prints the status. Prints too whether it left a prefix of what the row
+/// leaves without a failure, with at least a byte of the output that failed. How long depends on where the two workers
+/// met.
 fn part<R: AllocGlobal + Threads + Print>(rt: &R, rows: &mut Rows, words: &str) -> io::Result<()> {
     let part = performed(rt, rows, words, None);
     rows.mend();

@@ -1,9 +1,9 @@
 //! Runs rows of the whole program: command lines over shelves in memory, with the console itself.
 //!
 //! The program follows the lines of the given files, such as `data/rows.txt`. It prints each row with the exit status,
-//! the line, and the outputs that were created: name, length, and the bytes as runs of equal units of two bytes, or
-//! their sum if there are many runs. The expected `stdout` was computed by hand from the rules of
-//! `docs/use/COMMANDS.md`; the sums of the demo are those of two other programs.
+//! the line, and the outputs that were created. Of an output it prints the name, the length, and the bytes as runs of
+//! equal units of two bytes, or their sum if there are many runs. The expected `stdout` was computed by hand from the
+//! rules of `docs/use/COMMANDS.md`; the sums of the demo are those of two other programs.
 //!
 //! Lines that say what a row is run with:
 //!

@@ -11,18 +11,23 @@ pub const SOUND_PROGRAM: u32 = 0x6000;
 /// The offset of tables of 256 bytes, in bank 0, which the program reads by Y.
 pub const PATHS: u32 = 0x7000;
 
+/// The offset of the header.
 pub const HEADER: u32 = 0x7fc0;
-/// The offsets of what goes into VRAM, CGRAM and OAM.
+/// The offset of what goes into VRAM.
 pub const VIDEO: u32 = 0x8000;
 
+/// The offset of what goes into CGRAM.
 pub const COLOURS: u32 = 0x1_8000;
 
+/// The offset of what goes into OAM.
 pub const OBJECTS: u32 = 0x1_8200;
-/// The offsets of tables of HDMA. That of the waves is bent in work RAM.
+/// The offset of the HDMA table of the waves, which is bent in work RAM.
 pub const WAVES: u32 = 0x1_8500;
 
+/// The offset of the HDMA table of the sky.
 pub const SKY: u32 = 0x1_8600;
 
+/// The offset of the HDMA table of the sun.
 pub const SUN: u32 = 0x1_8800;
 /// The offset of the numbers with which the program's sums begin.
 pub const NUMBERS: u32 = 0x1_8a00;

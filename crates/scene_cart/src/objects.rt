@@ -4,9 +4,10 @@ use crate::graphics::{blend, paint, put_colours};
 use crate::image::{Image, OBJECTS, PATHS};
 use crate::landscape::square;
 
-/// The first ball and the first glint; the letters come before, and there are 128 in all.
+/// The number of the first ball; the letters come before.
 pub const BALLS: u8 = 4;
 
+/// The number of the first glint; there are 128 objects in all.
 pub const GLINTS: u8 = 68;
 
 /// The tables of the paths, in their order: a byte for each angle.

@@ -203,8 +203,8 @@ fn mix(code: &mut Code) -> Label {
     label
 }
 
-/// A path that things follow: its table, how often it adds the frame to its angle, and by how much the angle rises from
-/// each thing to the next.
+/// A path that things follow: its table, how often it adds the frame to its angle, and the step of the angle from each
+/// thing to the next.
 #[derive(Clone, Copy)]
 struct Path {
     angle: u8,

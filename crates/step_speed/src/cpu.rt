@@ -57,7 +57,7 @@ fn load(memory: &mut [u8], at: usize, bytes: &[u8])
     }
 }
 
-/// Returns the sum of all bytes, each weighted by its index.
+/// Returns the sum of all bytes, weighted by powers of 31, modulo 2^32.
 fn sum(memory: &[u8]) -> u32 {
     let mut sum: u32 = 0;
     for byte in memory {

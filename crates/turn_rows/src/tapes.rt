@@ -178,8 +178,8 @@ pub(crate) fn tape(
     Ok(Tape::new(alloc, region, beats)?)
 }
 
-/// Returns the console's tape of 20,000 writes to port 0 at the least rise, of the bytes 0 to 255 over and over, and
-/// the sound side's tape of 5,000 reads of it.
+/// Returns the console's tape of 20,000 writes to port 0 at the least rise, and the sound side's tape of 5,000 reads of
+/// it. The bytes are 0 to 255 over and over.
 #[tactic(auto, using(crate::proofs::Beats::one_more))]
 pub(crate) fn writes_and_reads(alloc: Global) -> Result<(Tape, Tape), Fail>
     ensures regions { IfOk result (λ t. t.0.state.region ≡ t.1.state.region) }

@@ -110,8 +110,8 @@ fn turn_by_turn<C: Machine + Drop, S: Machine + Drop>(
     }
 }
 
-/// Runs frames of rows and samples by turns of the serial console, with both machines drained after each, the console
-/// first, and returns the order of their takes.
+/// Runs frames of rows and samples by turns of the serial console, and returns the order of their takes. Both machines
+/// are drained after each turn, the console first.
 pub fn by_turns(alloc: Global, frames: u32) -> Result<Order, NoMemory>
     requires { frames ≤ 36000 }
 {

@@ -22,8 +22,8 @@ pub(crate) type Rows = Emitter<65536, 1024>;
 /// A machine that emits as the sound side does.
 pub(crate) type Samples = Emitter<4096, 4>;
 
-/// Returns a machine that emits rows of 1,024 bytes as the console does, with a step every 22 master clocks: 62 steps a
-/// line, and in a frame one row at each of the first 239 of 262 lines.
+/// Returns a machine that emits rows of 1,024 bytes as the console does. It takes a step every 22 master clocks, so 62
+/// a line, and emits a row at each of the first 239 of a frame's 262 lines.
 pub(crate) fn rows(alloc: Global) -> Result<Rows, NoMemory>
     ensures region { IfOk result (λ e. e.state.region ≡ Ntsc) }
     ensures starts { IfOk result (λ e. e.state.stamp ≡ 0) }

@@ -3,8 +3,8 @@
 //! The programs of its cartridge and its boot ROM talk through the ports, wait for each other, time out, move bytes by
 //! DMA and HDMA, switch interrupts, and run wild. It has a table, and a script with pads and resets.
 //!
-//! `wild_jobs NUMBER FOLDER` writes `cart.sfc`, `boot.bin`, `table.bin` and `script.txt` into FOLDER, which it makes, and
-//! prints how many frames the job has. Equal numbers make equal files. `tools/evidence/soak.sh` runs many of them by
+//! `wild_jobs NUMBER FOLDER` writes `cart.sfc`, `boot.bin`, `table.bin` and `script.txt` into FOLDER, which it makes.
+//! It prints how many frames the job has. Equal numbers make equal files. `tools/evidence/soak.sh` runs many of them by
 //! `run` and by `serial` and compares their outputs; no clause depends on them.
 #![tactic(auto)]
 

@@ -10,7 +10,7 @@ fn add_pad(alloc: Global, text: &mut Bytes, pad: u16) -> Option<()> {
     text.add(digits.as_bytes())
 }
 
-/// Returns a script with a region, and the pads of each frame. Some frames except the first begin with a reset.
+/// Returns a script with a region, and the pads of each frame. Some frames, but not the first, may begin with a reset.
 pub fn script(alloc: Global, g: &mut Generator, frames: u32) -> Option<Bytes> {
     let mut text = Bytes::new(alloc);
     text.add(if g.byte(1) % 4 == 0 {

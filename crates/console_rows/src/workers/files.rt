@@ -13,8 +13,8 @@ const RESET: usize = 0x7FFC;
 /// The bytes of the boot ROM.
 const BOOT: usize = 64;
 
-/// The program of a cartridge, which begins at its first byte, and the first bytes of a boot ROM, with 0 after them and
-/// its start address in its last two.
+/// The program of a cartridge, which begins at its first byte, and the first bytes of a boot ROM. After these come
+/// zeros, and in the last two bytes the start address.
 #[derive(Drop)]
 pub struct Programs {
     /// The program of the cartridge.
