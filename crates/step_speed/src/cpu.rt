@@ -66,7 +66,7 @@ fn sum(memory: &[u8]) -> u32 {
     sum
 }
 
-/// A page of 8 KiB: the index of its first byte in the memory, and the clocks of an access there.
+/// A page of 8 KiB: the index of its first byte in the memory, and the stamps that an access there takes.
 #[derive(Clone, Copy)]
 struct Page {
     base: u32,
@@ -82,7 +82,7 @@ struct Bus {
 }
 
 impl Bus {
-    /// Raises the stamp by the clocks of an address, and returns the index of the address in the memory.
+    /// Raises the stamp by what an access to an address takes, and returns the index of the address in the memory.
     #[inline(always)]
     fn reach(&mut self, at: u32) -> usize {
         match self.pages.get((at / 8192) as usize) {
