@@ -16,13 +16,14 @@ impl Model for Generator {
 }
 
 impl Generator {
+    /// Returns the generator that begins with a seed.
     pub fn new(seed: u32) -> Generator
         ensures { result ≡ seed }
     {
         Generator { x: seed }
     }
 
-    /// The next number.
+    /// Returns the next number.
     pub fn next(&mut self) -> u32
         ensures moves { self.new ≡ number_after self.old }
         ensures value { result ≡ self.new }
@@ -31,7 +32,7 @@ impl Generator {
         self.x
     }
 
-    /// The AND of the upper bytes of the next so many numbers.
+    /// Returns the AND of the upper bytes of the next `ands` numbers.
     pub fn byte(&mut self, ands: u32) -> u8
         ensures moves { self.new ≡ numbers_after ands self.old }
         ensures value { result ≡ byte_after ands self.old }

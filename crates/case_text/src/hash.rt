@@ -1,14 +1,14 @@
 ghost use Rattle.std.specs.Prelude.{◌≡◌};
 ghost use Rattle.case_text.specs.Hash.{hash_after, hash_start};
 
-/// The 64-bit FNV-1a hash of no byte.
+/// Returns the 64-bit FNV-1a hash of no bytes.
 pub fn no_hash() -> u64
     ensures { result ≡ hash_start }
 {
     0xCBF2_9CE4_8422_2325
 }
 
-/// The 64-bit FNV-1a hash of the bytes of a hash and one more.
+/// Returns the 64-bit FNV-1a hash of the bytes of a hash and one more.
 pub fn hashed(hash: u64, byte: u8) -> u64
     ensures { result ≡ hash_after hash byte }
 {

@@ -5,9 +5,8 @@ ghost use Rattle.std.specs.Result.{IsOkAnd};
 ghost use Rattle.hex.specs.Hex.{decode_of};
 ghost use Rattle.case_text.specs.Number.{ReadsHexadecimal, HasRoom, Puts};
 
-/// The number that hexadecimal digits of either case stand for, and none where there is another
-/// letter or no digit, or where the type doesn't hold the number. As for `parse`, a plus may stand in
-/// front.
+/// Reads a number in hexadecimal digits of either case; `None` if there is another letter or no digit, or
+/// if the type can't hold the number. As for `parse`, a plus may come first.
 pub fn hexadecimal<T: TryFrom<u64>>(text: &str) -> Option<T>
 where
     T::Error: Drop,
@@ -17,7 +16,7 @@ where
     T::try_from(number).ok()
 }
 
-/// The number that the hexadecimal digits of a word between two of its places stand for.
+/// Reads the number in the hexadecimal digits of a word between two of its indices.
 pub fn part<T: TryFrom<u64>>(word: &str, from: usize, to: usize) -> Option<T>
 where
     T::Error: Drop,
@@ -28,8 +27,8 @@ where
     hexadecimal(word.get(from..to)?)
 }
 
-/// Puts bytes, two hexadecimal digits each, in place of those at an offset. Where that is no part of
-/// the bytes they stay; where a letter is no digit, those from the offset on may have changed.
+/// Overwrites bytes from an offset on with those that digits spell, two hexadecimal digits each. If they don't fit
+/// there, nothing changes; if a letter is not a digit, the bytes from the offset on may have changed.
 pub fn put(bytes: &mut [u8], offset: usize, digits: &str) -> Option<()>
     ensures some { OnSome result (IsOkAnd (decode_of digits.now) (Puts bytes.old offset bytes.new)) }
     ensures none { IsNone result → ¬ (IsOkAnd (decode_of digits.now) (HasRoom bytes.old offset)) }

@@ -1,4 +1,4 @@
-//! The cartridge and the script of a row.
+//! Builds the cartridge and the script of a row.
 
 use cart_map::accept;
 use case_text::{hexadecimal, part, put};
@@ -10,16 +10,16 @@ use std::str::SplitWhitespace;
 /// The bytes of a cartridge.
 const SIZE: usize = 32_768;
 
-/// A cartridge in the making, and the lines of a script.
+/// A cartridge that is being built, and the lines of a script.
 #[derive(Drop)]
 pub struct Cartridge {
     image: Vec<u8>,
-    /// Where the program goes on.
+    /// The offset at which the program is continued.
     end: usize,
     script: Vec<u8>,
 }
 
-/// So many times the bytes of a word: `BYTES` or `N*BYTES`.
+/// Reads a word `BYTES` or `N*BYTES`: a count, and the bytes that are repeated.
 fn counted(word: &str) -> Option<(usize, &str)> {
     match word.split_once("*") {
         Some((count, digits)) => Some((count.parse().ok()?, digits)),
@@ -28,6 +28,7 @@ fn counted(word: &str) -> Option<(usize, &str)> {
 }
 
 impl Cartridge {
+    /// Returns a cartridge without bytes, and an empty script.
     pub fn new(alloc: Global) -> Cartridge {
         Cartridge {
             image: Vec::new(alloc),
@@ -36,7 +37,7 @@ impl Cartridge {
         }
     }
 
-    /// An empty cartridge of LoROM with the RESET vector 8000.
+    /// Begins an empty cartridge of LoROM with the RESET vector 8000.
     pub fn begin(&mut self, alloc: Global) -> Option<()> {
         self.image = vec![in alloc; 0u8; SIZE].ok()?;
         self.end = 0;
@@ -45,7 +46,7 @@ impl Cartridge {
         put(self.image.as_mut_slice(), 0x7ffc, "0080")
     }
 
-    /// Another of the same.
+    /// Returns a copy of the cartridge and the script.
     pub fn copied(&self, alloc: Global) -> Option<Cartridge> {
         Some(Cartridge {
             image: self.image.as_slice().to_vec(alloc).ok()?,
@@ -54,7 +55,7 @@ impl Cartridge {
         })
     }
 
-    /// Puts words at an offset, and answers where they end.
+    /// Puts words at an offset, and returns the offset of their end.
     fn put_words(&mut self, offset: usize, words: SplitWhitespace<'_>) -> Option<usize> {
         let mut at = offset;
         for word in words {
@@ -67,20 +68,20 @@ impl Cartridge {
         Some(at)
     }
 
-    /// `code WORDS`.
+    /// Follows `code WORDS`: adds bytes to the program.
     pub fn code(&mut self, words: SplitWhitespace<'_>) -> Option<()> {
         self.end = self.put_words(self.end, words)?;
         Some(())
     }
 
-    /// `put OFFSET WORDS`.
+    /// Follows `put OFFSET WORDS`: puts bytes into the cartridge.
     pub fn put(&mut self, mut words: SplitWhitespace<'_>) -> Option<()> {
         let offset = hexadecimal(words.next()?)?;
         let _end = self.put_words(offset, words)?;
         Some(())
     }
 
-    /// Bytes of the program.
+    /// Adds bytes to the program.
     fn add(&mut self, bytes: &[u8]) -> Option<()> {
         for byte in bytes {
             *self.image.get_mut(self.end)? = *byte;
@@ -89,7 +90,7 @@ impl Cartridge {
         Some(())
     }
 
-    /// `set AAAAVV ..`.
+    /// Follows `set AAAAVV ..`: adds a load and a store for each.
     pub fn set(&mut self, words: SplitWhitespace<'_>) -> Option<()> {
         for word in words {
             let high = part::<u8>(word, 0, 2)?;
@@ -100,20 +101,20 @@ impl Cartridge {
         Some(())
     }
 
-    /// `line VV`.
+    /// Follows `line VV`: adds a wait for a line.
     pub fn wait(&mut self, mut words: SplitWhitespace<'_>) -> Option<()> {
         let v = hexadecimal::<u8>(words.next()?)?;
         self.add(&[0xad, 0x3f, 0x21, 0xad, 0x37, 0x21, 0xad, 0x3d, 0x21])?;
         self.add(&[0xc9, v, 0xd0, 0xf3])
     }
 
-    /// `script TEXT`.
+    /// Follows `script TEXT`: adds a line to the script.
     pub fn script(&mut self, text: &str) -> Option<()> {
         self.script.extend_from_slice(text.as_bytes()).ok()?;
         self.script.push(b'\n').ok()
     }
 
-    /// The job.
+    /// Returns the job of the cartridge and the script.
     pub fn job(&self, alloc: Global) -> Option<Job> {
         let image = self.image.as_slice().to_vec(alloc).ok()?;
         let script = read_script(alloc, self.script.as_slice()).ok()?;

@@ -1,4 +1,4 @@
-//! One job over real files, as `snes` runs it, with a gate that counts what its two workers do (`turn_watch`).
+//! Runs one job over real files, as `snes` does, with a gate that counts what its two workers do (`turn_watch`).
 
 use file_shelf::FileShelf;
 use job_player::Console;
@@ -11,7 +11,7 @@ use std::rt::Files;
 use std::thread::Threads;
 use turn_watch::Watch;
 
-/// Runs the job, prints the counts of its turns on standard error, and ends with the status of `snes`.
+/// Runs the job, prints the counts of its turns on standard error, and returns the status of `snes`.
 pub fn run_watched<R: AllocGlobal + Files + Sync + Threads + Print + Eprint>(
     rt: &R,
     watch: &Watch<'_, R>,

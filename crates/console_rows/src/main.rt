@@ -1,11 +1,11 @@
 //! Runs the console's machine by itself over short programs, and prints what it does at the ports, with its clocks,
-//! or what it shows, to be compared with what was worked out by hand.
+//! or its picture, for comparison with hand-computed cases.
 //!
-//! The program follows the lines of the files that it is given, as `data/rows.txt`, where each row says why its
-//! answer, which stands in `stdout`, is what it is. The lines, with numbers in hexadecimal but for counts:
+//! The program follows the lines of the given files, such as `data/rows.txt`, where each row says why its expected
+//! output, in `stdout`, is what it is. The lines, with numbers in hexadecimal except for counts:
 //!
 //! - `row TITLE` begins a row, whose cartridge is LoROM of 32 KiB with the RESET vector 8000, and prints its title.
-//! - `code WORDS` adds bytes to the program at 8000; a word is bytes, or `N*BYTES` for so many times these.
+//! - `code WORDS` adds bytes to the program at 8000; a word is bytes, or `N*BYTES` for N times these.
 //! - `set AAAAVV ..` adds `LDA #VV` and `STA AAAA` for each.
 //! - `line VV` adds a wait for the line whose low byte is VV: `LDA 213F`, `LDA 2137`, `LDA 213D`, `CMP #VV`, `BNE`.
 //! - `put OFFSET WORDS` puts bytes into the cartridge.
@@ -16,12 +16,13 @@
 //! - `bytes TO` prints the bytes that are written to the ports, up to a clock.
 //! - `picture FRAME` prints a frame from 0 on, equal rows in one line, each by runs of equal dots.
 //!
-//! A word `workers` or `plans` in a file's place runs rows of what a run does beside its output, which no clause and no byte
-//! tells: that its two workers are under way at once, and through how many frames a rewinder steps its machines. Behind a
-//! word `job` stand the words of one run over real files: it is run as `snes` runs it, its workers are counted, and the
+//! An argument `workers` or `plans` instead of a file runs rows about what no output byte and no clause shows. They are
+//! that a run's two workers overlap, and through how many frames a rewinder steps its machines. After an
+//! argument `job` come those of one run over real files. It is run as `snes` runs it, its workers are counted, and the
 //! status is that of `snes`.
 //!
-//! A read of a port gets 0, but in rows with `torn`: port 0 gets 1 after clock 540, and port 1 gets 2 after clock 546.
+//! A read of a port gets 0, except in rows with `torn`: port 0 gets 1 after clock 540, and port 1 gets 2 after clock
+//! 546.
 #![tactic(auto)]
 
 mod cartridge;
@@ -53,7 +54,7 @@ fn follow<R: Files + Print + AllocGlobal>(rt: &R, row: &mut Row, name: &str) -> 
     Ok(())
 }
 
-/// Does what the program's words say, unless they are those of a job.
+/// Does what the program's arguments ask for, unless they are those of a job.
 fn follow_words<R: Files + Print + Eprint + AllocGlobal + Threads + Sync>(
     rt: &R,
     watch: &Watch<'_, R>,
@@ -71,7 +72,7 @@ fn follow_words<R: Files + Print + Eprint + AllocGlobal + Threads + Sync>(
     Ok(())
 }
 
-/// Does what the program's words say. The watch is the gate too.
+/// Does what the program's arguments ask for. The watch is the gate too.
 fn obey<R: Files + Print + Eprint + AllocGlobal + Threads + Sync>(
     rt: &R,
     watch: &Watch<'_, R>,

@@ -1,4 +1,4 @@
-//! A frame that a console shows.
+//! Prints a frame that a console shows.
 
 use crate::run::make;
 use console_machine::ConsoleSide;
@@ -12,13 +12,13 @@ const ROW: usize = 1024;
 
 const ROWS: u64 = 239;
 
-/// More steps than the rows of a picture take.
+/// More steps than the rows of a frame take.
 const MOST_STEPS: u32 = 2_000_000;
 
 /// The dots of a row, two bytes each.
 type Dots = [u8; ROW];
 
-/// A dot.
+/// Returns a dot of a row.
 fn dot(row: &Dots, e: usize) -> u16 {
     if e >= 512 {
         return 0;

@@ -1,8 +1,8 @@
-//! Counts how far a rewinder steps its machines.
+//! Counts through how many frames a rewinder steps its machines.
 //!
-//! It plays plans over a cartridge that passes bytes between both sides all the time, and prints through how many frames
-//! the machines were stepped: those of the goes alone, and not those of a path before them again. The clauses of the
-//! rewinder say so (`steps` of `Rewind::play`); here the count of a run is looked at.
+//! It plays plans over a cartridge that passes bytes between both sides all the time. It prints through how many frames
+//! the machines were stepped. These are the frames of the `go` lines alone, and not those of the path before them
+//! again. The clauses of the rewinder say so (`steps` of `Rewind::play`); here a run is measured.
 
 ghost use Rattle.std.specs.Prelude.{◌≡◌, []};
 ghost use Rattle.snes_defs.specs.declared.region.Region.TheVariants.{Ntsc};
@@ -20,17 +20,17 @@ use snes_defs::{Job, NoMemory};
 use std::alloc::Global;
 use std::io;
 
-/// Three frames, and then one frame three times: twice with the same pads, and once with others in between.
+/// A plan of three frames, and then one frame three times: twice with equal pads, and once with others in between.
 const TRIES: &[u8] =
     b"go 3 0500 0000\nkeep 0\ngo 1 0300 0000\nback 0\ngo 1 0000 0000\nback 0\ngo 1 0300 0000\n";
 
-/// As many frames without a return.
+/// A plan of as many frames without a return.
 const STRAIGHT: &[u8] = b"go 6 0500 0000\n";
 
-/// Four frames, and returns to their end.
+/// A plan of four frames, and returns to their end.
 const RETURNS: &[u8] = b"go 4 0500 0000\nkeep 0\nback 0\nback 0\nkeep 1\nback 1\nback 0\n";
 
-/// Plays a plan from the start of a job, and answers by how many stamps the machines were stepped.
+/// Plays a plan from the start of a job, and returns by how many stamps the machines were stepped.
 fn play_job(alloc: Global, job: &Job, plan: &Plan) -> Result<Option<u64>, NoMemory>
     requires script { job.now.script ≡ path_script 0 [] }
     requires region { job.now.region ≡ Ntsc }
@@ -43,7 +43,7 @@ fn play_job(alloc: Global, job: &Job, plan: &Plan) -> Result<Option<u64>, NoMemo
     }
 }
 
-/// Through how many frames a plan steps both sides, to the nearest.
+/// Returns through how many frames a plan steps both sides, to the nearest.
 fn count_frames(alloc: Global, plan: &[u8]) -> Option<u64> {
     let job = talking_job(alloc)?;
     let plan = read_plan(alloc, plan).ok()?;

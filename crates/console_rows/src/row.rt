@@ -1,4 +1,4 @@
-//! What a line of a file of rows does.
+//! Follows the lines of a file of rows.
 
 use crate::cartridge::Cartridge;
 use crate::picture::show_picture;
@@ -8,27 +8,27 @@ use std::alloc::Global;
 use std::io;
 use std::str::SplitWhitespace;
 
-/// A row in the making.
+/// The current row: its cartridge, its script, and what was kept.
 #[derive(Drop)]
 pub struct Row {
     cartridge: Cartridge,
-    /// What a line `keep` kept.
+    /// The cartridge that a line `keep` kept.
     kept: Cartridge,
     is_torn: bool,
 }
 
-/// The next number of a line.
+/// Reads the next number of a line.
 fn number(words: &mut SplitWhitespace<'_>) -> Option<u64> {
     words.next()?.parse().ok()
 }
 
-/// Acts from one clock to another.
+/// Reads the clocks between which acts are shown.
 fn between(show: Show, mut words: SplitWhitespace<'_>) -> Option<(Show, u64, u64)> {
     let from = number(&mut words)?;
     Some((show, from, number(&mut words)?))
 }
 
-/// Which acts a line shows, from which clock on, and up to which.
+/// Reads which acts a line shows, from which clock on, and up to which.
 fn shown(line: &str) -> Option<(Show, u64, u64)> {
     let mut words = line.split_whitespace();
     let kind = words.next()?;
@@ -41,17 +41,18 @@ fn shown(line: &str) -> Option<(Show, u64, u64)> {
     }
 }
 
-/// The frame of a line `picture FRAME`.
+/// Reads the frame of a line `picture FRAME`.
 fn frame_of(line: &str) -> Option<u64> {
     line.strip_prefix("picture ")?.parse().ok()
 }
 
-/// Names a line that says nothing.
+/// Prints a line that is invalid.
 fn name_line(rt: &impl Print, line: &str) -> io::Result<()> {
     println!(rt; "no line of a row: {line}")
 }
 
 impl Row {
+    /// Returns a row with an empty cartridge.
     pub fn new(alloc: Global) -> Row {
         Row {
             cartridge: Cartridge::new(alloc),
@@ -60,7 +61,7 @@ impl Row {
         }
     }
 
-    /// A line that makes the row's cartridge or script.
+    /// Follows a line that makes the row's cartridge or script.
     fn prepare(&mut self, alloc: Global, line: &str) -> Option<()> {
         if let Some(text) = line.strip_prefix("script ") {
             return self.cartridge.script(text);
@@ -99,7 +100,7 @@ impl Row {
         }
     }
 
-    /// Does what a line says. A line that says nothing is named.
+    /// Follows a line. Prints it if it is invalid.
     pub fn follow(&mut self, rt: &impl Print, alloc: Global, line: &str) -> io::Result<()> {
         if let Some(title) = line.strip_prefix("row ") {
             self.is_torn = false;

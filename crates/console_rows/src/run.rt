@@ -1,4 +1,4 @@
-//! The acts of a console by itself.
+//! Runs a console by itself, and prints its acts at the ports.
 
 use console_machine::ConsoleSide;
 use side_law::Machine;
@@ -6,25 +6,25 @@ use snes_defs::{Act, Job, Region};
 use std::alloc::Global;
 use std::io;
 
-/// Master clocks of a line, and its lines in a frame of Ntsc and of Pal.
+/// Master clocks of a line, and lines of a frame in NTSC and in PAL.
 const LINE: u64 = 1364;
 
 const LINES: u64 = 262;
 
 const PAL_LINES: u64 = 312;
 
-/// The stamps of a clock in both regions.
+/// The stamps of a master clock in NTSC and in PAL.
 const CLOCK: u64 = 5632;
 
 const PAL_CLOCK: u64 = 102_400;
 
-/// More steps than a row makes.
+/// More steps than a row takes.
 const MOST_STEPS: u32 = 2_000_000;
 
 /// How acts are shown.
 #[derive(Clone, Copy, Debug, PartialEq, Eq)]
 pub enum Show {
-    /// With the place of the beam at which the step begins.
+    /// With the position of the beam at which the step begins.
     Places,
     /// With the line alone.
     Lines,
@@ -34,7 +34,7 @@ pub enum Show {
     Bytes,
 }
 
-/// What is shown of a run, and how far it has come.
+/// What is shown of a run, and how far the run is.
 #[derive(Drop)]
 pub struct Run {
     show: Show,
@@ -44,7 +44,7 @@ pub struct Run {
     first: Option<u64>,
 }
 
-/// The clock of a console's next step.
+/// Returns the master clock of a console's next step.
 pub fn clock_of(side: &ConsoleSide, region: Region) -> u64 {
     match region {
         Region::Ntsc => side.stamp() / CLOCK,
@@ -52,7 +52,7 @@ pub fn clock_of(side: &ConsoleSide, region: Region) -> u64 {
     }
 }
 
-/// Makes a step, with room for what it emits; whether it was made.
+/// Takes a step, with room for what it emits; returns whether it was taken.
 pub fn make(side: &mut ConsoleSide, got: u8, bytes: &mut [u8]) -> bool {
     if !side.ready() {
         let _count = side.drain(bytes);
@@ -65,6 +65,7 @@ pub fn make(side: &mut ConsoleSide, got: u8, bytes: &mut [u8]) -> bool {
 }
 
 impl Run {
+    /// Returns a run that shows acts from one clock to another. With `is_torn`, ports 0 and 1 change during it.
     pub fn new(show: Show, from: u64, to: u64, is_torn: bool) -> Run {
         Run {
             show,
@@ -75,7 +76,7 @@ impl Run {
         }
     }
 
-    /// What the console reads of a port at a clock.
+    /// Returns what the console reads from a port at a clock.
     fn incoming(&self, port: u8, clock: u64) -> u8 {
         if !self.is_torn {
             return 0;
@@ -87,7 +88,7 @@ impl Run {
         }
     }
 
-    /// Prints where an act is.
+    /// Prints the time of an act.
     fn show_place(&mut self, rt: &impl Print, region: Region, clock: u64) -> io::Result<()> {
         if self.show == Show::Differences {
             let first = self.first.unwrap_or(clock);
@@ -106,7 +107,7 @@ impl Run {
         print!(rt; ": ")
     }
 
-    /// Prints an act that isn't quiet.
+    /// Prints an act, unless it is quiet.
     fn show_act(
         &mut self,
         rt: &impl Print,
@@ -129,7 +130,7 @@ impl Run {
         }
     }
 
-    /// Makes the steps of a console of a job's region and prints its acts.
+    /// Takes the steps of a console of a job's region, and prints its acts.
     fn show_acts(
         &mut self,
         rt: &impl Print,
@@ -163,7 +164,7 @@ impl Run {
         Ok(())
     }
 
-    /// Makes the steps of a job and prints its acts.
+    /// Takes the steps of a job, and prints its acts.
     pub fn acts(&mut self, rt: &impl Print, alloc: Global, job: &Job) -> io::Result<()> {
         match ConsoleSide::new(alloc, job) {
             Ok(mut side) => self.show_acts(rt, &mut side, job.region),

@@ -1,15 +1,18 @@
-//! Two workers under the whole program: `run`, `lockless` and `demo` are called as a user calls them, over a shelf in memory,
-//! with a gate that counts what their workers do (`turn_watch`). What a line says of the workers is missing if a command
-//! makes its run, or a part of it, in one thread: `tools/evidence/try_one_worker.sh` tries such bodies.
+//! Counts the two workers of the whole program. It calls `run`, `lockless` and `demo` as a user does, over a shelf in
+//! memory. Their gate counts what the workers do (`turn_watch`).
 //!
-//! Each run is checked whole: its status, its message, every byte of its picture and sound beside those of `serial`, the
-//! numbers of its turns, and that every turn had two threads. Both legs of a turn have to overlap in each row. A row whose
-//! legs never do is run again, three times at most, since a busy machine can hold a thread back. Standard error has the
-//! counts of each run.
+//! What a line says of the workers is missing if a command makes its run, or a part of it, in one thread:
+//! `tools/evidence/try_one_worker.sh` tries such bodies.
 //!
-//! The rows are worked by hand: sixty frames of a cartridge that shows red and touches no port take fewer than
+//! Each run is checked whole: its status, its message, every byte of its picture and sound against those of `serial`,
+//! the numbers of its turns, and that every turn had two threads. Both legs of a turn must overlap in each row. A row
+//! whose legs never do is run again, three times at most, since a busy machine can hold a thread back. Standard error
+//! has the counts of each run.
+//!
+//! The rows are computed by hand: sixty frames of a cartridge that shows red and touches no port take fewer than
 //! 100,000 turns; two frames of two processors that read each other's ports for ever take no more than the bound
-//! that is proved of every run, 76,602 a frame and 2, by `run` and by `lockless`; and sixty frames of a made cartridge too.
+//! that is proved of every run, 76,602 a frame and 2, by `run` and by `lockless`; and sixty frames of a made cartridge
+//! too.
 
 mod files;
 
@@ -25,11 +28,11 @@ use std::thread::Threads;
 use std::{io, str};
 use turn_watch::{Counts, Watch};
 
-/// How many times a row is run at most.
+/// The most times that a row is run.
 const MOST_TRIES: u8 = 3;
 
-/// A command and its other words, with one space between two words, the programs that its files hold, and the number of
-/// turns that it doesn't pass.
+/// A command and its other arguments, with one space between two of them, the programs in its files, and the most turns
+/// that it may take.
 #[derive(Drop)]
 struct Row {
     command: &'static str,
@@ -38,14 +41,14 @@ struct Row {
     limit: u64,
 }
 
-/// The words of a run over files, of sixty frames and of two.
+/// The arguments of a run over files, of sixty frames and of two.
 const SIXTY: &str =
     "--cart cart --boot boot --table table --script script --video video --audio audio --frames 60";
 
 const TWO: &str =
     "--cart cart --boot boot --table table --script script --video video --audio audio --frames 2";
 
-/// CGRAM 0 becomes 001F, brightness 15, the screen is shown: red frames. The sound processor sleeps.
+/// Returns programs that show red frames (CGRAM 0 is 001F, brightness 15) while the sound processor sleeps.
 fn red_programs() -> Programs {
     Programs {
         cartridge: &[
@@ -60,7 +63,7 @@ fn red_programs() -> Programs {
     }
 }
 
-/// Sixty red frames.
+/// Returns the row of sixty red frames.
 fn red() -> Row {
     Row {
         command: "run",
@@ -70,7 +73,7 @@ fn red() -> Row {
     }
 }
 
-/// Two frames in which each processor reads the first port of the other for ever.
+/// Returns the row of two frames in which each processor reads the first port of the other for ever.
 fn polling() -> Row {
     Row {
         command: "run",
@@ -83,7 +86,7 @@ fn polling() -> Row {
     }
 }
 
-/// The same over words without a lock.
+/// Returns the row of two such frames, in which each processor reads the other's port, over words without a lock.
 fn lockless() -> Row {
     Row {
         command: "lockless",
@@ -91,7 +94,7 @@ fn lockless() -> Row {
     }
 }
 
-/// Sixty frames of a cartridge that the program makes.
+/// Returns the row of sixty frames of a cartridge that the program makes.
 fn demo() -> Row {
     Row {
         command: "demo",
@@ -101,7 +104,7 @@ fn demo() -> Row {
     }
 }
 
-/// A command and the words behind it.
+/// Returns a command and the arguments after it.
 fn words_of(alloc: Global, command: &str, words: &str) -> Option<Argv> {
     let mut argv = Argv::new(alloc);
     argv.push(command).ok()?;
@@ -111,7 +114,7 @@ fn words_of(alloc: Global, command: &str, words: &str) -> Option<Argv> {
     Some(argv)
 }
 
-/// Runs a command over a shelf, with this gate. True where the answer is Ok.
+/// Runs a command over a shelf, with this gate, and returns whether the status is Ok.
 fn is_run<R: AllocGlobal + Threads>(
     rt: &R,
     gate: &dyn Gate,
@@ -133,7 +136,7 @@ fn are_alike(one: &SureShelf, other: &SureShelf) -> bool {
         && one.named(Out::Sound) == other.named(Out::Sound)
 }
 
-/// What came of a row by two workers, beside `serial`.
+/// The result of a row by two workers, compared with `serial`.
 #[derive(Clone, Copy)]
 struct Seen {
     ended: bool,
@@ -159,7 +162,7 @@ fn run_beside<R: AllocGlobal + Threads + Files + Sync>(
     }
 }
 
-/// Prints what came of a row: its answer, its line, its bytes beside `serial`, and its workers.
+/// Prints the result of a row: its status, its line, whether its bytes are those of `serial`, and its workers.
 fn show_seen<R: Print>(rt: &R, row: &Row, by_two: &SureShelf, seen: Seen) -> io::Result<()> {
     let Ok(said) = str::from_utf8(by_two.written(Out::Say)) else {
         return println!(rt; "no text");
@@ -193,7 +196,7 @@ fn show_seen<R: Print>(rt: &R, row: &Row, by_two: &SureShelf, seen: Seen) -> io:
     )
 }
 
-/// Tells on standard error what was counted, since it is not alike at every run.
+/// Prints the counts on standard error, since they differ from run to run.
 fn tell<R: Eprint>(rt: &R, row: &Row, tried: u8, counts: Counts) {
     let _told = eprintln!(rt;
         "{}, try {tried}: {} turns, {} on two threads, {} overlapped",
@@ -201,13 +204,13 @@ fn tell<R: Eprint>(rt: &R, row: &Row, tried: u8, counts: Counts) {
     );
 }
 
-/// What `serial` leaves of a row's files; `demo` has none, and leaves nothing.
+/// Runs `serial` on a row's files, into a shelf; `demo` has no files, and leaves nothing.
 fn run_serially<R: AllocGlobal + Threads>(rt: &R, row: &Row, serially: &mut SureShelf) -> bool {
     row.command == "demo" || is_run(rt, &OpenGate, "serial", row.words, serially)
 }
 
-/// Runs a row once more, and prints what came of it unless its legs alone never overlapped and it may be run again.
-/// True where it has printed.
+/// Runs a row once more, and prints the result unless only its legs never overlapped and it may be run again. Returns
+/// whether it has printed.
 fn try_row<R: AllocGlobal + Threads + Files + Sync + Print + Eprint>(
     rt: &R,
     watch: &Watch<'_, R>,
@@ -230,7 +233,7 @@ fn try_row<R: AllocGlobal + Threads + Files + Sync + Print + Eprint>(
     Ok(true)
 }
 
-/// Runs a row by `serial` and by two workers, and prints what came of it.
+/// Runs a row by `serial` and by two workers, and prints the result.
 fn show<R: AllocGlobal + Threads + Files + Sync + Print + Eprint>(
     rt: &R,
     watch: &Watch<'_, R>,

@@ -1,19 +1,18 @@
-//! Runs the jobs of the files that it is given, as `data/console.txt`, on the whole console and the whole
-//! sound side, by the serial console's loop and by turns of two workers over either wire, and compares each frame of the
-//! picture and of the sound.
+//! Runs the jobs of the given files, such as `data/console.txt`, on the whole console and the whole sound side. Each
+//! frame of the picture and of the sound is compared.
 //!
-//! The jobs come from outside: two other programs agreed on them. The program stands on `console_machine`,
-//! `audio_side` and `run_drive`, and on `job_player` for the run by turns. It names each job that differs, and
-//! last says how many there were. Those of `data/differing.txt` are wrong in one thing each, and have to differ.
-//! Those of `data/turns.txt` are worked by hand: sixty red frames, and two processors that pass bytes through the
-//! ports.
+//! Each job is run by the serial console's loop, and by turns of two workers over either wire. The jobs are external
+//! test vectors: two other programs agreed on them. The program uses `console_machine`, `audio_side` and `run_drive`,
+//! and `job_player` for the run by turns. It names each job that differs, and prints last how many jobs there were.
+//! Those of `data/differing.txt` are wrong in one thing each, and must differ. Those of `data/turns.txt` are computed
+//! by hand: sixty red frames, and two processors that pass bytes through the ports.
 //!
-//! By turns each worker passes a gate that counts (`turn_watch`). The turns of a job have to be numbered from 0 on, in
-//! order and alike for both workers. Every turn has to have two threads, and both legs of a turn have to overlap in each
-//! job of four turns or more. What was counted of all jobs goes to standard error, since it is not alike at every run.
+//! By turns each worker passes a gate that counts (`turn_watch`). The turns of a job must be numbered from 0 on, in
+//! order and alike for both workers. Every turn must have two threads, and both legs of a turn must overlap in each job
+//! of four turns or more. The counts of all jobs go to standard error, since they differ from run to run.
 //!
-//! A job begins `job K` and ends `end`. Between, numbers are hexadecimal but for counts: `image LENGTH SEED
-//! ANDS` and `p OFFSET BYTES` are the cartridge's file, each byte the AND of so many bytes of a generator;
+//! A job begins `job K` and ends `end`. Between, numbers are hexadecimal except for counts: `image LENGTH SEED
+//! ANDS` and `p OFFSET BYTES` are the cartridge's file, each byte the AND of ANDS bytes of a generator;
 //! `boot BYTES`, `table ramp` (the lesser of 4 i and 2047 for entry i) or `table SEED`, `script TEXT` for
 //! each line, `frames N`; `v FRAME HASH` and `a FRAME SAMPLES HASH` are 64-bit FNV-1a hashes of a frame's
 //! dots and samples. `c N HASH` and `d N HASH` are hashes of the records of the first N steps of the console and of
@@ -40,8 +39,8 @@ use std::{env, fs, io};
 use tally::{Tally, Workers, compare};
 use turn_watch::Watch;
 
-/// Prints in how many jobs every turn had two threads, and in how many both legs overlapped; the counts of turns to
-/// standard error.
+/// Prints in how many jobs every turn had two threads, and in how many both legs overlapped. Prints the counts of turns
+/// on standard error.
 fn show_workers<R: Print + Eprint>(rt: &R, how: &str, workers: &Workers) -> io::Result<()> {
     println!(rt;
         "{how}: two threads in every turn of {} jobs, legs that overlap in {}",

@@ -3,17 +3,21 @@ use file_shelf::Failed;
 use run_drive::Sink;
 use snes_defs::Side;
 
-/// The bytes that one side emits in a frame: how many, and their hash.
+/// The bytes that one side emits in a frame: their number and their hash.
 #[derive(Clone, Copy, Debug, PartialEq, Eq)]
 pub struct Frame {
+    /// The number of bytes.
     pub size: u64,
+    /// The 64-bit FNV-1a hash of the bytes.
     pub hash: u64,
 }
 
-/// The frames that are expected of one side, and how many of those that came agree.
+/// The frames that are expected of one side, and how many of those emitted agree.
 #[derive(Drop)]
 pub struct Track {
+    /// The expected frames.
     pub frames: Vec<Frame>,
+    /// How many frames that came agree.
     pub agree: usize,
     next: usize,
     size: u64,
@@ -21,6 +25,7 @@ pub struct Track {
 }
 
 impl Track {
+    /// Returns a track that expects these frames, of which none came yet.
     pub fn of(frames: Vec<Frame>) -> Track {
         Track {
             frames,
@@ -31,12 +36,12 @@ impl Track {
         }
     }
 
-    /// Whether every expected frame came and agrees, and no byte behind the last.
+    /// Whether every expected frame came and agrees, and no byte came after the last.
     pub fn agrees(&self) -> bool {
         self.agree == self.frames.len() && self.size == 0
     }
 
-    /// One byte more.
+    /// Adds an emitted byte.
     fn add(&mut self, byte: u8) {
         self.hash = hashed(self.hash, byte);
         self.size = self.size.saturating_add(1);
@@ -59,10 +64,12 @@ impl Track {
     }
 }
 
-/// Both sides' frames. What it took is nobody's question, so it may have taken anything.
+/// The frames of both sides, as a sink. No clause depends on what it took, so it may have taken anything.
 #[derive(Drop)]
 pub struct Marks {
+    /// The frames of the picture.
     pub video: Track,
+    /// The frames of the sound.
     pub sound: Track,
 }
 

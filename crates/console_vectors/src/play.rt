@@ -9,7 +9,7 @@ use side_law::Machine;
 use snes_defs::{Job, Region};
 use std::alloc::Global;
 
-/// Whether two regions are one.
+/// Whether two regions are the same.
 fn is_one(one: Region, other: Region) -> bool
     ensures { IsTrue result → one ≡ other }
 {

@@ -1,13 +1,15 @@
 use case_text::{hashed, no_hash};
 
-/// The hash of the records of so many steps, from the first on.
+/// The hash of the records of the first `steps` steps.
 #[derive(Clone, Copy, Debug, PartialEq, Eq)]
 pub struct Beginning {
+    /// The number of steps.
     pub steps: u64,
+    /// The 64-bit FNV-1a hash of their records.
     pub hash: u64,
 }
 
-/// The beginnings that are expected of a side, the shortest first, and what came.
+/// The expected hashes of a side's first steps, the shortest beginning first, and how many of them agree.
 #[derive(Drop)]
 pub struct Record {
     expected: Vec<Beginning>,
@@ -18,6 +20,7 @@ pub struct Record {
 }
 
 impl Record {
+    /// Returns a record that expects these beginnings, of no steps yet.
     pub fn of(expected: Vec<Beginning>) -> Record {
         Record {
             expected,
@@ -28,7 +31,7 @@ impl Record {
         }
     }
 
-    /// How many beginnings there are, and how many of them came and agree.
+    /// Returns the number of beginnings, and how many of them came and agree.
     pub fn count(&self) -> (usize, usize) {
         (self.expected.len(), self.agree)
     }
@@ -38,19 +41,19 @@ impl Record {
         self.next >= self.expected.len()
     }
 
-    /// The number of the next step, from 0.
+    /// Returns the number of the next step, from 0.
     pub fn number(&self) -> u64 {
         self.made
     }
 
-    /// A number of a step's record, so many bytes, the low one first.
+    /// Adds a number to a step's record, in the given number of bytes, low byte first.
     pub fn add(&mut self, number: u64, bytes: usize) {
         for byte in number.to_le_bytes().iter().take(bytes) {
             self.hash = hashed(self.hash, *byte);
         }
     }
 
-    /// A step's record is whole.
+    /// Ends a step's record.
     pub fn end_step(&mut self) {
         self.made = self.made.saturating_add(1);
         if let Some(beginning) = self.expected.get(self.next) {

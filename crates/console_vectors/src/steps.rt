@@ -1,4 +1,4 @@
-//! The first steps of a job on both machines, as each is before it is made: its time, kind, address and byte.
+//! Records the first steps of a job on both machines, each before it is taken: its time, kind, address and byte.
 
 use crate::record::Record;
 use audio_side::AudioSide;
@@ -11,10 +11,10 @@ use snes_defs::{Act, Job, Region};
 use spc700::SpcAccess;
 use std::alloc::Global;
 
-/// More steps than the machines make until the records are full.
+/// More steps than the machines take until the records are full.
 const MOST_STEPS: u32 = 1_000_000;
 
-/// An address of the B bus in bank 0: a transfer takes from there the byte last on the data bus.
+/// An address of the B bus in bank 0: a transfer reads there the byte that was last on the data bus.
 const OPEN: u32 = 0x2100;
 
 /// What a step is: its letter, and the address and port that go with it.
@@ -33,7 +33,7 @@ fn told(letter: u8, address: u32, port: u8) -> Step {
     }
 }
 
-/// The two machines, the bytes on their way to each, and channels that hear of DMA alone.
+/// The two machines, the bytes on their way to each, and channels that follow DMA alone.
 #[derive(Drop)]
 struct Pair {
     console: ConsoleSide,
@@ -48,7 +48,7 @@ fn is_of_dma(dma: &Dma, due: Move) -> bool {
     dma.next() == Some(due)
 }
 
-/// A byte of a transfer.
+/// Returns the step that moves a byte of a transfer.
 fn transfer(dma: &Dma, due: Move) -> Step {
     match due {
         Move::Load { from } => told(b'l', from, 0),
@@ -58,7 +58,7 @@ fn transfer(dma: &Dma, due: Move) -> Step {
     }
 }
 
-/// The console's next step.
+/// Returns the console's next step.
 fn console_step(console: &ConsoleSide, dma: &Dma) -> Step {
     let bus = console.bus();
     if bus.resets() {
@@ -78,7 +78,7 @@ fn console_step(console: &ConsoleSide, dma: &Dma) -> Step {
     }
 }
 
-/// The sound side's next step, and its byte, where an incoming port has `got`.
+/// Returns the sound side's next step, and its byte, if an incoming port has `got`.
 fn sound_step(sound: &AudioSide, got: u8) -> (Step, u8) {
     let access = sound.processor().next();
     let writes_control = match access {
@@ -96,7 +96,7 @@ fn sound_step(sound: &AudioSide, got: u8) -> (Step, u8) {
     }
 }
 
-/// What a step gets of the incoming ports, which a clear zeroes, and writes to the outgoing ones.
+/// Returns what a step reads from the incoming ports, which a clear zeroes, and makes its write to the outgoing ones.
 fn at_ports(act: Act, incoming: &mut [u8; 4], outgoing: &mut [u8; 4]) -> u8 {
     match act {
         Act::Quiet => 0,
@@ -118,7 +118,7 @@ fn at_ports(act: Act, incoming: &mut [u8; 4], outgoing: &mut [u8; 4]) -> u8 {
     }
 }
 
-/// Makes a step, with room for what it emits.
+/// Takes a step, with room for what it emits.
 fn make<M: Machine>(side: &mut M, got: u8) -> Option<()> {
     let mut bytes = [0u8; 4096];
     if !side.ready() {
@@ -131,7 +131,7 @@ fn make<M: Machine>(side: &mut M, got: u8) -> Option<()> {
     Some(())
 }
 
-/// The channels hear what a step did to DMA.
+/// Updates the channels by what a step did to DMA.
 fn tell_dma(dma: &mut Dma, step: Step, byte: u8) {
     let register = (step.address % 0x1_0000) as u16;
     let is_register = step.letter == b'W' && step.address / 0x1_0000 % 0x80 < 0x40;
@@ -146,7 +146,7 @@ fn tell_dma(dma: &mut Dma, step: Step, byte: u8) {
 }
 
 impl Pair {
-    /// A step of the console.
+    /// Takes and records a step of the console.
     fn step_console(&mut self, region: Region, record: &mut Record) -> Option<()> {
         let rate = match region {
             Region::Ntsc => CONSOLE_RATE,
@@ -171,7 +171,7 @@ impl Pair {
         Some(())
     }
 
-    /// A step of the sound side.
+    /// Takes and records a step of the sound side.
     fn step_sound(&mut self, record: &mut Record) -> Option<()> {
         let act = self.sound.act();
         let got = at_ports(act, &mut self.to_sound, &mut self.to_console);
@@ -186,7 +186,7 @@ impl Pair {
     }
 }
 
-/// Makes the first steps of a job, the earlier side first, until both records are full.
+/// Takes the first steps of a job, the earlier side first, until both records are full.
 pub fn record_steps(
     alloc: Global,
     job: &Job,

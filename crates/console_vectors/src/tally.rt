@@ -10,14 +10,14 @@ use std::rt::Files;
 use std::thread::Threads;
 use turn_watch::{Counts, Watch};
 
-/// What was counted of the workers of all jobs so far, over one wire.
+/// The counts of the workers of all jobs so far, over one wire.
 #[derive(Drop)]
 pub struct Workers {
     /// The turns of all jobs.
     pub turns: Counts,
-    /// The jobs of which every turn had two threads.
+    /// The number of jobs in which every turn had two threads.
     pub on_two_threads: u64,
-    /// The jobs in which both legs of a turn overlapped, or that had fewer than four turns.
+    /// The number of jobs in which both legs of a turn overlapped, or that had fewer than four turns.
     pub overlapping: u64,
 }
 
@@ -42,22 +42,29 @@ impl Workers {
     }
 }
 
-/// What came of the jobs so far.
+/// The results of the jobs so far.
 #[derive(Drop)]
 pub struct Tally {
+    /// The number of jobs.
     pub jobs: u64,
+    /// The number of jobs that differ by the serial console.
     pub different: u64,
+    /// The number of jobs that differ by turns over the log behind its lock.
     pub different_by_turns: u64,
+    /// The number of jobs that differ by turns over words without a lock.
     pub different_without_lock: u64,
-    /// What was counted of two workers over the log behind its lock, and over words.
+    /// The counts of two workers over the log behind its lock.
     pub locked: Workers,
+    /// The counts of two workers over words without a lock.
     pub lockless: Workers,
-    /// The hashes of first steps, and those that differ.
+    /// The number of hashes of first steps.
     pub beginnings: usize,
+    /// The number of hashes of first steps that differ.
     pub beginnings_different: usize,
 }
 
 impl Tally {
+    /// Returns the results of no jobs.
     pub fn new() -> Tally {
         Tally {
             jobs: 0,
@@ -72,7 +79,7 @@ impl Tally {
     }
 }
 
-/// Whether each frame of a job agrees by the serial console, or nothing where it is no job.
+/// Whether each frame of a job agrees by the serial console; `None` if it is not a valid job.
 fn agrees(alloc: Global, case: &Case) -> Option<bool> {
     let job = case.job(alloc)?;
     let mut marks = case.marks(alloc)?;
@@ -80,7 +87,7 @@ fn agrees(alloc: Global, case: &Case) -> Option<bool> {
     Some(marks.video.agrees() && marks.sound.agrees())
 }
 
-/// How many hashes of a job's first steps there are, and how many agree.
+/// Returns the number of hashes of a job's first steps, and how many agree.
 fn steps_that_agree(alloc: Global, case: &Case) -> Option<(usize, usize)> {
     let job = case.job(alloc)?;
     let (mut console, mut sound) = case.records(alloc)?;
@@ -93,7 +100,7 @@ fn steps_that_agree(alloc: Global, case: &Case) -> Option<(usize, usize)> {
     ))
 }
 
-/// Compares the first steps of a job, and names it where one of their hashes differs.
+/// Compares the first steps of a job, and names it if one of their hashes differs.
 fn compare_steps<R: AllocGlobal + Print>(rt: &R, case: &Case, tally: &mut Tally) -> io::Result<()> {
     let job = tally.jobs;
     let Some((beginnings, agree)) = steps_that_agree(rt.alloc(), case) else {
@@ -108,7 +115,7 @@ fn compare_steps<R: AllocGlobal + Print>(rt: &R, case: &Case, tally: &mut Tally)
     Ok(())
 }
 
-/// What came of a job by turns.
+/// The result of a job by turns.
 #[derive(Clone, Copy)]
 struct ByTurns {
     agrees: bool,
@@ -117,7 +124,7 @@ struct ByTurns {
     counts: Counts,
 }
 
-/// Runs a job by turns over a wire, or nothing where it is no job. The watch is the gate too.
+/// Runs a job by turns over a wire; `None` if it is not a valid job. The watch is the gate too.
 fn by_turns<R: AllocGlobal + Threads + Files>(
     rt: &R,
     watch: &Watch<'_, R>,

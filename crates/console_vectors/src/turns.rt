@@ -5,7 +5,7 @@ use run_drive::Player;
 use snes_defs::Job;
 use std::thread::Threads;
 
-/// Runs a job on two workers over this wire, marks what they emit, and answers how many turns they made.
+/// Runs a job on two workers over this wire, marks what they emit, and returns how many turns they made.
 pub fn play_on_two<R: AllocGlobal + Threads>(
     rt: &R,
     job: &Job,

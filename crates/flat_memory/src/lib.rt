@@ -1,7 +1,7 @@
-//! A processor over a memory and nothing else.
+//! Runs a processor over a memory and nothing else.
 //!
 //! The crate shows that a processor which stops before each access composes with what it accesses.
-//! `Processor` is the trait of one that does: its state, which only proofs know, and what an access
+//! `Processor` is the trait of such a processor: its state, which only proofs know, and what an access
 //! makes of that state and of the bytes of a memory. `run` promises that a run of n accesses is the
 //! model's (`specs/Flat.antt`), for every state that the processor stands for.
 //!
@@ -29,7 +29,7 @@ pub trait Processor {
     // A state and the bytes of a memory after one access more.
     ghost after_access: { Flat State → Flat State };
 
-    /// One access: a fetch and a read get the byte of the memory, a write changes it.
+    /// Makes one access: a fetch and a read get the byte of the memory, a write changes it.
     fn step(&mut self, memory: &mut [u8])
         requires { length memory.old ≡ size }
         ensures processor { (s : State) → stands self.old s
@@ -38,7 +38,7 @@ pub trait Processor {
             → memory.new ≡ (after_access (record { processor = s; bytes = memory.old })).bytes };
 }
 
-/// So many accesses.
+/// Makes the given number of accesses.
 pub fn run<P: Processor>(processor: &mut P, memory: &mut [u8], accesses: u64)
     requires { length memory.old ≡ P.size }
     ensures processor { (s : P.State) → P.stands processor.old s

@@ -6,10 +6,10 @@ use std::alloc::{AllocError, Global};
 /// The length of the cartridge: one bank of 32 KiB.
 pub const SIZE: usize = 0x8000;
 
-/// Where header and vectors begin.
+/// The offset at which header and vectors begin.
 const HEADER_AT: usize = 0x7fc0;
 
-/// The cartridge of the game.
+/// Returns the cartridge of the game.
 pub fn game_cartridge(alloc: Global) -> Result<Vec<u8>, AllocError>
     ensures size { IfOk result (λ image. vec_len image ≡ 32768) }
 {

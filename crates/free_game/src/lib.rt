@@ -1,6 +1,6 @@
-// A free game, `examples/game`, as a cartridge: what `./scene` writes as `game.sfc`, and what tests of both pads play.
+// The cartridge of a free game, `examples/game`: `./scene` writes it as `game.sfc`, and tests of both pads play it.
 //
-// Stands on nothing. Its bytes are written by `tools/write_game.py` from what ca65 and ld65 make of the source.
+// It depends on nothing. `tools/write_game.py` writes its bytes from what ca65 and ld65 make of the source.
 #![tactic(auto)]
 
 mod bytes;

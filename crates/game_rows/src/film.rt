@@ -7,12 +7,12 @@ use std::alloc::{AllocError, Global};
 /// The bytes of a frame of the picture.
 const PICTURE: usize = 244_736;
 
-/// The hashes of what a run shows and lets hear. What it took is nobody's question, so it may have taken anything.
+/// The hashes of the video and audio of a run, as a sink. No clause depends on what it took.
 #[derive(Drop)]
 pub struct Film {
     /// Which frames are hashed.
     wanted: Vec<bool>,
-    /// Their hashes. Those that have not come yet are 0.
+    /// The hashes of the frames; 0 for those that have not come yet.
     pictures: Vec<u64>,
     next: usize,
     size: usize,
@@ -23,7 +23,7 @@ pub struct Film {
 }
 
 impl Film {
-    /// An empty film. Of its frames those are hashed that are wanted.
+    /// Returns the hashes of no frames. Only the wanted frames will be hashed.
     pub fn new(alloc: Global, wanted: Vec<bool>) -> Result<Film, AllocError> {
         let pictures = vec![in alloc; 0u64; wanted.len()]?;
         let is_wanted = match wanted.first() {
@@ -42,7 +42,7 @@ impl Film {
         })
     }
 
-    /// The hash of a frame, where it came.
+    /// Returns the hash of a frame, if it came.
     pub fn picture(&self, frame: usize) -> Option<u64> {
         if frame >= self.next {
             return None;
@@ -50,12 +50,12 @@ impl Film {
         self.pictures.get(frame).copied()
     }
 
-    /// The hash of the sound, and how many samples it has.
+    /// Returns the hash of the sound, and the number of its samples.
     pub fn sound(&self) -> (u64, u64) {
         (self.sound, self.sound_bytes / 4)
     }
 
-    /// The first frame that differs from another film's, or that only one of the two has.
+    /// Returns the first frame that differs between two runs, or that only one of them has.
     pub fn first_difference(&self, other: &Film) -> Option<usize> {
         for frame in 0..self.wanted.len().max(other.wanted.len()) {
             if self.picture(frame) != other.picture(frame) {
@@ -65,7 +65,7 @@ impl Film {
         None
     }
 
-    /// One byte more of the picture.
+    /// Adds a byte of the picture.
     fn show(&mut self, byte: u8) {
         if self.is_wanted {
             self.hash = hashed(self.hash, byte);
@@ -76,7 +76,7 @@ impl Film {
         }
     }
 
-    /// The last byte of a frame came.
+    /// Ends a frame, whose last byte came.
     fn end_picture(&mut self) {
         if let Some(picture) = self.pictures.get_mut(self.next) {
             *picture = self.hash;
@@ -90,7 +90,7 @@ impl Film {
         self.hash = no_hash();
     }
 
-    /// One byte more of the sound.
+    /// Adds a byte of the sound.
     fn hear(&mut self, byte: u8) {
         self.sound = hashed(self.sound, byte);
         self.sound_bytes = self.sound_bytes.saturating_add(1);

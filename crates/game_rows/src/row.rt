@@ -1,4 +1,4 @@
-//! What a line of a file of rows does.
+//! Follows the lines of a file of rows.
 
 use crate::film::Film;
 use cart_map::accept;
@@ -23,7 +23,7 @@ enum By {
     Lockless,
 }
 
-/// A row in the making.
+/// The current row: cartridges, script, and what was kept.
 #[derive(Drop)]
 pub struct Row {
     hello: Vec<u8>,
@@ -32,7 +32,8 @@ pub struct Row {
     kept: Option<Film>,
 }
 
-/// The job of so many frames: the game, or the other cartridge, with the free boot ROM and table.
+/// Returns the job of a row with the given number of frames: the game or the other cartridge, with the free boot ROM
+/// and table.
 fn job_of(alloc: Global, row: &Row, frames: u32) -> Option<Job> {
     let image = if row.is_game {
         game_cartridge(alloc).ok()?
@@ -51,7 +52,7 @@ fn job_of(alloc: Global, row: &Row, frames: u32) -> Option<Job> {
     })
 }
 
-/// What a job shows and lets hear, with these of its frames hashed.
+/// Plays a job, and returns the hashes of its sound and of the wanted frames.
 fn film_of<R: AllocGlobal + Threads>(rt: &R, job: &Job, by: By, wanted: Vec<bool>) -> Option<Film> {
     if job.frames > 36_000 {
         return None;
@@ -68,7 +69,7 @@ fn film_of<R: AllocGlobal + Threads>(rt: &R, job: &Job, by: By, wanted: Vec<bool
     Some(film)
 }
 
-/// Which of so many frames the words name; all of them, where `all` is set.
+/// Returns which of the frames the words name; all of them if `all` is set.
 fn wanted(alloc: Global, frames: u32, all: bool, words: SplitWhitespace<'_>) -> Option<Vec<bool>> {
     let mut wanted = vec![in alloc; all; frames as usize].ok()?;
     for word in words {
@@ -77,7 +78,7 @@ fn wanted(alloc: Global, frames: u32, all: bool, words: SplitWhitespace<'_>) -> 
     Some(wanted)
 }
 
-/// How the word says that a job is played.
+/// Returns the way of playing that a word names.
 fn by_of(word: &str) -> Option<By> {
     match word.as_bytes() {
         b"serial" => Some(By::Serial),
@@ -88,7 +89,7 @@ fn by_of(word: &str) -> Option<By> {
 }
 
 impl Row {
-    /// A row whose cartridge `hello` is zeros, or has no bytes where there is no memory.
+    /// Returns a row whose cartridge `hello` is zeros, or has no bytes if allocation fails.
     pub fn new(alloc: Global) -> Row {
         let hello = match vec![in alloc; 0u8; SIZE] {
             Ok(bytes) => bytes,
@@ -102,7 +103,7 @@ impl Row {
         }
     }
 
-    /// A line that says what is played.
+    /// Follows a line that says what is played.
     fn prepare(&mut self, line: &str) -> Option<()> {
         if let Some(text) = line.strip_prefix("script ") {
             self.script.extend_from_slice(text.as_bytes()).ok()?;
@@ -122,7 +123,7 @@ impl Row {
         }
     }
 
-    /// A line that plays: its film, and the frames that it names.
+    /// Follows a line that plays, and returns its hashes and the frames that it names.
     fn played<'a, R: AllocGlobal + Threads>(
         &self,
         rt: &R,
@@ -141,7 +142,7 @@ impl Row {
         Some((film_of(rt, &job, by, wanted)?, words))
     }
 
-    /// Prints what a line that plays asks for.
+    /// Prints the result of a line that plays.
     fn tell<R: Print>(
         &mut self,
         rt: &R,

@@ -10,12 +10,12 @@ use std::alloc::Global;
 #[derive(Drop)]
 pub(crate) struct Filling {
     pub(crate) bytes: Vec<u8>,
-    /// How many bytes were handed to it: one more than it has where they did not fit.
+    /// How many bytes were put into it; one more than its length if they did not fit.
     pub(crate) count: usize,
 }
 
 impl Filling {
-    /// A copy of what the slice holds, to which nothing was handed yet. Refused only for want of memory.
+    /// Returns a copy of what the slice holds, into which nothing was put yet. Fails only if allocation fails.
     pub(crate) fn over(alloc: Global, slice: &[u8]) -> Result<Filling, NoMemory>
         ensures now { IfOk result (λ f. f.bytes.items ≡ slice.now) }
         ensures count { IfOk result (λ f. f.count ≡ 0) }
@@ -26,22 +26,22 @@ impl Filling {
         Ok(Filling { bytes, count: 0 })
     }
 
-    /// How many bytes were handed to it.
+    /// Returns how many bytes were put into it.
     pub(crate) fn count(&self) -> usize
         ensures { result ≡ self.now.count }
     {
         self.count
     }
 
-    /// Whether more was handed to it than it has room for.
+    /// Whether more bytes were put into it than fit.
     pub(crate) fn is_overfull(&self) -> bool
         ensures { result ≡ nat_lt (length self.now.bytes.items) self.now.count }
     {
         self.count > self.bytes.len()
     }
 
-    /// Puts bytes behind those that were put before. Refused exactly where the slice is too short for them, and
-    /// filled to its end then.
+    /// Puts bytes behind those that were put before. Fails if and only if the slice is too short for them; then it is
+    /// filled to its end.
     pub(crate) fn put(&mut self, bytes: &[u8]) -> Result<(), Failed>
         ensures whole { OnOk result (Adds (Handed self.old.bytes.items self.old.count) (Handed self.new.bytes.items self.new.count) bytes.now) }
         ensures some { OnErr result (AddsSome (Handed self.old.bytes.items self.old.count) (Handed self.new.bytes.items self.new.count) bytes.now) }
@@ -52,7 +52,7 @@ impl Filling {
     }
 }
 
-/// Puts bytes into a slice behind those that were put before, so many.
+/// Puts bytes into a slice behind the `count` bytes that were put before.
 #[tactic(auto, using(crate::proofs::Puts::puts))]
 fn put_at(slice: &mut [u8], count: &mut usize, bytes: &[u8]) -> Result<(), Failed>
     ensures whole { OnOk result (Adds (Handed slice.old count.old) (Handed slice.new count.new) bytes.now) }

@@ -18,41 +18,42 @@ const SCRIPT_LIMIT: usize = 1_048_576;
 pub struct Inputs<'a> {
     /// The cartridge.
     pub cart: &'a [u8],
-    /// The boot ROM of the sound side.
+    /// The boot ROM of the SPC700.
     pub boot: &'a [u8],
     /// The interpolation table of the S-DSP.
     pub table: &'a [u8],
-    /// The script of pads.
+    /// The controller script.
     pub script: &'a [u8],
 }
 
-/// Why an input was not accepted.
+/// The reason why an input was not accepted.
 #[derive(Clone, Copy, Debug, PartialEq, Eq)]
 pub enum Why {
-    /// The bytes are no cartridge of this console.
+    /// The bytes are not a cartridge of this console.
     Cart(CartRefused),
-    /// The boot ROM hasn't 64 bytes.
+    /// The boot ROM is not 64 bytes long.
     Boot,
-    /// The interpolation table hasn't 1,024 bytes (512), or this is its first entry above 2047.
+    /// The interpolation table is not 1,024 bytes long (512), or this is its first entry above 2047.
     Table(u16),
-    /// The script has more than 1,048,576 bytes (0), or this is its first line that is in no form, from 1.
+    /// The script has more than 1,048,576 bytes (0), or this is its first invalid line, from 1.
     Script(u32),
 }
 
-/// Why a job was not played to its end.
+/// The reason why a job was not played to its end.
 #[derive(Clone, Copy, Debug, PartialEq, Eq)]
 pub enum End {
     /// More than 36,000 frames were asked for.
     Frames,
     /// An input was not accepted.
     Refused(Why),
-    /// There was no memory.
+    /// Allocation failed.
     NoMemory,
     /// The slice for the bytes of this side is too short for them.
     TooShort(Side),
 }
 
-/// The job of so many frames that the inputs make. Its region is that of the script. The inputs are read in their order.
+/// Returns the job that the inputs make, with the given number of frames. Its region is that of the script. The inputs
+/// are read in their order.
 #[tactic(auto, using(crate::proofs::Reading::reads))]
 pub(crate) fn job_in(alloc: Global, inputs: Inputs<'_>, frames: u32) -> Result<Job, End>
     ensures frames { IfOk result (λ job. job.frames ≡ frames) }
@@ -74,7 +75,7 @@ pub(crate) fn job_in(alloc: Global, inputs: Inputs<'_>, frames: u32) -> Result<J
     })
 }
 
-/// The cartridge in these bytes.
+/// Reads the cartridge in these bytes.
 #[tactic(auto, using(crate::proofs::Reading::kinds))]
 fn cart_in(alloc: Global, file: &[u8]) -> Result<Cart, End>
     ensures read { IfOk result (IsCartIn file.now) }
@@ -91,7 +92,7 @@ fn cart_in(alloc: Global, file: &[u8]) -> Result<Cart, End>
     }
 }
 
-/// The boot ROM in these bytes.
+/// Reads the boot ROM in these bytes.
 #[tactic(auto, using(crate::proofs::Reading::kinds))]
 fn boot_in(file: &[u8]) -> Result<[u8; 64], End>
     ensures read { IfOk result (λ boot. boot ≡ file.now) }
@@ -104,7 +105,7 @@ fn boot_in(file: &[u8]) -> Result<[u8; 64], End>
     }
 }
 
-/// The interpolation table in these bytes.
+/// Reads the interpolation table in these bytes.
 #[tactic(auto, using(crate::proofs::Reading::kinds))]
 fn table_in(file: &[u8]) -> Result<Table, End>
     ensures read { IfOk result (IsTableFile file.now) }
@@ -117,7 +118,7 @@ fn table_in(file: &[u8]) -> Result<Table, End>
     }
 }
 
-/// The script in these bytes.
+/// Reads the script in these bytes.
 #[tactic(auto, using(crate::proofs::Reading::kinds))]
 fn script_in(alloc: Global, file: &[u8]) -> Result<Spans, End>
     ensures read { IfOk result (IsScriptIn file.now) }

@@ -6,16 +6,17 @@ use run_drive::Sink;
 use snes_defs::{Job, NoMemory, Side};
 use std::alloc::Global;
 
-/// What plays a job by the serial console alone: its machines at their start, and all memory that their run takes. A
-/// library for other languages may link no lock and no thread, so that a player by two workers is none.
+/// A player of jobs by the serial console alone: the machines at their start, and all memory that their run needs.
+///
+/// A library for other languages may link no lock and no thread, so this trait has no way to play by two workers.
 pub trait SerialPlayer: Drop {
     // A run of the job emits this video and this audio.
     ghost emits: { Job → List ℕ → List ℕ → Type 0 };
 
-    // The player stands at the start of the job.
+    // The player is at the start of the job.
     ghost plays: { Self → Job → Type 0 };
 
-    /// Makes the machines at the start of a job, and takes all the memory of their run.
+    /// Makes the machines at the start of a job, and allocates all memory that their run needs.
     fn ready(alloc: Global, job: &Job) -> Result<Self, NoMemory>
         requires { job.now.frames ≤ 36000 }
         ensures starts { IfOk result (λ player. plays player job.now) };

@@ -11,12 +11,12 @@ use crate::slices::{Counts, Slices};
 use snes_defs::MOST_FRAMES;
 use std::alloc::Global;
 
-/// Reads a job of so many frames from four slices, plays it by the serial console, and fills a slice with its video
+/// Reads a job of `frames` frames from four slices, plays it by the serial console, and fills a slice with its video
 /// and one with its sound.
 ///
-/// A frame has 244,736 bytes of video; a sample, of which there are some 533 a frame, has 4 bytes. At Ok both slices
-/// hold the whole output of the job in front, and behind it what they held before. At `TooShort` they hold first
-/// bytes of it, and that slice is shorter than its output. At every other end they are as they were.
+/// A frame has 244,736 bytes of video and about 533 samples, of 4 bytes each. At Ok both slices begin with the whole
+/// output of the job, followed by what they held there before. At `TooShort` they hold a prefix of it, and that slice
+/// is shorter than its output. At every other end they are unchanged.
 #[tactic(auto, using(crate::proofs::Fronts::ends))]
 pub fn play<P: SerialPlayer>(
     alloc: Global,
@@ -38,8 +38,8 @@ pub fn play<P: SerialPlayer>(
     fill_from(alloc, player, video, sound)
 }
 
-/// Plays a job, and fills the slices with what it emits. The run goes into copies, which the slices get at its end: of
-/// a slice that is kept in a sink nobody would know that it is still the caller's.
+/// Plays a job, and fills the slices with what it emits. The run fills copies, which are copied to the slices at its
+/// end. If a sink kept a slice itself, nothing would say that it is still the caller's.
 fn fill_from<P: SerialPlayer>(
     alloc: Global,
     player: P,

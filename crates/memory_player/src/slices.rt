@@ -1,4 +1,4 @@
-// Two slices of the caller take the bytes of a run: the console's go to the first, the sound side's to the second.
+// A sink of two slices of the caller: the console's bytes go to the first, the sound side's to the second.
 ghost use Rattle.std.specs.Prelude.{◌≡◌, ◌≢◌, ◌≤◌, ℕ, List, length, OnOk, OnErr, IfOk, IfErr};
 ghost use Rattle.snes_defs.specs.declared.ports.Side.{Side};
 ghost use Rattle.run_drive.specs.Run.{Adds, AddsSome};
@@ -11,10 +11,12 @@ use file_shelf::Failed;
 use run_drive::Sink;
 use snes_defs::Side;
 
-/// How many bytes stand in front of each slice.
+/// The number of bytes of output at the front of each slice.
 #[derive(Clone, Copy, Debug, PartialEq, Eq)]
 pub struct Counts {
+    /// Bytes of video.
     pub video: usize,
+    /// Bytes of sound.
     pub sound: usize,
 }
 
@@ -26,7 +28,7 @@ pub(crate) struct Slices {
 }
 
 impl Slices {
-    /// How many bytes stand in front of each slice. Refused exactly where one was handed more than it has room for.
+    /// Returns the number of bytes at the front of each slice. Fails if and only if one was given more than fits.
     pub(crate) fn counts(&self) -> Result<Counts, End>
         ensures video { IfOk result (λ counts. counts.video ≡ self.now.video.count) }
         ensures sound { IfOk result (λ counts. counts.sound ≡ self.now.sound.count) }

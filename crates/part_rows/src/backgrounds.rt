@@ -47,7 +47,7 @@ fn cache_follows_the_bytes_of_a_word(rt: HostRuntime) -> Result<(), Fail> {
     Ok(())
 }
 
-/// A map at word 400 whose tiles are all tile 0, which has one white pixel at the left of its second line.
+/// Sets up a map at word 400 whose tiles are all tile 0, which has one white pixel at the left of its second line.
 fn white_pixel(p: &mut Ppu, tiles: &mut TileCache)
     requires { IsInStep tiles.old p.old.vram }
     ensures { IsInStep tiles.new p.new.vram }

@@ -5,7 +5,7 @@ use film_formats::{
 use snes_defs::Region;
 use std::test::Fail;
 
-/// What zlib makes of two dots, red and a dark blue, in a stored block of its own.
+/// The PNG that zlib makes of two dots, red and dark blue, in a stored block of its own.
 static TWO_DOTS: [u8; 104] = [
     137, 80, 78, 71, 13, 10, 26, 10, 0, 0, 0, 13, 73, 72, 68, 82, 0, 0, 0, 2, 0, 0, 0, 1, 8, 2, 0,
     0, 0, 123, 64, 232, 221, 0, 0, 0, 2, 73, 68, 65, 84, 120, 1, 236, 26, 126, 210, 0, 0, 0, 12,

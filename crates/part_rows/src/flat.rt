@@ -25,7 +25,7 @@ fn load(memory: &mut [u8], at: usize, bytes: &[u8])
     }
 }
 
-/// Registers at 0200, with a stack pointer.
+/// Returns registers at 0200, with a stack pointer.
 fn registers(a: u8, x: u8, y: u8, psw: u8) -> SpcRegs {
     SpcRegs {
         a,

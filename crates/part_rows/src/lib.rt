@@ -1,10 +1,11 @@
-//! Rows of the console's parts and of what stands beside it, worked out by hand or by programs from outside. The crate
-//! has tests alone, in a module for each part:
+//! Tests of the console's parts and of what is around it, by cases computed by hand or by external programs.
 //!
-//! - `picture`, `backgrounds`: objects over their limits, mode 7, a window, arithmetic, text, and the dots of backgrounds. Each
-//!   sets a unit by writes of its registers and compares what the public calls give.
-//! - `readers`, `shelf`: the readers, the files of the demo, the shelf over real files and the lines for the user, as an
-//!   outside reader expects them: each call that may want memory is made once with plenty of it, and its answer is
+//! The crate has tests alone, in a module for each part:
+//!
+//! - `picture`, `backgrounds`: objects over their limits, mode 7, a window, arithmetic, text, and the dots of
+//!   backgrounds. Each sets up a PPU by writes of its registers and compares what the public calls give.
+//! - `readers`, `shelf`: the readers, the files of the demo, the shelf over real files and the lines for the user, as
+//!   an outside reader expects them: each call that may allocate is made once with plenty of memory, and its result is
 //!   compared.
 //! - `films`: the bytes that `look` writes and the pieces that it reads, as outside programs have them: the sums and
 //!   the picture by zlib, the rest by hand.

@@ -33,7 +33,7 @@ fn writes(p: &mut Ppu, pairs: &[(u8, u8)]) {
     }
 }
 
-/// An object's four bytes.
+/// Writes an object's four bytes.
 fn put_object(p: &mut Ppu, x: u8, y: u8) {
     writes(p, &[(0x04, x), (0x04, y), (0x04, 0), (0x04, 0)]);
 }

@@ -5,7 +5,7 @@ use snes_defs::{MapKind, NoMemory, Region, Spans};
 use std::alloc::Global;
 use std::test::Fail;
 
-/// The line at which a script is refused, or 0 where it is taken.
+/// Returns the line at which a script is refused, or 0 if it is accepted.
 fn refused_at(alloc: Global, text: &str) -> Option<u32> {
     match read_script(alloc, text.as_bytes()) {
         Ok(_) => Some(0),
@@ -14,7 +14,7 @@ fn refused_at(alloc: Global, text: &str) -> Option<u32> {
     }
 }
 
-/// The script of a text that is taken.
+/// Returns the script of a text that is accepted.
 fn script(alloc: Global, text: &str) -> Option<Spans> {
     read_script(alloc, text.as_bytes()).ok()
 }

@@ -1,5 +1,5 @@
-// What an outside reader expects of real files, and the lines as they are printed. Planned failures, a shelf that never
-// fails and a full device stand in the rows of the whole program, `program_rows` and `console_rows`.
+// Tests of real files, as an outside reader expects them, and of the lines as they are printed. Planned failures, a
+// shelf that never fails and a full device are in the rows of the whole program, `program_rows` and `console_rows`.
 use run_io::{
     Cause, Clash, Failed, FileShelf, Input, Line, LoadEnd, Out, Shelf, cannot_read_line,
     cannot_write_line, frames_line, no_memory_line, usage_line,
@@ -79,7 +79,7 @@ const FILM: &str = "/tmp/snes-part-rows-names/film";
 
 const AGAIN: &str = "/tmp/snes-part-rows-names/./film";
 
-/// Lays a file under two names, and one that is longer than what is put to it.
+/// Makes a file with two names, and one that is longer than what is put to it.
 fn lay_names(rt: &HostRuntime) -> io::Result<()> {
     fs::create_dir_all(rt, FOLDER)?;
     fs::write(rt, READ, "abc")?;
@@ -96,8 +96,8 @@ fn has(rt: &HostRuntime, name: &str, wanted: &str) -> bool {
     }
 }
 
-/// A file that was loaded is no output, under whatever name, and keeps its bytes. One end, since a proof reads all that is
-/// dropped anew at each.
+/// Whether a file that was loaded is refused as an output, under any name, and keeps its bytes. It has one end, since a
+/// proof reads all that is dropped again at each end.
 fn refuses_what_was_loaded(rt: &HostRuntime, shelf: &mut FileShelf<'_, HostRuntime>) -> bool {
     load(rt.alloc(), shelf, READ, 3).is_ok()
         && shelf.first_fault().is_none()
@@ -106,7 +106,7 @@ fn refuses_what_was_loaded(rt: &HostRuntime, shelf: &mut FileShelf<'_, HostRunti
         && has(rt, READ, "abc")
 }
 
-/// A longer file ends up with what is put to it, and is no other output under another name.
+/// Whether a longer file ends up with what is put to it, and is refused as another output under another name.
 fn refuses_the_other_output(rt: &HostRuntime, shelf: &mut FileShelf<'_, HostRuntime>) -> bool {
     shelf.create(Out::Video, FILM).is_ok()
         && put(shelf, Out::Video, "abc").is_ok()
@@ -115,7 +115,7 @@ fn refuses_the_other_output(rt: &HostRuntime, shelf: &mut FileShelf<'_, HostRunt
         && has(rt, FILM, "abc")
 }
 
-/// A device is taken for two outputs, and an output can be created again.
+/// Whether a device is accepted for two outputs, and an output can be created again.
 fn takes_devices(rt: &HostRuntime, shelf: &mut FileShelf<'_, HostRuntime>) -> bool {
     shelf.create(Out::Sound, "/dev/null").is_ok()
         && shelf.create(Out::Image, "/dev/null").is_ok()

@@ -1,15 +1,15 @@
-//! Cases of the beam, as `data/beam.txt`: what happens where it stands.
+//! Cases of the beam, such as `data/beam.txt`: its events.
 //!
 //! A line `beam K REGION` begins a new beam, `ntsc` or `pal`. `p CLOCKS TIMES KIND H V OVERSCAN EVENTS
-//! LINECLOCK LINE BLANK` is TIMES steps of so many clocks with that timer and overscan bit. EVENTS are
+//! LINECLOCK LINE BLANK` is TIMES steps of CLOCKS clocks with that timer and overscan bit. EVENTS are
 //! all their events in order, a letter each: L Line, B Blank, F HdmaFrame, R Refresh, D Draw, H
-//! HdmaLine, T Timer, and `-` where none came. The last three are where the beam stands after them.
+//! HdmaLine, T Timer, and `-` if none came. The last three are the position of the beam after them.
 
 use crate::line::Line;
 use beam::{Beam, Happens};
 use snes_defs::{IrqTime, Region};
 
-/// Whether the beam does what a line says. A line of no known form doesn't hold.
+/// Whether the beam does what a line says. An unknown line doesn't hold.
 pub fn passes_as(beam: &mut Beam, line: &str) -> bool {
     let mut words = Line::new(line);
     match words.word() {
@@ -20,7 +20,7 @@ pub fn passes_as(beam: &mut Beam, line: &str) -> bool {
     }
 }
 
-/// A new beam.
+/// Begins a new beam.
 fn begins(beam: &mut Beam, mut words: Line<'_>) -> Option<bool> {
     let _number = words.word()?;
     let region = match words.word()? {
@@ -32,7 +32,7 @@ fn begins(beam: &mut Beam, mut words: Line<'_>) -> Option<bool> {
     Some(true)
 }
 
-/// Whether so many steps give the events of a line, and the beam stands where it says.
+/// Whether the steps of a line give its events, and the beam is then where it says.
 fn passes(beam: &mut Beam, mut words: Line<'_>) -> Option<bool> {
     let clocks = words.decimal()?;
     let times = words.decimal::<u16>()?;
@@ -50,12 +50,12 @@ fn passes(beam: &mut Beam, mut words: Line<'_>) -> Option<bool> {
     Some(same && letters.is_empty() && stands_at(beam, &mut words)?)
 }
 
-/// The letters of a word; a hyphen stands for none.
+/// Returns the letters of a word; a hyphen stands for none.
 fn letters_of(word: &str) -> &[u8] {
     if word == "-" { &[] } else { word.as_bytes() }
 }
 
-/// The timer of the next words.
+/// Reads the timer of the next words.
 pub fn time_of(words: &mut Line<'_>) -> Option<IrqTime> {
     Some(IrqTime {
         kind: words.decimal()?,
@@ -64,11 +64,11 @@ pub fn time_of(words: &mut Line<'_>) -> Option<IrqTime> {
     })
 }
 
-/// Makes a step of so many clocks. The letters behind those of its events, or nothing where they are others.
+/// Takes a step of the given number of clocks. Returns the letters after those of its events; `None` if they differ.
 fn steps<'a>(beam: &mut Beam, clocks: u16, overscan: bool, letters: &'a [u8]) -> Option<&'a [u8]> {
     let mut letters = Some(letters);
     let mut rest = clocks;
-    // At most one place a clock.
+    // At most one event time a clock.
     for _ in 0..clocks {
         let left = beam.clocks_left();
         if rest < left {
@@ -87,7 +87,7 @@ fn steps<'a>(beam: &mut Beam, clocks: u16, overscan: bool, letters: &'a [u8]) ->
     letters
 }
 
-/// Whether the beam stands where the next words say.
+/// Whether the beam is where the next words say.
 fn stands_at(beam: &Beam, words: &mut Line<'_>) -> Option<bool> {
     let h = words.decimal::<u16>()?;
     let v = words.decimal::<u16>()?;
@@ -96,7 +96,7 @@ fn stands_at(beam: &Beam, words: &mut Line<'_>) -> Option<bool> {
     Some(spot.h == h && spot.v == v && spot.blank == blank)
 }
 
-/// The letters after those of the events of a place, if they are first, in order.
+/// Returns the letters after those of these events, if they come first, in order.
 fn after(letters: &[u8], happens: Happens) -> Option<&[u8]> {
     let letters = expect(letters, happens.line, b'L')?;
     let letters = expect(letters, happens.blank, b'B')?;
@@ -107,7 +107,7 @@ fn after(letters: &[u8], happens: Happens) -> Option<&[u8]> {
     expect(letters, happens.timer, b'T')
 }
 
-/// The letters after this one, if it is first where it is to come.
+/// Returns the letters after this one, if it comes first or isn't to come.
 fn expect(letters: &[u8], comes: bool, letter: u8) -> Option<&[u8]> {
     if comes {
         let (first, rest) = letters.split_first()?;

@@ -10,23 +10,24 @@ pub struct Line<'a> {
 }
 
 impl<'a> Line<'a> {
+    /// Returns the words of a line, none of them read.
     pub fn new(line: &'a str) -> Line<'a> {
         Line {
             words: line.split_whitespace(),
         }
     }
 
-    /// The next word.
+    /// Reads the next word.
     pub fn word(&mut self) -> Option<&'a str> {
         self.words.next()
     }
 
-    /// The words that are left.
+    /// Returns the words that are left.
     pub fn rest(self) -> SplitWhitespace<'a> {
         self.words
     }
 
-    /// The number of the next word, in decimal digits.
+    /// Reads the number of the next word, in decimal digits.
     pub fn decimal<T: FromStr + Drop>(&mut self) -> Option<T>
     where
         T::Err: Drop,
@@ -34,7 +35,7 @@ impl<'a> Line<'a> {
         self.word()?.parse().ok()
     }
 
-    /// The number of the next word, in hexadecimal digits.
+    /// Reads the number of the next word, in hexadecimal digits.
     pub fn hexadecimal<T: TryFrom<u64> + Drop>(&mut self) -> Option<T>
     where
         T::Error: Drop,
@@ -42,7 +43,7 @@ impl<'a> Line<'a> {
         hexadecimal(self.word()?)
     }
 
-    /// Whether the next word is 1.
+    /// Reads the next word as a number, and returns whether it is 1.
     pub fn bit(&mut self) -> Option<bool> {
         Some(self.decimal::<u8>()? == 1)
     }

@@ -1,14 +1,14 @@
-//! Runs outside cases of the console's parts through the proved code: which files are cartridges and what
-//! lies at an address, transfers, the processor's registers, and what happens where the beam stands.
+//! Runs external test vectors of the console's parts through the proved code. The parts are cartridges (which files
+//! are one, and what is at an address), transfers, the processor's registers, and the events of the beam.
 //!
-//! The program takes names of files of cases. A file is of one part, that of the word which begins its
-//! first case: `cart`, `dma`, `io` or `beam`. It may have lines of comment, from `#` on; each other line
-//! is done or compared. The page of each part's module has the form of its lines. The program prints
-//! each line that differs, and after the last file of a part how many lines of it there were.
+//! The arguments are files of cases. A file is of one part, that of the word which begins its first case: `cart`,
+//! `dma`, `io` or `beam`. It may have lines of comment, from `#` on; each other line is done or compared. The comment
+//! of each part's module describes its lines. The program prints each line that differs, and after the last file of a
+//! part the number of its lines.
 //!
-//! The cases of `data/cart.txt`, `dma.txt`, `io.txt` and `beam.txt` come from outside: two other
-//! programs agreed on them. Those of `data/*_worked.txt` were worked out by hand from the rules. Those
-//! of `data/*_differing.txt` are wrong in one thing each, and have to differ.
+//! The cases of `data/cart.txt`, `dma.txt`, `io.txt` and `beam.txt` are external: two other programs agreed on them.
+//! Those of `data/*_worked.txt` were computed by hand from the rules. Those of `data/*_differing.txt` are wrong in one
+//! thing each, and must differ.
 #![tactic(auto)]
 
 mod cartridges;

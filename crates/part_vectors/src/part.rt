@@ -17,7 +17,7 @@ pub enum Part {
 }
 
 impl Part {
-    /// The part whose cases a file has, if its first line that is no comment begins a case of one.
+    /// Returns the part whose cases a file has, if its first line that is not a comment begins a case of one.
     pub fn of(text: &str) -> Option<Part> {
         for line in text.lines() {
             if !line.starts_with('#') {
@@ -27,7 +27,7 @@ impl Part {
         None
     }
 
-    /// The part of which a case begins with this word.
+    /// Returns the part whose cases begin with this word.
     fn named(word: &str) -> Option<Part> {
         match word {
             "cart" => Some(Part::Cartridges),
@@ -39,7 +39,7 @@ impl Part {
     }
 }
 
-/// The case in hand, of one part.
+/// The current case, of one part.
 #[derive(Drop)]
 pub enum Case {
     Cartridge(CartridgeCase),
@@ -49,6 +49,7 @@ pub enum Case {
 }
 
 impl Case {
+    /// Returns a new case of a part.
     pub fn new(alloc: Global, part: Part) -> Case {
         match part {
             Part::Cartridges => Case::Cartridge(CartridgeCase::new(alloc)),
@@ -58,7 +59,7 @@ impl Case {
         }
     }
 
-    /// Whether a line holds. One that only tells what to do holds, and one that can't be read doesn't.
+    /// Whether a line holds. One that only says what to do holds, and one that can't be read doesn't.
     pub fn holds(&mut self, line: &str) -> bool {
         match self {
             Case::Cartridge(case) => case.holds(line),

@@ -1,4 +1,4 @@
-//! Cases of the processor's registers, as `data/io.txt`.
+//! Cases of the processor's registers, such as `data/io.txt`.
 //!
 //! A line `io K` begins with new registers. `w AAAAVV ..` are writes of addresses and bytes; `q AAAA
 //! BUS H V BLANK GOT` is a read, with the byte last on the bus, line clock, line and vertical blank (1
@@ -11,7 +11,7 @@ use case_text::part;
 use io_math::Io;
 use snes_defs::Spot;
 
-/// Whether the registers do what a line says. A line of no known form doesn't hold.
+/// Whether the registers do what a line says. An unknown line doesn't hold.
 pub fn act_as(io: &mut Io, line: &str) -> bool {
     let mut words = Line::new(line);
     match words.word() {
@@ -78,7 +78,7 @@ fn levels(io: &Io, mut words: Line<'_>) -> Option<bool> {
     Some(same && io.irq_time() == time)
 }
 
-/// The words of two pads.
+/// Reads the words of two pads.
 fn pads(mut words: Line<'_>) -> Option<(u16, u16)> {
     Some((words.hexadecimal()?, words.hexadecimal()?))
 }

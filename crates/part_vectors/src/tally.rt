@@ -1,7 +1,7 @@
 use crate::part::Case;
 use std::io;
 
-/// How many lines of a part there were so far, and how many differ.
+/// The number of lines of a part so far, and how many differ.
 #[derive(Clone, Copy)]
 pub struct Tally {
     lines: u64,
@@ -9,6 +9,7 @@ pub struct Tally {
 }
 
 impl Tally {
+    /// Returns the tally of no lines.
     pub fn new() -> Tally {
         Tally {
             lines: 0,
@@ -16,7 +17,7 @@ impl Tally {
         }
     }
 
-    /// Does or compares a line of a case, counts it, and prints it where it differs.
+    /// Does or compares a line of a case, counts it, and prints it if it differs.
     pub fn compare<R: Print>(&mut self, rt: &R, case: &mut Case, line: &str) -> io::Result<()> {
         self.lines = self.lines.saturating_add(1);
         if case.holds(line) {

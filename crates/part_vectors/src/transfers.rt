@@ -1,4 +1,4 @@
-//! Cases of transfers, as `data/dma.txt`.
+//! Cases of transfers, such as `data/dma.txt`.
 //!
 //! A case is a block of lines from `dma` to `end`, with new channels. `w AAAAVV ..` writes registers
 //! 4300 to 437F; `bytes SEED` makes the bytes that are moved those of the generator x = 1664525 x +
@@ -12,16 +12,17 @@ use crate::line::Line;
 use case_text::{Generator, part};
 use dma_hdma::{Dma, Move};
 
-/// The case in hand: its channels, and the generator of the bytes that they move.
+/// The current case: its channels, and the generator of the bytes that they move.
 #[derive(Drop)]
 pub struct TransferCase {
     dma: Dma,
     generator: Generator,
-    /// The bytes are those that the moves name.
+    /// Whether the bytes are those that the moves name.
     given: bool,
 }
 
 impl TransferCase {
+    /// Returns a case with new channels.
     pub fn new() -> TransferCase {
         TransferCase {
             dma: Dma::new(),
@@ -30,12 +31,12 @@ impl TransferCase {
         }
     }
 
-    /// Whether a line holds. One that tells what to do holds, and one that can't be read doesn't.
+    /// Whether a line holds. One that only says what to do holds, and one that can't be read doesn't.
     pub fn holds(&mut self, line: &str) -> bool {
         self.result_of(line).unwrap_or(false)
     }
 
-    /// The same, or nothing for a line that can't be read.
+    /// Does a line, and returns whether it holds; `None` for a line that can't be read.
     fn result_of(&mut self, line: &str) -> Option<bool> {
         let mut words = Line::new(line);
         match words.word()? {
@@ -90,7 +91,7 @@ impl TransferCase {
         Some(self.dma.read(addr, bus) == got)
     }
 
-    /// Whether the next bytes are moved as the words say, and no more are due where all were asked for.
+    /// Whether the next bytes are moved as the line says, and no more are due if all were asked for.
     fn goes(&mut self, mut words: Line<'_>) -> Option<bool> {
         let count = words.word()?;
         let most = if count == "all" {
@@ -112,7 +113,7 @@ impl TransferCase {
         }
     }
 
-    /// Whether so many bytes are due one after another, and no more.
+    /// Whether exactly `count` bytes are due, one after another.
     fn runs_for(&mut self, count: u32) -> bool {
         for _ in 0..count {
             if self.dma.next().is_none() {
@@ -123,7 +124,7 @@ impl TransferCase {
         self.dma.next().is_none()
     }
 
-    /// Whether the next byte is moved as a word says; it is moved then.
+    /// Whether the next byte is moved as a word says. Moves it.
     fn moves(&mut self, word: &str) -> Option<bool> {
         let kind = *word.as_bytes().first()?;
         let moved = self.byte_for(word)?;
@@ -145,7 +146,7 @@ impl TransferCase {
         }
     }
 
-    /// The byte of a move: the one at the word's end, or the next of the generator.
+    /// Returns the byte of a move: the one at the word's end, or the next of the generator.
     fn byte_for(&mut self, word: &str) -> Option<u8> {
         if self.given {
             part(word, word.len().checked_sub(2)?, word.len())

@@ -1,4 +1,4 @@
-//! One dot of a background of the modes 0 to 6.
+//! Draws one dot of a background of the modes 0 to 6.
 
 ghost use Rattle.std.specs.Prelude.{◌≡◌, ◌<◌, ◌≤◌};
 
@@ -16,7 +16,7 @@ const DEPTHS: [[u8; 4]; 7] = [
     [4, 0, 0, 0],
 ];
 
-/// The depth of a layer, 0 where it is none.
+/// Returns the depth of a layer in bits, 0 if the mode lacks the layer.
 fn depth_of(mode: u8, layer: u8) -> u8 {
     if mode < 7 && layer >= 1 && layer <= 4 {
         DEPTHS[mode as usize][(layer - 1) as usize]
@@ -25,7 +25,7 @@ fn depth_of(mode: u8, layer: u8) -> u8 {
     }
 }
 
-/// The registers of BG1 to BG4.
+/// Returns the registers of BG1 to BG4.
 fn registers_of(r: &Registers, layer: u8) -> &Background {
     match layer {
         1 => &r.bg1,
@@ -35,7 +35,7 @@ fn registers_of(r: &Registers, layer: u8) -> &Background {
     }
 }
 
-/// Where a dot lies in the plane of a layer, in pixels of that plane, and the widths of the map's tiles.
+/// The position of a dot in the plane of a layer, in pixels of that plane, and the size of the map's tiles.
 #[derive(Clone, Copy)]
 struct Spot {
     x: u32,
@@ -44,7 +44,7 @@ struct Spot {
     tile_height: u32,
 }
 
-/// The entry of the map under a spot. The map is one screen of 32 by 32 entries, or two, or four.
+/// Returns the entry of the map under a spot. The map is one screen of 32 by 32 entries, or two, or four.
 fn entry_at(p: &Ppu, b: &Background, spot: Spot) -> u32
     requires width { 8 ≤ spot.tile_width }
     requires height { 8 ≤ spot.tile_height }
@@ -61,15 +61,15 @@ fn entry_at(p: &Ppu, b: &Background, spot: Spot) -> u32
     )
 }
 
-/// The first number of the mosaic block in which n lies, where mosaic is on.
+/// Returns the first number of the mosaic block of n if mosaic is on, else n.
 pub fn block_start(on: bool, size: u8, n: u32) -> u32
     ensures { result ≤ n }
 {
     if on { n - n % (size as u32 + 1) } else { n }
 }
 
-/// How far a layer is moved at pixel `x`, across and down: by its own scroll, or in the modes 2, 4 and 6 by the
-/// entries of BG3's map, which has one for each eight pixels from the second on.
+/// Returns how far a layer is scrolled at pixel `x`, across and down. Its own scroll says so, or in the modes 2, 4 and
+/// 6 the entries of BG3's map. There is one entry for every eight pixels from the second on.
 fn moved_by(p: &Ppu, layer: u8, x: u32) -> (u32, u32)
     requires { x < 256 }
     ensures across { result.0 < 1024 }
@@ -118,7 +118,7 @@ fn moved_by(p: &Ppu, layer: u8, x: u32) -> (u32, u32)
     )
 }
 
-/// The number in CGRAM of a pixel's value.
+/// Returns the number in CGRAM of a pixel's value.
 fn number_of(mode: u8, layer: u8, depth: u8, palette: u32, value: u8) -> u8 {
     let number = match depth {
         2 => {
@@ -135,7 +135,7 @@ fn number_of(mode: u8, layer: u8, depth: u8, palette: u32, value: u8) -> u8 {
     (number % 256) as u8
 }
 
-/// What a background shows at the dot `e` (0 to 511) of a row, if anything.
+/// Returns what a background shows at the dot `e` (0 to 511) of a row, if anything.
 pub fn background_at(p: &Ppu, layer: u8, row: u16, e: u32) -> Option<Seen>
     requires row { row < 239 }
     requires e { e < 512 }

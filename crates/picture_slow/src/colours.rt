@@ -1,4 +1,4 @@
-//! The colour of a dot: black, arithmetic, brightness.
+//! Works out the colour of a dot: black, arithmetic, brightness.
 
 ghost use Rattle.std.specs.Prelude.{◌≡◌, ◌<◌, ◌≤◌};
 
@@ -6,20 +6,20 @@ use crate::memory::palette_colour;
 use crate::windows::{holds_there, is_inside};
 use ppu_regs::{ColourMath, Ppu};
 
-/// The fixed colour of 2132.
+/// Returns the fixed colour of 2132.
 pub fn fixed_colour(p: &Ppu) -> u16 {
     let c = &p.registers().colour;
     c.red as u16 % 32 + 32 * (c.green as u16 % 32) + 1024 * (c.blue as u16 % 32)
 }
 
-/// One of the three components, 0 red, 1 green, 2 blue.
+/// Returns one of the three components of a colour: 0 red, 1 green, 2 blue.
 fn component(colour: u16, which: u32) -> i32
     requires { which < 3 }
 {
     ((colour >> (5 * which)) % 32) as i32
 }
 
-/// One component of one colour and another.
+/// Adds or subtracts one component of two colours.
 fn joined(c: &ColourMath, one: i32, other: i32, halves: bool) -> u16
     ensures { result < 32 }
 {
@@ -38,7 +38,8 @@ fn joined(c: &ColourMath, one: i32, other: i32, halves: bool) -> u16
     }
 }
 
-/// The main screen's dot at a pixel, from what is in front there (with whether 2131 names it) and on the sub screen.
+/// Returns the main screen's dot at a pixel, from what is in front on both screens. `front` also says whether 2131
+/// names its layer.
 pub fn mixed(p: &Ppu, x: u8, front: Option<(u16, bool)>, sub: Option<u16>) -> u16 {
     let r = p.registers();
     let c = &r.colour;
@@ -62,7 +63,7 @@ pub fn mixed(p: &Ppu, x: u8, front: Option<(u16, bool)>, sub: Option<u16>) -> u1
     red + 32 * green + 1024 * blue
 }
 
-/// A colour at the brightness of 2100.
+/// Returns a colour at the brightness of 2100.
 pub fn dimmed(p: &Ppu, colour: u16) -> u16 {
     let display = p.registers().display;
     if display.blanked || display.brightness == 0 {

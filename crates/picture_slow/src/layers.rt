@@ -1,4 +1,4 @@
-//! What is in front on a screen.
+//! Works out what is in front on a screen.
 
 ghost use Rattle.std.specs.Prelude.{◌≡◌, ◌<◌, ◌≤◌};
 
@@ -16,7 +16,7 @@ pub enum Screen {
     Sub,
 }
 
-/// The layers of a mode, front to back, each with its priority: S is the objects, a digit a background; H is
+/// Returns the layers of a mode, front to back, each with its priority: S is the objects, a digit a background; H is
 /// a background's priority 1 and L is 0.
 fn order(r: &Registers) -> &'static [u8] {
     match r.mode {
@@ -29,7 +29,7 @@ fn order(r: &Registers) -> &'static [u8] {
     }
 }
 
-/// Where a layer is shown, and its windows.
+/// Returns on which screens a layer is shown, and its windows.
 fn settings(r: &Registers, layer: u8) -> (&LayerScreens, &LayerWindows) {
     match layer {
         b'1' => (&r.screens_bg1, &r.windows_bg1),
@@ -50,7 +50,7 @@ fn is_on(p: &Ppu, layer: u8, screen: Screen, x: u8) -> bool {
     on && !(masked && is_inside(p, windows, x))
 }
 
-/// What a layer shows at a dot.
+/// Returns what a layer shows at a dot.
 fn layer_at(p: &Ppu, objects: &ObjectRow, layer: u8, row: u16, e: u32) -> Option<Seen>
     requires row { row < 239 }
     requires e { e < 512 }
@@ -67,7 +67,7 @@ fn layer_at(p: &Ppu, objects: &ObjectRow, layer: u8, row: u16, e: u32) -> Option
     }
 }
 
-/// The letter of a priority.
+/// Returns the letter of a priority.
 fn priority_letter(layer: u8, priority: u8) -> u8 {
     match (layer, priority) {
         (b'S', 0) => b'0',
@@ -79,7 +79,7 @@ fn priority_letter(layer: u8, priority: u8) -> u8 {
     }
 }
 
-/// What is in front on a screen at a dot, with whether 2131 names its layer, if any layer is there.
+/// Returns what is in front on a screen at a dot, with whether 2131 names its layer, if any layer is there.
 pub fn front_at(
     p: &Ppu,
     objects: &ObjectRow,

@@ -1,4 +1,4 @@
-//! The words of VRAM, the pixels of tiles, and the colours.
+//! Reads words of VRAM, pixels of tiles, and colours.
 
 ghost use Rattle.std.specs.Prelude.{◌≡◌, ◌<◌, ◌≤◌};
 
@@ -7,23 +7,23 @@ use ppu_regs::Ppu;
 /// What a layer shows at a dot: a colour, with its priority in the layer.
 #[derive(Clone, Copy)]
 pub struct Seen {
-    /// 15 bits.
+    /// The colour, in 15 bits.
     pub colour: u16,
-    /// 0 or 1 of a background, 0 to 3 of an object.
+    /// The priority: 0 or 1 for a background, 0 to 3 for an object.
     pub priority: u8,
-    /// Whether the layer's bit of 2131 speaks of it: of the objects only those of the palettes 4 to 7.
+    /// Whether the layer's bit of 2131 applies to it: among the objects only to those of the palettes 4 to 7.
     pub in_arithmetic: bool,
 }
 
-/// A word of VRAM, which repeats itself after 32,768 words.
+/// Returns a word of VRAM, which repeats itself after 32,768 words.
 pub fn word(p: &Ppu, address: u32) -> u32
     ensures { result < 65536 }
 {
     p.vram()[(address % 0x8000) as usize] as u32
 }
 
-/// The value of a tile's pixel: each two bits of depth are a word of the tile's line, the low bit in its low byte,
-/// and the leftmost pixel has the highest bits of both.
+/// Returns the value of a tile's pixel. Every two bits of depth are a word of the tile's line, the low bit in its low
+/// byte; the leftmost pixel has the highest bits of both.
 pub fn tile_pixel(p: &Ppu, tile_at: u32, depth: u8, x: u32, y: u32) -> u8
     requires x { x < 8 }
 {
@@ -48,12 +48,12 @@ fn two_bits(line: u32, x: u32) -> u8
     (low % 2 + 2 * (high % 2)) as u8
 }
 
-/// The colour of a number in CGRAM.
+/// Returns the colour of a number in CGRAM.
 pub fn palette_colour(p: &Ppu, number: u8) -> u16 {
     p.cgram()[number as usize]
 }
 
-/// The colour that eight bits BBGGGRRR name themselves, each component's top bits with a palette bit below.
+/// Returns the direct colour of eight bits BBGGGRRR: each component's top bits, with a palette bit below.
 pub fn direct_colour(value: u8, palette: u32) -> u16 {
     let red = (value as u32 & 7) << 2 | (palette & 1) << 1;
     let green = (value as u32 >> 3 & 7) << 2 | (palette >> 1 & 1) << 1;

@@ -1,4 +1,4 @@
-//! One dot of the rotated plane of mode 7.
+//! Draws one dot of the rotated plane of mode 7.
 
 ghost use Rattle.std.specs.Prelude.{◌≡◌, ◌<◌, ◌≤◌};
 
@@ -6,7 +6,7 @@ use crate::background::block_start;
 use crate::memory::{Seen, direct_colour, palette_colour, word};
 use ppu_regs::{Outside, Ppu};
 
-/// The low `bits` bits of a register as a signed number.
+/// Returns the low `bits` bits of a register as a signed number.
 fn signed(register: u16, bits: u32) -> i64
     requires { bits ≤ 16 }
 {
@@ -19,7 +19,7 @@ fn signed(register: u16, bits: u32) -> i64
     }
 }
 
-/// A distance in ten bits, below 0 where it was.
+/// Returns a distance cut to ten bits, negative if it was.
 fn clipped(distance: i64) -> i64 {
     let low = distance.rem_euclid(1024);
     if distance < 0 {
@@ -29,12 +29,12 @@ fn clipped(distance: i64) -> i64 {
     }
 }
 
-/// A product without its low six bits.
+/// Returns a product without its low six bits.
 fn coarse(one: i64, other: i64) -> i64 {
     one.wrapping_mul(other).div_euclid(64).wrapping_mul(64)
 }
 
-/// One coordinate of the plane, of which `along` and `across` are the row of the matrix.
+/// Returns one coordinate of the plane; `along` and `across` are its row of the matrix.
 fn coordinate(along: i64, across: i64, centre: i64, p: i64, q: i64, x: i64, y: i64) -> i64 {
     let start = coarse(along, p)
         .wrapping_add(coarse(across, q))
@@ -43,7 +43,7 @@ fn coordinate(along: i64, across: i64, centre: i64, p: i64, q: i64, x: i64, y: i
     start.wrapping_add(along.wrapping_mul(x)).div_euclid(256)
 }
 
-/// The byte of the plane at a place, which may lie outside of it.
+/// Returns the byte of the plane at a position, which may be outside of it.
 fn plane_byte(p: &Ppu, x: i64, y: i64) -> u8 {
     let inside = x >= 0 && x < 1024 && y >= 0 && y < 1024;
     let in_x = x.rem_euclid(1024) as u32;
@@ -62,7 +62,7 @@ fn plane_byte(p: &Ppu, x: i64, y: i64) -> u8 {
     (word(p, 64 * tile + in_y % 8 * 8 + in_x % 8) / 256) as u8
 }
 
-/// The byte of the plane at a pixel of a row; a layer's mosaic comes before the flips.
+/// Returns the byte of the plane at a pixel of a row; a layer's mosaic comes before the flips.
 fn byte_at(p: &Ppu, with_mosaic: bool, row: u16, x: u32) -> u8
     requires row { row < 239 }
     requires x { x < 256 }
@@ -88,7 +88,7 @@ fn byte_at(p: &Ppu, with_mosaic: bool, row: u16, x: u32) -> u8
     plane_byte(p, plane_x, plane_y)
 }
 
-/// What BG1 shows at a pixel of a row: the whole byte.
+/// Returns what BG1 shows at a pixel of a row: the whole byte.
 pub fn first_layer_at(p: &Ppu, row: u16, x: u32) -> Option<Seen>
     requires row { row < 239 }
     requires x { x < 256 }
@@ -109,7 +109,7 @@ pub fn first_layer_at(p: &Ppu, row: u16, x: u32) -> Option<Seen>
     })
 }
 
-/// What the second layer of EXTBG shows: seven bits, of which the eighth is the priority.
+/// Returns what the second layer of EXTBG shows: a value of seven bits. The eighth bit is its priority.
 pub fn second_layer_at(p: &Ppu, row: u16, x: u32) -> Option<Seen>
     requires row { row < 239 }
     requires x { x < 256 }

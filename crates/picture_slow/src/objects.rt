@@ -1,4 +1,4 @@
-//! The objects of a row.
+//! Draws the objects of a row.
 
 ghost use Rattle.std.specs.Prelude.{◌≡◌, ◌<◌, ◌≤◌};
 
@@ -39,7 +39,7 @@ fn upright(width: u32) -> Size
     }
 }
 
-/// The size of small or large objects by the size code.
+/// Returns the size of small or large objects by the size code.
 fn size_of(code: u8, is_large: bool) -> Size
     ensures width { result.width ≤ 64 }
     ensures height { result.height ≤ 64 }
@@ -61,7 +61,7 @@ fn size_of(code: u8, is_large: bool) -> Size
 struct Object {
     /// The column of its left edge in nine bits: from 256 on it begins left of the screen, at `x - 512`.
     x: u32,
-    /// The row of its first line; below row 255 it goes on at row 0.
+    /// The row of its first line; below row 255 it continues at row 0.
     y: u32,
     size: Size,
     tile: u32,
@@ -69,7 +69,7 @@ struct Object {
     attributes: u32,
 }
 
-/// Object 0 to 127.
+/// Returns the object of a number, 0 to 127.
 fn object_of(p: &Ppu, number: u32) -> Object
     ensures x { result.x < 512 }
     ensures y { result.y < 256 }
@@ -90,7 +90,7 @@ fn object_of(p: &Ppu, number: u32) -> Object
     }
 }
 
-/// The line of the object that lies on a row, if one does.
+/// Returns the line of the object that is on a row, if one is.
 fn line_on(object: &Object, row: u32) -> Option<u32>
     requires y { object.now.y < 256 }
     requires row { row < 256 }
@@ -103,7 +103,7 @@ fn line_on(object: &Object, row: u32) -> Option<u32>
     }
 }
 
-/// Whether a sliver of eight pixels has one on the screen.
+/// Whether any pixel of a sliver of eight is on the screen.
 fn is_on_screen(object: &Object, sliver: u32) -> bool
     requires x { object.now.x < 512 }
     requires sliver { sliver < 8 }
@@ -112,7 +112,7 @@ fn is_on_screen(object: &Object, sliver: u32) -> bool
     left < 256 || object.x >= 256 && left + 7 >= 512
 }
 
-/// How many of the first slivers of an object are on the screen.
+/// Returns how many of the first `sliver` slivers of an object are on the screen.
 fn slivers_before(object: &Object, sliver: u32) -> u32
     requires x { object.now.x < 512 }
     requires sliver { sliver ≤ 8 }
@@ -140,7 +140,7 @@ struct Shown {
     slivers: u32,
 }
 
-/// The objects of a row, the first one in front of all.
+/// The objects of a row, the front one first.
 #[derive(Clone, Copy)]
 struct Objects {
     shown: [Shown; MOST_OBJECTS],
@@ -148,14 +148,16 @@ struct Objects {
     over: Over,
 }
 
-/// What the objects of a row show at each pixel, and which limits they passed.
+/// What the objects of a row show at each pixel, and which limits they exceed.
 #[derive(Clone, Copy)]
 pub struct ObjectRow {
+    /// What the objects show at each pixel, if anything.
     pub seen: [Option<Seen>; 256],
+    /// The limits that they exceed.
     pub over: Over,
 }
 
-/// The first objects, in turn, that stand on a row.
+/// Returns the first objects, in turn, that are on a row.
 fn standing(p: &Ppu, row: u32) -> Objects
     requires { row < 256 }
 {
@@ -188,7 +190,7 @@ fn standing(p: &Ppu, row: u32) -> Objects
     objects
 }
 
-/// The objects of a row with the slivers that are left to each: the last object is the first to take its own.
+/// Returns the objects of a row with the slivers that are left to each: the last object takes its own first.
 fn objects_of(p: &Ppu, row: u16) -> Objects
     requires { row < 239 }
 {
@@ -209,7 +211,7 @@ fn objects_of(p: &Ppu, row: u16) -> Objects
     objects
 }
 
-/// The value of an object at a place of it, after its flips.
+/// Returns the value of an object at a column and line of it, after its flips.
 fn value_at(p: &Ppu, object: &Object, column: u32, line: u32) -> u8
     requires column { column < object.now.size.width }
     requires line { line < object.now.size.height }
@@ -239,7 +241,7 @@ fn value_at(p: &Ppu, object: &Object, column: u32, line: u32) -> u8
     tile_pixel(p, tile_at, 4, x % 8, y % 8)
 }
 
-/// What an object shows at a pixel of a row, if it shows anything.
+/// Returns what an object shows at a pixel of a row, if anything.
 fn shown_at(p: &Ppu, shown: Shown, row: u32, x: u32) -> Option<Seen>
     requires row { row < 256 }
     requires x { x < 256 }
@@ -265,7 +267,7 @@ fn shown_at(p: &Ppu, shown: Shown, row: u32, x: u32) -> Option<Seen>
     })
 }
 
-/// What the objects of a row show at a pixel: the first of them that shows anything.
+/// Returns what the first of a row's objects that shows anything at a pixel shows there.
 fn first_at(p: &Ppu, objects: &Objects, row: u32, x: u32) -> Option<Seen>
     requires row { row < 256 }
     requires x { x < 256 }
@@ -281,7 +283,7 @@ fn first_at(p: &Ppu, objects: &Objects, row: u32, x: u32) -> Option<Seen>
     None
 }
 
-/// The objects of a row at each pixel.
+/// Draws the objects of a row at each pixel.
 pub fn object_row(p: &Ppu, row: u16) -> ObjectRow
     requires { row < 239 }
 {

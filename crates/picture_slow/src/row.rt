@@ -1,4 +1,4 @@
-//! A row from its dots.
+//! Draws a row dot by dot.
 
 ghost use Rattle.std.specs.Prelude.{◌≡◌, ◌<◌, ◌≤◌, length};
 
@@ -7,8 +7,8 @@ use crate::layers::{Screen, front_at};
 use crate::objects::{ObjectRow, object_row};
 use ppu_regs::{Over, Ppu};
 
-/// The colour of a dot before brightness. Both dots of a pixel are the main screen's, but where dots are halved the
-/// first is the sub screen's alone.
+/// Returns the colour of a dot before brightness. Both dots of a pixel are the main screen's; in hi-res (modes 5 and 6,
+/// or `half_dots`) the first is the sub screen's alone.
 fn dot(p: &Ppu, objects: &ObjectRow, row: u16, e: u32) -> u16
     requires row { row < 239 }
     requires e { e < 512 }
@@ -25,7 +25,7 @@ fn dot(p: &Ppu, objects: &ObjectRow, row: u16, e: u32) -> u16
     mixed(p, (e / 2) as u8, front, sub)
 }
 
-/// Writes the 512 dots of the row `v - 1`, and answers which limits of the objects were passed.
+/// Writes the 512 dots of the row `v - 1`, and returns which limits its objects exceed.
 pub fn draw_slowly(p: &Ppu, v: u16, out: &mut [u16]) -> Over
     requires first { 1 ≤ v }
     requires last { v ≤ 239 }

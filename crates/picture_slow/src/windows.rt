@@ -1,4 +1,4 @@
-//! Which pixels lie in a layer's windows.
+//! Works out which pixels are inside a layer's windows.
 
 use ppu_regs::{Combine, LayerWindows, Ppu, Window, WindowPart};
 
@@ -6,7 +6,7 @@ fn holds(window: &Window, x: u8) -> bool {
     window.left <= x && x <= window.right
 }
 
-/// Whether a pixel lies inside what a layer makes of the two windows: nothing, where it uses none.
+/// Whether a pixel is inside the area that a layer makes of the two windows. The area is empty if it uses none.
 pub fn is_inside(p: &Ppu, of: &LayerWindows, x: u8) -> bool {
     let r = p.registers();
     let one = holds(&r.window_one, x) != of.one_outside;
@@ -25,7 +25,7 @@ pub fn is_inside(p: &Ppu, of: &LayerWindows, x: u8) -> bool {
     }
 }
 
-/// Whether something holds at a pixel that is inside the colour window or not.
+/// Whether a setting for a part of the colour window applies to a pixel that is inside it or not.
 pub fn holds_there(part: WindowPart, inside: bool) -> bool {
     match part {
         WindowPart::Never => false,

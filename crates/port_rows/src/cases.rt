@@ -1,5 +1,5 @@
 // Cases that hold over any wire, the lock's and the words': calls over the passes of new ports, by rows, and calls over
-// their whole. They are checked once for every wire, and say to its tests no more than which call was answered otherwise.
+// their whole. They are checked once for every wire, and return to its tests only which call had a wrong result.
 ghost use Rattle.std.specs.Prelude.{◌≡◌, ◌≤◌};
 ghost use Rattle.snes_defs.specs.declared.region.Region.TheVariants.{Pal};
 
@@ -7,8 +7,8 @@ use crate::passes::{Call, first_wrong};
 use port_wire::{PassLate, Wire};
 use snes_defs::Side;
 
-/// A byte from the console, read by the sound side over its pass and then over the whole of both again. The number of the
-/// first call that isn't answered as it has to be.
+/// Sends a byte from the console, which the sound side reads over its pass and then over the whole of both again.
+/// Returns the number of the first call with a wrong result.
 pub(crate) fn a_byte_for_sound<W: Wire>(wire: &W, whole: W::Whole) -> Option<usize>
 where
     W::Whole: Drop,
@@ -36,8 +36,8 @@ where
     None
 }
 
-/// A read that comes too early, a write too far ahead, and calls that are taken. The number of the first that isn't
-/// answered as it has to be.
+/// Makes a read that comes too early, a write too far ahead, and calls that are taken. Returns the number of the first
+/// call with a wrong result.
 pub(crate) fn refused_calls<W: Wire>(wire: &W, whole: W::Whole) -> Option<usize>
 where
     W::Whole: Drop,
@@ -64,9 +64,9 @@ where
     wrong
 }
 
-/// The console's writes to port 0 of new ports of Pal, one too far ahead and one that is taken, and what the sound side then
-/// has over the whole: an advance, a read, its clear, and the read again. The number of the first call that isn't
-/// answered as it has to be.
+/// Makes the console's writes to port 0 of new PAL ports, one too far ahead and one that is taken. Then the sound side
+/// makes calls over the whole: an advance, a read, its clear, and the read again. Returns the number of the first call
+/// with a wrong result.
 pub(crate) fn calls_over_a_whole<W: Wire>(wire: &W, whole: &mut W::Whole) -> Option<usize>
     requires of { W.is_whole_of wire.now whole.old }
     requires region { W.region_of wire.now ≡ Pal }

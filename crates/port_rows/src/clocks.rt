@@ -24,7 +24,7 @@ fn a_frame_of_pal_has_639_samples(rt: HostRuntime) -> Result<(), Fail> {
     Ok(())
 }
 
-/// The stamps of 6 and of 40 master clocks and of sixteen lines.
+/// Returns the stamps of 6 and of 40 master clocks and of sixteen lines.
 fn counted(region: Region) -> [u64; 3] {
     [
         stamp_in(region, Side::Console, 6),

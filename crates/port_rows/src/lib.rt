@@ -1,8 +1,9 @@
-// The worked cases of stamps, of the port log and of the passes over it, run.
+// Tests of stamps, of the port log and of the passes over it, by hand-computed cases.
 //
-// The contracts of `clock_ratio`, `port_log`, `port_lock` and `word_log` are proved for every call; what stands here are
-// cases with numbers from outside the code: the numbers of both regions, calls over passes and over a whole, both wires
-// through their trait, and a thousand writes in one thread against reads in another. It has no code of its own.
+// The contracts of `clock_ratio`, `port_log`, `port_lock` and `word_log` are proved for every call. The cases here have
+// numbers from outside the code. They are the numbers of both regions, calls over passes and over a whole, and both
+// wires through their trait. A thousand writes in one thread run against reads in another. The crate has no code of
+// its own.
 #![tactic(auto)]
 
 #[cfg(test)]

@@ -1,5 +1,5 @@
-// The log behind its lock: the cases of any wire, and one of its own, whose calls over a whole are those of the ports
-// themselves.
+// Tests of the log behind its lock: the cases of any wire, and one of its own, whose calls over a whole are those of
+// the ports themselves.
 use crate::cases::{a_byte_for_sound, calls_over_a_whole, refused_calls};
 use crate::passes::{Call, first_wrong};
 use port_lock::Ports;

@@ -1,4 +1,4 @@
-// The log as it stands alone, by rows: calls upon a new log, each with the answer that it has to give.
+// Tests of the log alone, by rows: calls on a new log, each with its expected result.
 ghost use Rattle.std.specs.Prelude.{◌≡◌};
 ghost use Rattle.snes_defs.specs.declared.region.Region.TheVariants.{Ntsc};
 
@@ -8,20 +8,20 @@ use snes_defs::{Region, Side};
 use std::alloc::Global;
 use std::test::Fail;
 
-/// A call upon a log: the side that makes it and its stamp, then what it is given, and last the answer that it has to give.
+/// A call on a log: the side that makes it and its stamp, then its arguments, and last its expected result.
 #[derive(Clone, Copy)]
 enum Call {
-    /// To a port, of a byte, with the stamp of the side's next step.
+    /// A write to a port, of a byte, with the stamp of the side's next step.
     Write(Side, u64, u8, u8, u64, Result<(), Late>),
-    /// Of a port.
+    /// A read of a port.
     Read(Side, u64, u8, Result<u8, Late>),
-    /// Of the ports of a mask.
+    /// A clear of the ports of a mask.
     Clear(Side, u64, u8, Result<(), Late>),
-    /// Answered with the other side's clock.
+    /// An advance, which returns the other side's clock.
     Advance(Side, u64, u64),
 }
 
-/// Makes a call. Whether it is one that a side may make now, and answers as it has to.
+/// Makes a call. Returns whether a side may make it now, and it has the expected result.
 fn is_answered(log: &mut PortLog, region: Region, call: Call) -> bool
     requires { log.old.region ≡ region }
     ensures { log.new.region ≡ region }
@@ -49,7 +49,7 @@ fn is_answered(log: &mut PortLog, region: Region, call: Call) -> bool
     }
 }
 
-/// The number of the first call that isn't answered as it has to be.
+/// Returns the number of the first call with a wrong result.
 fn first_wrong(log: &mut PortLog, region: Region, calls: &[Call]) -> Option<usize>
     requires { log.old.region ≡ region }
 {
@@ -61,7 +61,7 @@ fn first_wrong(log: &mut PortLog, region: Region, calls: &[Call]) -> Option<usiz
     None
 }
 
-/// The same of a new log.
+/// Returns the number of the first call on a new log with a wrong result.
 fn first_wrong_of_new(
     alloc: Global,
     region: Region,
@@ -152,7 +152,8 @@ fn the_window_of_pal_has_as_many_lines(rt: HostRuntime) -> Result<(), Fail> {
     Ok(())
 }
 
-/// The number of the first write that isn't taken, of 3,638 by the console to port 0, of the bytes 0 to 255 over and over.
+/// Returns the number of the first write that isn't taken, of 3,638 by the console to port 0, of the bytes 0 to 255
+/// over and over.
 fn first_refused_of_a_window(log: &mut PortLog) -> Option<u64>
     requires { log.old.region ≡ Ntsc }
     ensures { log.new.region ≡ Ntsc }

@@ -7,20 +7,20 @@ use clock_ratio::{least, most, window};
 use port_wire::{PassLate, Wire};
 use snes_defs::Side;
 
-/// A call over a side's pass: its stamp, then what it is given, and last the answer that it has to give.
+/// A call over a side's pass: its stamp, then its arguments, and last its expected result.
 #[derive(Clone, Copy)]
 pub(crate) enum Call {
-    /// To a port, of a byte, with the stamp of the side's next step.
+    /// A write to a port, of a byte, with the stamp of the side's next step.
     Write(u64, u8, u8, u64, Result<(), PassLate>),
-    /// Of a port.
+    /// A read of a port.
     Read(u64, u8, Result<u8, PassLate>),
-    /// Of the ports of a mask.
+    /// A clear of the ports of a mask.
     Clear(u64, u8, Result<(), PassLate>),
-    /// Answered with the other side's clock.
+    /// An advance, which returns the other side's clock.
     Advance(u64, Result<u64, PassLate>),
-    /// What the pass knows of the other side's clock.
+    /// A query of what the pass knows of the other side's clock.
     Known(u64),
-    /// The side's own clock.
+    /// A query of the side's own clock.
     Clock(u64),
 }
 
@@ -51,7 +51,7 @@ fn may_advance<W: Wire>(wire: &W, pass: &W::Pass, at: u64) -> bool
     at >= wire.clock(pass) && (at <= known || at - known <= window(region) + most(region))
 }
 
-/// Makes a call. Whether it is one that the side may make now, and answers as it has to.
+/// Makes a call. Returns whether the side may make it now, and it has the expected result.
 fn is_answered<W: Wire>(wire: &W, pass: &mut W::Pass, call: Call) -> bool
     requires { W.is_pass_of wire.now pass.old }
     ensures of { W.is_pass_of wire.now pass.new }
@@ -87,8 +87,8 @@ fn is_answered<W: Wire>(wire: &W, pass: &mut W::Pass, call: Call) -> bool
     }
 }
 
-/// Parts a whole, makes calls over the passes, each by its side, and reunites them. The number of the first call that
-/// isn't answered as it has to be, the sound side's clock, and the whole of both again.
+/// Parts a whole, makes calls over the passes, each by its side, and reunites them. Returns the number of the first
+/// call with a wrong result, the sound side's clock, and the whole of both again.
 pub(crate) fn first_wrong<W: Wire>(
     wire: &W,
     whole: W::Whole,

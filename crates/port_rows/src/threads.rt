@@ -17,7 +17,7 @@ const WRITE_RISE: u64 = 33_792;
 
 const READ_RISE: u64 = 118_125;
 
-// Writes a byte to port 0 at a stamp, tried again while the other side has the log. Whether it was taken.
+// Writes a byte to port 0 at a stamp, tried again while the other side has the log. Returns whether it was taken.
 fn write_one<W: Wire>(wire: &W, console: &mut W::Pass, at: u64, byte: u8) -> bool
     requires of { W.is_pass_of wire.now console.old }
     requires region { W.region_of wire.now ≡ Ntsc }
@@ -36,7 +36,7 @@ fn write_one<W: Wire>(wire: &W, console: &mut W::Pass, at: u64, byte: u8) -> boo
     false
 }
 
-// Writes `k mod 256` at the k-th stamp, for each k below a thousand. How many of them were refused.
+// Writes `k mod 256` at the k-th stamp, for each k below a thousand. Returns how many of them were refused.
 fn writes<W: Wire>(wire: &W, console: &mut W::Pass) -> u32
     requires of { W.is_pass_of wire.now console.old }
     requires region { W.region_of wire.now ≡ Ntsc }
@@ -53,7 +53,7 @@ fn writes<W: Wire>(wire: &W, console: &mut W::Pass) -> u32
     refused
 }
 
-// Reads port 0 at a stamp, tried again until it is answered.
+// Reads port 0 at a stamp, tried again until the read is taken.
 fn read_one<W: Wire>(wire: &W, sound: &mut W::Pass, at: u64) -> Option<u8>
     requires of { W.is_pass_of wire.now sound.old }
     requires own_clock { (W.seen sound.old).half.at ≤ at }
@@ -69,7 +69,7 @@ fn read_one<W: Wire>(wire: &W, sound: &mut W::Pass, at: u64) -> Option<u8>
     None
 }
 
-// Reads port 0 at each stamp up to the last write. How many reads didn't give the last write at or before
+// Reads port 0 at each stamp up to the last write. Returns how many reads didn't give the last write at or before
 // their stamp.
 fn reads<W: Wire>(wire: &W, sound: &mut W::Pass) -> u32
     requires of { W.is_pass_of wire.now sound.old }
@@ -89,7 +89,7 @@ fn reads<W: Wire>(wire: &W, sound: &mut W::Pass) -> u32
     wrong
 }
 
-// Both at once: how many writes were refused, and how many reads were wrong.
+// Writes and reads concurrently. Returns how many writes were refused, and how many reads were wrong.
 fn race<R: Threads, W: Wire>(
     rt: &R,
     wire: &W,
@@ -116,8 +116,8 @@ fn race<R: Threads, W: Wire>(
     )
 }
 
-/// The race over the passes of new ports, and then a read by the sound side over the whole at the last write's stamp: how
-/// many writes were refused, how many reads were wrong, and how many of that one.
+/// Runs the race over the passes of new ports, and then a read by the sound side over the whole at the last write's
+/// stamp. Returns how many writes were refused, how many reads were wrong, and 1 if that last read was wrong.
 fn raced<R: Threads, W: Wire>(rt: &R, wire: &W, whole: W::Whole) -> [u32; 3]
 where
     W::Whole: Drop,

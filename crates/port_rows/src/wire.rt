@@ -7,8 +7,8 @@ use snes_defs::{Region, Side};
 use std::test::Fail;
 use word_log::Words;
 
-// What becomes of a byte that the console writes to port 0 at 0, over any wire of new ports: whether it is taken, and whether
-// the sound side reads it there over its pass, and then over the whole.
+// Writes a byte from the console to port 0 at stamp 0, over any wire of new ports. Returns whether it is taken, and
+// whether the sound side reads it there over its pass, and then over the whole.
 fn carried<W: Wire>(wire: &W, whole: W::Whole) -> [bool; 3]
 where
     W::Whole: Drop,

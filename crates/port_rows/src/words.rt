@@ -1,4 +1,4 @@
-// The words without a lock: the cases of the lock that have an answer, and the numbers of the window.
+// Tests of the words without a lock: the cases of the lock that have a result, and the numbers of the window.
 use crate::cases::{a_byte_for_sound, calls_over_a_whole, refused_calls};
 use snes_defs::Region;
 use std::test::Fail;

@@ -4,8 +4,8 @@ use cpu65816::Cpu;
 use flat_memory::run;
 use std::io;
 
-/// So many accesses of the 65C816 over a flat memory. Prints their number, and with `sums` the registers and a sum
-/// over the memory.
+/// Runs the 65C816 over a flat memory for the given number of accesses. Prints the number, and with `sums` the
+/// registers and a sum over the memory.
 #[inline(never)]
 pub fn cpu_accesses<R: AllocGlobal + Print>(rt: &R, accesses: u64, sums: bool) -> io::Result<()> {
     let mut bytes = vec![in rt.alloc(); 0u8; 16_777_216]?;

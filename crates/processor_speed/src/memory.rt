@@ -9,7 +9,7 @@ pub fn load(memory: &mut [u8], at: usize, bytes: &[u8])
     }
 }
 
-/// The sum of all bytes, each by its place.
+/// Returns the sum of all bytes, weighted by powers of 31, modulo 2^32.
 pub fn sum(memory: &[u8]) -> u32 {
     let mut sum: u32 = 0;
     for byte in memory {

@@ -4,8 +4,8 @@ use flat_memory::run;
 use spc700::Spc;
 use std::io;
 
-/// So many cycles of the SPC700 over a flat memory. Prints their number, and with `sums` the registers and a sum over
-/// the memory.
+/// Runs the SPC700 over a flat memory for the given number of cycles. Prints the number, and with `sums` the registers
+/// and a sum over the memory.
 #[inline(never)]
 pub fn spc_cycles<R: AllocGlobal + Print>(rt: &R, cycles: u64, sums: bool) -> io::Result<()> {
     let mut bytes = vec![in rt.alloc(); 0u8; 65536]?;

@@ -15,7 +15,7 @@ struct Machine {
 }
 
 impl Machine {
-    /// The byte at an address; at a register that of the last write to one.
+    /// Returns the byte at an address; at a register that of the last write to one.
     #[inline(always)]
     fn byte_at(&self, at: u16) -> u8 {
         if 0x00F0 <= at && at < 0x0100 {
@@ -27,13 +27,13 @@ impl Machine {
         }
     }
 
-    /// A tick has come: the next one is 16 cycles later.
+    /// Counts a tick; the next one is 16 cycles later.
     fn tick(&mut self) {
         self.ticks = self.ticks.wrapping_add(1);
         self.next_tick = self.next_tick.wrapping_add(16 * 118_125);
     }
 
-    /// One step: a cycle.
+    /// Takes one step: a cycle.
     #[inline(always)]
     fn step(&mut self) {
         self.stamp = self.stamp.wrapping_add(118_125);
@@ -61,7 +61,7 @@ impl Machine {
         }
     }
 
-    /// So many steps.
+    /// Takes the given number of steps.
     fn run(&mut self, steps: u64) {
         for _ in 0..steps {
             self.step();
@@ -69,8 +69,8 @@ impl Machine {
     }
 }
 
-/// So many steps of the SPC700. Prints their number, the stamp and how many ticks came, and with `sums` the registers
-/// and a sum over the memory.
+/// Runs the given number of steps of the SPC700. Prints the number, the stamp and how many ticks came, and with `sums`
+/// the registers and a sum over the memory.
 #[inline(never)]
 pub fn spc_steps<R: AllocGlobal + Print>(rt: &R, steps: u64, sums: bool) -> io::Result<()> {
     let mut memory = vec![in rt.alloc(); 0u8; 65536]?;

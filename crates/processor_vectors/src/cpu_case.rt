@@ -4,12 +4,13 @@ use cpu65816::Cpu;
 use std::str::SplitWhitespace;
 
 /// Whether the processor makes the accesses of a case, and has its registers at the end. A line that
-/// is no case doesn't hold.
+/// is not a case doesn't hold.
 pub fn holds(line: &str) -> bool {
     result_of(line).unwrap_or(false)
 }
 
-/// The same, or nothing for a line that is no case.
+/// Whether the processor makes the accesses of a case and has its registers at the end; `None` for a line that is not
+/// a case.
 fn result_of(line: &str) -> Option<bool> {
     let (before, rest) = line.split_once('|')?;
     let (_bytes, rest) = rest.split_once('|')?;
@@ -31,7 +32,7 @@ fn result_of(line: &str) -> Option<bool> {
     Some(cpu.regs() == registers(after.split_whitespace())?)
 }
 
-/// The registers of a case.
+/// Reads the registers of a case.
 fn registers(mut words: SplitWhitespace<'_>) -> Option<Regs> {
     Some(Regs {
         a: hexadecimal(words.next()?)?,
@@ -47,7 +48,7 @@ fn registers(mut words: SplitWhitespace<'_>) -> Option<Regs> {
     })
 }
 
-/// Whether the next access is the one of this word; it is made then. `S` only gives the two levels.
+/// Whether the next access is the one of this word; if so, makes it. `S` only sets the two levels.
 fn makes(cpu: &mut Cpu, word: &str) -> Option<bool> {
     let kind = *word.as_bytes().first()?;
     if kind == b'S' {
@@ -68,7 +69,7 @@ fn makes(cpu: &mut Cpu, word: &str) -> Option<bool> {
     }
 }
 
-/// Whether the next access is this one. It is made, and a fetch or a read gets the byte.
+/// Whether the next access is this one. Makes it; a fetch or a read gets the byte.
 fn agrees(cpu: &mut Cpu, access: Access, byte: u8) -> bool {
     let next = cpu.next();
     match next {

@@ -1,17 +1,18 @@
-//! Runs the cases of the files that it is given, as `data/cpu.txt` and `data/spc.txt`, through the processors.
+//! Runs the test vectors of the given files, such as `data/cpu.txt` and `data/spc.txt`, through both processors.
 //!
-//! The cases come from outside: two other programs agreed on them; those of `data/cpu_worked.txt` are worked by hand. The
-//! program stands on `cpu65816` and `spc700`, prints each case that differs, and last how many there were of each
-//! processor. Those of `data/cpu_differing.txt` and `data/spc_differing.txt` are wrong in one thing each, and have to differ.
+//! The vectors are external: two other programs agreed on them. Those of `data/cpu_worked.txt` are computed by hand.
+//! The program uses `cpu65816` and `spc700`. It prints each case that differs, and last the number of cases of each
+//! processor. Those of `data/cpu_differing.txt` and `data/spc_differing.txt` are wrong in one thing each, and must
+//! differ.
 //!
 //! A file has a case a line, with the registers before and after:
 //!
-//! - `cpu LABEL A X Y S D PC PBR DBR P E | BYTES | ACCESSES | A X Y S D PC PBR DBR P E`. An access is `F` (fetch), `R` or
-//!   `W` with an address of six digits and a byte, or `I`; `S` with two digits gives the levels of NMI and IRQ;
-//! - `spc LABEL A X Y SP PC PSW | BYTES | ACCESSES | A X Y SP PC PSW`. An access is `F` (fetch), `R` or `W` with an address
-//!   of four digits and a byte, or `I`.
+//! - `cpu LABEL A X Y S D PC PBR DBR P E | BYTES | ACCESSES | A X Y S D PC PBR DBR P E`. An access is `F` (fetch), `R`
+//!   or `W` with an address of six digits and a byte, or `I`; `S` with two digits gives the levels of NMI and IRQ;
+//! - `spc LABEL A X Y SP PC PSW | BYTES | ACCESSES | A X Y SP PC PSW`. An access is `F` (fetch), `R` or `W` with an
+//!   address of four digits and a byte, or `I`.
 //!
-//! The files behind the word `orders` are pages with a table of access orders (`orders`).
+//! The files after the argument `orders` are pages with a table of access orders (`orders`).
 #![tactic(auto)]
 
 mod cpu_case;
@@ -20,7 +21,7 @@ mod spc_case;
 
 use std::{env, fs, io};
 
-/// How many cases there were, and how many differ.
+/// The number of cases so far, and how many differ.
 #[derive(Clone, Copy)]
 struct Tally {
     cases: u64,
@@ -28,7 +29,7 @@ struct Tally {
 }
 
 impl Tally {
-    /// Of no case.
+    /// Returns the tally of no cases.
     fn new() -> Tally {
         Tally {
             cases: 0,
@@ -53,14 +54,14 @@ impl Tally {
     }
 }
 
-/// What a file has.
+/// What a file contains.
 #[derive(Clone, Copy)]
 enum Kind {
     Cases,
     Orders,
 }
 
-/// The cases of both processors.
+/// The tallies of both processors.
 #[derive(Clone, Copy)]
 struct Tallies {
     cpu: Tally,

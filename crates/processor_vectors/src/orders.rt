@@ -1,11 +1,10 @@
 //! Compares the tables of access orders on the pages about the processors with what the proved processors do.
 //!
 //! A page's table has a row for each order, `| instructions | opcodes | width | cycles |`, as a data sheet has. Each of
-//! its opcodes is run in many states, access by access: every cycle has to be of the kind that the row names, and the
-//! instruction has to end after the last one. Each opcode has to stand in just one row. `65c816.md` and `spc700.md` of the
-//! program's data are the pages themselves. A page says by a line
-//! with `of the SPC700` in front of its table that it is about the sound side's processor. The rows of
-//! `orders_differing.md` are wrong in one thing each, and have to differ.
+//! its opcodes is run in many states, access by access. Every cycle must be of the kind that the row names, and the
+//! instruction must end after the last one. Each opcode must be in exactly one row. `65c816.md` and `spc700.md` of the
+//! program's data are the pages themselves. A line with `of the SPC700` before its table marks a page about the SPC700.
+//! The rows of `orders_differing.md` are wrong in one thing each, and must differ.
 
 mod cpu;
 mod cycle;
@@ -18,7 +17,7 @@ use row::Row;
 use spc::SpcRun;
 use std::io;
 
-/// Runs the rows of a page, prints those that differ, and last how many there were.
+/// Runs the rows of a page, and prints those that differ and last the number of rows.
 pub(crate) fn follow<R: Print>(rt: &R, name: &str, text: &str) -> io::Result<()> {
     let mut rows = 0u64;
     let mut runs = 0u64;

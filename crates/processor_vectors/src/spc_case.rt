@@ -3,12 +3,13 @@ use spc700::{Spc, SpcAccess, SpcRegs};
 use std::str::SplitWhitespace;
 
 /// Whether the processor makes the accesses of a case, and has its registers at the end. A line that
-/// is no case doesn't hold.
+/// is not a case doesn't hold.
 pub fn holds(line: &str) -> bool {
     result_of(line).unwrap_or(false)
 }
 
-/// The same, or nothing for a line that is no case.
+/// Whether the processor makes the accesses of a case and has its registers at the end; `None` for a line that is not
+/// a case.
 fn result_of(line: &str) -> Option<bool> {
     let (before, rest) = line.split_once('|')?;
     let (_bytes, rest) = rest.split_once('|')?;
@@ -25,7 +26,7 @@ fn result_of(line: &str) -> Option<bool> {
     Some(spc.regs() == registers(after.split_whitespace())?)
 }
 
-/// The registers of a case.
+/// Reads the registers of a case.
 fn registers(mut words: SplitWhitespace<'_>) -> Option<SpcRegs> {
     Some(SpcRegs {
         a: hexadecimal(words.next()?)?,
@@ -37,7 +38,7 @@ fn registers(mut words: SplitWhitespace<'_>) -> Option<SpcRegs> {
     })
 }
 
-/// Whether the next access is the one of this word; it is made then.
+/// Whether the next access is the one of this word; if so, makes it.
 fn makes(spc: &mut Spc, word: &str) -> Option<bool> {
     let kind = *word.as_bytes().first()?;
     if kind == b'I' {
@@ -53,7 +54,7 @@ fn makes(spc: &mut Spc, word: &str) -> Option<bool> {
     }
 }
 
-/// Whether the next access is this one. It is made, and a fetch or a read gets the byte.
+/// Whether the next access is this one. Makes it; a fetch or a read gets the byte.
 fn agrees(spc: &mut Spc, access: SpcAccess, byte: u8) -> bool {
     let next = spc.next();
     match next {

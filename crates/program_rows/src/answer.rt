@@ -5,8 +5,8 @@ use run_io::Argv;
 use snes_program::{Status, snes};
 use std::thread::Threads;
 
-/// What the program answers to words over a shelf, with this gate for its workers. It is the one function here that names
-/// the console.
+/// Calls the program with arguments over a shelf, with this gate for its workers, and returns its status. It is the
+/// only function here that names the console.
 pub fn answer<R: AllocGlobal + Threads, H: Shelf>(
     rt: &R,
     gate: &dyn Gate,

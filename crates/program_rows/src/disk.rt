@@ -1,4 +1,4 @@
-// Rows over real files.
+// Runs rows over real files.
 use crate::answer::answer;
 use crate::rows::{Outcome, Rows, performed, words_of};
 use file_shelf::{FileShelf, Out};
@@ -9,7 +9,7 @@ use std::rt::Files;
 use std::thread::Threads;
 use std::{fs, io};
 
-/// Writes the files that the words name.
+/// Writes the files that the arguments name.
 fn lay<R: Files>(rt: &R, rows: &Rows, words: &str) -> io::Result<()> {
     for word in words.split(' ') {
         if let Some(bytes) = rows.files.find(word) {
@@ -19,7 +19,7 @@ fn lay<R: Files>(rt: &R, rows: &Rows, words: &str) -> io::Result<()> {
     Ok(())
 }
 
-/// Removes the files that the words name, and the outputs of a row for video and sound unless they are devices.
+/// Removes the files that the arguments name, and the outputs of a row for video and sound unless they are devices.
 fn clear<R: Files>(rt: &R, rows: &Rows, words: &str, row: &Outcome) -> io::Result<()> {
     for word in words.split(' ') {
         if rows.files.find(word).is_some() {
@@ -35,7 +35,7 @@ fn clear<R: Files>(rt: &R, rows: &Rows, words: &str, row: &Outcome) -> io::Resul
     Ok(())
 }
 
-/// Prints whether an output that was created has on the disk the bytes that it has in memory. A device may go on
+/// Prints whether an output that was created has the same bytes on the disk as in memory. A device may have bytes
 /// without end.
 fn compare<R: AllocGlobal + Files + Print>(
     rt: &R,
@@ -61,7 +61,7 @@ fn compare<R: AllocGlobal + Files + Print>(
     }
 }
 
-/// Prints the exit status, and where that is 0 whether the outputs are those in memory.
+/// Prints the exit status, and if that is 0, whether the outputs are those in memory.
 fn compare_all<R: AllocGlobal + Files + Print>(
     rt: &R,
     status: Status,
@@ -75,8 +75,8 @@ fn compare_all<R: AllocGlobal + Files + Print>(
     compare(rt, "sound", Out::Sound, row)
 }
 
-/// Answers the words over real files, and prints what is said, the exit status, and whether the outputs are those in
-/// memory. They are read while their shelf still stands, so that nothing is held back that was not flushed.
+/// Calls the program over real files, and prints its line, the exit status, and whether the outputs are those in
+/// memory. The outputs are read before their shelf is dropped, so bytes that were not flushed are missing.
 fn answer_on_disk<R: AllocGlobal + Threads + Print + Files>(
     rt: &R,
     argv: &Argv,
@@ -87,7 +87,7 @@ fn answer_on_disk<R: AllocGlobal + Threads + Print + Files>(
     compare_all(rt, status, row)
 }
 
-/// Writes the files, answers, and removes them and the outputs.
+/// Writes the files, calls the program, and removes the files and the outputs.
 fn answer_between<R: AllocGlobal + Threads + Print + Files>(
     rt: &R,
     rows: &Rows,
@@ -100,9 +100,8 @@ fn answer_between<R: AllocGlobal + Threads + Print + Files>(
     clear(rt, rows, words, row)
 }
 
-/// `disk WORDS`: a row over real files in the folder where the program runs, which holds none of them before and
-/// after. Prints what is said, the exit status, and where that is 0 whether the outputs are those of the same row
-/// in memory.
+/// Runs `disk WORDS`: a row over real files in the current folder, which holds none of them before and after. Prints
+/// the line, the exit status, and if that is 0, whether the outputs are those of the same row in memory.
 pub fn disk<R: AllocGlobal + Threads + Print + Files>(
     rt: &R,
     rows: &Rows,

@@ -23,6 +23,7 @@ pub struct Files {
 }
 
 impl Files {
+    /// Returns no files.
     pub fn new(alloc: Global) -> Files {
         Files {
             alloc,
@@ -30,7 +31,7 @@ impl Files {
         }
     }
 
-    /// The bytes of the latest file of that name.
+    /// Returns the bytes of the latest file of that name.
     pub fn find(&self, name: &str) -> Option<&[u8]> {
         let file = self.files.iter().find(|file| file.is_named(name))?;
         Some(file.bytes.as_slice())
@@ -45,7 +46,7 @@ impl Files {
         self.files.insert(0, file).ok()
     }
 
-    /// A line that begins a file, or says more of the latest one.
+    /// Follows a line that begins a file, or adds to the latest one.
     pub fn line(&mut self, line: &str) -> Option<()> {
         if let Some(name) = line.strip_prefix("file ") {
             return self.add(name, &[]);
@@ -75,7 +76,7 @@ fn extend(bytes: &mut Vec<u8>, more: &[u8]) -> Option<()> {
     bytes.extend_from_slice(more).ok()
 }
 
-/// A line that says more of a file by itself.
+/// Follows a line that adds to a file without another file.
 fn say_more(bytes: &mut Vec<u8>, line: &str) -> Option<()> {
     if let Some(text) = line.strip_prefix("text ") {
         return extend(bytes, text.as_bytes());
@@ -98,7 +99,7 @@ fn say_more(bytes: &mut Vec<u8>, line: &str) -> Option<()> {
     }
 }
 
-/// `fill COUNT BYTE`: so many times that byte.
+/// Follows `fill COUNT BYTE`: adds COUNT times that byte.
 fn fill(bytes: &mut Vec<u8>, mut words: SplitWhitespace<'_>) -> Option<()> {
     let count = words.next()?.parse::<u64>().ok()?;
     let byte = hexadecimal(words.next()?)?;
@@ -108,7 +109,7 @@ fn fill(bytes: &mut Vec<u8>, mut words: SplitWhitespace<'_>) -> Option<()> {
     Some(())
 }
 
-/// `ramp STEP`: 512 numbers of two bytes, the low one first, of which number i is i times the step.
+/// Follows `ramp STEP`: adds 512 numbers of two bytes, low byte first, of which number i is i times the step.
 fn ramp(bytes: &mut Vec<u8>, mut words: SplitWhitespace<'_>) -> Option<()> {
     let step = words.next()?.parse::<u64>().ok()?;
     let mut number = 0u64;
@@ -120,7 +121,7 @@ fn ramp(bytes: &mut Vec<u8>, mut words: SplitWhitespace<'_>) -> Option<()> {
     Some(())
 }
 
-/// `noise NUMBER COUNT`: so many bytes of the generator that begins with a number.
+/// Follows `noise NUMBER COUNT`: adds COUNT bytes of the generator that begins with a number.
 fn noise(bytes: &mut Vec<u8>, mut words: SplitWhitespace<'_>) -> Option<()> {
     let mut generator = Generator::new(words.next()?.parse().ok()?);
     let count = words.next()?.parse::<u64>().ok()?;

@@ -11,13 +11,13 @@ use std::thread::Threads;
 use std::{io, str};
 use turn_watch::{Counts, Watch};
 
-/// More puts than any row makes that lets each fail in turn.
+/// More puts than any row makes whose puts fail in turn.
 const MOST_PUTS: u32 = 2000;
 
-/// What is printed of a row for which there was no memory, or whose line is none.
+/// What is printed of a row whose line is invalid, or for which allocation failed.
 const NO_ROW: &str = "  no memory, or no row";
 
-/// An image that was made is a file from then on.
+/// Keeps an image that was made, as a file for later rows.
 fn keep(rows: &mut Rows, outcome: &Outcome) -> Option<()> {
     let name = outcome.shelf.named(Out::Image);
     if name.is_empty() {
@@ -26,7 +26,7 @@ fn keep(rows: &mut Rows, outcome: &Outcome) -> Option<()> {
     rows.files.add(name, outcome.shelf.written(Out::Image))
 }
 
-/// A row of words: prints the answer and all that was written.
+/// Runs a row, and prints the status and all that was written.
 fn row<R: AllocGlobal + Threads + Print>(rt: &R, rows: &mut Rows, words: &str) -> io::Result<()> {
     match performed(rt, rows, words, None) {
         Some(outcome) => show_row(rt, rows, &outcome),
@@ -43,7 +43,7 @@ fn show_row<R: Print>(rt: &R, rows: &mut Rows, outcome: &Outcome) -> io::Result<
     }
 }
 
-/// A row of words of which two numbers of the line are not known from outside: prints the line up to them.
+/// Runs a row whose line has two numbers that are not known from outside, and prints the line up to them.
 fn opening<R: AllocGlobal + Threads + Print>(rt: &R, rows: &Rows, words: &str) -> io::Result<()> {
     match performed(rt, rows, words, None) {
         Some(outcome) => show_opening(rt, &outcome),
@@ -72,7 +72,7 @@ fn run_by<R: AllocGlobal + Threads>(
     performed_through(rt, gate, rows, words.as_str(), None)
 }
 
-/// Runs the same files by another command, and answers whether it left what `run` did.
+/// Runs a row's files by another command, and returns whether it left what `run` did.
 fn leaves_the_same<R: AllocGlobal + Threads>(
     rt: &R,
     gate: &dyn Gate,
@@ -85,8 +85,8 @@ fn leaves_the_same<R: AllocGlobal + Threads>(
     Some(are_alike(by_turns, &outcome))
 }
 
-/// Prints whether every turn of a command had two threads, and whether both legs of a turn overlapped, which is asked of
-/// four turns or more. Standard error has the counts, which are not alike at every run.
+/// Prints whether every turn of a command had two threads, and whether both legs of a turn overlapped, if it has four
+/// turns or more. Standard error has the counts, which differ from run to run.
 fn show_workers<R: Print + Eprint>(rt: &R, command: &str, counts: Counts) -> io::Result<()> {
     let _told = eprintln!(rt;
         "{command}: {} turns, {} on two threads, {} overlapped",
@@ -114,8 +114,8 @@ fn show_alike<R: Print>(rt: &R, serially: Option<bool>, lockless: Option<bool>) 
     }
 }
 
-/// A row that is run by `run`, by `serial` and by `lockless`: prints what `run` left, whether each of the others left
-/// the same, and whether `run` and `lockless` had two threads in every turn. The watch is the gate too.
+/// Runs a row by `run`, by `serial` and by `lockless`. Prints what `run` left, whether each of the others left the
+/// same, and whether `run` and `lockless` had two threads in every turn. The watch is the gate too.
 fn both<R: AllocGlobal + Threads + Files + Sync + Print + Eprint>(
     rt: &R,
     watch: &Watch<'_, R>,
@@ -151,7 +151,7 @@ fn show_both<R: AllocGlobal + Threads + Files + Sync + Print + Eprint>(
     show_workers(rt, "lockless", watch.counts())
 }
 
-/// How many puts failed, by the output that the answer names.
+/// How many puts failed, by the output that the status names.
 #[derive(Drop)]
 struct Puts {
     video: u32,
@@ -160,7 +160,7 @@ struct Puts {
 }
 
 impl Puts {
-    /// Counts an answer, and tells whether it is one of a put that failed.
+    /// Counts a status, and returns whether it is that of a failed put.
     fn count(&mut self, status: Status) -> bool {
         match status {
             Status::WriteFault(Out::Video) => self.video = self.video.saturating_add(1),
@@ -172,8 +172,8 @@ impl Puts {
     }
 }
 
-/// Prints what a failed put left that it should not: other than first bytes of what the row leaves without a
-/// failure, or less than all where the line is said.
+/// Prints what a failed put left that it should not. This is anything but a prefix of what the row leaves without a
+/// failure, or less than all if the line was printed.
 fn tell<R: Print>(rt: &R, nth: u32, part: &Outcome, whole: &Outcome) -> io::Result<()> {
     if !is_begun(part, whole) {
         println!(rt; "  put {nth}: other bytes are left")?;
@@ -184,7 +184,7 @@ fn tell<R: Print>(rt: &R, nth: u32, part: &Outcome, whole: &Outcome) -> io::Resu
     Ok(())
 }
 
-/// Tells of a row whose nth put was to fail, and counts its answer. It answers whether it was one of a put that failed.
+/// Checks a row whose nth put was to fail, and counts its status. Returns whether it is that of a failed put.
 fn count<R: Print>(
     rt: &R,
     nth: u32,
@@ -200,7 +200,7 @@ fn count<R: Print>(
     Ok(false)
 }
 
-/// Lets the nth put of a row fail, and counts the answer. It answers whether it was one of a put that failed.
+/// Lets the nth put of a row fail, and counts the status. Returns whether it is that of a failed put.
 fn fail_put<R: AllocGlobal + Threads + Print>(
     rt: &R,
     rows: &Rows,
@@ -245,7 +245,7 @@ fn fail_each<R: AllocGlobal + Threads + Print>(
     )
 }
 
-/// A row whose puts fail in turn.
+/// Runs a row whose puts fail in turn.
 fn each<R: AllocGlobal + Threads + Print>(rt: &R, rows: &Rows, words: &str) -> io::Result<()> {
     match performed(rt, rows, words, None) {
         Some(whole) => fail_each(rt, rows, words, &whole),
@@ -253,8 +253,9 @@ fn each<R: AllocGlobal + Threads + Print>(rt: &R, rows: &Rows, words: &str) -> i
     }
 }
 
-/// A row of words some put of which fails: prints the answer, and whether first bytes are left, at least one of the
-/// output that failed, of what the row leaves without a failure. How many depends on where the two workers met.
+/// Runs a row of which some put fails, and prints the status. Prints too whether it left a prefix of what the row
+/// leaves without a failure, with at least a byte of the output that failed. How long depends on where the two workers
+/// met.
 fn part<R: AllocGlobal + Threads + Print>(rt: &R, rows: &mut Rows, words: &str) -> io::Result<()> {
     let part = performed(rt, rows, words, None);
     rows.mend();
@@ -264,7 +265,7 @@ fn part<R: AllocGlobal + Threads + Print>(rt: &R, rows: &mut Rows, words: &str) 
     }
 }
 
-/// Prints what a row that some put failed left beside what it leaves without a failure.
+/// Compares what a row with a failed put left with what it leaves without a failure, and prints the result.
 fn beside<R: AllocGlobal + Threads + Print>(
     rt: &R,
     rows: &Rows,
@@ -292,7 +293,7 @@ fn show_part<R: Print>(rt: &R, part: &Outcome, whole: &Outcome) -> io::Result<()
     }
 }
 
-/// `look NAME`: prints the length of a file, and its bytes at 8000 and at its end.
+/// Runs `look NAME`: prints the length of a file, and its bytes at 8000 and at its end.
 fn look<R: Print>(rt: &R, rows: &Rows, name: &str) -> io::Result<()> {
     let Some(bytes) = rows.files.find(name) else {
         return println!(rt; "{NO_ROW}");
@@ -316,7 +317,7 @@ enum Kind {
     Look,
 }
 
-/// The kind of a line by its first word.
+/// Returns the kind of a line by its first word.
 fn kind_of(word: &str) -> Option<Kind> {
     Some(match word.as_bytes() {
         b"$" => Kind::Row,
@@ -331,7 +332,7 @@ fn kind_of(word: &str) -> Option<Kind> {
     })
 }
 
-/// Follows a line that runs something. The failures were for it alone.
+/// Follows a line that runs something. The planned failures end with it.
 fn run<R: AllocGlobal + Threads + Print + Eprint + Files + Sync>(
     rt: &R,
     watch: &Watch<'_, R>,

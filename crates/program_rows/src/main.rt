@@ -1,13 +1,13 @@
-//! Rows of the whole program: command lines over shelves in memory, with the console itself.
+//! Runs rows of the whole program: command lines over shelves in memory, with the console itself.
 //!
-//! The program follows the lines of the files that it is given, as `data/rows.txt`, and prints each row with the
-//! exit status, what was said, and the outputs that were created: name, length, and the bytes as runs of equal
-//! units of two bytes, or their sum where there are many runs. What has to be printed, `stdout`, was worked out
-//! by hand from the rules of `docs/use/COMMANDS.md`; the sums of the demo are those of two other programs.
+//! The program follows the lines of the given files, such as `data/rows.txt`. It prints each row with the exit status,
+//! the line, and the outputs that were created. Of an output it prints the name, the length, and the bytes as runs of
+//! equal units of two bytes, or their sum if there are many runs. The expected `stdout` was computed by hand from the
+//! rules of `docs/use/COMMANDS.md`; the sums of the demo are those of two other programs.
 //!
 //! Lines that say what a row is run with:
 //!
-//! - `file NAME` begins a file. The lines behind it add to it: `fill COUNT BYTE`, `hex BYTES`, `text TEXT`,
+//! - `file NAME` begins a file. The lines after it add to it: `fill COUNT BYTE`, `hex BYTES`, `text TEXT`,
 //!   `line TEXT` (with LF), `copy NAME` (a file), `ramp STEP` (512 numbers of two bytes), `noise NUMBER COUNT`
 //!   (the generator of cartridges). `put OFFSET BYTES` changes it. Counts and numbers are decimal, the rest
 //!   hexadecimal. A row's shelf holds the files that its words name; an image that was made is a file.
@@ -18,13 +18,13 @@
 //! Lines that run something:
 //!
 //! - `$ WORDS`: these words, with one space between two of them. `*N` stands for a word of N letters.
-//! - `both WORDS`, `alike WORDS`: the command line `run WORDS`, and `serial WORDS` and `lockless WORDS`, which have to
+//! - `both WORDS`, `alike WORDS`: the command line `run WORDS`, and `serial WORDS` and `lockless WORDS`, which must
 //!   leave the same; of `alike` only the lengths are printed.
 //! - `opening WORDS`: prints the line up to its sums.
 //! - `each WORDS`: each put fails in turn.
-//! - `part WORDS`: prints the answer, and whether first bytes are left of what the row leaves without a failure, at least
-//!   one of the output that failed.
-//! - `disk WORDS`: the same over real files: prints the answer, and whether the outputs are those in memory.
+//! - `part WORDS`: prints the status, and whether it left a prefix of what the row leaves without a failure, with a
+//!   byte at least of the output that failed.
+//! - `disk WORDS`: runs the row over real files: prints the status, and whether the outputs are those in memory.
 //! - `look NAME`: a file's length, and its byte at 8000.
 #![tactic(auto)]
 

@@ -8,31 +8,36 @@ use std::alloc::Global;
 use std::str;
 use std::thread::Threads;
 
-/// The nth call of this kind fails.
+/// A planned failure: the nth call of this kind fails.
 #[derive(Clone, Copy)]
 pub struct Failure {
+    /// The kind of call.
     pub call: ShelfCall,
+    /// The number of the call, from 1.
     pub nth: u32,
 }
 
-/// What rows are run with: their files, how many bytes a shelf keeps of each output, and the failures of the
-/// next row.
+/// The settings of rows: their files, how many bytes a shelf keeps of each output, and the failures of the next row.
 #[derive(Drop)]
 pub struct Rows {
+    /// The files that rows may name.
     pub files: Files,
     room: usize,
     failures: Vec<Failure>,
 }
 
-/// What the program answered, and the shelf that it left. A function that owns one ends in one place and lends it to
-/// others, since a proof reads all that is dropped anew at each end.
+/// The status that the program returned, and the shelf that it left. A function that owns one has one end and lends it
+/// to others, since a proof reads all that is dropped again at each end.
 #[derive(Drop)]
 pub struct Outcome {
+    /// The status that the program returned.
     pub status: Status,
+    /// The shelf that the program left.
     pub shelf: MemShelf,
 }
 
 impl Rows {
+    /// Returns settings without files, room and failures.
     pub fn new(alloc: Global) -> Rows {
         Rows {
             files: Files::new(alloc),
@@ -41,7 +46,7 @@ impl Rows {
         }
     }
 
-    /// A line that says what rows are run with.
+    /// Follows a line that says what rows are run with.
     pub fn line(&mut self, line: &str) -> Option<()> {
         if let Some(count) = line.strip_prefix("room ") {
             self.room = count.parse().ok()?;
@@ -58,7 +63,7 @@ impl Rows {
         self.failures.clear();
     }
 
-    /// Gives a shelf the files that the words name, and the failures that are planned, with one more here.
+    /// Gives a shelf the files that the arguments name, the planned failures, and the one given here.
     fn fill(&self, shelf: &mut MemShelf, words: &str, here: Option<Failure>) -> Option<()> {
         for word in words.split(' ') {
             if let Some(bytes) = self.files.find(word) {
@@ -74,7 +79,7 @@ impl Rows {
         Some(())
     }
 
-    /// A shelf that fails where it is planned, and here. It holds the files that the words name.
+    /// Returns a shelf with the files that the arguments name, which fails as planned and as given here.
     fn shelf(&self, alloc: Global, words: &str, here: Option<Failure>) -> Option<MemShelf> {
         let mut shelf = MemShelf::new(alloc, self.room).ok()?;
         self.fill(&mut shelf, words, here)?;
@@ -82,7 +87,7 @@ impl Rows {
     }
 }
 
-/// A failure by its words: a kind of call, and which one from 1.
+/// Reads a failure: a kind of call, and the number of the call from 1.
 fn failure_of(text: &str) -> Option<Failure> {
     let mut words = text.split_whitespace();
     let call = match words.next()?.as_bytes() {
@@ -99,7 +104,7 @@ fn failure_of(text: &str) -> Option<Failure> {
     Some(Failure { call, nth })
 }
 
-/// Adds a word. A star and a number stand for so many letters.
+/// Adds an argument. A star and a number N stand for N letters.
 fn push(alloc: Global, argv: &mut Argv, word: &str) -> Option<()> {
     let Some(count) = word.strip_prefix("*") else {
         return argv.push(word).ok();
@@ -109,7 +114,7 @@ fn push(alloc: Global, argv: &mut Argv, word: &str) -> Option<()> {
     argv.push(str::from_utf8(letters.as_slice()).ok()?).ok()
 }
 
-/// The words of a line, with one space between two of them.
+/// Returns the arguments in a line, with one space between two of them.
 pub fn words_of(alloc: Global, line: &str) -> Option<Argv> {
     let mut argv = Argv::new(alloc);
     if line.is_empty() {
@@ -121,8 +126,8 @@ pub fn words_of(alloc: Global, line: &str) -> Option<Argv> {
     Some(argv)
 }
 
-/// Calls the program with the words of a line, over a shelf that fails where it is planned, and here, with this gate for
-/// its workers. Nothing where there is no memory for the shelf and the words.
+/// Calls the program with the arguments of a line, with this gate for its workers, over a shelf that fails as planned
+/// and as given here. Returns `None` if allocation of the shelf or the arguments fails.
 pub fn performed_through<R: AllocGlobal + Threads>(
     rt: &R,
     gate: &dyn Gate,
@@ -137,7 +142,8 @@ pub fn performed_through<R: AllocGlobal + Threads>(
     Some(Outcome { status, shelf })
 }
 
-/// The same with the gate of `snes`, which does nothing.
+/// Calls the program with the arguments of a line, over a shelf that fails as planned and as given here. Its gate is
+/// that of `snes`, which does nothing.
 pub fn performed<R: AllocGlobal + Threads>(
     rt: &R,
     rows: &Rows,

@@ -4,22 +4,22 @@ use crate::rows::Outcome;
 use file_shelf::Out;
 use std::{io, str};
 
-/// An output is told by its runs of equal units where it has no more than so many.
+/// The most runs of equal units by which an output is printed.
 const MOST_RUNS: usize = 8;
 
-/// A longer name is told by its length.
+/// The length of the longest name that is printed; a longer one is shown by its length.
 const MOST_LETTERS: usize = 64;
 
-/// How much is told of an output.
+/// How much of an output is printed.
 #[derive(Clone, Copy, Debug, PartialEq, Eq)]
 pub enum Detail {
-    /// How many bytes it has.
+    /// Its length.
     Length,
-    /// All: its runs of equal units of two bytes, or the sum of its bytes where there are many.
+    /// Its runs of equal units of two bytes, or the sum of its bytes if there are many runs.
     Bytes,
 }
 
-/// The sum of bytes.
+/// Returns the sum of bytes.
 fn sum(bytes: &[u8]) -> u64 {
     let mut sum = 0u64;
     for byte in bytes {
@@ -28,7 +28,7 @@ fn sum(bytes: &[u8]) -> u64 {
     sum
 }
 
-/// How many bytes the units of two bytes in front have that are the first one.
+/// Returns how many bytes the first run of equal units of two bytes has.
 fn run(bytes: &[u8]) -> usize
     ensures { result ≤ length bytes.now }
 {
@@ -40,7 +40,7 @@ fn run(bytes: &[u8]) -> usize
     bytes.len()
 }
 
-/// Whether bytes are no more than so many runs.
+/// Whether bytes have at most `MOST_RUNS` runs.
 fn are_few(bytes: &[u8]) -> bool {
     let mut rest = bytes;
     for _ in 0..MOST_RUNS {
@@ -95,7 +95,7 @@ fn show_output<R: Print>(
     println!(rt; "")
 }
 
-/// Prints an answer by its exit status, and what was said.
+/// Prints the exit status and the line of the program.
 pub fn show_answer<R: Print>(rt: &R, outcome: &Outcome) -> io::Result<()> {
     let exit = outcome.status.exit();
     match str::from_utf8(outcome.shelf.written(Out::Say)) {

@@ -11,33 +11,34 @@ use crate::pairs::{input_name, is_value, number_in, output_name, word_behind};
 use crate::words::Word;
 use file_shelf::{Input, Out};
 
-/// The form of a command's words behind its name.
+/// The form of the arguments after a command's name.
 #[derive(Clone, Copy)]
 pub struct Form {
-    /// Whether a number of 1 to 10 decimal digits, at most 4,294,967,295, comes first.
+    /// Whether the first argument is a number of 1 to 10 decimal digits, at most 4,294,967,295.
     pub numbered: bool,
     /// The inputs, each with its option, in the order in which they are loaded.
     pub inputs: &'static [Input],
-    /// The number behind an option, where there is one.
+    /// The number that is the value of an option, if there is one.
     pub count: Option<Count>,
     /// The outputs, each with its option, in the order in which they are created.
     pub outputs: &'static [Out],
 }
 
-/// What words in a form give.
+/// The arguments of a command, as read by its form.
 #[derive(Clone, Copy)]
 pub struct Asked<'a> {
-    /// The number that comes first, 0 where the form has none.
+    /// The number that comes first; 0 if the form has none.
     pub number: u32,
-    /// The number behind its option, 0 where the form has none.
+    /// The number that is the value of an option; 0 if the form has none.
     pub count: u32,
-    /// The pairs of an option and its value.
+    /// The pairs of an option and its value, one word after the other.
     pub pairs: &'a [Word],
 }
 
-/// Reads the words behind a command's name, if they are in its form: a number where it has one, and then pairs of an
-/// option and its value, each option of the form once, in any order. A value has 1 to 4,096 bytes and begins with no
-/// dash. No two outputs have one name.
+/// Reads the arguments after a command's name, if they have its form.
+///
+/// First comes a number, if the form has one. Then come pairs of an option and its value, each option of the form once,
+/// in any order. A value has 1 to 4,096 bytes and does not begin with a dash. No two outputs have the same name.
 #[tactic(auto, unfolding(crate::specs::Form::order_in))]
 pub fn read_form<'a>(form: &Form, words: &'a [Word]) -> Option<Asked<'a>>
     ensures order { MatchOption result (order_in (form_by form.now) words.now ≡ None) (λ asked. order_in (form_by form.now) words.now ≡ Some (order_by asked)) }
@@ -55,7 +56,7 @@ pub fn read_form<'a>(form: &Form, words: &'a [Word]) -> Option<Asked<'a>>
     })
 }
 
-/// The number that comes first, and the words behind it.
+/// Returns the number that comes first (0 if there is to be none), and the words after it.
 fn first_number(numbered: bool, words: &[Word]) -> Option<(u32, &[Word])>
     ensures { MatchOption result (number_first numbered words.now ≡ None) (λ first. number_first numbered words.now ≡ Some (first.0, first.1.now)) }
 {
@@ -67,7 +68,7 @@ fn first_number(numbered: bool, words: &[Word]) -> Option<(u32, &[Word])>
     Some((number, words))
 }
 
-/// The number behind its option.
+/// Returns the number that is the value of an option; 0 if there is to be none.
 fn count_of(count: Option<Count>, pairs: &[Word]) -> Option<u32>
     ensures number { result ≡ count_in count pairs.now }
     ensures within { IfSome result (λ number. (some : Count) → count ≡ Some some → number ≤ most_of some) }
@@ -82,7 +83,8 @@ fn count_of(count: Option<Count>, pairs: &[Word]) -> Option<u32>
     )
 }
 
-/// Whether there are as many pairs as the form has options, with a value behind each.
+/// Whether there are as many pairs as the form has options, each input and output has a value, and no two outputs have
+/// the same name.
 fn has_values(form: &Form, pairs: &[Word]) -> bool
     ensures test { result ≡ has_values (form_by form.now) pairs.now }
     ensures names { result ≡ true → AllOf (λ out. IsName (output_name pairs.now out)) form.now.outputs.now }
@@ -101,7 +103,7 @@ fn has_pairs(form: &Form, pairs: &[Word]) -> bool
     pairs.len() % 2 == 0 && pairs.len() / 2 == form.inputs.len() + form.outputs.len() + counts
 }
 
-/// Whether a value stands behind the option of each of these inputs.
+/// Whether the option of each of these inputs has a value.
 fn are_inputs_named(pairs: &[Word], inputs: &[Input]) -> bool
     ensures { result ≡ list_all (λ input. is_value (input_name pairs.now input)) inputs.now }
 {
@@ -110,7 +112,7 @@ fn are_inputs_named(pairs: &[Word], inputs: &[Input]) -> bool
         .all(|input| is_value(input_name(pairs, *input)))
 }
 
-/// Whether a value stands behind the option of each of these outputs.
+/// Whether the option of each of these outputs has a value.
 #[tactic(auto, using(crate::proofs::PairLemmas::are_names))]
 fn are_outputs_named(pairs: &[Word], outputs: &[Out]) -> bool
     ensures test { result ≡ list_all (λ out. is_value (output_name pairs.now out)) outputs.now }
@@ -119,7 +121,7 @@ fn are_outputs_named(pairs: &[Word], outputs: &[Out]) -> bool
     outputs.iter().all(|out| is_value(output_name(pairs, *out)))
 }
 
-/// Whether no two outputs have one name.
+/// Whether no two outputs have the same name.
 fn differ(pairs: &[Word], outputs: &[Out]) -> bool
     ensures { result ≡ differ pairs.now outputs.now }
 {

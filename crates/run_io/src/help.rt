@@ -35,14 +35,14 @@ Statuses: 0 done, 1 invalid arguments, 2 an input could not be read, 3 an input 
 not be written, 5 out of memory; of the script ./snes: 70 the program could not be built.\n\
 docs/use/COMMANDS.md has the formats, and the cause of each answer.\n";
 
-/// The help: each command with its arguments, the options, and the exit statuses.
+/// Returns the help: each command with its arguments, the options, and the exit statuses.
 pub fn help_line() -> Line
     ensures text { result ≡ help_text }
 {
     whole(HELP)
 }
 
-/// The version: `snes 1.1`.
+/// Returns the version: `snes 1.1`.
 pub fn version_line() -> Line
     ensures text { result ≡ version_text }
 {

@@ -1,9 +1,8 @@
-// What a run reads and writes: the words of the command line, the shelf of files, and the lines for
-// the user.
+// What a run reads and prints: the arguments of the command line, the shelf of files, and the lines for the user.
 //
-// Stands on the shelf, whose items it hands on. `read_form` reads the words behind a command's name exactly by the form
-// that it is given (`specs/Form.antt`), and refuses every other; which commands there are, it does not know. Each line
-// is made without memory, so that the want of memory can be told too.
+// Builds on the shelf, whose items it re-exports. `read_form` accepts the arguments after a command's name if and only
+// if they have the given form (`specs/Form.antt`). It doesn't know which commands there are. Making a line allocates
+// nothing, so that a failed allocation can be reported too.
 #![tactic(auto)]
 
 mod forms;

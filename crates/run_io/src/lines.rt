@@ -9,10 +9,10 @@ use file_shelf::{Input, Out};
 use itoa::Buffer;
 use std::marker::Model;
 
-/// The most bytes that a text for the user has.
+/// The most bytes that a text for the user can have.
 const ROOM: usize = 4096;
 
-/// What the user is told: one line, ended by LF, or the lines of the help. It is made without memory.
+/// A text for the user: one line, ended by LF, or the lines of the help. Making it allocates nothing.
 #[derive(Drop)]
 pub struct Line {
     text: ArrayString<ROOM>,
@@ -27,7 +27,7 @@ impl Model for Line {
 }
 
 impl Line {
-    /// The bytes of the line, LF included.
+    /// Returns the bytes of the line, LF included.
     pub fn bytes(&self) -> &[u8]
         ensures all { result.now ≡ self.now }
     {
@@ -58,7 +58,7 @@ impl Line {
         self.push(digits.format(number));
     }
 
-    /// The frames and samples of a run.
+    /// Appends `frames N samples M` to an empty line.
     fn push_run(&mut self, frames: u32, samples: u64)
         requires empty { self.old ≡ [] }
         ensures text { self.new ≡ frames_text frames samples }
@@ -79,7 +79,7 @@ impl Line {
     }
 }
 
-/// The capital hexadecimal digit of a number below 16.
+/// Returns the uppercase hexadecimal digit of a number below 16.
 fn digit(number: u8) -> u8
     requires { number < 16 }
     ensures text { result ≡ hex_digit number }
@@ -91,7 +91,7 @@ fn digit(number: u8) -> u8
     }
 }
 
-/// A run was made: `frames N samples M`.
+/// Returns the line of a finished run: `frames N samples M`.
 pub fn frames_line(frames: u32, samples: u64) -> Line
     ensures text { result ≡ line_of (frames_text frames samples) }
 {
@@ -101,7 +101,7 @@ pub fn frames_line(frames: u32, samples: u64) -> Line
     line
 }
 
-/// A demo was played: `frames N samples M video A sound B`, with the sums of the bytes of each.
+/// Returns the line of a finished demo: `frames N samples M video A sound B`, where A and B are the sums of the bytes.
 pub fn demo_line(frames: u32, samples: u64, video: u64, sound: u64) -> Line
     ensures text { result ≡ line_of (demo_text frames samples video sound) }
 {
@@ -115,28 +115,28 @@ pub fn demo_line(frames: u32, samples: u64, video: u64, sound: u64) -> Line
     line
 }
 
-/// A cartridge was made: `image 524288`.
+/// Returns the line of a cartridge that was made: `image 524288`.
 pub fn image_line() -> Line
     ensures text { result ≡ line_of image_text }
 {
     whole("image 524288\n")
 }
 
-/// A sound file was played: `samples N`.
+/// Returns the line of a sound file that was played: `samples N`.
 pub fn samples_line(samples: u32) -> Line
     ensures text { result ≡ line_of (samples_text samples) }
 {
     numbered_line("samples ", u64::from(samples))
 }
 
-/// The words are in no form.
+/// Returns the line of invalid arguments: `usage: snes run, serial, make or demo`.
 pub fn usage_line() -> Line
     ensures text { result ≡ line_of usage_text }
 {
     whole("usage: snes run, serial, make or demo\n")
 }
 
-/// A file was not loaded: `cannot read cart`, or `boot`, `spc`, `table`, `script`, `plan`.
+/// Returns the line of a file that was not loaded: `cannot read cart`, or `boot`, `spc`, `table`, `script`, `plan`.
 pub fn cannot_read_line(input: Input) -> Line
     ensures text { result ≡ line_of (cannot_read_text input) }
 {
@@ -150,7 +150,7 @@ pub fn cannot_read_line(input: Input) -> Line
     })
 }
 
-/// An output was not written: `cannot write video`, or `sound`, `image`. There is no line for
+/// Returns the line of an output that was not written: `cannot write video`, or `sound`, `image`. There is none for
 /// `Out::Say`, which the lines themselves go to.
 pub fn cannot_write_line(out: Out) -> Option<Line>
     ensures text { result ≡ option_map line_of (cannot_write_text out) }
@@ -163,7 +163,7 @@ pub fn cannot_write_line(out: Out) -> Option<Line>
     }
 }
 
-/// A file is no cartridge: `cart refused: too short`, `too long`, `no header`, `coprocessor 13` (two
+/// Returns the line of a refused cartridge: `cart refused: too short`, `too long`, `no header`, `coprocessor 13` (two
 /// hexadecimal digits) or `ram size 8`.
 pub fn cart_refused_line(cause: CartRefused) -> Line
     ensures text { result ≡ line_of (cart_refused_text cause) }
@@ -177,49 +177,52 @@ pub fn cart_refused_line(cause: CartRefused) -> Line
     }
 }
 
-/// A file is no boot ROM: `boot refused`.
+/// Returns the line of a refused boot ROM: `boot refused`.
 pub fn boot_refused_line() -> Line
     ensures text { result ≡ line_of boot_refused_text }
 {
     whole("boot refused\n")
 }
 
-/// A sound file has more bytes than one has: `spc refused: too long`.
+/// Returns the line of a sound file that is too long: `spc refused: too long`.
 pub fn spc_too_long_line() -> Line
     ensures text { result ≡ line_of spc_too_long_text }
 {
     whole("spc refused: too long\n")
 }
 
-/// A sound file has fewer bytes than one has: `spc refused: too short`.
+/// Returns the line of a sound file that is too short: `spc refused: too short`.
 pub fn spc_too_short_line() -> Line
     ensures text { result ≡ line_of spc_too_short_text }
 {
     whole("spc refused: too short\n")
 }
 
-/// A sound file does not begin with its text: `spc refused: no text`.
+/// Returns the line of a sound file that does not begin with its text: `spc refused: no text`.
 pub fn spc_no_text_line() -> Line
     ensures text { result ≡ line_of spc_no_text_text }
 {
     whole("spc refused: no text\n")
 }
 
-/// A file is no table: `table refused at 511`, at 512 for its length and else at its first large entry.
+/// Returns the line of a refused table: `table refused at 511`. The number is 512 for a wrong length, else the index
+/// of the first entry that is too large.
 pub fn table_refused_line(entry: u16) -> Line
     ensures text { result ≡ line_of (table_refused_text entry) }
 {
     numbered_line("table refused at ", u64::from(entry))
 }
 
-/// A file is no script: `script refused at line 3`, at 0 for its length and else at its first bad line.
+/// Returns the line of a refused script: `script refused at line 3`. The number is 0 if the script is too long, else
+/// that of its first bad line.
 pub fn script_refused_line(line: u32) -> Line
     ensures text { result ≡ line_of (script_refused_text line) }
 {
     numbered_line("script refused at line ", u64::from(line))
 }
 
-/// A file is no plan: `plan refused at line 3`, at 0 for its length and else at its first bad line.
+/// Returns the line of a refused plan: `plan refused at line 3`. The number is 0 if the plan is too long, else that of
+/// its first bad line.
 pub fn plan_refused_line(line: u32) -> Line
     ensures text { result ≡ line_of (plan_refused_text line) }
 {
@@ -236,7 +239,7 @@ fn coprocessor_line(chip: u8) -> Line
     line
 }
 
-/// A line of a text and a number behind it.
+/// Returns a line of a text followed by a number.
 fn numbered_line(text: &str, number: u64) -> Line
     requires room { length text.now ≤ 128 }
     ensures text { result ≡ line_of (text.now ++ decimal number) }
@@ -248,14 +251,14 @@ fn numbered_line(text: &str, number: u64) -> Line
     line
 }
 
-/// There was no memory: `no memory`.
+/// Returns the line of a failed allocation: `no memory`.
 pub fn no_memory_line() -> Line
     ensures text { result ≡ line_of no_memory_text }
 {
     whole("no memory\n")
 }
 
-/// A line of this text.
+/// Returns exactly this text as a line.
 pub(crate) fn whole(text: &str) -> Line
     requires room { length text.now ≤ 4096 }
     ensures same { result ≡ text.now }

@@ -12,48 +12,48 @@ use crate::words::Word;
 use file_shelf::Out;
 use std::fmt::{self, Display, Formatter};
 
-/// What can be wrong with the words of a command line.
+/// The kinds of mistake in the arguments of a command line.
 #[derive(Clone, Copy, Debug, PartialEq, Eq)]
 pub enum Fault {
-    /// There is no word.
+    /// There are no arguments.
     NoCommand,
-    /// The first word is no command's name.
+    /// The first argument is not the name of a command.
     NotACommand,
-    /// No number stands behind the command's name.
+    /// The number after the command's name is missing.
     NoNumber,
-    /// The word behind the command's name is not the number that it takes.
+    /// The argument after the command's name is not a number that it takes.
     NotTheNumber,
-    /// A word stands where an option belongs, and is none of the command's.
+    /// An argument is where an option belongs, and is not an option of the command.
     NotAnOption,
-    /// An option stands there twice.
+    /// An option is given twice.
     Twice,
-    /// Nothing stands behind an option.
+    /// Nothing follows an option.
     NoValue,
-    /// What stands behind an option is empty, longer than 4,096 bytes, or begins with a dash.
+    /// What follows an option is empty, longer than 4,096 bytes, or begins with a dash.
     NotAValue,
     /// An option is missing.
     Missing,
-    /// What stands behind an option is not the number that it takes.
+    /// What follows an option is not a number that it takes.
     NotItsNumber,
-    /// Two outputs have one name.
+    /// Two outputs have the same name.
     SameName,
-    /// The words are in no form.
+    /// The arguments do not have the form of the command.
     Formless,
 }
 
-/// What is wrong with words, and which are at fault. The option and the word are empty where none is.
+/// A mistake in the arguments, and the option and the argument at fault. Each of the two is empty if none is at fault.
 #[derive(Clone, Copy, Debug)]
 pub struct Mistake<'a> {
-    /// What is wrong.
+    /// The kind of the mistake.
     pub fault: Fault,
-    /// The option that is at fault.
+    /// The option that is at fault, or empty.
     pub option: &'a str,
-    /// The word that is at fault.
+    /// The argument that is at fault, or empty.
     pub word: &'a str,
 }
 
 impl<'a> Mistake<'a> {
-    /// A mistake of this kind.
+    /// Returns a mistake of this kind, with the option and the argument at fault.
     pub fn of(fault: Fault, option: &'a str, word: &'a str) -> Mistake<'a>
         ensures fault { result.fault ≡ fault }
         ensures option { result.option.now ≡ option.now }
@@ -67,7 +67,7 @@ impl<'a> Mistake<'a> {
     }
 }
 
-/// What is wrong with the words behind a command's name that are not in its form.
+/// Finds the mistake in the arguments after a command's name, if they do not have its form.
 pub fn mistake_in<'a>(form: &Form, words: &'a [Word]) -> Mistake<'a>
     ensures { IsMistake (form_by form.now) result }
 {
@@ -83,7 +83,7 @@ pub fn mistake_in<'a>(form: &Form, words: &'a [Word]) -> Mistake<'a>
     mistake_in_pairs(form, pairs)
 }
 
-/// What is wrong with words that are to be pairs of an option and its value.
+/// Finds the mistake in words that are to be pairs of an option and its value.
 fn mistake_in_pairs<'a>(form: &Form, pairs: &'a [Word]) -> Mistake<'a>
     ensures { IsMistake (form_by form.now) result }
 {
@@ -106,7 +106,7 @@ fn mistake_in_pairs<'a>(form: &Form, pairs: &'a [Word]) -> Mistake<'a>
     }
 }
 
-/// The first pair that is none of the form, or stands there twice.
+/// Finds the first pair whose option is unknown or repeated, or whose value is missing or invalid.
 fn wrong_pair<'a>(form: &Form, pairs: &'a [Word]) -> Option<Mistake<'a>>
     ensures { IfSome result (IsMistake (form_by form.now)) }
 {
@@ -163,14 +163,14 @@ fn is_count_option(form: &Form, word: &str) -> bool
     }
 }
 
-/// Whether a word stands among others.
+/// Whether a word is one of these.
 fn stands_in(words: &[Word], word: &str) -> bool
     ensures { result ≡ list_any (λ one. bytes_eq one word.now) words.now }
 {
     words.iter().any(|one| one.text() == word)
 }
 
-/// The first option of the form that is missing.
+/// Returns the first option of the form that is missing.
 fn missing_option(form: &Form, pairs: &[Word]) -> Option<&'static str> {
     for input in form.inputs {
         if !stands_in(pairs, option_of_input(*input)) {
@@ -190,7 +190,7 @@ fn missing_option(form: &Form, pairs: &[Word]) -> Option<&'static str> {
     None
 }
 
-/// The number behind its option, where it is not the one that the form takes.
+/// Returns the mistake in the number that is the value of an option, if it is not one that the form takes.
 fn wrong_number<'a>(form: &Form, pairs: &'a [Word]) -> Option<Mistake<'a>>
     ensures { IfSome result (IsMistake (form_by form.now)) }
 {
@@ -202,7 +202,7 @@ fn wrong_number<'a>(form: &Form, pairs: &'a [Word]) -> Option<Mistake<'a>>
     Some(Mistake::of(Fault::NotItsNumber, count.option(), word))
 }
 
-/// The first output that has the name of another.
+/// Returns an output that has the same name as an earlier one.
 fn same_name(pairs: &[Word], outputs: &[Out]) -> Option<Out> {
     for out in outputs {
         for other in outputs {
@@ -214,7 +214,7 @@ fn same_name(pairs: &[Word], outputs: &[Out]) -> Option<Out> {
     None
 }
 
-/// What an option takes, for the user.
+/// Describes for the user what an option takes.
 fn taken_by(option: &str) -> &'static str {
     match option {
         "--frames" => "a number of at most 36000",

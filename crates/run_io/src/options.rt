@@ -3,7 +3,7 @@ ghost use Rattle.run_io.specs.Options.{input_option, output_option, count_option
 
 use file_shelf::{Input, Out};
 
-/// The numbers that stand behind an option.
+/// The kinds of number that an option takes.
 #[derive(Clone, Copy, Debug, PartialEq, Eq)]
 pub enum Count {
     /// Frames of a run: 1 to 5 decimal digits, at most 36,000.
@@ -26,7 +26,7 @@ pub(crate) fn option_of_input(input: Input) -> &'static str
     }
 }
 
-/// The option of an output. The lines have none.
+/// The option of an output; empty for the lines, which have none.
 pub(crate) fn option_of_output(out: Out) -> &'static str
     ensures { result.now ≡ output_option out }
 {
@@ -39,7 +39,7 @@ pub(crate) fn option_of_output(out: Out) -> &'static str
 }
 
 impl Count {
-    /// Its option.
+    /// The option that takes this number.
     pub(crate) fn option(self) -> &'static str
         ensures { result.now ≡ count_option self }
     {
@@ -49,7 +49,7 @@ impl Count {
         }
     }
 
-    /// The most decimal digits that it has.
+    /// The most decimal digits that the number has.
     pub(crate) fn digits(self) -> usize
         ensures { result ≡ digits_of self }
     {
@@ -59,7 +59,7 @@ impl Count {
         }
     }
 
-    /// Its greatest value.
+    /// The greatest value of the number.
     pub(crate) fn most(self) -> u32
         ensures { result ≡ most_of self }
     {

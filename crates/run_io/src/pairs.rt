@@ -8,7 +8,7 @@ use crate::options::{option_of_input, option_of_output};
 use crate::words::Word;
 use file_shelf::{Input, Out};
 
-/// The word behind an option, in pairs. No text where the option is missing.
+/// Returns the value of an option, given pairs of an option and its value; empty if the option is missing.
 pub(crate) fn word_behind<'a>(pairs: &'a [Word], option: &str) -> &'a str
     ensures { result.now ≡ word_behind pairs.now option.now }
 {
@@ -24,14 +24,14 @@ pub(crate) fn word_behind<'a>(pairs: &'a [Word], option: &str) -> &'a str
     word_behind(rest, option)
 }
 
-/// Whether a word is a value: 1 to 4,096 bytes, of which the first is no dash.
+/// Whether a word is a value: 1 to 4,096 bytes, the first of which is not a dash.
 pub(crate) fn is_value(word: &str) -> bool
     ensures test { result ≡ is_value word.now }
 {
     !word.is_empty() && word.len() <= 4096 && word.as_bytes()[0] != b'-'
 }
 
-/// The name that pairs give an input.
+/// Returns the name that the pairs of options and values give an input; empty if its option is missing.
 #[tactic(auto, unfolding(crate::specs::Words::input_name))]
 pub fn input_name(pairs: &[Word], input: Input) -> &str
     ensures { result.now ≡ input_name pairs.now input }
@@ -39,7 +39,7 @@ pub fn input_name(pairs: &[Word], input: Input) -> &str
     word_behind(pairs, option_of_input(input))
 }
 
-/// The name that pairs give an output.
+/// Returns the name that the pairs of options and values give an output; empty if its option is missing.
 #[tactic(auto, unfolding(crate::specs::Words::output_name))]
 pub fn output_name(pairs: &[Word], out: Out) -> &str
     ensures { result.now ≡ output_name pairs.now out }
@@ -47,7 +47,7 @@ pub fn output_name(pairs: &[Word], out: Out) -> &str
     word_behind(pairs, option_of_output(out))
 }
 
-/// A number of so many decimal digits at most, and at most so large.
+/// Reads a number that has at most `digits` decimal digits and is at most `most`.
 #[tactic(auto, unfolding(crate::specs::Words::number_in))]
 pub(crate) fn number_in(word: &str, digits: usize, most: u32) -> Option<u32>
     requires { digits ≤ 10 }
@@ -65,7 +65,7 @@ pub(crate) fn number_in(word: &str, digits: usize, most: u32) -> Option<u32>
     Some(number as u32)
 }
 
-/// The number that at most ten decimal digits spell.
+/// Returns the number that at most ten decimal digits spell.
 fn number_of(digits: &[u8]) -> Option<u64>
     requires { length digits.now ≤ 10 }
     ensures number { result ≡ number_of digits.now }
@@ -80,17 +80,17 @@ fn number_of(digits: &[u8]) -> Option<u64>
     Some(number)
 }
 
-/// The word behind the option of an input, in a command line. No text where the option is missing.
+/// Returns the argument after the option of an input, in a command line; empty if there is none.
 pub fn input_given(words: &[Word], input: Input) -> &str {
     word_after(words, option_of_input(input))
 }
 
-/// The word behind the option of an output, in a command line. No text where the option is missing.
+/// Returns the argument after the option of an output, in a command line; empty if there is none.
 pub fn output_given(words: &[Word], out: Out) -> &str {
     word_after(words, option_of_output(out))
 }
 
-/// The word behind the first that is this one.
+/// Returns the word after the first one that is this option; empty if there is none.
 fn word_after<'a>(words: &'a [Word], option: &str) -> &'a str {
     for at in 1..words.len() {
         if words[at - 1].text() == option {

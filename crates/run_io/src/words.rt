@@ -4,7 +4,7 @@ use snes_defs::NoMemory;
 use std::alloc::{AllocError, Global};
 use std::marker::Model;
 
-/// One word, as bytes.
+/// One argument of a command line, as bytes.
 #[derive(Drop)]
 pub struct Word {
     text: String,
@@ -19,7 +19,7 @@ impl Model for Word {
 }
 
 impl Word {
-    /// The word as text.
+    /// Returns the argument as text.
     pub fn text(&self) -> &str
         ensures { result.now ≡ self.now }
     {
@@ -27,7 +27,7 @@ impl Word {
     }
 }
 
-/// The words of a command line, after the program's own name.
+/// The arguments of a command line, without the program's own name.
 #[derive(Drop)]
 pub struct Argv {
     words: Vec<Word>,
@@ -43,7 +43,7 @@ impl Model for Argv {
 }
 
 impl Argv {
-    /// No words. It takes no memory.
+    /// Returns no arguments. Allocates nothing.
     pub fn new(alloc: Global) -> Argv
         ensures empty { result ≡ [] }
     {
@@ -53,7 +53,7 @@ impl Argv {
         }
     }
 
-    /// The words of these texts, all of them in their order.
+    /// Returns these texts as arguments, all of them in their order.
     pub fn of(alloc: Global, texts: &[String]) -> Result<Argv, NoMemory>
         ensures { IfOk result (λ words. words ≡ map string_bytes texts.now) }
     {
@@ -64,7 +64,7 @@ impl Argv {
         Ok(words)
     }
 
-    /// Appends a word, or changes nothing.
+    /// Appends an argument; changes nothing if allocation fails.
     pub fn push(&mut self, word: &str) -> Result<(), NoMemory>
         ensures ok { OnOk result (self.new ≡ self.old ++ word.now ∷ []) }
         ensures err { OnErr result (self.new ≡ self.old) }
@@ -78,21 +78,21 @@ impl Argv {
         }
     }
 
-    /// The words themselves.
+    /// Returns the arguments, in their order.
     pub fn all(&self) -> &[Word]
         ensures all { result.now ≡ self.now }
     {
         self.words.as_slice()
     }
 
-    /// How many words there are.
+    /// Returns the number of arguments.
     pub fn len(&self) -> usize
         ensures count { result ≡ length self.now }
     {
         self.words.len()
     }
 
-    /// The word at a place, from 0.
+    /// Returns the argument at an index, from 0.
     pub fn word(&self, i: usize) -> &str
         requires { i < length self.now }
         ensures at { slice_get self.now i ≡ Some result.now }

@@ -1,4 +1,4 @@
-//! An assembler of as much of the 65C816 as the scene needs.
+//! An assembler for as much of the 65C816 as the scene needs.
 
 /// The most bytes of a program, and the address of the first.
 const ROOM: usize = 0x480;
@@ -67,7 +67,7 @@ pub enum Step {
     Jsr(Label),
 }
 
-/// A program while it is written. What doesn't fit is left out, and `fits` tells it.
+/// A program while it is being written. What doesn't fit is left out, and `fits` shows it.
 #[derive(Drop)]
 pub struct Code {
     bytes: [u8; ROOM],
@@ -75,6 +75,7 @@ pub struct Code {
 }
 
 impl Code {
+    /// Returns an empty program.
     pub fn new() -> Code {
         Code {
             bytes: [0; ROOM],
@@ -82,15 +83,17 @@ impl Code {
         }
     }
 
+    /// Returns the bytes of the program, with zeros after its end.
     pub fn bytes(&self) -> &[u8] {
         &self.bytes
     }
 
+    /// Whether the whole program fits.
     pub fn fits(&self) -> bool {
         usize::from(self.length) <= ROOM
     }
 
-    /// The address of the next instruction.
+    /// Returns the address of the next instruction.
     pub fn here(&self) -> Label {
         Label(ORIGIN.wrapping_add(self.length))
     }
@@ -128,7 +131,7 @@ impl Code {
         }
     }
 
-    /// An instruction of A: a base opcode, and bits for the mode.
+    /// Writes an instruction of A: a base opcode, with bits for the mode.
     fn of_a(&mut self, base: u8, operand: Operand) {
         match operand {
             Operand::Byte(number) => self.short(base | 0x09, number),
@@ -140,7 +143,7 @@ impl Code {
         }
     }
 
-    /// An instruction of X or Y, or INC: the same with other bits.
+    /// Writes an instruction of X or Y, or INC: a base opcode, with other bits for the mode.
     fn of_index(&mut self, base: u8, operand: Operand) {
         match operand {
             Operand::Byte(number) => self.short(base, number),

@@ -1,4 +1,4 @@
-//! Tiles, maps and colours: a picture is a colour for each of its pixels, by a rule.
+//! Paints tiles, maps and colours: a rule gives the colour of each pixel of a picture.
 
 ghost use Rattle.std.specs.Prelude.{◌≤◌};
 
@@ -10,17 +10,21 @@ pub const SHORE: u8 = 21;
 /// A background: a picture of 32 tiles across, side by side in a map.
 #[derive(Clone, Copy)]
 pub struct Layer {
-    /// The word of VRAM where its map begins, and its screens of 32 by 32 tiles.
+    /// The word of VRAM where its map begins.
     pub map: u16,
+    /// The number of its screens of 32 by 32 tiles.
     pub screens: u8,
-    /// The word of VRAM where its tiles begin, the number of the first, which is shown above and below too, and
-    /// pairs of bit planes in each.
+    /// The word of VRAM where its tiles begin.
     pub word: u16,
+    /// The number of its first tile, which is shown above and below it too.
     pub tile: u16,
+    /// The pairs of bit planes in each tile.
     pub pairs: u8,
-    /// Its place and height in rows of tiles.
+    /// Its first row of tiles.
     pub top: u8,
+    /// Its height in rows of tiles.
     pub down: u8,
+    /// The number of its palette.
     pub palette: u8,
 }
 
@@ -80,7 +84,7 @@ pub fn put_layer<F: Fn(u8, u8) -> u8>(image: &mut Image, layer: &Layer, rule: F)
     }
 }
 
-/// An entry of a map: ten bits of tile, three of palette.
+/// Returns an entry of a map: ten bits of tile, three of palette.
 fn entry_at(layer: &Layer, row: u8, column: u8) -> u16 {
     let palette = u16::from(layer.palette % 8) + u16::from(row >= SHORE);
     let inside = row.wrapping_sub(layer.top);
@@ -101,13 +105,13 @@ pub fn put_colours(image: &mut Image, first: u8, colours: &[u32]) {
     }
 }
 
-/// The 15 bits of a colour RRGGBB.
+/// Returns the 15 bits of a colour RRGGBB.
 pub fn dots(colour: u32) -> u16 {
     let (red, green, blue) = (colour / 0x8_0000 % 32, colour / 0x800 % 32, colour / 8 % 32);
     (red + 32 * green + 1024 * blue) as u16
 }
 
-/// Between two colours RRGGBB: so many parts of 64 of the second, and the rest of the first.
+/// Blends two colours RRGGBB: `part` parts of 64 of the second, and the rest of the first.
 pub fn blend(from: u32, to: u32, part: u32) -> u32
     requires { part ≤ 64 }
 {

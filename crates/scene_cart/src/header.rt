@@ -2,8 +2,8 @@
 
 use crate::image::{HEADER, Image};
 
-/// Puts the header, with the addresses at which a reset and an NMI begin. Its sum is over all that the image has, so
-/// it comes last.
+/// Puts the header, with the addresses at which a reset and an NMI begin. Its checksum is over the whole image, so it
+/// comes last.
 pub fn put_header(image: &mut Image, reset: u16, nmi: u16) {
     image.put(HEADER, b"SCENE AT DUSK        ");
     // Slow LoROM, ROM alone, 2^7 KiB, no RAM.

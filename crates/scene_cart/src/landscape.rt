@@ -1,11 +1,11 @@
-//! The three backgrounds, by rules that repeat after 256 pixels, and the HDMA tables of the sky, the sun and the waves.
+//! Makes the three backgrounds, by rules that repeat after 256 pixels, and the HDMA tables of the sky, sun and waves.
 
 ghost use Rattle.std.specs.Prelude.{◌<◌, ◌≤◌};
 
 use crate::graphics::{Layer, SHORE, blend, dots, put_colours, put_layer};
 use crate::image::{Image, SKY, SUN, WAVES};
 
-/// In the lake, two rows each share a scroll.
+/// The number of pairs of rows of the lake; the two rows of a pair share a scroll.
 pub const WAVE_PAIRS: u8 = 28;
 
 static HILLS: Layer = Layer {
@@ -49,7 +49,8 @@ static HILL_COLOURS: [u32; 6] = [0, 0x683058, 0x281840, 0x201038, 0x181030, 0x10
 static LAKE_COLOURS: [u32; 10] = [
     0, 0xd08090, 0xa06098, 0x785098, 0x584090, 0x403888, 0x282878, 0x182068, 0xf8c8a0, 0x8878c8,
 ];
-/// Snow and rock in light and in shade, the rock from above down; the same in the lake, and the sky there.
+/// Colours RRGGBB of snow and rock in light and in shade, the rock from above down; then those of the mountains and
+/// the sky in the lake.
 static MOUNTAIN_COLOURS: [u32; 11] = [
     0, 0xf8e0e0, 0x9880c8, 0x804888, 0x905088, 0xa86088, 0xc07888, 0x402870, 0x583078, 0x704080,
     0x905880,
@@ -59,10 +60,10 @@ static REFLECTED_COLOURS: [u32; 15] = [
     0, 0xc0a0c0, 0x7060a8, 0x583078, 0x683878, 0x804878, 0x985878, 0x302060, 0x402868, 0x503070,
     0x704070, 0xf89848, 0xe07060, 0xa84870, 0x703080,
 ];
-/// The sky from above down, in steps of 42 rows.
+/// Colours RRGGBB of the sky from above down, in steps of 42 rows.
 static SKY_COLOURS: [u32; 5] = [0x101048, 0x381878, 0x883888, 0xd85868, 0xf8a848];
 
-/// Puffs of clouds: x, y and radius.
+/// The puffs of the clouds: x, y and radius.
 static PUFFS: [(u8, u8, u8); 11] = [
     (20, 66, 9),
     (32, 62, 13),
@@ -77,7 +78,7 @@ static PUFFS: [(u8, u8, u8); 11] = [
     (238, 54, 8),
 ];
 
-/// A wave with straight sides: 0 at 0, 128 at 128, and 0 again at 256.
+/// Returns a wave with straight sides: 0 at 0, 128 at 128, and 0 again at 256.
 fn fold(angle: u32) -> u32
     ensures { result ≤ 128 }
 {
@@ -85,20 +86,20 @@ fn fold(angle: u32) -> u32
     turned.min(256 - turned)
 }
 
-/// A number that looks thrown.
+/// Returns a number that looks random.
 fn thrown(seed: u8) -> u8 {
     let mixed = u32::from(seed).wrapping_mul(0x9e37_79b1);
     ((mixed ^ mixed / 0x8000).wrapping_mul(0x85eb_ca6b) / 0x100_0000) as u8
 }
 
-/// A square of distances.
+/// Returns the square of a distance.
 pub fn square(distance: u8) -> u32
     ensures { result ≤ 65025 }
 {
     u32::from(distance) * u32::from(distance)
 }
 
-/// The height of the mountains at an x, 5 to 62.
+/// Returns the height of the mountains at an x, 5 to 62.
 fn ridge(x: u32) -> u32
     ensures { result ≤ 64 }
 {
@@ -110,7 +111,7 @@ fn ridge(x: u32) -> u32
     5 + (broad + 9 * fold(5 * x) + fine) / 112
 }
 
-/// A mountain's pixel: 0 above the ridge.
+/// Returns a mountain's pixel: 0 above the ridge.
 fn mountain(x: u8, height: u8) -> u8
     ensures { result ≤ 10 }
 {
@@ -128,7 +129,7 @@ fn mountain(x: u8, height: u8) -> u8
     level + if lit { 3 } else { 7 }
 }
 
-/// BG2: the mountains, and below the shore what the lake shows of them and of the sky.
+/// Returns a pixel of BG2: the mountains, and below the shore what the lake shows of them and of the sky.
 fn mountains(x: u8, y: u8) -> u8 {
     if y < 72 {
         return mountain(x, 71 - y);
@@ -142,7 +143,7 @@ fn mountains(x: u8, y: u8) -> u8 {
     }
 }
 
-/// BG1: hills with trees, and the lake.
+/// Returns a pixel of BG1: hills with trees, and the lake.
 fn hills(x: u8, y: u8) -> u8 {
     if y >= 40 {
         return lake(u32::from(x), u32::from(y - 40));
@@ -160,7 +161,7 @@ fn hills(x: u8, y: u8) -> u8 {
     }
 }
 
-/// The lake: bands that grow towards the near end, with bright and dark strokes.
+/// Returns a pixel of the lake: bands that grow towards the near end, with bright and dark strokes.
 fn lake(x: u32, y: u32) -> u8
     requires across { x < 256 }
     requires down { y < 256 }
@@ -179,7 +180,7 @@ fn lake(x: u32, y: u32) -> u8
     }
 }
 
-/// BG3: stars, and clouds below them. The first tile is empty.
+/// Returns a pixel of BG3: stars, and clouds below them. The first tile is empty.
 fn heaven(x: u8, y: u8) -> u8 {
     if y >= 40 {
         return cloud(x, y);
@@ -194,7 +195,7 @@ fn heaven(x: u8, y: u8) -> u8 {
     }
 }
 
-/// The light of a cloud: of the puffs there the brightest; each is flat below.
+/// Returns the light of a cloud: that of the brightest puff there; each is flat below.
 fn cloud(x: u8, y: u8) -> u8 {
     let mut light = 0u8;
     for (middle, height, radius) in PUFFS {
@@ -214,7 +215,7 @@ fn cloud(x: u8, y: u8) -> u8 {
     light
 }
 
-/// The greatest half width of a circle at a distance from its middle.
+/// Returns the greatest half width of a circle at a distance from its middle.
 fn half_width(radius: u8, distance: u8) -> u8 {
     let mut widest = 0;
     for width in 0..=radius {
@@ -225,7 +226,7 @@ fn half_width(radius: u8, distance: u8) -> u8 {
     widest
 }
 
-/// The sky: each two lines name colour 0 and give it anew.
+/// Puts the sky's table: every two lines it names colour 0 and sets it again.
 fn put_sky(image: &mut Image) {
     for (part, colours) in SKY_COLOURS.windows(2).enumerate() {
         if let [above, below] = colours {
@@ -238,7 +239,7 @@ fn put_sky(image: &mut Image) {
     }
 }
 
-/// The window's edges: none, the sun in 80 lines with gaps below its middle, none, and the whole lake.
+/// Puts the table of the window's edges: none, the sun in 80 lines with gaps below its middle, none, the whole lake.
 fn put_sun(image: &mut Image) {
     image.put(SUN, &[44, 1, 0, 0x80 + 80]);
     for line in 0..80u8 {
@@ -254,7 +255,7 @@ fn put_sun(image: &mut Image) {
     image.put(SUN + 164, &[8 * SHORE - 124, 1, 0, 1, 0, 255]);
 }
 
-/// Puts all that the backgrounds need.
+/// Puts everything that the backgrounds need.
 pub fn put_landscape(image: &mut Image) {
     put_layer(image, &HILLS, hills);
     put_layer(image, &MOUNTAINS, mountains);

@@ -1,9 +1,9 @@
-//! Makes a cartridge to look at: an evening over a lake, in mode 1 with three backgrounds, 128 moving objects, a
+//! Makes a demonstration cartridge: an evening over a lake, in mode 1 with three backgrounds, 128 moving objects, a
 //! window, colour arithmetic, three channels of HDMA, and a program that works as a game does.
 //!
 //! `scene_cart FOLDER` writes into FOLDER, which it makes, the cartridge `scene.sfc`, the game `game.sfc`, and what else a
 //! run of them needs: the free boot ROM `boot.bin`, the interpolation table `table.bin` and the empty `script.txt`. Both
-//! cartridges send a sound program to the sound side. `scene_cart --measured FOLDER` writes the scene without its tune, with
+//! cartridges send a sound program to the APU. `scene_cart --measured FOLDER` writes the scene without its tune, with
 //! the demo's boot ROM and table: the files by which speed has always been measured. Without a folder it writes nothing.
 //! It prints the length of each cartridge, once all is written.
 //!
@@ -34,7 +34,7 @@ use std::fs;
 use std::process::ExitCode;
 use std::rt::Files;
 
-/// What a run of the scene needs, whole, and the game, which is not among the files that speed is measured by.
+/// All that a run of the scene needs, and the game, which is not among the files that speed is measured by.
 #[derive(Drop)]
 struct Scene {
     cartridge: Image,
@@ -43,7 +43,7 @@ struct Scene {
     table: Table,
 }
 
-/// The whole cartridge with its tune or without, or nothing where the program doesn't fit.
+/// Returns the whole cartridge with its tune or without; `None` if the program doesn't fit.
 fn cartridge(alloc: Global, with_tune: bool) -> Result<Option<Image>, AllocError> {
     let mut image = Image::new(alloc)?;
     let mut code = Code::new();
@@ -61,7 +61,7 @@ fn cartridge(alloc: Global, with_tune: bool) -> Result<Option<Image>, AllocError
     Ok(if code.fits() { Some(image) } else { None })
 }
 
-/// The files of the scene, or of the one that speed is measured by.
+/// Returns the files of the scene, or of the one that speed is measured by.
 fn files(alloc: Global, is_measured: bool) -> Result<Option<Scene>, AllocError> {
     let Some(cartridge) = cartridge(alloc, !is_measured)? else {
         return Ok(None);
@@ -83,7 +83,7 @@ fn files(alloc: Global, is_measured: bool) -> Result<Option<Scene>, AllocError> 
     }))
 }
 
-/// The bytes of an interpolation table.
+/// Returns the bytes of an interpolation table.
 fn table_bytes(alloc: Global, table: &Table) -> Result<Vec<u8>, AllocError> {
     let mut bytes = Vec::new(alloc);
     for i in 0..512 {

@@ -1,12 +1,13 @@
-//! The objects: four letters, a snake of balls, and glints on the lake; their pictures, their start and their paths.
+//! Makes the objects: the pictures, starts and paths of four letters, a snake of balls, and glints on the lake.
 
 use crate::graphics::{blend, paint, put_colours};
 use crate::image::{Image, OBJECTS, PATHS};
 use crate::landscape::square;
 
-/// The first ball and the first glint; the letters come before, and there are 128 in all.
+/// The number of the first ball; the letters come before.
 pub const BALLS: u8 = 4;
 
+/// The number of the first glint; there are 128 objects in all.
 pub const GLINTS: u8 = 68;
 
 /// The tables of the paths, in their order: a byte for each angle.
@@ -20,7 +21,7 @@ pub enum Table {
     Wave,
 }
 
-/// S, N, E and S: eight lines of eight bits.
+/// The letters S, N, E and S: eight lines of eight bits each.
 static FONT: [[u8; 8]; 4] = [
     [0x00, 0x3e, 0x60, 0x3c, 0x06, 0x06, 0x7c, 0x00],
     [0x00, 0x66, 0x76, 0x76, 0x6e, 0x6e, 0x66, 0x00],
@@ -36,7 +37,7 @@ fn covers(letter: &[u8; 8], x: u8, y: u8) -> bool {
     x < 32 && letter[usize::from(y / 4 % 8)] >> (7 - x / 4) & 1 == 1
 }
 
-/// A letter's pixel: bright and dark edges, bands of gold between them, and a shadow.
+/// Returns a letter's pixel: bright and dark edges, bands of gold between them, and a shadow.
 fn letter(letter: &[u8; 8], x: u8, y: u8) -> u8 {
     let (left, right) = (x.wrapping_sub(1), x.wrapping_add(1));
     let (above, below) = (y.wrapping_sub(1), y.wrapping_add(1));
@@ -56,7 +57,7 @@ fn letter(letter: &[u8; 8], x: u8, y: u8) -> u8 {
     u8::from(is_edge || is_shadow || covers(letter, x, above))
 }
 
-/// A ball's pixel of 16 by 16: lit from above on the left.
+/// Returns a ball's pixel of 16 by 16: lit from the upper left.
 fn ball(x: u8, y: u8) -> u8 {
     let (x, y) = (2 * (x % 16), 2 * (y % 16));
     if square(x.abs_diff(15)) + square(y.abs_diff(15)) > 225 {
@@ -66,7 +67,7 @@ fn ball(x: u8, y: u8) -> u8 {
     1 + (far / 30).min(13) as u8
 }
 
-/// A glint's pixel of 16 by 16: a short stroke.
+/// Returns a glint's pixel of 16 by 16: a short stroke.
 fn glint(x: u8, y: u8) -> u8 {
     match (y % 16, (2 * (x % 16)).abs_diff(15)) {
         (7, 0..=5) => 1,
@@ -76,7 +77,8 @@ fn glint(x: u8, y: u8) -> u8 {
     }
 }
 
-/// The pictures of all objects, sixteen tiles across: the letters, and below them a ball and a glint.
+/// Returns a pixel of the pictures of all objects, sixteen tiles across: the letters, and below them a ball and a
+/// glint.
 fn pictures(x: u8, y: u8) -> u8 {
     match (x / 16, y / 16) {
         (_, 0 | 1) => letter(&FONT[usize::from(x / 32 % 4)], x % 32, y),
@@ -86,7 +88,7 @@ fn pictures(x: u8, y: u8) -> u8 {
     }
 }
 
-/// The four bytes of an object as it starts: x, y, tile, and palette with priority.
+/// Returns the four bytes of an object as it starts: x, y, tile, and palette with priority.
 fn object(number: u8) -> [u8; 4] {
     if number < BALLS {
         return [54 + 38 * number, 14, 4 * number, 0x30];
@@ -98,7 +100,7 @@ fn object(number: u8) -> [u8; 4] {
     [0, 160 + row % 20 * 5 / 2 + row / 20, 0x42, 0x3e]
 }
 
-/// A wave of parabolas round a middle: at its highest at the angle 64, at its lowest at 192.
+/// Returns a wave of parabolas around a middle: highest at the angle 64, lowest at 192.
 fn swing(angle: u8, middle: u8, most: u8) -> u8 {
     let high = 64u32.saturating_sub(square((angle % 128).abs_diff(64)) / 64) as u8;
     let reach = (u32::from(high) * u32::from(most) / 64) as u8;
@@ -119,7 +121,7 @@ fn put_path<F: Fn(u8) -> u8>(image: &mut Image, table: Table, rule: F)
     }
 }
 
-/// The colours of palettes 0 (letters), 1 to 6 (balls) and 7 (glints).
+/// Puts the colours of palettes 0 (letters), 1 to 6 (balls) and 7 (glints).
 fn put_object_colours(image: &mut Image) {
     put_colours(image, 129, &[0x180830]);
     for band in 0..12u8 {

@@ -1,4 +1,4 @@
-//! The program: it sets the scene up, works in a loop as a game does, and moves the scene in each NMI.
+//! Writes the program: it sets the scene up, works in a loop as a game does, and moves the scene in each NMI.
 
 use crate::assembler::Operand::{At, AtX, AtY, Byte, Direct, Word};
 use crate::assembler::Plain::{
@@ -13,7 +13,8 @@ use crate::landscape::WAVE_PAIRS;
 use crate::objects::{BALLS, GLINTS, Table};
 use crate::sound::send_sound;
 
-/// The direct page: numbers of the sums, the frame and the slower scrolls, and two angles with a zero behind each.
+/// Addresses in the direct page: numbers of the sums, the frame and the slower scrolls, and two angles with a zero
+/// after each.
 const ROUNDS: u8 = 0x10;
 
 const FACTOR: u8 = 0x12;
@@ -32,7 +33,7 @@ const ACROSS: u8 = 0x40;
 
 const DOWN: u8 = 0x42;
 
-/// Work RAM: the objects and the waves of the next frame, and three arrays.
+/// Addresses in work RAM: the objects and the waves of the next frame, and three arrays.
 const MOVED: u16 = 0x0300;
 
 const BENT: u16 = 0x0600;
@@ -43,7 +44,7 @@ const SECOND: u16 = 0x1100;
 
 const SUMS: u16 = 0x1200;
 
-/// What the registers of the picture are given at the start.
+/// The bytes that the PPU's registers get at the start.
 static PICTURE: [(u16, u8); 22] = [
     (0x2105, 0x01), // BGMODE: mode 1
     (0x2107, 0x03), // BG1SC: map at 0000, 64 by 64
@@ -69,18 +70,18 @@ static PICTURE: [(u16, u8); 22] = [
     (0x2100, 0x0f), // INIDISP: the picture on
 ];
 
-/// Gives a register a byte.
+/// Writes code that sets a register to a byte.
 fn set(code: &mut Code, register: u16, byte: u8) {
     code.write(&[Lda(Byte(byte)), Sta(At(register))]);
 }
 
-/// Sets up a channel of DMA: its pattern, its register of page 21, and the place in the cartridge that it reads.
+/// Sets up a channel of DMA: its pattern, its register of page 21, and the offset in the cartridge that it reads.
 fn aim(code: &mut Code, channel: u16, pattern: u8, register: u8, from: u32) {
     let (bank, at) = ((from / 0x8000 % 4) as u8, (from % 0x8000) as u16);
     aim_at(code, channel, pattern, register, bank, 0x8000 + at);
 }
 
-/// The same by bank and address.
+/// Sets up a channel of DMA: its pattern, its register of page 21, and the bank and address that it reads.
 fn aim_at(code: &mut Code, channel: u16, pattern: u8, register: u8, bank: u8, at: u16) {
     let [low, high] = at.to_le_bytes();
     let mut place = 0x4300 + channel % 8 * 16;
@@ -90,7 +91,7 @@ fn aim_at(code: &mut Code, channel: u16, pattern: u8, register: u8, bank: u8, at
     }
 }
 
-/// Moves as many bytes as channel 0 is aimed for.
+/// Moves the given number of bytes by channel 0, as it is set up.
 fn move_bytes(code: &mut Code, size: u16) {
     let [low, high] = size.to_le_bytes();
     set(code, 0x4305, low); // DAS0
@@ -116,7 +117,7 @@ fn show_objects(code: &mut Code) {
     move_bytes(code, 0x220);
 }
 
-/// The start: native mode, memories, registers, HDMA, and the picture on.
+/// Writes the start: native mode, memories, registers, HDMA, and the picture on.
 fn start(code: &mut Code) {
     code.write(&[
         Run(Sei),
@@ -152,7 +153,7 @@ fn start(code: &mut Code) {
     set(code, 0x4200, 0x81); // NMITIMEN: NMI and the pads
 }
 
-/// The game's work without an end: sums over arrays with a call for each, a product, and port 0.
+/// Writes the game's endless work: sums over arrays with a call for each, a product, and port 0.
 fn work(code: &mut Code, mix: Label) {
     let round = code.here();
     code.write(&[Rep(0x30), Ldx(Word(0))]);
@@ -183,7 +184,7 @@ fn work(code: &mut Code, mix: Label) {
     ]);
 }
 
-/// What the work calls: it mixes the count of rounds into a word.
+/// Writes the subroutine of the work: it mixes the count of iterations into a word.
 fn mix(code: &mut Code) -> Label {
     let label = code.here();
     code.write(&[
@@ -202,8 +203,8 @@ fn mix(code: &mut Code) -> Label {
     label
 }
 
-/// A path that things follow: its table, how often it takes the frame for its angle, and what the angle of each next
-/// thing is more.
+/// A path that things follow: its table, how often it adds the frame to its angle, and the step of the angle from each
+/// thing to the next.
 #[derive(Clone, Copy)]
 struct Path {
     angle: u8,
@@ -232,7 +233,7 @@ fn begin(code: &mut Code, path: &Path) {
     code.write(&[Sta(Direct(path.angle))]);
 }
 
-/// Reads a path, and goes on to the next thing's angle.
+/// Reads a path, and advances to the next thing's angle.
 fn follow(code: &mut Code, path: &Path) {
     code.write(&[
         Lda(Direct(path.angle)),
@@ -244,7 +245,7 @@ fn follow(code: &mut Code, path: &Path) {
     ]);
 }
 
-/// The address of a table.
+/// Returns the address of a table.
 fn address_of(table: Table) -> u16 {
     0x8000 + PATHS as u16 + 256 * table as u16
 }
@@ -318,7 +319,7 @@ fn bend_waves(code: &mut Code) -> Label {
     label
 }
 
-/// The NMI: the objects by DMA, the scrolls of BG2 and BG3, and then the next frame's places.
+/// Writes the NMI: the objects by DMA, the scrolls of BG2 and BG3, and then the positions of the next frame.
 fn interrupt(code: &mut Code, moves: &[Label]) -> Label {
     let label = code.here();
     code.write(&[
@@ -353,7 +354,7 @@ fn interrupt(code: &mut Code, moves: &[Label]) -> Label {
     label
 }
 
-/// Writes the program, with its tune or without, and gives where a reset and an NMI begin.
+/// Writes the program, with its tune or without, and returns where a reset and an NMI begin.
 pub fn write_program(code: &mut Code, with_tune: bool) -> (Label, Label) {
     let mix = mix(code);
     let bob = Path::of(DOWN, Table::LetterY, 3, 40);

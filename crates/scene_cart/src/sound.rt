@@ -1,4 +1,4 @@
-//! The sound program, and what sends it to the sound side: a slow tune of two voices. It answers port 0 by one more.
+//! The sound program, a slow tune of two voices, and the code that sends it to the APU. It answers port 0 by one more.
 //!
 //! Its listing is `examples/spc700/scene.lst`. The program of the cartridge sends it by the boot ROM's protocol
 //! (`docs/machine/BOOT-ROM.md`), as a game does.
@@ -9,15 +9,15 @@ use crate::assembler::Plain::{Inx, Txa};
 use crate::assembler::Step::{Bne, Cmp, Cpx, Lda, Ldx, Run, Sta};
 use crate::image::{Image, SOUND_PROGRAM};
 
-/// Its bytes.
+/// The number of bytes of the sound program.
 const SIZE: usize = 263;
 
-/// Where it lies in the sound side's RAM, and where it begins.
+/// The address of the sound program in the APU's RAM, and of its first instruction.
 const RAM_AT: u16 = 0x0200;
 
 const BEGIN: u16 = 0x0299;
 
-/// APUIO0 to APUIO2.
+/// The registers APUIO0 to APUIO2.
 const INDEX: u16 = 0x2140;
 
 const KIND: u16 = 0x2141;
@@ -49,13 +49,13 @@ pub fn put_sound(image: &mut Image) {
     image.put(SOUND_PROGRAM, &SOUND);
 }
 
-/// Waits until a port has A.
+/// Writes code that waits until a port has A.
 fn wait(code: &mut Code, port: u16) {
     let again = code.here();
     code.write(&[Cmp(At(port)), Bne(again)]);
 }
 
-/// An order: the address, its kind (zero is a jump), and its byte, which the boot ROM answers.
+/// Writes code that sends an order: the address, its kind (zero is a jump), and its byte, which the boot ROM answers.
 fn order(code: &mut Code, at: u16, kind: u8, byte: u8) {
     let [low, high] = at.to_le_bytes();
     for (register, number) in [
@@ -69,7 +69,7 @@ fn order(code: &mut Code, at: u16, kind: u8, byte: u8) {
     wait(code, INDEX);
 }
 
-/// Sends the sound program and has it begin, with A of 8 bits and X of 16.
+/// Writes code that sends the sound program and starts it, with A of 8 bits and X of 16.
 pub fn send_sound(code: &mut Code) {
     code.write(&[Lda(Byte(0xaa))]);
     wait(code, INDEX);
@@ -86,6 +86,6 @@ pub fn send_sound(code: &mut Code) {
     ]);
     wait(code, INDEX);
     code.write(&[Run(Inx), Cpx(Word(SIZE as u16)), Bne(next)]);
-    // One behind the index that would be next.
+    // One after the index that would be next.
     order(code, BEGIN, 0, ((SIZE + 1) % 256) as u8);
 }

@@ -1,8 +1,8 @@
-//! Shows the scenes of files, so that a person can look at the pictures and hear the sounds.
+//! Writes the scenes of files as pictures and sound, for people to look at and hear.
 //!
-//! `scene_show KIND FILE OUT FROM UPTO`: the scenes FROM to UPTO (decimal) of FILE go one after another into OUT. KIND is
-//! `picture` or `sound`; the modules of these names say what lies in OUT. As many such groups of five words as are wanted
-//! may stand one behind the other. The program prints how much it wrote, and names each line that is none of a scene.
+//! `scene_show KIND FILE OUT FROM UPTO`: the scenes FROM to UPTO (decimal) of FILE go one after another into OUT. KIND
+//! is `picture` or `sound`; the modules of these names describe OUT. Any number of such groups of five arguments may
+//! follow one another. The program prints how much it wrote, and names each invalid line of a scene.
 #![tactic(auto)]
 
 mod picture;
@@ -11,13 +11,13 @@ mod sound;
 use std::rt::Files;
 use std::{env, fs, io};
 
-/// What is said of words that are none.
+/// The message for invalid arguments.
 const USAGE: &str = "usage: scene_show picture|sound FILE OUT FROM UPTO";
 
-/// More groups of words than a command line has.
+/// More groups of arguments than a command line has.
 const MOST_GROUPS: u32 = 100;
 
-/// Writes the scenes from one to another of a file of a kind.
+/// Writes a range of scenes of a file of a kind.
 fn show<R: AllocGlobal + Print + Files>(
     rt: &R,
     kind: &str,

@@ -1,7 +1,7 @@
 //! Draws whole pictures of the scenes of a file.
 //!
-//! Each scene gives 224 rows of 512 dots, as they are after its last line. A dot is two bytes, low first: 15 bits, red in
-//! bits 4-0, green in 9-5, blue in 14-10. A PNG comes of it by
+//! Each scene gives 224 rows of 512 dots, as they are after its last line. A dot is two bytes, low first: 15 bits, red
+//! in bits 4-0, green in 9-5, blue in 14-10. To make a PNG:
 //! `ffmpeg -f rawvideo -pix_fmt bgr555le -video_size 512x224 -i OUT p%03d.png`.
 
 ghost use Rattle.std.specs.Prelude.{◌<◌};
@@ -14,7 +14,7 @@ use std::alloc::{AllocError, Global};
 use std::io;
 use tile_cache::TileCache;
 
-/// A new unit and a cache.
+/// Returns a new PPU and a tile cache.
 fn new_unit(alloc: Global) -> Option<(Ppu, TileCache)> {
     match (Ppu::new(alloc), TileCache::new(alloc)) {
         (Ok(ppu), Ok(tiles)) => Some((ppu, tiles)),
@@ -22,7 +22,7 @@ fn new_unit(alloc: Global) -> Option<(Ppu, TileCache)> {
     }
 }
 
-/// Adds one row of the picture to the bytes.
+/// Adds a row of the picture to the bytes.
 fn show_row(ppu: &Ppu, tiles: &TileCache, row: u16, bytes: &mut Vec<u8>) -> Result<(), AllocError>
     requires row { row < 239 }
     requires step { IsInStep tiles.now ppu.now.vram }
@@ -36,7 +36,7 @@ fn show_row(ppu: &Ppu, tiles: &TileCache, row: u16, bytes: &mut Vec<u8>) -> Resu
     Ok(())
 }
 
-/// Adds the picture as it stands.
+/// Adds the whole picture to the bytes.
 fn show(ppu: &Ppu, tiles: &mut TileCache, bytes: &mut Vec<u8>) -> Result<(), AllocError> {
     renew(ppu, tiles);
     for row in 0..224u16 {
@@ -45,7 +45,7 @@ fn show(ppu: &Ppu, tiles: &mut TileCache, bytes: &mut Vec<u8>) -> Result<(), All
     Ok(())
 }
 
-/// The pictures of the scenes of a text from one to another, of which it prints how many there were.
+/// Returns the pictures of a range of scenes of a text, and prints how many there were.
 pub fn show_scenes(
     rt: &impl Print,
     alloc: Global,
@@ -76,7 +76,7 @@ pub fn show_scenes(
     Ok(bytes)
 }
 
-/// Whether a line is an answer to be compared, which a picture doesn't ask for.
+/// Whether a line is an expected result, which a picture doesn't need.
 fn is_answer(line: &str) -> bool {
     line.starts_with("q ") || line.starts_with("r ")
 }

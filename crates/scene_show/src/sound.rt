@@ -1,9 +1,9 @@
 //! Makes the samples of the scenes of a file.
 //!
-//! The samples are those of 32,000 a second, each four bytes: left, then right, signed, low byte first. The
-//! lines are those of `sound_scenes`; a line `s N` makes N samples, whatever it gives to compare. A WAV
-//! comes of it by `ffmpeg -f s16le -ar 32000 -ac 2 -i OUT scenes.wav`, and
-//! `aplay -f S16_LE -r 32000 -c 2 OUT` plays it at once.
+//! There are 32,000 samples a second, each of four bytes: left, then right, signed, low byte first. The
+//! lines are those of `sound_scenes`; a line `s N` makes N samples, whatever it gives to compare. To make a WAV:
+//! `ffmpeg -f s16le -ar 32000 -ac 2 -i OUT scenes.wav`. To hear it directly:
+//! `aplay -f S16_LE -r 32000 -c 2 OUT`.
 
 ghost use Rattle.std.specs.Prelude.{◌≡◌, length};
 
@@ -11,12 +11,12 @@ use sound_scenes::Unit;
 use std::alloc::{AllocError, Global};
 use std::io;
 
-/// So many zeros.
+/// Returns the given number of zeros.
 fn zeros(alloc: Global, size: usize) -> io::Result<Vec<u8>> {
     Ok(vec![in alloc; 0u8; size]?)
 }
 
-/// How many samples a line makes: `s N ..`.
+/// Returns how many samples a line `s N ..` makes.
 fn samples_of(line: &str) -> Option<u64> {
     let mut words = line.split_whitespace();
     let kind = words.next()?;
@@ -35,7 +35,7 @@ fn add(bytes: &mut Vec<u8>, number: i16) -> Result<(), AllocError> {
     Ok(())
 }
 
-/// Makes so many samples, and adds them where they are wanted.
+/// Makes the given number of samples, and adds them if they are wanted.
 fn make(
     unit: &mut Unit,
     ram: &mut [u8],
@@ -56,12 +56,12 @@ fn make(
     Ok(())
 }
 
-/// Whether a line of a scene says anything.
+/// Whether a line of a scene is neither empty nor a comment.
 fn says_something(line: &str) -> bool {
     !line.is_empty() && !line.starts_with("#")
 }
 
-/// The samples of the scenes of a text from one to another, of which it prints how many there were.
+/// Returns the samples of a range of scenes of a text, and prints how many there were.
 pub fn show_scenes(
     rt: &impl Print,
     alloc: Global,

@@ -1,8 +1,9 @@
-//! Runs the scenes of the files that it is given through the picture unit, and through the voices and the echo.
+//! Runs the scenes of the given files through the PPU, and through the voices and the echo of the S-DSP.
 //!
-//! The words are kinds and files: the files behind `picture` have scenes of the picture, those behind `sound` of the sound.
-//! The word `random` compares rows of pictures at random. The modules of these names say what is compared and printed. The scenes come from outside: two other programs agreed on them.
-//! Those of `data/picture_differing.txt` and `data/sound_differing.txt` are wrong in one thing each, and have to be named.
+//! The arguments are kinds and files: the files after `picture` have scenes of the picture, those after `sound` of the
+//! sound. The argument `random` compares rows of random pictures. The modules of these names say what is compared and
+//! printed. The scenes are external test vectors: two other programs agreed on them. Those of
+//! `data/picture_differing.txt` and `data/sound_differing.txt` are wrong in one thing each, and must be named.
 #![tactic(auto)]
 
 mod picture;

@@ -1,8 +1,8 @@
-//! The scenes of the picture, through the picture unit.
+//! Runs the scenes of the picture through the PPU.
 //!
-//! The two programs that agreed on a scene agreed on every read and every dot. Each row is drawn twice, by `ppu_line` and slowly
-//! by `picture_slow`, and both have to be so. The scene of each line that differs, or is none of a scene, is printed,
-//! counted from 1 in its file, and last how many rows and reads there were.
+//! The two programs that agreed on a scene agreed on every read and every dot. Each row is drawn twice, by `ppu_line`
+//! and slowly by `picture_slow`, and both must agree with it. The program prints the scene, counted from 1 in its file,
+//! of each line that differs or is invalid. Last it prints the numbers of rows and reads.
 
 use picture_scenes::{acts, read_holds, renew, row_holds, row_number};
 use picture_slow::draw_slowly;
@@ -12,7 +12,7 @@ use std::alloc::Global;
 use std::io;
 use tile_cache::TileCache;
 
-/// How many answers were compared, and how many differ.
+/// The number of rows and reads that were compared, and how many differ.
 #[derive(Clone, Copy)]
 pub struct Tally {
     rows: u64,
@@ -21,7 +21,7 @@ pub struct Tally {
     reads_differing: u64,
 }
 
-/// A new unit and a cache.
+/// Returns a new PPU and a tile cache.
 fn new_unit(alloc: Global) -> Option<(Ppu, TileCache)> {
     match (Ppu::new(alloc), TileCache::new(alloc)) {
         (Ok(ppu), Ok(tiles)) => Some((ppu, tiles)),
@@ -29,7 +29,7 @@ fn new_unit(alloc: Global) -> Option<(Ppu, TileCache)> {
     }
 }
 
-/// Draws the row of a line, and says whether it holds.
+/// Draws the row of a line, and returns whether it holds.
 fn row_is_so(ppu: &mut Ppu, tiles: &mut TileCache, line: &str) -> bool {
     match row_number(line) {
         None => false,
@@ -45,7 +45,7 @@ fn row_is_so(ppu: &mut Ppu, tiles: &mut TileCache, line: &str) -> bool {
     }
 }
 
-/// Does a line, and says whether it holds.
+/// Does a line, and returns whether it holds.
 fn does(ppu: &mut Ppu, tiles: &mut TileCache, tally: &mut Tally, line: &str) -> bool {
     if line.starts_with("r ") {
         let so = row_is_so(ppu, tiles, line);
@@ -67,7 +67,7 @@ fn does(ppu: &mut Ppu, tiles: &mut TileCache, tally: &mut Tally, line: &str) -> 
 }
 
 impl Tally {
-    /// Of no answer.
+    /// Returns the tally of no rows and reads.
     pub fn new() -> Tally {
         Tally {
             rows: 0,

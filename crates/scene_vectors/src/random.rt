@@ -1,15 +1,15 @@
-//! Compares rows of `ppu_line` with those of `picture_slow`, which stands on nothing but registers and memories.
+//! Compares random rows of `ppu_line` with those of `picture_slow`, which uses nothing but registers and memories.
 //!
-//! Each screen begins with all memories and registers at random, in one of the eight modes, and registers, VRAM, objects
-//! and colours are written at random between its rows, so the decoded tiles of `ppu_line` are those that writes
-//! have kept in step.
+//! Each screen begins with all memories and registers at random, in one of the eight modes. Registers, VRAM, objects
+//! and colours are written at random between its rows. So the decoded tiles of `ppu_line` are those that writes have
+//! kept in step.
 //!
-//! After each row three things are made wrong, one at a time, by a write at random (of the registers that take a
-//! memory's bytes, many writes), and the row worked out then is compared with the one drawn before: a comparison that
-//! sees nothing would find no difference. Each register is written so in turn. Those that change no picture are
-//! 2115 to 2117 and 2121, which only say where the next byte of VRAM or CGRAM goes; every other one has to be told.
+//! After each row three things are made wrong, one at a time, by a random write (many writes to a register that takes a
+//! memory's bytes). The row worked out then is compared with the one drawn before: a comparison that sees nothing would
+//! find no difference. Each register is written so in turn. Registers 2115 to 2117 and 2121 change no picture: they
+//! only say where the next byte of VRAM or CGRAM goes. Every other one must be detected.
 //!
-//! It prints how many rows were compared, how many differ, and the registers of which no row was told.
+//! It prints how many rows were compared, how many differ, and the registers for which no row was detected.
 
 mod screen;
 mod writes;
@@ -23,7 +23,7 @@ use writes::{REGISTERS, begin, change, make_wrong};
 /// The screens of each mode.
 const SCREENS: u32 = 16;
 
-/// The rows of each screen, every tenth.
+/// The number of rows of each screen that are compared, every tenth one.
 const ROWS: u16 = 24;
 
 /// The things made wrong after each row.
@@ -34,13 +34,13 @@ const WRONGS: u32 = 3;
 struct Tally {
     rows: u64,
     differing: u64,
-    /// For each register, whether a row was told from the right one after it was written.
+    /// For each register, whether a row differed from the right one after it was written.
     told: [bool; 64],
     /// The register that is made wrong next.
     register: u8,
 }
 
-/// One row: both ways, and then with one thing wrong after another.
+/// Compares a row drawn both ways, and then with one thing wrong after another.
 fn compare_row(screen: &mut Screen, generator: &mut Generator, row: u16, tally: &mut Tally) {
     if row >= 239 {
         return;
@@ -61,7 +61,7 @@ fn compare_row(screen: &mut Screen, generator: &mut Generator, row: u16, tally: 
     }
 }
 
-/// The rows of one screen.
+/// Compares the rows of one screen.
 fn compare_screen(alloc: Global, mode: u8, seed: u32, tally: &mut Tally) -> Option<()> {
     let mut screen = Screen::new(alloc)?;
     let mut generator = Generator::new(seed);

@@ -1,25 +1,25 @@
-//! The scenes of the sound, through the voices and the echo.
+//! Runs the scenes of the sound through the voices and the echo.
 //!
-//! A scene is one of `sound_scenes`, whose page has the lines. The first line of each that differs is printed, with the number
-//! of the scene, and last how many there were.
+//! `sound_scenes` describes the lines of a scene. The program prints the first line that differs of each scene, with
+//! the number of the scene, and last the number of scenes.
 
 use sound_scenes::{Outcome, Unit};
 use std::alloc::Global;
 use std::io;
 
-/// How many scenes there were, and how many differ.
+/// The number of scenes so far, and how many differ.
 #[derive(Clone, Copy)]
 pub struct Tally {
     cases: u64,
     different: u64,
 }
 
-/// So many zeros.
+/// Returns the given number of zeros.
 fn zeros(alloc: Global, size: usize) -> io::Result<Vec<u8>> {
     Ok(vec![in alloc; 0u8; size]?)
 }
 
-/// Does a line of a scene, and says whether it holds. The first one that does not is printed.
+/// Does a line of a scene, and returns whether it holds. Prints the first one that does not.
 fn does<R: Print>(
     rt: &R,
     unit: &mut Unit,
@@ -40,7 +40,7 @@ fn does<R: Print>(
 }
 
 impl Tally {
-    /// Of no scene.
+    /// Returns the tally of no scenes.
     pub fn new() -> Tally {
         Tally {
             cases: 0,

@@ -5,21 +5,21 @@ use cart_map::CartRefused;
 use memory_player::{End, Why};
 use snes_defs::Side;
 
-/// What a call tells beside its status.
+/// The result of a call besides its status.
 #[repr(C)]
 #[derive(Clone, Copy, Debug, PartialEq, Eq)]
 pub struct SnesAnswer {
-    /// Why the job was not played to its end, by the numbers of `snes.h`; 0 at status 0.
+    /// The reason why the job was not played to its end, as a number of `snes.h`; 0 at status 0.
     pub cause: u32,
-    /// Where: the cartridge's chip or RAM size byte, the table's entry, the script's line; 0 for the other causes.
+    /// The detail of the cause: the cartridge's chip or RAM size byte, the table's entry, the script's line; else 0.
     pub place: u32,
-    /// How many bytes of video stand in front of its slice, at status 0.
+    /// The number of bytes of video at the front of its slice, at status 0.
     pub video: usize,
-    /// The same of sound.
+    /// The number of bytes of sound at the front of its slice, at status 0.
     pub sound: usize,
 }
 
-/// The status of an end: the exit status that the program has for it.
+/// Returns the status of an end: the exit status that the program has for it.
 fn status(end: End) -> u32
     ensures { result ≡ status_of end }
 {
@@ -31,7 +31,7 @@ fn status(end: End) -> u32
     }
 }
 
-/// The number of a cause.
+/// Returns the number of a cause.
 fn cause(end: End) -> u32
     ensures { result ≡ cause_of end }
 {
@@ -51,7 +51,7 @@ fn cause(end: End) -> u32
     }
 }
 
-/// The place of a cause in its input.
+/// Returns the place of a cause in its input.
 fn place(end: End) -> u32
     ensures { result ≡ place_of end }
 {
@@ -70,7 +70,7 @@ fn place(end: End) -> u32
     }
 }
 
-/// Writes why a job was not played to its end, and gives the status.
+/// Writes why a job was not played to its end, and returns the status.
 pub(crate) fn told(end: End, answer: &mut SnesAnswer) -> u32
     ensures { IsToldAs end result answer.new }
 {

@@ -11,7 +11,7 @@ use run_drive::{Sink, run_serial};
 use snes_defs::{Job, NoMemory, Side};
 use std::alloc::Global;
 
-/// The bytes of the buffer that a run is drained through: as many as can wait in a side.
+/// The size of the buffer through which a run is drained: as many bytes as can be pending in a side.
 const BUFFER: usize = 65_536;
 
 /// The console of a job: both sides at their starts, the end of the job's frames, and a buffer.

@@ -1,7 +1,8 @@
 // The console for programs that are not written in Rattle: a static library with one call, `snes_play`.
 //
-// Thin over `memory_player`: a player that has both sides of the console, and no lock and no thread. `embed/snes.h` declares the call for C, and
-// `docs/use/EMBEDDING.md` says what is proved of it, and what a caller has to keep that nothing checks.
+// A thin layer over `memory_player`: a player that has both sides of the console, and no lock and no thread.
+// `embed/snes.h` declares the call for C. `docs/use/EMBEDDING.md` says what is proved of it, and which duties of a
+// caller nothing checks.
 #![tactic(auto)]
 
 ghost use Rattle.std.specs.Prelude.{◌≡◌, ◌≢◌};
@@ -20,11 +21,11 @@ use console::SerialConsole;
 use memory_player::{Inputs, play};
 use std::alloc::Global;
 
-/// Plays a job of so many frames by the serial console, and answers a status: 0 where it was done.
+/// Plays a job of `frames` frames by the serial console, and returns a status: 0 if it was done.
 ///
-/// The cartridge, boot ROM, interpolation table and script are the bytes of the files that `snes serial` takes. At
-/// most 36,000 frames. Video takes 244,736 bytes a frame, sound 4 bytes a sample. `answer` says how many bytes of
-/// each stand in front of its slice, or the cause. All memory that it takes is given back before it returns.
+/// The cartridge, boot ROM, interpolation table and script are the bytes of the files that `snes serial` takes. At most
+/// 36,000 frames. Video takes 244,736 bytes a frame, sound 4 bytes a sample. `answer` says how many bytes of each are
+/// at the front of its slice, or the cause. All memory that the call allocates is freed before it returns.
 #[unsafe(no_mangle)]
 pub extern "C" fn snes_play(
     alloc: Global,

@@ -5,7 +5,7 @@ use input_files::read_boot;
 use run_io::Word;
 use std::alloc::Global;
 
-/// The boot ROM of the sound side: 64 bytes.
+/// The boot ROM of the SPC700: 64 bytes.
 pub(crate) struct BootFile;
 
 impl Loads for BootFile {

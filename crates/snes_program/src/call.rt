@@ -18,7 +18,7 @@ use port_wire::Gate;
 use run_io::{Argv, Asked, Word, read_form};
 use std::thread::Threads;
 
-/// Does what a command asks for, says how it ended, and gives the answer.
+/// Performs a command, prints how it ended, and returns the status.
 fn commanded<C: Performs, R: AllocGlobal + Threads, H: Shelf>(
     command: &C,
     rt: &R,
@@ -33,7 +33,7 @@ fn commanded<C: Performs, R: AllocGlobal + Threads, H: Shelf>(
     say(shelf, outcome)
 }
 
-/// Reads the words behind a command's name by its form, and does what they ask for.
+/// Reads the arguments after a command's name by its form, and performs the command.
 #[tactic(auto, using(crate::proofs::Ending::reads))]
 fn call<C: Performs, R: AllocGlobal + Threads, H: Shelf>(
     command: &C,
@@ -94,7 +94,7 @@ fn call_named<P: PlanPlayer, R: AllocGlobal + Threads, H: Shelf>(
     refuse(shelf, Status::Usage)
 }
 
-/// Does what the words ask for, says how it ended, and gives the answer.
+/// Performs the command that the arguments ask for, prints how it ended, and returns the status.
 #[tactic(auto, using(crate::proofs::Ending::reads))]
 pub(crate) fn performed<P: PlanPlayer, R: AllocGlobal + Threads, H: Shelf>(
     rt: &R,

@@ -14,28 +14,28 @@ use snes_defs::NoMemory;
 use std::alloc::Global;
 use std::thread::Threads;
 
-/// A command: what is its own beside the words, loads, creations and lines that all commands share.
+/// A command: what it does besides the arguments, loads, creations and lines that all commands share.
 pub(crate) trait Performs {
     ghost use Rattle.std.specs.Prelude.{ℕ, List, Option};
     ghost use Rattle.file_shelf.specs.declared.shelves.Input.{Input};
 
-    /// Its inputs, in their order.
+    /// The inputs of the command, in their order.
     type Inputs: Loads;
 
-    /// All that it needs to fill its outputs: no memory is taken after it.
+    /// Everything that the command needs to fill its outputs: nothing is allocated afterwards.
     type Ready: Drop;
 
-    // What it is: the form of its words, and what it makes.
+    // What the command is: the form of its arguments, and what it makes.
     ghost command: { Command };
 
-    // This is ready to make what the words and the told bytes of the inputs ask for.
+    // This is ready to make what the arguments and the told bytes of the inputs ask for.
     ghost is_ready: { Order → (Input → Option (List ℕ)) → Self.Ready → Type 0 };
 
-    /// The form of its words.
+    /// Returns the form of its arguments.
     fn form() -> Form
         ensures { form_by result ≡ command.form };
 
-    /// Takes all memory.
+    /// Allocates everything that the command needs.
     fn ready(
         &self,
         alloc: Global,
@@ -46,8 +46,8 @@ pub(crate) trait Performs {
         ensures ready { IfOk result (λ ready. (told : Input → Option (List ℕ)) → Self.Inputs.reads told inputs → is_ready (order_by asked.now) told ready) }
         ensures makes { OnOk result ((told : Input → Option (List ℕ)) → Self.Inputs.reads told inputs → CanMake command (order_by asked.now) told) };
 
-    /// Puts what it makes to its outputs, which were created, and gives its line. Err names the
-    /// output that was not written. Where two workers run, each passes the gate as it sets out on a turn.
+    /// Puts what it makes to its outputs, which were created, and returns its line. Err names the output that was not
+    /// written. If two workers run, each passes the gate as it starts a turn.
     fn fill<R: Threads, H: Shelf>(
         &self,
         rt: &R,

@@ -14,7 +14,7 @@ use std::alloc::Global;
 use std::marker::PhantomData;
 use std::thread::Threads;
 
-/// The command `demo`: the image of a number is run in memory by two workers.
+/// The command `demo`: runs the image of a number in memory, on two workers.
 #[derive(Drop)]
 pub(crate) struct Demo<P> {
     player: PhantomData<P>,
@@ -28,7 +28,7 @@ impl<P: Player> Demo<P> {
     }
 }
 
-/// The job of a demo. Its image is a LoROM cartridge without RAM, and taken as it is.
+/// Returns the job of a demo. Its image is a LoROM cartridge without RAM, and taken as it is.
 fn demo_job(alloc: Global, number: u32, frames: u32) -> Result<Job, NoMemory>
     ensures { IfOk result (IsDemoJob number frames) }
 {
@@ -78,7 +78,7 @@ impl<P: Player> Performs for Demo<P> {
         Ok(player)
     }
 
-    /// Nothing is put: the line has the sums of what the run emits.
+    /// Puts nothing: the line has the sums of what the run emits.
     fn fill<R: Threads, H: Shelf>(
         &self,
         rt: &R,

@@ -10,13 +10,13 @@ use snes_defs::NoMemory;
 use std::alloc::Global;
 use std::thread::Threads;
 
-/// The command `--help`: the help is printed.
+/// The command `--help`: prints the help.
 pub(crate) struct Help;
 
-/// The command `--version`: the version is printed.
+/// The command `--version`: prints the version.
 pub(crate) struct Version;
 
-/// The form of no words.
+/// Returns the form of a command without arguments.
 fn no_words() -> Form
     ensures { form_by result ≡ text_form }
 {

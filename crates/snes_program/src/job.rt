@@ -14,7 +14,7 @@ use snes_defs::Job;
 /// The inputs of a job, in their order.
 pub(crate) type JobFiles = (CartFile, (BootFile, (TableFile, ScriptFile)));
 
-/// The job of so many frames that the inputs make. Its region is that of the script.
+/// Returns the job that the inputs make, with the given number of frames. Its region is that of the script.
 pub(crate) fn job_of(files: <JobFiles as Loads>::Value, frames: u32) -> Job
     ensures frames { result.frames ≡ frames }
     ensures shows { (told : Input → Option (List ℕ)) → ⟦<JobFiles as Loads>⟧.reads told files → ShowsJob told frames result }
@@ -31,7 +31,7 @@ pub(crate) fn job_of(files: <JobFiles as Loads>::Value, frames: u32) -> Job
     }
 }
 
-/// The line of a job that was run.
+/// Returns the line of a job that was run.
 pub(crate) fn line_of_run(job: &Job) -> Line
     requires { job.now.frames ≤ 36000 }
     ensures { result ≡ run_line job.now }

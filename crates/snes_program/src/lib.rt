@@ -1,12 +1,12 @@
-// All that the program does, for any player of jobs and any shelf of files.
+// The program `snes`: everything that its commands do, for any player of jobs and any shelf of files.
 //
-// Stands on the readers of words and files, on the player of sound files, and on the trait of what
-// plays a job; it knows no console: a `Player` makes one from a job and plays it. `docs/use/COMMANDS.md`
-// says what the words, files and lines are.
+// Builds on the readers of arguments and files, on the player of sound files, and on the trait `Player`. It knows no
+// console: a `Player` makes one from a job and plays it. `docs/use/COMMANDS.md` describes the arguments, files and
+// lines.
 //
-// What all commands share stands in `call`, `perform`, `loads`, `outputs` and `say`. A command is a
-// file of its own (`run`, `play`, `make`, `demo`, `rewind`, `help`) and what it means, in `specs/`; a kind of input is a file of
-// `cart`, `boot`, `spc`, `table`, `script`, `plan`. `CONTRIBUTING.md` says how one is added.
+// What all commands share is in `call`, `perform`, `loads`, `outputs` and `say`. Each command has a file of its own
+// (`run`, `play`, `make`, `demo`, `rewind`, `help`), and its meaning is in `specs/`. Each kind of input has a file too:
+// `cart`, `boot`, `spc`, `table`, `script`, `plan`. `CONTRIBUTING.md` says how to add one.
 #![tactic(auto)]
 
 mod boot;

@@ -10,8 +10,8 @@ use file_shelf::{Input, LoadEnd, Shelf};
 use run_io::{Word, input_name};
 use std::alloc::Global;
 
-/// Inputs that are loaded and accepted in their order, and what is read of them. A kind of input is
-/// one of these, and so are two of these, the one before the other.
+/// Inputs that are loaded and accepted in their order, and what is read from them. A kind of input implements it, and
+/// so does a pair of implementors, of which the first is loaded first.
 pub(crate) trait Loads {
     ghost use Rattle.std.specs.Prelude.{ℕ, List, Option};
     ghost use Rattle.file_shelf.specs.declared.shelves.Input.{Input};
@@ -24,7 +24,7 @@ pub(crate) trait Loads {
     // This is what is read of the bytes that are told of them.
     ghost reads: { (Input → Option (List ℕ)) → Self.Value → Type 0 };
 
-    /// Loads them under the names that the words give them.
+    /// Loads the inputs under the names that the arguments give them.
     fn load<H: Shelf>(alloc: Global, pairs: &[Word], shelf: &mut H) -> Result<Self::Value, Status>
         ensures read { IfOk result (reads (told_in (H.shown shelf.old) pairs.now)) }
         ensures accepted { OnOk result (AllOf (ShowsAccepted (told_in (H.shown shelf.old) pairs.now)) inputs) }
@@ -66,7 +66,7 @@ impl Loads for () {
     }
 }
 
-/// Loads an input whole. One that is longer than its limit is refused for this cause.
+/// Loads a whole input. If it is longer than its limit, it is refused for this cause.
 #[tactic(auto, using(crate::proofs::Loading::longer_is_refused))]
 pub(crate) fn fetch<H: Shelf>(
     alloc: Global,

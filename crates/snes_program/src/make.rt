@@ -7,7 +7,7 @@ use snes_defs::NoMemory;
 use std::alloc::Global;
 use std::thread::Threads;
 
-/// The command `make`: a number makes the image of a cartridge.
+/// The command `make`: writes the image of the cartridge that a number makes.
 pub(crate) struct Make;
 
 static OUTPUTS: [Out; 1] = [Out::Image];

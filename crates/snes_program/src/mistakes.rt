@@ -11,7 +11,7 @@ use crate::run::Run;
 use plan_drive::PlanPlayer;
 use run_io::{Argv, Fault, Mistake, Word, mistake_in, read_form};
 
-/// Why the words behind a command's name are not in its form.
+/// Returns the mistake in the arguments after a command's name; none if they have its form.
 #[tactic(auto, using(crate::proofs::Explaining::explains))]
 fn explain_form<C: Performs>(words: &[Word]) -> Option<Mistake<'_>>
     ensures { MatchOption result (¬ IsNothing (asks C.command words.now)) (λ mistake. IsNothing (asks C.command words.now)) }
@@ -23,7 +23,7 @@ fn explain_form<C: Performs>(words: &[Word]) -> Option<Mistake<'_>>
     }
 }
 
-/// Why the words behind this name ask for nothing. The commands stand here as in `call_named`.
+/// Returns the mistake in the arguments after this name, if there is one. The commands are listed as in `call_named`.
 #[tactic(auto, unfolding(crate::specs::Commands::asked_by))]
 fn explain_named<'a, P: PlanPlayer>(name: &'a str, words: &'a [Word]) -> Option<Mistake<'a>>
     ensures { MatchOption result (¬ IsNothing (asked_by P.emits name.now words.now)) (λ mistake. IsNothing (asked_by P.emits name.now words.now)) }
@@ -61,7 +61,7 @@ fn explain_named<'a, P: PlanPlayer>(name: &'a str, words: &'a [Word]) -> Option<
     Some(Mistake::of(Fault::NotACommand, "", name))
 }
 
-/// Why a command line is at fault: there is a mistake exactly where `snes` answers `Usage`.
+/// Returns the mistake in a command line: there is one if and only if `snes` returns `Usage`.
 pub fn explain<P: PlanPlayer>(words: &Argv) -> Option<Mistake<'_>>
     ensures { MatchOption result (¬ IsNothing (asked P.emits words.now)) (λ mistake. IsNothing (asked P.emits words.now)) }
 {

@@ -9,8 +9,8 @@ ghost use Rattle.snes_program.specs.Ends.{are_apart, OnlyTouches, IsFresh};
 use file_shelf::{Failed, Out, Shelf};
 use run_io::{Asked, output_name};
 
-/// Creates outputs in their order, under the names that the words give them. Err names the one that
-/// was not created; those before it were, and those behind it were not tried.
+/// Creates outputs in their order, under the names that the arguments give them. Err names the one that was not
+/// created; those before it were, and those after it were not tried.
 pub(crate) fn create_all<H: Shelf>(
     shelf: &mut H,
     asked: &Asked<'_>,
@@ -33,7 +33,7 @@ pub(crate) fn create_all<H: Shelf>(
     }
 }
 
-/// Writes what the outputs still hold back, in their order. Err names the one that was not written.
+/// Flushes the outputs in their order. Err names the one that was not written.
 pub(crate) fn flush_all<H: Shelf>(shelf: &mut H, outputs: &[Out]) -> Result<(), Out>
     requires { are_apart outputs.now ≡ true }
     ensures whole { OnOk result (AllOf (λ out. (H.shown shelf.new).unwritten out ≡ 0) outputs.now) }

@@ -11,9 +11,10 @@ use port_wire::Gate;
 use run_io::{Asked, Line};
 use std::thread::Threads;
 
-/// Does what a command asks for, and gives the line to say: loads and accepts its inputs in their
-/// order, takes all memory, creates its outputs in their order, fills and flushes them. Err is the
-/// answer where it was not done.
+/// Performs a command, and returns the line to print.
+///
+/// Loads and accepts its inputs in their order, allocates all memory, and creates its outputs in their order. Then it
+/// fills and flushes them. Err is the status if this was not done.
 pub(crate) fn perform<C: Performs, R: AllocGlobal + Threads, H: Shelf>(
     command: &C,
     rt: &R,

@@ -5,7 +5,7 @@ use input_files::{Plan, PlanEnd, read_plan};
 use run_io::Word;
 use std::alloc::Global;
 
-/// The plan of a rewinder: at most 1,048,576 bytes.
+/// The plan of the command `rewind`: at most 1,048,576 bytes.
 pub(crate) struct PlanFile;
 
 impl Loads for PlanFile {

@@ -11,7 +11,7 @@ use spc_player::Player;
 use std::alloc::Global;
 use std::thread::Threads;
 
-/// The command `play`: a sound file is played by the sound side alone.
+/// The command `play`: plays a sound file on the sound side alone.
 pub(crate) struct Play;
 
 static INPUTS: [Input; 2] = [Input::Spc, Input::Table];

@@ -4,7 +4,7 @@ ghost use Rattle.file_shelf.specs.Told.{Appends, AppendsSome, HasRisen};
 
 use file_shelf::{Failed, Out, Shelf};
 
-/// Puts bytes to an output and has them written: nothing of it is held back then.
+/// Puts bytes to an output and flushes it: at Ok, nothing of the output is held back.
 #[tactic(auto, using(crate::proofs::Putting::puts_whole))]
 pub(crate) fn put_whole<H: Shelf>(shelf: &mut H, out: Out, bytes: &[u8]) -> Result<(), Failed>
     ensures appended { OnOk result (Appends ((H.shown shelf.old).written out) ((H.shown shelf.new).written out) bytes.now) }

@@ -26,14 +26,14 @@ use std::alloc::Global;
 use std::marker::PhantomData;
 use std::thread::Threads;
 
-/// The command `rewind`: a plan of kept moments is played on the console that three inputs make, and its goes become
-/// video and sound.
+/// The command `rewind`: plays a plan with save states on the console that three inputs make. The plan's `go` lines
+/// become video and sound.
 #[derive(Drop)]
 pub(crate) struct Rewind<P> {
     player: PhantomData<P>,
 }
 
-/// What plays the plan, the plan, and its line.
+/// A player at the start of a plan, the plan, and the line of its run.
 #[derive(Drop)]
 pub(crate) struct ReadyRewind<N> {
     planned: N,
@@ -56,7 +56,7 @@ impl<P: PlanPlayer> Rewind<P> {
     }
 }
 
-/// The machines that the inputs make, as an Ntsc job without a script, and the plan.
+/// Returns the machines that the inputs make, as an NTSC job without a script, and the plan.
 fn machines_of(alloc: Global, files: <PlanFiles as Loads>::Value) -> (Job, Plan)
     ensures script { result.0.script ≡ path_script 0 [] }
     ensures region { result.0.region ≡ Ntsc }
@@ -74,7 +74,7 @@ fn machines_of(alloc: Global, files: <PlanFiles as Loads>::Value) -> (Job, Plan)
     (job, plan)
 }
 
-/// The line of a plan that was played.
+/// Returns the line of a plan that was played.
 fn line_of_plan(plan: &Plan) -> Line
     ensures { result ≡ plan_line plan.now }
 {

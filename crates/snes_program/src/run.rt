@@ -18,18 +18,18 @@ use std::alloc::Global;
 use std::marker::PhantomData;
 use std::thread::Threads;
 
-/// How the two machines of a run are stepped. What they emit is the same.
+/// The way in which the two machines of a run are stepped. They emit the same each way.
 #[derive(Clone, Copy)]
 pub(crate) enum Way {
     /// By the serial console.
     Serial,
     /// By two workers, turn by turn.
     Turns,
-    /// By two workers, whose ports are words without a lock.
+    /// By two workers, with words without a lock as ports.
     Words,
 }
 
-/// The commands `run`, `serial` and `lockless`: the run of the job that four inputs make becomes video and sound.
+/// The commands `run`, `serial` and `lockless`: run the job that four inputs make, and write its video and sound.
 #[derive(Drop)]
 pub(crate) struct Run<P> {
     way: Way,
@@ -48,7 +48,7 @@ static INPUTS: [Input; 4] = [Input::Cart, Input::Boot, Input::Table, Input::Scri
 static OUTPUTS: [Out; 2] = [Out::Video, Out::Sound];
 
 impl<P: Player> Run<P> {
-    /// A run that steps its machines this way.
+    /// Returns the command that steps its machines in this way.
     pub(crate) fn by(way: Way) -> Run<P> {
         Run {
             way,
@@ -57,7 +57,7 @@ impl<P: Player> Run<P> {
     }
 }
 
-/// Plays one way or the other.
+/// Plays a job in the given way.
 fn play_by<P: Player, R: Threads, H: Shelf>(
     rt: &R,
     gate: &dyn Gate,

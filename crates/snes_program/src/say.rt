@@ -14,7 +14,7 @@ use run_io::{
 };
 use spc_player::SpcRefused;
 
-/// The line of an input that was refused.
+/// Returns the line of an input that was refused.
 fn refused_line(cause: Why) -> Line
     ensures { result ≡ line_of (refused_text cause) }
 {
@@ -30,7 +30,7 @@ fn refused_line(cause: Why) -> Line
     }
 }
 
-/// The line of an answer, where it has one.
+/// Returns the line that reports a failure. There is none for `Ok`, nor for a failed write of the lines themselves.
 pub fn refusal_line(status: Status) -> Option<Line>
     ensures { result ≡ refusal_of status }
 {
@@ -44,8 +44,7 @@ pub fn refusal_line(status: Status) -> Option<Line>
     }
 }
 
-/// Says the line of an answer that tells why nothing was done, and gives the answer. That it was not said is
-/// passed over.
+/// Prints the line that reports a failure, and returns the status. A failed write of the line is ignored.
 pub(crate) fn refuse<H: Shelf>(shelf: &mut H, status: Status) -> Status
     ensures answer { result ≡ status }
     ensures said { IfSome (refusal_of status) (IsSaid (H.shown shelf.old) (H.shown shelf.new)) }
@@ -57,7 +56,7 @@ pub(crate) fn refuse<H: Shelf>(shelf: &mut H, status: Status) -> Status
     status
 }
 
-/// Says how a command ended, and gives the answer.
+/// Prints how a command ended, and returns the status.
 pub(crate) fn say<H: Shelf>(shelf: &mut H, outcome: Result<Line, Status>) -> Status
     ensures done { IfOk outcome (λ line. Says (H.shown shelf.old) (H.shown shelf.new) line result) }
     ensures not_done { IfErr outcome (λ status. result ≡ status) }

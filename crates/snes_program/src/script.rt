@@ -6,7 +6,7 @@ use run_io::Word;
 use snes_defs::Spans;
 use std::alloc::Global;
 
-/// The script of pads: at most 1,048,576 bytes.
+/// The controller script: at most 1,048,576 bytes.
 pub(crate) struct ScriptFile;
 
 impl Loads for ScriptFile {

@@ -1,4 +1,4 @@
-// The output for sound of a shelf, as a sink.
+// The sound output of a shelf, as a sink.
 ghost use Rattle.std.specs.Prelude.{◌≡◌, ◌≢◌, ℕ, List, [], OnOk, OnErr};
 ghost use Rattle.snes_defs.specs.declared.ports.Side.{Side};
 ghost use Rattle.file_shelf.specs.Told.{Holds, HasRisen};
@@ -12,8 +12,7 @@ use run_drive::Sink;
 use snes_defs::Side;
 use spc_player::Player;
 
-/// The output for sound: the sound side's bytes are put to it, and those of a console are passed over. So no other
-/// output is touched.
+/// The sound output: it takes the sound side's bytes, and ignores the console side's. So no other output is touched.
 #[derive(Drop)]
 struct SoundOut<'a, H> {
     shelf: &'a mut H,
@@ -50,7 +49,7 @@ impl<H: Shelf> Sink for SoundOut<'_, H> {
     ghost failed_since = { λ a b c side first then. risen_since _ _ _ (first.1.write_faults out.Sound) then };
 }
 
-/// Plays so many samples into the output for sound, and nothing else.
+/// Plays the given number of samples into the sound output. Touches no other output.
 pub(crate) fn play_sound<H: Shelf>(
     player: &mut Player,
     samples: u32,

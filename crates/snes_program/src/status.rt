@@ -6,26 +6,25 @@ use cart_map::CartRefused;
 use file_shelf::{Input, Out};
 use spc_player::SpcRefused;
 
-/// Why an input was not accepted.
+/// The reason why an input was not accepted.
 #[derive(Clone, Copy, Debug, PartialEq, Eq)]
 pub enum Why {
-    /// The file is no cartridge of this console.
+    /// The file is not a cartridge of this console.
     Cart(CartRefused),
-    /// The boot ROM hasn't 64 bytes.
+    /// The boot ROM is not 64 bytes long.
     Boot,
-    /// The file is no sound file.
+    /// The file is not a sound file.
     Spc(SpcRefused),
-    /// The interpolation table hasn't 1,024 bytes (512), or this is its first entry above 2047.
+    /// The interpolation table is not 1,024 bytes long (512), or this is its first entry above 2047.
     Table(u16),
-    /// The script has more than 1,048,576 bytes (0), or this is its first line that is in no form,
-    /// from 1.
+    /// The script has more than 1,048,576 bytes (0), or this is its first invalid line, from 1.
     Script(u32),
-    /// The plan has more than 1,048,576 bytes (0), or this is its first line that is in no form, from 1.
+    /// The plan has more than 1,048,576 bytes (0), or this is its first invalid line, from 1.
     Plan(u32),
 }
 
 impl Why {
-    /// The input that was not accepted.
+    /// Returns the input that was not accepted.
     pub fn input(&self) -> Input
         ensures { result ≡ input_of self.now }
     {
@@ -43,9 +42,9 @@ impl Why {
 /// How a call of the program ended.
 #[derive(Clone, Copy, Debug, PartialEq, Eq)]
 pub enum Status {
-    /// All was done.
+    /// Everything was done.
     Ok,
-    /// The words are in no form.
+    /// The arguments are invalid.
     Usage,
     /// This input was not loaded, and a fault of its name was counted.
     LoadFault(Input),
@@ -53,13 +52,12 @@ pub enum Status {
     Refused(Why),
     /// This output was not written, and a fault of it was counted.
     WriteFault(Out),
-    /// There was no memory.
+    /// Allocation failed.
     NoMemory,
 }
 
 impl Status {
-    /// The exit status of the process: 0 Ok, 1 Usage, 2 LoadFault, 3 Refused, 4 WriteFault,
-    /// 5 NoMemory.
+    /// Returns the exit status of the process: 0 Ok, 1 Usage, 2 LoadFault, 3 Refused, 4 WriteFault, 5 NoMemory.
     pub fn exit(&self) -> u8
         ensures { result ≡ exit_of self.now }
     {

@@ -7,7 +7,7 @@ use file_shelf::Failed;
 use run_drive::Sink;
 use snes_defs::Side;
 
-/// The sums of the bytes of video and of audio, as 64 bits keep them.
+/// The sums of the bytes of video and of audio, modulo 2^64.
 #[derive(Drop)]
 pub(crate) struct Sums {
     pub(crate) video: u64,
@@ -15,7 +15,7 @@ pub(crate) struct Sums {
 }
 
 impl Sums {
-    /// Nothing taken.
+    /// Returns the sums of no bytes.
     pub(crate) fn new() -> Sums
         ensures video { result.video ≡ sum_in [] }
         ensures audio { result.audio ≡ sum_in [] }
@@ -24,7 +24,7 @@ impl Sums {
     }
 }
 
-/// A sum after more bytes.
+/// Returns a sum after more bytes, modulo 2^64.
 #[tactic(auto, using(crate::proofs::Adding::wraps))]
 fn added(start: u64, bytes: &[u8]) -> u64
     ensures { result ≡ (start + sum bytes.now) % 2 ^ 64 }

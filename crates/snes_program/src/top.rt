@@ -20,48 +20,49 @@ use port_wire::Gate;
 use run_io::Argv;
 use std::thread::Threads;
 
-/// Does all that the program does: reads the words; loads and accepts the inputs of their command in
-/// their order, takes all memory, creates its outputs in their order, fills and flushes them; and says
-/// the line of its answer. Which commands there are, and what each makes, is said in
-/// `specs/Commands.antt`.
+/// Runs the program `snes` with its arguments, and returns how it ended.
 ///
-/// Each clause speaks of what the shelf tells; of a shelf that tells nothing, of the words and of counts
-/// alone. `NoMemory` is the one answer that no input and no count causes. No clause speaks of the gate, which each of two
-/// workers passes as it sets out on a turn.
+/// Reads the arguments, then loads and accepts the inputs of their command in their order. Allocates all memory,
+/// creates the outputs in their order, fills and flushes them. Prints the line of its status at the end.
+/// `specs/Commands.antt` says which commands there are, and what each makes.
+///
+/// Each clause is about what the shelf tells. For a shelf that tells nothing, it is about the arguments and the counts
+/// alone. `NoMemory` is the one failure that no argument, input or count causes. No clause is about the gate, which
+/// each of two workers passes as it starts a turn.
 pub fn snes<P: PlanPlayer, R: AllocGlobal + Threads, H: Shelf>(
     rt: &R,
     words: &Argv,
     shelf: &mut H,
     gate: &dyn Gate,
 ) -> Status
-    // The headline: once a command is over, its inputs are accepted, and its outputs stand whole under their names.
+    // The headline: once a command is over, its inputs are accepted, and its outputs are whole under their names.
     ensures headline { IfAsks (asked P.emits words.now) (λ command order. IsOver result → IsAnswered command order (H.shown shelf.old) (H.shown shelf.new) result) }
 
-    // Completeness: with all inputs accepted and no fault counted it answers Ok, unless there is no memory.
+    // Completeness: if all inputs are accepted and no fault is counted, it returns Ok, unless allocation fails.
     ensures complete { IfAsks (asked P.emits words.now) (λ command order. IsClean command order (H.shown shelf.old) (H.shown shelf.new) → OrNoMemory result Status.Ok) }
 
-    // Usage: exactly where the words are in no form.
+    // Usage: if and only if the arguments are invalid.
     ensures usage { result ≡ Status.Usage → IsNothing (asked P.emits words.now) }
     ensures usage_always { IsNothing (asked P.emits words.now) → result ≡ Status.Usage }
     ensures formless { IsNothing (asked P.emits words.now) → OnlyPuts (H.shown shelf.old) (H.shown shelf.new) Out.Say }
 
-    // Faults: only where a count of that input's name, or of that output, rose in this call.
+    // Faults: only if a count of that input's name, or of that output, rose in this call.
     ensures load_fault { IfAsks (asked P.emits words.now) (λ command order. (input : Input) → result ≡ Status.LoadFault input → EndsInputs order.pairs (H.shown shelf.old) (H.shown shelf.new) command.form.inputs (Status.LoadFault input)) }
     ensures write_fault { IfAsks (asked P.emits words.now) (λ command order. (out : Out) → result ≡ Status.WriteFault out → HasRisen ((H.shown shelf.old).write_faults out) ((H.shown shelf.new).write_faults out) × (IsOneOf command.form.outputs out ⊎ (out ≡ Out.Say))) }
 
-    // Refused: exactly where the first input that isn't accepted is refused so.
+    // Refused: only if the first input that isn't accepted is refused so; then always, except after an earlier fault.
     ensures refused { IfAsks (asked P.emits words.now) (λ command order. (cause : Why) → result ≡ Status.Refused cause → EndsInputs order.pairs (H.shown shelf.old) (H.shown shelf.new) command.form.inputs (Status.Refused cause)) }
     ensures refused_always { IfAsks (asked P.emits words.now) (λ command order. (cause : Why) → IsDue command order (H.shown shelf.old) cause → (result ≡ Status.Refused cause) ⊎ IsFaultBefore command order (H.shown shelf.old) result) }
 
-    // Accepted: once an answer is later than the inputs, they are accepted, and the command makes something of them.
+    // Accepted: if the status is later than the inputs, they are accepted, and the command makes something of them.
     ensures accepted { IfAsks (asked P.emits words.now) (λ command order. IsLate result → IsMade command order (H.shown shelf.old)) }
 
-    // What is left in the outputs that the command creates, after any answer.
+    // What is left in the outputs that the command creates, whatever the status.
     ensures untouched { IfAsks (asked P.emits words.now) (λ command order. IsEarly result → OnlySays (H.shown shelf.old) (H.shown shelf.new)) }
     ensures left { IfAsks (asked P.emits words.now) (λ command order. AllOf (IsLeft command order (H.shown shelf.old) (H.shown shelf.new)) command.form.outputs) }
     ensures begun { IfAsks (asked P.emits words.now) (λ command order. AreBegun command order (H.shown shelf.old) (H.shown shelf.new) result) }
 
-    // What stays, and what is said.
+    // What stays the same, and what is printed.
     ensures kept { IsKept (H.shown shelf.old) (H.shown shelf.new) }
     ensures others { IfAsks (asked P.emits words.now) (λ command order. (out : Out) → AllOf (λ one. one ≢ out) command.form.outputs → (out ≡ Out.Say) ⊎ IsPassedOver (H.shown shelf.old) (H.shown shelf.new) out) }
     ensures loads_none { IfAsks (asked P.emits words.now) (λ command order. command.form.inputs ≡ [] → (H.shown shelf.new).load_faults ≡ (H.shown shelf.old).load_faults) }

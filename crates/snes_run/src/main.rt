@@ -1,9 +1,9 @@
-// The program: a cartridge, a boot ROM, an interpolation table, a script and a number of frames become
-// raw frames and raw samples.
+// The program `snes`: makes raw frames and raw samples of a cartridge, a boot ROM, an interpolation table, a script and
+// a number of frames.
 //
-// `snes_program::snes` does all that the program does, and its contract is the theorem. `main` only hands it
-// the words and the files of the system, names the console that plays a job, and ends with the exit
-// status of the answer. Stands on all other crates of the program.
+// `snes_program::snes` does everything that the program does, and its contract is the theorem. `main` only passes it
+// the arguments and the files of the system, names the console that plays a job, and ends with the exit status. It
+// depends on all other crates of the program.
 #![tactic(auto)]
 
 mod messages;
@@ -18,7 +18,7 @@ use standard_streams::hold_standard_streams;
 use std::process::ExitCode;
 use std::{env, io};
 
-/// The words after the program's own name, or nothing where one of them is no text.
+/// Returns the arguments after the program's own name, or nothing if one of them is not text.
 fn words_of(rt: &HostRuntime) -> Result<Option<Argv>, NoMemory> {
     let alloc = rt.alloc();
     let args = match env::args(rt) {
@@ -33,8 +33,8 @@ fn words_of(rt: &HostRuntime) -> Result<Option<Argv>, NoMemory> {
     Ok(Some(words))
 }
 
-/// Hands the words to `snes`, and says on standard error what its line leaves out. Words that are no text are no words
-/// of a form: none is handed on.
+/// Passes the arguments to `snes`, and prints on standard error what its line leaves out. If an argument is not text,
+/// none is passed, since none could be valid.
 fn main(rt: HostRuntime) -> ExitCode {
     let _streams = hold_standard_streams(&rt);
     let Ok(given) = words_of(&rt) else {

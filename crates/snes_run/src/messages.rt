@@ -1,10 +1,10 @@
-// What standard error is told of an answer. Its texts are no promise, and that one was not written is passed over.
+// The messages on standard error. Their texts are not promised, and a failed write of one is ignored.
 use job_player::Console;
 use run_io::{Argv, Cause, Line, Mistake, Out, input_given, output_given};
 use snes_program::{Status, explain, refusal_line};
 use std::io;
 
-/// The line of an answer without its end, as text.
+/// Returns a line without its end, as text.
 fn text_of(line: &Line) -> &str {
     match std::str::from_utf8(line.bytes()) {
         Ok(text) => text.trim_end(),
@@ -12,7 +12,7 @@ fn text_of(line: &Line) -> &str {
     }
 }
 
-/// Says what is wrong with a command line, and where to read on.
+/// Prints what is wrong with a command line, and where to read more.
 fn tell_mistake(rt: &HostRuntime, mistake: &Mistake<'_>) -> io::Result<()> {
     eprintln!(rt; "snes: {mistake}")?;
     eprintln!(rt;
@@ -20,12 +20,12 @@ fn tell_mistake(rt: &HostRuntime, mistake: &Mistake<'_>) -> io::Result<()> {
     )
 }
 
-/// Says that the words are no text.
+/// Prints that an argument is not text.
 pub fn say_why_no_text(rt: &HostRuntime) -> io::Result<()> {
     eprintln!(rt; "snes: an argument is not UTF-8")
 }
 
-/// Says which file an answer is about, and why.
+/// Prints which file a failure is about, and why it failed.
 fn tell_file(rt: &HostRuntime, name: &str, status: Status, cause: Option<Cause>) -> io::Result<()> {
     let Some(line) = refusal_line(status) else {
         return Ok(());
@@ -37,7 +37,7 @@ fn tell_file(rt: &HostRuntime, name: &str, status: Status, cause: Option<Cause>)
     }
 }
 
-/// Says of an answer what the line on standard output leaves out.
+/// Prints what the line on standard output leaves out of a failure.
 pub fn say_why(
     rt: &HostRuntime,
     words: &Argv,

@@ -1,4 +1,4 @@
-//! Breakpoints: addresses at which a step is looked for.
+//! Breakpoints: the addresses, sides and kinds of the steps that are searched for.
 
 use crate::step::{Kind, Step, Way};
 use anyhow::{Result, bail};
@@ -7,30 +7,30 @@ use console_bus::Bus;
 use snes_defs::Side;
 use std::alloc::{AllocError, Global};
 
-/// More than there are bytes or registers of a kind.
+/// A number greater than the count of bytes or registers of any kind.
 const KIND: u64 = 1 << 32;
 
-/// The numbers of bytes that lie side by side.
+/// The numbers of adjacent bytes.
 #[derive(Clone, Copy)]
 struct Span {
     first: u64,
     last: u64,
 }
 
-/// Addresses, and which steps at them hit.
+/// A breakpoint: an address or a range of them, and which steps at them hit.
 #[derive(Drop)]
 pub struct Break {
     first: u32,
     last: u32,
-    /// Whether an address names a bank, and so a byte: one of four digits or fewer is meant in every bank.
+    /// Whether the address names a bank, and so a byte: one of four digits or fewer is meant in every bank.
     in_bank: bool,
-    /// The bytes that lie there, where a bank is named.
+    /// The bytes at these addresses, if a bank is named.
     spans: Vec<Span>,
     side: Option<Side>,
     kind: Option<Kind>,
 }
 
-/// The number of hexadecimal digits, with a dollar sign or none before them, and whether they name a bank.
+/// Returns the address in hexadecimal digits, with or without a dollar sign, and whether it names a bank.
 fn address_of(word: &str) -> Option<(u32, bool)> {
     let digits = match word.strip_prefix("$") {
         Some(digits) => digits,
@@ -48,7 +48,7 @@ fn address_of(word: &str) -> Option<(u32, bool)> {
     Some((number, digits.len() > 4))
 }
 
-/// An address, or the first and the last of a range.
+/// Reads an address, or the first and the last of a range.
 fn range_of(alloc: Global, word: &str) -> Option<Break> {
     let (from, to) = match word.split_once("-") {
         Some(ends) => ends,
@@ -69,7 +69,7 @@ fn range_of(alloc: Global, word: &str) -> Option<Break> {
     })
 }
 
-/// The kind of a word.
+/// Returns the kind of step that a word names.
 fn kind_of(word: &str) -> Option<Kind> {
     match word.as_bytes() {
         b"opcode" => Some(Kind::Opcode),
@@ -82,7 +82,7 @@ fn kind_of(word: &str) -> Option<Kind> {
     }
 }
 
-/// A breakpoint: an address or a range, then a side and a kind, each at most once.
+/// Reads a breakpoint: an address or a range, then a side and a kind, each at most once.
 fn break_of(alloc: Global, text: &str) -> Option<Break> {
     let mut words = text.split_whitespace();
     let mut found = range_of(alloc, words.next()?)?;
@@ -97,7 +97,7 @@ fn break_of(alloc: Global, text: &str) -> Option<Break> {
     Some(found)
 }
 
-/// What stands before a `#`, without spaces at its ends.
+/// Returns the text before a `#`, without spaces at its ends.
 fn without_comment(line: &str) -> &str {
     match line.split_once("#") {
         Some((before, _)) => before.trim(),
@@ -105,7 +105,7 @@ fn without_comment(line: &str) -> &str {
     }
 }
 
-/// The breakpoints of a file. A line that is none is told by its number, from 1.
+/// Reads the breakpoints of a file. An invalid line is reported by its number, from 1.
 pub fn read_breaks(alloc: Global, name: &str, file: &str) -> Result<Vec<Break>> {
     let mut breaks = Vec::new(alloc);
     let mut number = 0u64;
@@ -126,8 +126,8 @@ pub fn read_breaks(alloc: Global, name: &str, file: &str) -> Result<Vec<Break>> 
     Ok(breaks)
 }
 
-/// The number of what lies at an address: bytes and registers that lie side by side have numbers that do, and where
-/// nothing lies each address has one of its own.
+/// Returns the number of what is at an address. Adjacent bytes and registers have adjacent numbers; an address with
+/// nothing at it has a number of its own.
 fn number_of(place: Place, address: u32) -> u64 {
     match place {
         Place::Wram(at) => u64::from(at),
@@ -139,7 +139,7 @@ fn number_of(place: Place, address: u32) -> u64 {
     }
 }
 
-/// Whether a number is in one of some spans.
+/// Whether a number is in one of these spans.
 fn holds(spans: &[Span], number: u64) -> bool {
     for span in spans {
         if span.first <= number && number <= span.last {
@@ -149,7 +149,7 @@ fn holds(spans: &[Span], number: u64) -> bool {
     false
 }
 
-/// Keeps a span, unless one that is kept has all of it: mirrors have the same numbers.
+/// Keeps a span, unless one that is kept covers all of it: mirrors have the same numbers.
 fn keep(spans: &mut Vec<Span>, next: Span) -> Result<(), AllocError> {
     for span in spans.as_slice() {
         if span.first <= next.first && next.last <= span.last {
@@ -160,7 +160,7 @@ fn keep(spans: &mut Vec<Span>, next: Span) -> Result<(), AllocError> {
     Ok(())
 }
 
-/// What lies at some addresses of a console.
+/// Returns the numbers of what is at a range of addresses of a console.
 fn spans_of(alloc: Global, bus: &Bus, first: u32, last: u32) -> Result<Vec<Span>, AllocError> {
     let mut spans = Vec::new(alloc);
     let number = number_of(bus.place(first), first);
@@ -185,7 +185,7 @@ fn spans_of(alloc: Global, bus: &Bus, first: u32, last: u32) -> Result<Vec<Span>
     Ok(spans)
 }
 
-/// Finds out what lies at the addresses of each breakpoint that names a bank.
+/// Finds out what is at the addresses of each breakpoint that names a bank.
 pub fn settle_breaks(alloc: Global, bus: &Bus, breaks: &mut [Break]) -> Result<(), AllocError> {
     for one in breaks {
         if one.in_bank {
@@ -196,7 +196,7 @@ pub fn settle_breaks(alloc: Global, bus: &Bus, breaks: &mut [Break]) -> Result<(
 }
 
 impl Break {
-    /// Whether an address at which this lies is one of these.
+    /// Whether an address of this place is one of the breakpoint's.
     fn has(&self, place: Place, address: u32) -> bool {
         if self.in_bank {
             return holds(self.spans.as_slice(), number_of(place, address));
@@ -205,12 +205,12 @@ impl Break {
         self.first <= seen && seen <= self.last
     }
 
-    /// Whether a register of the B bus is one of these.
+    /// Whether a register of the B bus is one of the breakpoint's.
     fn has_port(&self, port: u8) -> bool {
         self.has(Place::BBus(port), 0x2100 + u32::from(port))
     }
 
-    /// Whether a step hits.
+    /// Whether a step hits the breakpoint.
     fn is_hit(&self, step: &Step) -> bool {
         if self.in_bank && step.side == Side::Sound {
             return false;
@@ -230,7 +230,7 @@ impl Break {
     }
 }
 
-/// Whether a step hits one of some breakpoints.
+/// Whether a step hits one of these breakpoints.
 pub fn hits(breaks: &[Break], step: &Step) -> bool {
     for one in breaks {
         if one.is_hit(step) {

@@ -1,4 +1,4 @@
-//! A line of the trace as CSV.
+//! Lines of the trace as CSV.
 
 use crate::digits::{push_hex2, push_hex4, push_number, push_text};
 use crate::parts::{
@@ -11,11 +11,11 @@ use snes_defs::Region;
 use spc_tables::SpcRegs;
 use std::alloc::AllocError;
 
-/// The names of the columns.
+/// The head of the CSV file: the names of the columns.
 pub const HEAD: &str =
     "stamp,frame,line,clock,side,kind,address,byte,way,register,by,instruction,A,X,Y,S,D,DB,P,E\n";
 
-/// Adds when and where the beam is.
+/// Adds the stamp, and the frame, line and clock of the beam.
 fn push_time(out: &mut Vec<u8>, region: Region, stamp: u64) -> Result<(), AllocError> {
     let place = position_at(region, stamp);
     push_number(out, stamp, 0)?;
@@ -28,7 +28,7 @@ fn push_time(out: &mut Vec<u8>, region: Region, stamp: u64) -> Result<(), AllocE
     push_text(out, ",")
 }
 
-/// Adds the address, the byte, and which way a byte of a transfer goes.
+/// Adds the address, the byte, and the direction of a byte of a transfer.
 fn push_access(out: &mut Vec<u8>, step: &Step) -> Result<(), AllocError> {
     if let Some(address) = step.address {
         push_address(out, step.side, address)?;
@@ -79,7 +79,7 @@ fn push_spc_regs(out: &mut Vec<u8>, regs: &SpcRegs) -> Result<(), AllocError> {
     push_text(out, ",")
 }
 
-/// Adds an instruction in quotes, as its operand may have commas, with its registers.
+/// Adds an instruction in quotes, since its operand may have commas, with its registers.
 fn push_begun(out: &mut Vec<u8>, instruction: &Instruction) -> Result<(), AllocError> {
     if !instruction.is_begun() {
         return push_text(out, ",,,,,,,,,");

@@ -1,4 +1,4 @@
-//! Numbers as they stand in a trace.
+//! Writes numbers and texts of a trace.
 
 ghost use Rattle.std.specs.Prelude.{◌≡◌, ◌<◌, ◌++◌, OnOk};
 ghost use Rattle.snes_trace.specs.Digits.{hex_digit, hex2, hex4, hex6};
@@ -6,10 +6,10 @@ ghost use Rattle.snes_trace.specs.Digits.{hex_digit, hex2, hex4, hex6};
 use itoa::Buffer;
 use std::alloc::AllocError;
 
-/// Spaces, as many as a column may want.
+/// Spaces: as many as a column may need.
 static SPACES: [u8; 40] = [b' '; 40];
 
-/// The capital hexadecimal digit of a number below 16.
+/// Returns the uppercase hexadecimal digit of a number below 16.
 fn digit(number: u8) -> u8
     requires { number < 16 }
     ensures { result ≡ hex_digit number }
@@ -21,14 +21,14 @@ fn digit(number: u8) -> u8
     }
 }
 
-/// Adds the two digits of a byte.
+/// Adds the two hexadecimal digits of a byte.
 pub fn push_hex2(out: &mut Vec<u8>, byte: u8) -> Result<(), AllocError>
     ensures { OnOk result (out.new.items ≡ out.old.items ++ hex2 byte) }
 {
     out.extend_from_slice(&[digit(byte / 16), digit(byte % 16)])
 }
 
-/// Adds the four digits of a word.
+/// Adds the four hexadecimal digits of a 16-bit word.
 pub fn push_hex4(out: &mut Vec<u8>, word: u16) -> Result<(), AllocError>
     ensures { OnOk result (out.new.items ≡ out.old.items ++ hex4 word) }
 {
@@ -40,7 +40,7 @@ pub fn push_hex4(out: &mut Vec<u8>, word: u16) -> Result<(), AllocError>
     ])
 }
 
-/// Adds the six digits of an address of 24 bits.
+/// Adds the six hexadecimal digits of a 24-bit address.
 pub fn push_hex6(out: &mut Vec<u8>, address: u32) -> Result<(), AllocError>
     ensures { OnOk result (out.new.items ≡ out.old.items ++ hex6 address) }
 {
@@ -54,12 +54,12 @@ pub fn push_hex6(out: &mut Vec<u8>, address: u32) -> Result<(), AllocError>
     ])
 }
 
-/// Adds so many spaces, 40 at most.
+/// Adds the given number of spaces, at most 40.
 pub fn push_spaces(out: &mut Vec<u8>, count: usize) -> Result<(), AllocError> {
     out.extend_from_slice(&SPACES[..count.min(40)])
 }
 
-/// Adds a decimal number, with spaces before it up to a width.
+/// Adds a decimal number, padded with spaces on the left up to a width.
 pub fn push_number(out: &mut Vec<u8>, number: u64, width: usize) -> Result<(), AllocError> {
     let mut digits = Buffer::new();
     let text = digits.format(number);

@@ -1,6 +1,6 @@
-//! What a trace says of its end, where a machine goes nowhere: a black picture doesn't tell it.
+//! Messages at the end of a trace, if a machine has stopped or waits for ever: a black picture doesn't show it.
 //!
-//! It goes to standard error, so that the trace stays one.
+//! They go to standard error, so that standard output has the trace alone.
 
 use crate::pair::Pair;
 use audio_side::AudioSide;
@@ -8,13 +8,13 @@ use console_machine::ConsoleSide;
 use cpu_tables::Access;
 use std::io;
 
-/// Where the boot ROM begins.
+/// The address at which the boot ROM begins.
 const BOOT_ROM: u16 = 0xffc0;
 
 /// The opcode of STP.
 const STP: u8 = 0xdb;
 
-/// Where the 65C816 has stopped for good, if it has: an internal cycle is next, and the instruction in hand is STP.
+/// Returns where the 65C816 has stopped for good, if it has: an internal cycle is next, and the instruction is STP.
 fn stopped_console(console: &ConsoleSide) -> Option<u32> {
     let regs = console.processor().regs();
     let at = u32::from(regs.pc) + 65_536 * u32::from(regs.pbr);
@@ -25,7 +25,7 @@ fn stopped_console(console: &ConsoleSide) -> Option<u32> {
     }
 }
 
-/// Where the SPC700 has stopped for good, if it has.
+/// Returns where the SPC700 has stopped for good, if it has.
 fn stopped_sound(sound: &AudioSide) -> Option<u16> {
     if sound.processor().is_halted() {
         Some(sound.processor().regs().pc)
@@ -34,14 +34,14 @@ fn stopped_sound(sound: &AudioSide) -> Option<u16> {
     }
 }
 
-/// Whether the sound side's program is its boot ROM, which offers AA and BB and was not answered by CC.
+/// Whether the sound side runs its boot ROM, which offers AA and BB and has not got CC in answer.
 fn waits(sound: &AudioSide, to_sound: [u8; 4], to_console: [u8; 4]) -> bool {
     let [answer, ..] = to_sound;
     let [first, second, ..] = to_console;
     first == 0xaa && second == 0xbb && answer != 0xcc && sound.processor().regs().pc >= BOOT_ROM
 }
 
-/// Says of each processor that has stopped, and of a sound side that nobody has spoken to, that it is so.
+/// Prints which processors have stopped for good, and whether the sound side still waits in its boot ROM.
 pub fn tell_ends(rt: &impl Eprint, pair: &Pair) -> io::Result<()> {
     let (console, sound) = pair.machines();
     let (to_sound, to_console) = pair.ports();

@@ -1,4 +1,4 @@
-//! The files of a job, as `snes` takes them.
+//! Reads the files of a job, as `snes` takes them.
 
 use anyhow::{Result, anyhow, bail};
 use cart_map::{CartEnd, CartRefused, accept};
@@ -17,16 +17,20 @@ const TABLE: usize = 1024;
 
 const SCRIPT: usize = 1_048_576;
 
-/// The names of the files of a job.
+/// The names of the four files of a job.
 #[derive(Clone, Copy)]
 pub struct Names<'a> {
+    /// The cartridge.
     pub cart: &'a str,
+    /// The boot ROM of the SPC700.
     pub boot: &'a str,
+    /// The interpolation table of the S-DSP.
     pub table: &'a str,
+    /// The controller script.
     pub script: &'a str,
 }
 
-/// A whole file of at most so many bytes.
+/// Reads a whole file of at most `most` bytes.
 fn load<R: Files + Print>(rt: &R, alloc: Global, name: &str, most: usize) -> Result<Vec<u8>> {
     let mut shelf = FileShelf::new(rt);
     let mut bytes = Vec::new(alloc);
@@ -38,7 +42,7 @@ fn load<R: Files + Print>(rt: &R, alloc: Global, name: &str, most: usize) -> Res
     }
 }
 
-/// The cartridge of a file.
+/// Reads the cartridge of a file.
 fn cart_of(name: &str, bytes: Vec<u8>) -> Result<Cart> {
     match accept(bytes) {
         Ok(cart) => Ok(cart),
@@ -53,7 +57,7 @@ fn cart_of(name: &str, bytes: Vec<u8>) -> Result<Cart> {
     }
 }
 
-/// The table of a file.
+/// Reads the table of a file.
 fn table_of(name: &str, bytes: &[u8]) -> Result<Table> {
     match read_table(bytes) {
         Ok(table) => Ok(table),
@@ -61,7 +65,7 @@ fn table_of(name: &str, bytes: &[u8]) -> Result<Table> {
     }
 }
 
-/// The script of a file.
+/// Reads the script of a file.
 fn script_of(alloc: Global, name: &str, bytes: &[u8]) -> Result<Spans> {
     match read_script(alloc, bytes) {
         Ok(script) => Ok(script),
@@ -70,7 +74,7 @@ fn script_of(alloc: Global, name: &str, bytes: &[u8]) -> Result<Spans> {
     }
 }
 
-/// The job of the files of these names, of as many frames as there can be.
+/// Reads the job of the files of these names, with as many frames as a job can have.
 pub fn job_of<R: Files + Print>(rt: &R, alloc: Global, names: Names<'_>) -> Result<Job> {
     let cart = cart_of(names.cart, load(rt, alloc, names.cart, CART)?)?;
     let boot = load(rt, alloc, names.boot, BOOT)?;

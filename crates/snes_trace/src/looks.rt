@@ -1,4 +1,4 @@
-//! What each machine is about to do, by what it lends.
+//! The next step of each machine, read from the machine before it takes the step.
 
 ghost use Rattle.std.specs.Prelude.{◌≡◌, ◌+◌, ◌*◌, Some, None, true};
 ghost use Rattle.cpu65816.specs.Instruction.{CpuState, next_of, registers_of};
@@ -17,10 +17,10 @@ use side_law::Machine;
 use snes_defs::{Act, Side};
 use spc_tables::{SpcAccess, SpcRegs};
 
-/// An address of the B bus: a transfer takes from there the byte last on the data bus.
+/// An address of the B bus: a transfer reads there the byte that was last on the data bus.
 const OPEN: u32 = 0x2100;
 
-/// A step that uses no bus.
+/// Returns a step that uses no bus.
 fn still(side: Side, stamp: u64, kind: Kind) -> Step
     ensures stamp { result.stamp ≡ stamp }
     ensures kind { result.kind ≡ kind }
@@ -40,7 +40,7 @@ fn still(side: Side, stamp: u64, kind: Kind) -> Step
     }
 }
 
-/// A step of the console at an address.
+/// Returns a step of the console at an address.
 fn at(stamp: u64, kind: Kind, address: u32, way: Way) -> Step
     ensures stamp { result.stamp ≡ stamp }
     ensures kind { result.kind ≡ kind }
@@ -61,7 +61,7 @@ fn at(stamp: u64, kind: Kind, address: u32, way: Way) -> Step
     }
 }
 
-/// A byte that is moved to the B bus. It is one of DMA where the channels without HDMA would move just it.
+/// Returns the kind of a byte that is moved to the B bus: DMA if the channels without HDMA would move the same byte.
 fn kind_to_b(dma: &Dma, due: Move) -> Kind
     ensures { is_transfer result ≡ true }
 {
@@ -72,7 +72,7 @@ fn kind_to_b(dma: &Dma, due: Move) -> Kind
     }
 }
 
-/// A byte of a transfer.
+/// Returns the step that moves a byte of a transfer.
 fn look_at_move(dma: &Dma, due: Move, stamp: u64) -> Step
     ensures tells { TellsMove result due }
     ensures stamp { result.stamp ≡ stamp }
@@ -85,14 +85,14 @@ fn look_at_move(dma: &Dma, due: Move, stamp: u64) -> Step
     }
 }
 
-/// Where the instruction in hand of the 65C816 stands.
+/// Returns the address of the current instruction of the 65C816.
 fn opcode_address(regs: &Regs) -> u32
     ensures { result ≡ regs.now.pc + 65536 * regs.now.pbr }
 {
     u32::from(regs.pc) + 65_536 * u32::from(regs.pbr)
 }
 
-/// A fetch of the 65C816: of an opcode, where it is at the start of the instruction in hand.
+/// Returns a fetch of the 65C816: of an opcode, if it is at the start of the current instruction.
 fn look_at_fetch(regs: Regs, address: u32, stamp: u64) -> Step
     ensures fetch { is_fetch result.kind ≡ true }
     ensures address { result.address ≡ Some address }
@@ -107,7 +107,7 @@ fn look_at_fetch(regs: Regs, address: u32, stamp: u64) -> Step
     step
 }
 
-/// An access of the 65C816.
+/// Returns the next access of the 65C816.
 fn look_at_access(console: &ConsoleSide, stamp: u64) -> Step
     ensures tells { (s : CpuState) → Stands console.now.cpu s → TellsAccess result (next_of s) }
     ensures regs { (s : CpuState) → Stands console.now.cpu s → HasRegs result.instruction (registers_of s) }
@@ -131,7 +131,7 @@ fn look_at_access(console: &ConsoleSide, stamp: u64) -> Step
     }
 }
 
-/// The console's next step: what it is, and at which address. Its byte is known once it is made, but for a write.
+/// Returns the console's next step, with its kind and address. Unless it is a write, its byte is known only afterwards.
 pub fn look_at_console(console: &ConsoleSide, dma: &Dma) -> Step
     ensures tells { (s : CpuState) → Stands console.now.cpu s → Tells result (due_from s console.now.rest) }
     ensures regs { (s : CpuState) → Stands console.now.cpu s → HasRegs result.instruction (registers_of s) }
@@ -151,7 +151,7 @@ pub fn look_at_console(console: &ConsoleSide, dma: &Dma) -> Step
     }
 }
 
-/// The bytes behind an opcode, as they lie in memory.
+/// Returns the opcode and the three bytes after it in memory.
 fn behind(bus: &Bus, regs: &Regs, opcode: u8) -> [u8; 4] {
     let bank = 65_536 * u32::from(regs.pbr);
     [
@@ -162,7 +162,7 @@ fn behind(bus: &Bus, regs: &Regs, opcode: u8) -> [u8; 4] {
     ]
 }
 
-/// Completes a step of the console, which has been made, by the byte that went over the bus.
+/// Completes a step of the console that was taken, with the byte that went over the bus.
 pub fn complete(console: &ConsoleSide, step: &mut Step) {
     let bus = console.bus();
     if step.address.is_some() {
@@ -173,7 +173,7 @@ pub fn complete(console: &ConsoleSide, step: &mut Step) {
     }
 }
 
-/// The channels hear what a step of the console did to DMA.
+/// Updates the channels by what a step of the console did to DMA.
 pub fn tell_dma(dma: &mut Dma, step: &Step) {
     let byte = step.byte.unwrap_or(0);
     match (step.kind, step.place) {
@@ -202,14 +202,14 @@ fn sound_resets(sound: &AudioSide, access: SpcAccess) -> bool {
     sound.act() == Act::Clear(15) && !writes_control
 }
 
-/// The instruction of the SPC700 that an opcode begins.
+/// Returns the instruction of the SPC700 that an opcode begins.
 fn sound_instruction(sound: &AudioSide, regs: SpcRegs, opcode: u8) -> Instruction {
     let first = sound.byte_at(regs.pc.wrapping_add(1), 0);
     let second = sound.byte_at(regs.pc.wrapping_add(2), 0);
     Instruction::Sound(regs, [opcode, first, second])
 }
 
-/// A step of the sound side at an address.
+/// Returns a step of the sound side at an address.
 fn at_sound(stamp: u64, kind: Kind, address: u16, byte: u8) -> Step
     ensures stamp { result.stamp ≡ stamp }
     ensures kind { result.kind ≡ kind }
@@ -229,7 +229,7 @@ fn at_sound(stamp: u64, kind: Kind, address: u16, byte: u8) -> Step
     }
 }
 
-/// A fetch of the SPC700: of an opcode, where an instruction begins.
+/// Returns a fetch of the SPC700: of an opcode, if an instruction begins.
 fn look_at_spc_fetch(sound: &AudioSide, address: u16, byte: u8) -> Step
     ensures fetch { is_fetch result.kind ≡ true }
     ensures address { result.address ≡ Some address }
@@ -243,7 +243,7 @@ fn look_at_spc_fetch(sound: &AudioSide, address: u16, byte: u8) -> Step
     step
 }
 
-/// A read or a write of the SPC700.
+/// Returns a read or a write of the SPC700.
 fn look_at_spc_data(sound: &AudioSide, kind: Kind, address: u16, byte: u8) -> Step
     ensures kind { result.kind ≡ kind }
     ensures address { result.address ≡ Some address }
@@ -254,7 +254,7 @@ fn look_at_spc_data(sound: &AudioSide, kind: Kind, address: u16, byte: u8) -> St
     step
 }
 
-/// An access of the SPC700, where an incoming port has `got`.
+/// Returns an access of the SPC700, if an incoming port has the byte `got`.
 fn look_at_spc(sound: &AudioSide, access: SpcAccess, got: u8) -> Step
     ensures { TellsSpcAccess result sound.now.hardware access got }
 {
@@ -272,7 +272,7 @@ fn look_at_spc(sound: &AudioSide, access: SpcAccess, got: u8) -> Step
     }
 }
 
-/// The sound side's next step, where the bytes of its incoming ports are these.
+/// Returns the sound side's next step, given the bytes of its incoming ports.
 pub fn look_at_sound(sound: &AudioSide, incoming: [u8; 4]) -> Step {
     let access = sound.processor().next();
     if sound_resets(sound, access) {

@@ -1,12 +1,12 @@
-//! Traces a run of `snes`: each step of both processors, for who debugs a cartridge.
+//! Traces a run of `snes`: each step of both processors, for people who debug a cartridge.
 //!
-//! `trace --help` says what it takes. It makes the steps of the serial console (`serial_console`) one after another,
-//! the console's and the sound side's machine being those of `snes`, and looks at each before it is made, by what the
-//! machines lend. So what is told is what `snes serial` does. `docs/use/TRACE.md` says what a line says. Where a processor has
-//! stopped for good, or the sound side waits in its boot ROM, standard error says so at the end.
+//! `trace --help` lists its arguments. It takes the steps of the serial console (`serial_console`) one after another,
+//! with the two machines of `snes`. It reads each step from the machines before the step is taken, so the trace shows
+//! what `snes serial` does. `docs/use/TRACE.md` describes a line. If a processor has stopped for good, or the sound
+//! side waits in its boot ROM, a message on standard error says so at the end.
 //!
-//! The status is 0 where the trace was written, 1 where there are breakpoints and none was hit, and 2 where something
-//! could not be read or written or is refused, or where the command line is at fault.
+//! The status is 0 if the trace was written, and 1 if there are breakpoints and none was hit. It is 2 if something
+//! could not be read or written or was refused, or if the command line is invalid.
 #![tactic(auto)]
 
 mod breaks;
@@ -42,7 +42,7 @@ use std::process::ExitCode;
 use std::rt::Files;
 use trace::{Wanted, write_trace};
 
-/// The stamp at which a frame begins.
+/// Returns the stamp at which a frame begins.
 fn frame_stamp(region: Region, frame: u64) -> Result<u64> {
     match u32::try_from(frame) {
         Ok(frame) if frame <= MOST_FRAMES => Ok(end_stamp_in(region, frame)),
@@ -50,7 +50,7 @@ fn frame_stamp(region: Region, frame: u64) -> Result<u64> {
     }
 }
 
-/// The stamps of the words, or none.
+/// Returns the stamps in the arguments, or none.
 fn stamps_of(words: &ArgMatches<'_>) -> Result<Option<(u64, u64)>> {
     let from = words.get_one::<u64>("from");
     let to = words.get_one::<u64>("to");
@@ -62,7 +62,7 @@ fn stamps_of(words: &ArgMatches<'_>) -> Result<Option<(u64, u64)>> {
     }
 }
 
-/// The first stamp that is told, and the one behind the last.
+/// Returns the first stamp that is traced, and the one after the last.
 fn range_of(
     region: Region,
     stamps: Option<(u64, u64)>,
@@ -84,7 +84,7 @@ fn range_of(
     }
 }
 
-/// The side whose steps are told, or none for both.
+/// Returns the side whose steps are traced, or none for both.
 fn side_of(words: &ArgMatches<'_>) -> Option<Side> {
     match words.get_str("side") {
         Some("console") => Some(Side::Console),
@@ -93,7 +93,7 @@ fn side_of(words: &ArgMatches<'_>) -> Option<Side> {
     }
 }
 
-/// The breakpoints of the file that is named, if one is.
+/// Reads the breakpoints of the file that is named, if one is.
 fn breaks_of<R: Files + AllocGlobal>(
     rt: &R,
     alloc: Global,
@@ -108,7 +108,7 @@ fn breaks_of<R: Files + AllocGlobal>(
     }
 }
 
-/// The job of the files that are named.
+/// Reads the job of the files that are named.
 fn job_in<R: Files + Print>(rt: &R, alloc: Global, words: &ArgMatches<'_>) -> Result<Job> {
     let cart = words.get_str("cart").unwrap_or("");
     let boot = words.get_str("boot").unwrap_or("");
@@ -123,7 +123,7 @@ fn job_in<R: Files + Print>(rt: &R, alloc: Global, words: &ArgMatches<'_>) -> Re
     job_of(rt, alloc, names)
 }
 
-/// Traces the job that the words name, and gives the status.
+/// Traces the job that the arguments name, and returns the status.
 fn write_job<R: Files + Print + Eprint + AllocGlobal>(
     rt: &R,
     words: &ArgMatches<'_>,
@@ -148,7 +148,7 @@ fn write_job<R: Files + Print + Eprint + AllocGlobal>(
     pair.settle(alloc, wanted.breaks.as_mut_slice())?;
     let mut out = BufWriter::new(alloc, io::writer(rt))?;
     let told = write_trace(alloc, &mut pair, &wanted, &mut out)?;
-    // That nobody hears of it changes no status.
+    // A failed write of the message changes no status.
     let _ = tell_ends(rt, &pair);
     Ok(if told.is_hit { DONE } else { NO })
 }

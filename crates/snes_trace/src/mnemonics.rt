@@ -5,7 +5,7 @@ ghost use Rattle.snes_trace.specs.Mnemonics.{mnemonic_of};
 
 use cpu_tables::Op;
 
-/// The mnemonic of an operation, as in the W65C816S data sheet.
+/// Returns the mnemonic of an operation, as in the W65C816S data sheet.
 pub fn mnemonic(op: Op) -> &'static str
     ensures { result.now ≡ mnemonic_of op }
 {

@@ -1,4 +1,4 @@
-//! Operands of the 65C816, as they are written behind a mnemonic.
+//! Operands of the 65C816, as they are written after a mnemonic.
 
 ghost use Rattle.std.specs.Prelude.{◌≡◌};
 ghost use Rattle.cpu_alu.specs.Flow.{relative};
@@ -8,30 +8,33 @@ use crate::digits::{push_hex2, push_hex4, push_hex6, push_text};
 use cpu_tables::{INDEX_8, MEMORY_8, Mode, Op};
 use std::alloc::AllocError;
 
-/// The number in an operand.
+/// The kind of number in an operand.
 #[derive(Clone, Copy)]
 pub enum Number {
-    /// There is none.
+    /// No number.
     Nothing,
     /// A byte.
     Byte,
-    /// A word, low byte first.
+    /// A 16-bit word, low byte first.
     Word,
     /// An address of three bytes, low byte first.
     Long,
-    /// The address that a branch by a signed byte goes to.
+    /// The target address of a branch by a signed byte.
     Near,
-    /// The address that a branch by two bytes goes to.
+    /// The target address of a branch by two bytes.
     Far,
-    /// Two banks. The bytes have that of the destination first, the text that of the source.
+    /// Two banks. In the bytes the destination's comes first, in the text the source's.
     Banks,
 }
 
-/// How an operand is written: its number, with what stands before it and behind it.
+/// How an operand is written: its number, with the text before it and after it.
 #[derive(Clone, Copy)]
 pub struct Operand {
+    /// The text before the number.
     pub front: &'static str,
+    /// The number.
     pub number: Number,
+    /// The text after the number.
     pub back: &'static str,
 }
 
@@ -50,7 +53,7 @@ fn written(front: &'static str, number: Number, back: &'static str) -> Operand {
     }
 }
 
-/// A number that is as wide as a flag of the status byte says: a byte where it is set.
+/// Returns the number whose width a flag of the status byte gives: a byte if it is set, else a word.
 fn width(p: u8, flag: u8) -> Number {
     if p & flag == 0 {
         Number::Word
@@ -59,7 +62,7 @@ fn width(p: u8, flag: u8) -> Number {
     }
 }
 
-/// The number of an immediate operand, where the status byte is `p`.
+/// Returns the number of an immediate operand, if the status byte is `p`.
 fn immediate(op: Op, p: u8) -> Number {
     match op {
         Op::Rep | Op::Sep | Op::Wdm => Number::Byte,
@@ -68,7 +71,7 @@ fn immediate(op: Op, p: u8) -> Number {
     }
 }
 
-/// The operand of what lives on the stack.
+/// Returns the operand of an operation that uses the stack.
 fn on_stack(op: Op) -> Operand {
     match op {
         Op::Brk | Op::Cop => written("#$", Number::Byte, ""),
@@ -78,7 +81,7 @@ fn on_stack(op: Op) -> Operand {
     }
 }
 
-/// How the operand of an operation is written, where the status byte is `p` (W65C816S data sheet, "Addressing
+/// Returns how the operand of an operation is written, if the status byte is `p` (W65C816S data sheet, "Addressing
 /// modes").
 pub fn operand_of(op: Op, mode: Mode, p: u8) -> Operand {
     match mode {
@@ -110,14 +113,14 @@ pub fn operand_of(op: Op, mode: Mode, p: u8) -> Operand {
     }
 }
 
-/// A word of two bytes, low byte first: that which the processor joins.
+/// Returns the 16-bit word of two bytes, low byte first, as the processor joins them.
 pub fn word(low: u8, high: u8) -> u16
     ensures { result ≡ join low high }
 {
     u16::from(low) + 256 * u16::from(high)
 }
 
-/// Where a branch by a signed byte goes to, from the address behind its instruction: where the processor goes.
+/// Returns the target of a branch by a signed byte, from the address after its instruction, as the processor does.
 #[tactic(auto, unfolding(cpu_alu::specs::Flow::relative))]
 pub fn near(behind: u16, distance: u8) -> u16
     ensures { result ≡ relative behind distance }
@@ -130,7 +133,7 @@ pub fn near(behind: u16, distance: u8) -> u16
     }
 }
 
-/// Adds the number of an operand, whose bytes stand behind an opcode at `pc`.
+/// Adds the number of an operand, whose bytes follow an opcode at `pc`.
 fn push_operand_number(
     out: &mut Vec<u8>,
     number: Number,
@@ -156,7 +159,7 @@ fn push_operand_number(
     }
 }
 
-/// Adds an operand, whose bytes stand behind an opcode at `pc`.
+/// Adds an operand, whose bytes follow an opcode at `pc`.
 pub fn push_operand(
     out: &mut Vec<u8>,
     operand: Operand,

@@ -1,4 +1,4 @@
-//! The two machines of a job, and each step of them as it is made.
+//! The two machines of a job, and each of their steps as it is taken.
 
 use crate::breaks::{Break, settle_breaks};
 use crate::looks::{complete, look_at_console, look_at_sound, tell_dma};
@@ -15,17 +15,17 @@ use std::alloc::{AllocError, Global};
 /// The last stamp at which a step may begin.
 const LAST: u64 = 1 << 62;
 
-/// The serial console of a job, and channels that hear of DMA alone.
+/// The serial console of a job, and channels that follow its DMA alone.
 #[derive(Drop)]
 pub struct Pair {
     serial: Serial<ConsoleSide, AudioSide>,
     dma: Dma,
-    /// Where emitted bytes are dropped.
+    /// The buffer for emitted bytes, which are dropped.
     bytes: Vec<u8>,
     region: Region,
 }
 
-/// Makes the next step of a serial console, where there is room for its bytes; whether it was made.
+/// Takes the next step of a serial console, after making room for its bytes; returns whether it was taken.
 fn make_turn<C: Machine, S: Machine>(serial: &mut Serial<C, S>, bytes: &mut [u8]) -> bool {
     if serial.console().pending() > 0 {
         let _count = serial.console().drain(bytes);
@@ -42,7 +42,7 @@ fn make_turn<C: Machine, S: Machine>(serial: &mut Serial<C, S>, bytes: &mut [u8]
 }
 
 impl Pair {
-    /// The machines of a job before its first step.
+    /// Returns the machines of a job before its first step.
     pub fn new(alloc: Global, job: &Job) -> Result<Pair, NoMemory> {
         let console = ConsoleSide::new(alloc, job)?;
         let sound = AudioSide::new(alloc, job)?;
@@ -57,33 +57,33 @@ impl Pair {
         })
     }
 
-    /// The region of the machines.
+    /// Returns the region of the machines.
     pub fn region(&self) -> Region {
         self.region
     }
 
-    /// Finds out what lies at the addresses of each breakpoint.
+    /// Finds out what is at the addresses of each breakpoint.
     pub fn settle(&mut self, alloc: Global, breaks: &mut [Break]) -> Result<(), AllocError> {
         let (console, _) = self.serial.machines();
         settle_breaks(alloc, console.bus(), breaks)
     }
 
-    /// The machines, to look at.
+    /// Returns both machines, read-only.
     pub fn machines(&self) -> (&ConsoleSide, &AudioSide) {
         self.serial.machines()
     }
 
-    /// The bytes that go to the sound side, then those that go to the console, each by its port.
+    /// Returns the bytes of the four ports to the sound side, then of the four to the console.
     pub fn ports(&self) -> ([u8; 4], [u8; 4]) {
         self.serial.ports()
     }
 
-    /// Whether both machines stand at a stamp or behind it.
+    /// Whether both machines are at a stamp or past it.
     pub fn is_past(&self, end: u64) -> bool {
         self.serial.finished(end)
     }
 
-    /// Makes the next step of the console, and tells what it was.
+    /// Takes the next step of the console, and returns it.
     fn next_of_console(&mut self) -> Option<Step> {
         let (console, _) = self.serial.machines();
         let mut step = look_at_console(console, &self.dma);
@@ -100,7 +100,7 @@ impl Pair {
         Some(step)
     }
 
-    /// Makes the next step of the sound side, and tells what it was.
+    /// Takes the next step of the sound side, and returns it.
     fn next_of_sound(&mut self) -> Option<Step> {
         let (incoming, _) = self.serial.ports();
         let (_, sound) = self.serial.machines();
@@ -111,7 +111,7 @@ impl Pair {
         Some(step)
     }
 
-    /// Makes the next step, that of the earlier machine, and tells what it was.
+    /// Takes the next step, that of the earlier machine, and returns it.
     pub fn next(&mut self) -> Option<Step> {
         let (console, sound) = self.serial.machines();
         if console_first(console.stamp(), sound.stamp()) {

@@ -11,7 +11,7 @@ use snes_defs::Side;
 use spc_tables::SpcRegs;
 use std::alloc::AllocError;
 
-/// The name of a side.
+/// Returns the name of a side.
 pub fn side_name(side: Side) -> &'static str {
     match side {
         Side::Console => "console",
@@ -19,7 +19,7 @@ pub fn side_name(side: Side) -> &'static str {
     }
 }
 
-/// The name of a kind.
+/// Returns the name of a kind.
 pub fn kind_name(kind: Kind) -> &'static str {
     match kind {
         Kind::Opcode => "opcode",
@@ -71,7 +71,7 @@ fn push_sound(out: &mut Vec<u8>, regs: &SpcRegs, bytes: [u8; 3]) -> Result<(), A
     push_text(out, front(row.op, row.mode))?;
     push_spc_operand(out, row.mode, regs.pc, [first, second])?;
     push_text(out, back(row.op))?;
-    // Where there was no operand, no space stays behind the mnemonic.
+    // If there was no operand, no space stays after the mnemonic.
     if out.len() == named.saturating_add(1) {
         out.truncate(named);
     }

@@ -1,4 +1,4 @@
-//! Where the beam of the picture stands.
+//! The position of the beam.
 
 ghost use Rattle.std.specs.Prelude.{◌≡◌, ◌/◌};
 ghost use Rattle.snes_defs.specs.declared.ports.Side.TheVariants.{Console};
@@ -16,18 +16,18 @@ const LINES: u64 = 262;
 
 const PAL_LINES: u64 = 312;
 
-/// A place of the beam.
+/// The position of the beam: frame, line and clock.
 #[derive(Clone, Copy)]
 pub struct Position {
     /// The frame, from 0.
     pub frame: u64,
-    /// The scanline, 0 to 261, of Pal to 311.
+    /// The scanline, 0 to 261; to 311 in PAL.
     pub line: u64,
     /// The line clock, 0 to 1,363.
     pub clock: u64,
 }
 
-/// The master clocks before a stamp.
+/// Returns the number of master clocks before a stamp.
 #[inline(always)]
 fn clocks(region: Region, stamp: u64) -> u64
     ensures { result ≡ clocks_before region stamp }
@@ -38,7 +38,7 @@ fn clocks(region: Region, stamp: u64) -> u64
     }
 }
 
-/// Where the beam stands at a stamp.
+/// Returns the position of the beam at a stamp.
 pub fn position_at(region: Region, stamp: u64) -> Position
     ensures frame { result.frame ≡ frame_at region stamp }
     ensures line { result.line ≡ line_at region stamp }

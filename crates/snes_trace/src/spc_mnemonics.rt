@@ -1,11 +1,11 @@
-//! The mnemonics of the SPC700, and the registers that an operation names beside its operand.
+//! The mnemonics of the SPC700, and the registers that an operation names next to its operand.
 
 ghost use Rattle.std.specs.Prelude.{◌≡◌};
 ghost use Rattle.snes_trace.specs.SpcMnemonics.{spc_mnemonic_of, accumulator_of, front_of, back_of};
 
 use spc_tables::{SpcMode, SpcOp};
 
-/// The mnemonic of an operation.
+/// Returns the mnemonic of an operation.
 pub fn spc_mnemonic(op: SpcOp) -> &'static str
     ensures { result.now ≡ spc_mnemonic_of op }
 {
@@ -107,7 +107,7 @@ pub fn spc_mnemonic(op: SpcOp) -> &'static str
     }
 }
 
-/// A before the operand, but where the mode names both operands.
+/// Returns the A before the operand, unless the mode names both operands.
 fn accumulator(mode: SpcMode) -> &'static str
     ensures { result.now ≡ accumulator_of mode }
 {
@@ -117,7 +117,7 @@ fn accumulator(mode: SpcMode) -> &'static str
     }
 }
 
-/// What stands before the operand of the mode.
+/// Returns the text before the operand of the mode.
 pub fn front(op: SpcOp, mode: SpcMode) -> &'static str
     ensures { result.now ≡ front_of op mode }
 {
@@ -167,7 +167,7 @@ pub fn front(op: SpcOp, mode: SpcMode) -> &'static str
     }
 }
 
-/// What stands behind the operand of the mode: the register that is stored.
+/// Returns the text after the operand of the mode: the register that is stored.
 pub fn back(op: SpcOp) -> &'static str
     ensures { result.now ≡ back_of op }
 {

@@ -1,44 +1,44 @@
-//! Operands of the SPC700, as they are written behind a mnemonic, in Sony's syntax.
+//! Operands of the SPC700, as they are written after a mnemonic, in Sony's syntax.
 
 use crate::digits::{push_hex2, push_hex4, push_number, push_text};
 use crate::operands::{near, word};
 use spc_tables::SpcMode;
 use std::alloc::AllocError;
 
-/// Adds a number of a byte with what stands before it and behind it.
+/// Adds a byte as a number, with the text before it and after it.
 fn push_byte(out: &mut Vec<u8>, front: &str, byte: u8, back: &str) -> Result<(), AllocError> {
     push_text(out, front)?;
     push_hex2(out, byte)?;
     push_text(out, back)
 }
 
-/// Adds a number of a word with what stands before it and behind it.
+/// Adds a word as a number, with the text before it and after it.
 fn push_word(out: &mut Vec<u8>, front: &str, word: u16, back: &str) -> Result<(), AllocError> {
     push_text(out, front)?;
     push_hex4(out, word)?;
     push_text(out, back)
 }
 
-/// Adds a bit's number behind its byte.
+/// Adds a bit's number, after its byte.
 fn push_bit(out: &mut Vec<u8>, bit: u8) -> Result<(), AllocError> {
     push_text(out, ".")?;
     push_number(out, u64::from(bit), 0)
 }
 
-/// Adds two places or numbers, the first of which comes second in the program.
+/// Adds two addresses or numbers; the one written first is second in the program.
 fn push_two(out: &mut Vec<u8>, between: &str, bytes: [u8; 2]) -> Result<(), AllocError> {
     let [second, first] = bytes;
     push_byte(out, "$", first, between)?;
     push_hex2(out, second)
 }
 
-/// Adds a bit of the first 8 KiB.
+/// Adds a bit of a byte in the first 8 KiB.
 fn push_memory_bit(out: &mut Vec<u8>, place: u16) -> Result<(), AllocError> {
     push_word(out, "$", place % 8192, "")?;
     push_bit(out, (place / 8192) as u8)
 }
 
-/// Adds what comes before a branch's target, for the modes that have both.
+/// Adds the operand before a branch's target, for the modes that have both.
 fn push_tested(out: &mut Vec<u8>, mode: SpcMode, byte: u8) -> Result<(), AllocError> {
     match mode {
         SpcMode::DirectBitRelative(bit) => {
@@ -51,7 +51,7 @@ fn push_tested(out: &mut Vec<u8>, mode: SpcMode, byte: u8) -> Result<(), AllocEr
     }
 }
 
-/// Adds the operand of a mode, whose bytes stand behind an opcode at `pc`.
+/// Adds the operand of a mode, whose bytes follow an opcode at `pc`.
 pub fn push_spc_operand(
     out: &mut Vec<u8>,
     mode: SpcMode,

@@ -1,11 +1,11 @@
-//! A step of the console, as a trace tells it.
+//! A step of either machine, as a trace shows it.
 
 use cart_map::Place;
 use cpu_tables::Regs;
 use snes_defs::Side;
 use spc_tables::SpcRegs;
 
-/// What a step is.
+/// The kind of a step.
 #[derive(Clone, Copy, PartialEq, Eq)]
 pub enum Kind {
     /// The processor fetches an opcode.
@@ -16,7 +16,7 @@ pub enum Kind {
     Read,
     /// The processor writes.
     Write,
-    /// An internal cycle of the processor: the bus isn't used.
+    /// The processor takes an internal cycle: the bus isn't used.
     Internal,
     /// Work RAM is refreshed, and the processor waits.
     Refresh,
@@ -28,19 +28,19 @@ pub enum Kind {
     Reset,
 }
 
-/// The instruction that an opcode fetch begins: the registers before it, and the bytes of it.
+/// The instruction that an opcode fetch begins: the registers before it, and its bytes.
 #[derive(Clone, Copy)]
 pub enum Instruction {
-    /// Of the 65C816: the opcode, and the three bytes behind it.
+    /// An instruction of the 65C816: the opcode, and the three bytes after it.
     Console(Regs, [u8; 4]),
-    /// Of the SPC700: the opcode, and the two bytes behind it.
+    /// An instruction of the SPC700: the opcode, and the two bytes after it.
     Sound(SpcRegs, [u8; 3]),
-    /// The step begins none.
+    /// The step begins no instruction.
     Nothing,
 }
 
 impl Instruction {
-    /// Whether the step begins one.
+    /// Whether the step begins an instruction.
     pub fn is_begun(&self) -> bool {
         match self {
             Instruction::Console(_, _) | Instruction::Sound(_, _) => true,
@@ -49,7 +49,7 @@ impl Instruction {
     }
 }
 
-/// Which way a byte of a transfer goes, and the register of the B bus: 2100 plus this.
+/// The direction of a byte of a transfer, and the register of the B bus, as an offset from 2100.
 #[derive(Clone, Copy)]
 pub enum Way {
     /// From the A side to a register.
@@ -58,25 +58,29 @@ pub enum Way {
     From(u8),
     /// From the A side to a channel: a table of HDMA.
     Table,
-    /// The step is no byte of a transfer.
+    /// The step does not move a byte of a transfer.
     Nowhere,
 }
 
-/// A step.
+/// One step of a machine: when, where and what.
 #[derive(Clone, Copy)]
 pub struct Step {
+    /// The machine that takes the step.
     pub side: Side,
-    /// The stamp at which it begins.
+    /// The stamp at which the step begins.
     pub stamp: u64,
+    /// What the step does.
     pub kind: Kind,
-    /// The address on the bus, of 24 bits of the console and 16 of the sound side; of a transfer that of the A side.
+    /// The address on the bus: 24 bits on the console, 16 on the sound side. For a transfer, it is that of the A side.
     pub address: Option<u32>,
-    /// What lies at that address, of a step of the console that has one.
+    /// What is at that address, for a step of the console that has one.
     pub place: Option<Place>,
+    /// The direction of a byte of a transfer.
     pub way: Way,
     /// The byte that goes over the bus.
     pub byte: Option<u8>,
+    /// The instruction that the step begins.
     pub instruction: Instruction,
-    /// Where the instruction in hand stands, at a read or a write.
+    /// The address of the current instruction, for a read or a write.
     pub by: Option<u32>,
 }

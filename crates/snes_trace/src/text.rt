@@ -1,4 +1,4 @@
-//! A line of the trace as text, in columns.
+//! Lines of the trace as text, in columns.
 
 use crate::digits::{push_hex2, push_number, push_spaces, push_text};
 use crate::parts::{
@@ -11,19 +11,19 @@ use snes_defs::{Region, Side};
 use spc_tables::SpcRegs;
 use std::alloc::AllocError;
 
-/// The widths of the columns of the side, of the kind and of the instruction, each with a space behind it.
+/// The widths of the columns of the side, of the kind and of the instruction, each with a space after it.
 const SIDE: usize = 8;
 
 const KIND: usize = 9;
 
 const INSTRUCTION: usize = 18;
 
-/// The names of the flags of the 65C816 where they are set, from bit 7 on, and where they are clear.
+/// The names of the flags of the 65C816, from bit 7 on: those of set flags, then those of clear ones.
 static SET: [u8; 8] = *b"NVMXDIZC";
 
 static CLEAR: [u8; 8] = *b"nvmxdizc";
 
-/// Those of the SPC700.
+/// The names of the flags of the SPC700, from bit 7 on: those of set flags, then those of clear ones.
 static SPC_SET: [u8; 8] = *b"NVPBHIZC";
 
 static SPC_CLEAR: [u8; 8] = *b"nvpbhizc";
@@ -62,13 +62,13 @@ fn push_spc_regs(out: &mut Vec<u8>, regs: &SpcRegs) -> Result<(), AllocError> {
     push_flags(out, regs.psw, &SPC_SET, &SPC_CLEAR)
 }
 
-/// Adds a word with spaces behind it, up to a width.
+/// Adds a word, padded with spaces on the right up to a width.
 fn push_word(out: &mut Vec<u8>, word: &str, width: usize) -> Result<(), AllocError> {
     push_text(out, word)?;
     push_spaces(out, width.saturating_sub(word.len()))
 }
 
-/// Adds when and where the beam is.
+/// Adds the time: the position of the beam.
 fn push_time(out: &mut Vec<u8>, region: Region, stamp: u64) -> Result<(), AllocError> {
     let place = position_at(region, stamp);
     push_number(out, stamp, 16)?;
@@ -109,7 +109,7 @@ fn push_begun(out: &mut Vec<u8>, instruction: &Instruction) -> Result<(), AllocE
     }
 }
 
-/// Adds what else there is to a step: its instruction, the register of a transfer, or whose access it is.
+/// Adds the rest of a step: its instruction, the register of a transfer, or the instruction that makes the access.
 fn push_rest(out: &mut Vec<u8>, step: &Step) -> Result<(), AllocError> {
     match step.way {
         Way::To(port) => {

@@ -1,4 +1,4 @@
-//! The trace: which steps are told, and how.
+//! The trace: which steps are written, and how.
 
 use crate::breaks::{Break, hits};
 use crate::comma::{HEAD, push_row};
@@ -10,57 +10,59 @@ use snes_defs::{Region, Side};
 use std::alloc::Global;
 use std::io::{self, Write};
 
-/// Which steps are told.
+/// Which steps are written.
 #[derive(Drop)]
 pub struct Wanted {
-    /// Those that begin at this stamp or later, and before the other.
+    /// The first stamp: earlier steps are not written.
     pub from: u64,
+    /// The end: steps that begin at this stamp or later are not written.
     pub to: u64,
-    /// Those of this side, or of both.
+    /// The side whose steps are written, or none for both.
     pub side: Option<Side>,
-    /// Only opcodes and resets, but for hits.
+    /// Whether only opcodes and resets are written, except for hits.
     pub instructions: bool,
-    /// Those that hit, where there are breakpoints, and so many behind each hit.
+    /// The breakpoints: if there are any, only the steps that hit are written, and `then` steps after each hit.
     pub breaks: Vec<Break>,
+    /// How many steps are written after each hit.
     pub then: u64,
-    /// So many lines at most.
+    /// The most lines that are written.
     pub lines: u64,
     /// Whether lines are CSV.
     pub is_csv: bool,
 }
 
-/// What became of a trace.
+/// How a trace ended.
 #[derive(Clone, Copy)]
 pub struct Told {
-    /// The lines that were written, but for a head.
+    /// The number of lines that were written, without a head.
     pub lines: u64,
-    /// Whether a breakpoint was hit, or there is none, or nobody reads on.
+    /// Whether a breakpoint was hit, or there is none, or the reader closed the pipe.
     pub is_hit: bool,
 }
 
-/// A trace under way.
+/// A trace in progress.
 #[derive(Drop)]
 struct Telling<'a> {
     wanted: &'a Wanted,
-    /// How many steps are still told behind the last hit.
+    /// How many steps are still to be written after the last hit.
     left: u64,
     told: Told,
 }
 
 impl Telling<'_> {
-    /// Whether a step is told, where breakpoints count from the side and the stamp alone.
+    /// Whether a step is of a side and at a stamp that are wanted.
     fn is_in_range(&self, step: &Step) -> bool {
         step.stamp >= self.wanted.from
             && step.stamp < self.wanted.to
             && !self.wanted.side.is_some_and(|side| side != step.side)
     }
 
-    /// Whether a step is one of the kinds that are told.
+    /// Whether a step is of a kind that is wanted.
     fn is_of_kind(&self, step: &Step) -> bool {
         !self.wanted.instructions || step.kind == Kind::Opcode || step.kind == Kind::Reset
     }
 
-    /// Whether a step is told.
+    /// Whether a step is written.
     fn tells(&mut self, step: &Step) -> bool {
         if !self.is_in_range(step) {
             return false;
@@ -98,7 +100,7 @@ fn write_step<W: Write>(
     out.write_all(line.as_slice())
 }
 
-/// What a trace comes to that could not be written. One whose reader has closed the pipe, as `head` does, is at its end.
+/// Returns how a trace ended whose write failed. If the reader closed the pipe, as `head` does, it ended well.
 fn ended(error: io::Error, lines: u64) -> Result<Told> {
     if error.kind() == io::ErrorKind::BrokenPipe {
         return Ok(Told {
@@ -109,7 +111,7 @@ fn ended(error: io::Error, lines: u64) -> Result<Told> {
     Err(error).context("cannot write the trace")
 }
 
-/// Makes the steps up to the end of what is wanted, and writes those that are told.
+/// Takes the steps up to the end of what is wanted, and writes those that are wanted.
 pub fn write_trace<W: Write>(
     alloc: Global,
     pair: &mut Pair,

@@ -1,5 +1,5 @@
-//! Runs the sound machine by itself and prints each act of a step that isn't quiet, and of a third
-//! program its samples, to be compared with what was worked out by hand.
+//! Runs the sound machine by itself and prints each act of a step that isn't quiet, and for a third
+//! program its samples, for comparison with hand-computed cases.
 //!
 //! The first boot ROM sets timer 0 to a target of 1, waits, and copies two reads of its counter to
 //! ports 0 and 1: the counter is 1 at cycle 128, and the read clears it. The second one stops, and the
@@ -14,7 +14,7 @@
 //! volume 40, divided by 64, the same; by the main volume 7F, divided by 128, 26 and -4. The right
 //! volumes are 0.
 //!
-//! What follows are rows of the free boot ROM (`upload`).
+//! Last come rows of the free boot ROM (`upload`).
 #![tactic(auto)]
 
 mod upload;
@@ -25,12 +25,14 @@ use snes_defs::{Act, Bytes, Cart, Job, MapKind, Region, Spans, Table};
 use std::alloc::Global;
 use std::io;
 
+/// A program that reads timer 0 twice:
 /// MOV FA,#01; MOV F1,#81; MOV Y,#13; DBNZ Y; NOP; MOV A,FD; MOV F4,A; MOV A,FD; MOV F5,A; BRA.
 const TIMER_PROGRAM: [u8; 21] = [
     0x8F, 0x01, 0xFA, 0x8F, 0x81, 0xF1, 0x8D, 0x13, 0xFE, 0xFE, 0x00, 0xE4, 0xFD, 0xC4, 0xF4, 0xE4,
     0xFD, 0xC4, 0xF5, 0x2F, 0xFE,
 ];
 
+/// A program that plays one block:
 /// MOV 00,#10; MOV 10,#40; MOV 11,#7F; MOV 12,#7F; then by MOV F2,# and MOV F3,# the registers 00 VOLL 40,
 /// 03 PITCH 10, 07 GAIN 7F, 0C MVOLL 7F, 6C FLG 20, 4C KON 01; SLEEP.
 const BLOCK_PROGRAM: [u8; 49] = [
@@ -40,7 +42,7 @@ const BLOCK_PROGRAM: [u8; 49] = [
     0xEF,
 ];
 
-/// A boot ROM that begins with a program, and whose vector leads to it.
+/// Returns a boot ROM that begins with a program, and whose vector leads to it.
 fn boot_rom(program: &[u8]) -> [u8; 64] {
     let mut boot = [0u8; 64];
     for (i, byte) in program.iter().enumerate() {
@@ -53,19 +55,19 @@ fn boot_rom(program: &[u8]) -> [u8; 64] {
     boot
 }
 
-/// An interpolation table of zeros.
+/// Returns an interpolation table of zeros.
 fn empty_table() -> Table {
     Table::of([0; 512])
 }
 
-/// The table that has 1,024 for the newest number at a position of 0, and zeros.
+/// Returns the table that has 1,024 for the newest number at a position of 0, and zeros.
 fn newest_alone() -> Table {
     let mut numbers = [0u16; 512];
     numbers[0] = 1024;
     Table::of(numbers)
 }
 
-/// A job of one cartridge byte, a table of zeros, and a script that may press reset in frame 1.
+/// Returns a job of one cartridge byte, a table of zeros, and a script that may press reset in frame 1.
 fn job(alloc: Global, boot: [u8; 64], region: Region, with_reset: bool) -> io::Result<Job> {
     let resets = if with_reset {
         vec![in alloc; 1u32]?
@@ -86,7 +88,7 @@ fn job(alloc: Global, boot: [u8; 64], region: Region, with_reset: bool) -> io::R
     })
 }
 
-/// So many steps of a job, and the acts among them.
+/// Runs a job for the given number of steps, and prints the acts among them.
 fn run(rt: &impl Print, alloc: Global, job: &Job, steps: u64) -> io::Result<()> {
     let Ok(mut side) = AudioSide::new(alloc, job) else {
         return println!(rt; "no memory");
@@ -110,12 +112,12 @@ fn run(rt: &impl Print, alloc: Global, job: &Job, steps: u64) -> io::Result<()> 
     Ok(())
 }
 
-/// A number of two bytes, the low one first.
+/// Returns the number of two bytes, low byte first.
 fn number(low: u8, high: u8) -> i16 {
     (low as u16 + 256 * high as u16).cast_signed()
 }
 
-/// The first ten samples of a job.
+/// Prints the first ten samples of a job.
 fn listen(rt: &impl Print, alloc: Global, job: &Job) -> io::Result<()> {
     let Ok(mut side) = AudioSide::new(alloc, job) else {
         return println!(rt; "no memory");

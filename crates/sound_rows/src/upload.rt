@@ -1,11 +1,12 @@
-//! Rows of the free boot ROM: a console made by hand uploads blocks by the protocol and has a program begin.
+//! Runs rows of the free boot ROM: a scripted console uploads blocks by the protocol and starts a program.
 //!
-//! What each row has to print comes from the protocol. Of the writes at port 0 there are one for AA, one for each order
-//! and one for each byte; at port 1 one for BB; at ports 2 and 3 none. At the start address X is 00 and SP is EF. Of the
-//! memory 0000 and 0001 hold that address, 0002 to 00EF zeros, and the rest what was sent, where it was sent: each byte
-//! from 0100 to FFBF is compared. From FFC0 on the boot ROM is still seen. That A and Y are 00 too is this boot ROM's own.
+//! The expected output of each row comes from the protocol. Port 0 gets one write for AA, one for each order and one
+//! for each byte; port 1 gets one for BB; ports 2 and 3 none. At the start address X is 00 and SP is EF. In memory,
+//! 0000 and 0001 hold that address, 0002 to 00EF zeros, and the rest what was sent, where it was sent: each byte from
+//! 0100 to FFBF is compared. From FFC0 on the boot ROM is still visible. That A and Y are 00 too is this boot ROM's
+//! own.
 //!
-//! The order behind a block has the last index and 2 (or what the row says) more, or 01 where that is 00.
+//! The order after a block has the last index plus 2 (or what the row says), or 01 if that is 00.
 
 use crate::upload::sender::{Block, Fill, Manner, Missing, Sender};
 use audio_side::AudioSide;
@@ -17,25 +18,25 @@ use std::io;
 
 mod sender;
 
-/// The usual uploader: bytes, and a look or a store each fourth cycle.
+/// The usual uploader: bytes, and a read or a store every fourth cycle.
 const USUAL: Manner = Manner {
     by_words: false,
     pace: 4,
 };
 
-/// What a row sends, how, and where the program begins that it asks for.
+/// What a row sends, how, and where the program that it starts begins.
 #[derive(Clone, Copy)]
 struct Upload {
     title: &'static str,
     blocks: &'static [Block],
-    /// How much more than the last index the next order's byte is.
+    /// The next order's byte minus the last index.
     further: u8,
     start: u16,
     manner: Manner,
 }
 
 impl Upload {
-    /// What is sent as usual.
+    /// Returns an upload in the usual manner.
     fn usual(title: &'static str, blocks: &'static [Block], start: u16) -> Upload {
         Upload {
             title,
@@ -46,7 +47,7 @@ impl Upload {
         }
     }
 
-    /// Four blocks, and a start in the second.
+    /// Returns an upload of four blocks, with a start in the second.
     fn several(title: &'static str, further: u8, manner: Manner) -> Upload {
         Upload {
             title,
@@ -113,8 +114,10 @@ static SEVERAL: [Block; 4] = [
     },
 ];
 
+/// A program that puts A5 at 0000 to 00EF and 0100 to 01FF, sets SP to 10, and jumps back to the boot ROM.
+///
 /// MOV X,#F0; MOV A,#A5; DEC X; MOV 00+X,A; CMP X,#00; BNE; MOV Y,#00; MOV 0100+Y,A; INC Y; BNE; MOV X,#10; MOV SP,X;
-/// JMP FFC0: it puts A5 at 0000 to 00EF and 0100 to 01FF, sets SP to 10, and gives the boot ROM its turn again.
+/// JMP FFC0.
 const DIRTY: [u8; 25] = [
     0xcd, 0xf0, 0xe8, 0xa5, 0x1d, 0xd4, 0x00, 0xc8, 0x00, 0xd0, 0xf9, 0x8d, 0x00, 0xd6, 0x00, 0x01,
     0xfc, 0xd0, 0xfa, 0xcd, 0x10, 0xbd, 0x5f, 0xc0, 0xff,
@@ -126,14 +129,14 @@ static DIRTY_PROGRAM: [Block; 1] = [Block {
     fill: Fill::Program(DIRTY),
 }];
 
-/// Puts a byte where memory has to have it.
+/// Puts a byte at an address of the expected memory.
 fn put(bytes: &mut Vec<u8>, at: u16, byte: u8) {
     if let Some(place) = bytes.get_mut(usize::from(at)) {
         *place = byte;
     }
 }
 
-/// The bytes that memory has to have: those of blocks, and zeros.
+/// Returns the expected memory: the bytes of blocks, and zeros.
 fn wanted(alloc: Global, blocks: &[Block]) -> Result<Vec<u8>, AllocError> {
     let mut bytes = vec![in alloc; 0u8; 65_536]?;
     for block in blocks {
@@ -144,7 +147,7 @@ fn wanted(alloc: Global, blocks: &[Block]) -> Result<Vec<u8>, AllocError> {
     Ok(bytes)
 }
 
-/// The registers as an instruction begins at an address, which is to be soon.
+/// Runs until an instruction begins at an address, and returns the registers; `None` if that isn't soon.
 fn arrive(side: &mut AudioSide, sender: &mut Sender, at: u16) -> Option<SpcRegs> {
     for _ in 0..100 {
         if let Some(regs) = side.begins()
@@ -157,7 +160,7 @@ fn arrive(side: &mut AudioSide, sender: &mut Sender, at: u16) -> Option<SpcRegs>
     None
 }
 
-/// How many bytes from one address up to another are not as wanted.
+/// Returns how many bytes from one address up to another are not as expected.
 fn differing(side: &AudioSide, from: u16, to: u16, wanted: &[u8]) -> u32 {
     let mut count = 0u32;
     for at in from..to {
@@ -168,7 +171,7 @@ fn differing(side: &AudioSide, from: u16, to: u16, wanted: &[u8]) -> u32 {
     count
 }
 
-/// Prints the memory: what stands at 0000 and 0001, and how many bytes are not as they have to be.
+/// Prints the memory: what is at 0000 and 0001, and how many bytes are not as expected.
 fn show_memory(rt: &impl Print, side: &AudioSide, wanted: &[u8]) -> io::Result<()> {
     let zeros = [0u8; 240];
     println!(rt;
@@ -187,7 +190,7 @@ fn show_memory(rt: &impl Print, side: &AudioSide, wanted: &[u8]) -> io::Result<(
     println!(rt; "  boot ROM: {seen} of 64 bytes are seen")
 }
 
-/// Prints where the program begins, and with what.
+/// Prints where the program begins, and with which registers.
 fn show_start(
     rt: &impl Print,
     side: &mut AudioSide,
@@ -210,7 +213,7 @@ fn show_start(
     )
 }
 
-/// Sends what a row sends: the blocks, and the order to jump.
+/// Sends the blocks of a row, and the order to jump.
 fn send(side: &mut AudioSide, sender: &mut Sender, upload: &Upload) -> Result<(), Missing> {
     sender.wait_for_offer(side)?;
     let mut byte = 0xcc;
@@ -220,7 +223,7 @@ fn send(side: &mut AudioSide, sender: &mut Sender, upload: &Upload) -> Result<()
     sender.jump(side, upload.start, byte)
 }
 
-/// Prints what the protocol lacks.
+/// Prints what the protocol misses.
 fn show_missing(rt: &impl Print, missing: &Missing) -> io::Result<()> {
     println!(rt;
         "  port {} has {:02X} and never {:02X}",
@@ -228,13 +231,13 @@ fn show_missing(rt: &impl Print, missing: &Missing) -> io::Result<()> {
     )
 }
 
-/// The sound side at its start, with the free boot ROM.
+/// Returns the sound side at its start, with the free boot ROM.
 fn start(alloc: Global) -> io::Result<Option<AudioSide>> {
     let job = crate::job(alloc, free_boot_rom(), Region::Ntsc, false)?;
     Ok(AudioSide::new(alloc, &job).ok())
 }
 
-/// A row: an upload from reset on.
+/// Runs a row: an upload from reset on.
 fn row(rt: &impl Print, alloc: Global, upload: &Upload) -> io::Result<()> {
     println!(rt; "{}", upload.title)?;
     let Some(mut side) = start(alloc)? else {
@@ -248,7 +251,7 @@ fn row(rt: &impl Print, alloc: Global, upload: &Upload) -> io::Result<()> {
     }
 }
 
-/// A row in which a program leaves the two pages full and has the boot ROM begin again.
+/// Runs a row in which a program leaves the two pages full and jumps back to the boot ROM.
 fn begin_again(rt: &impl Print, alloc: Global) -> io::Result<()> {
     println!(rt; "begun again by a program that left its pages full")?;
     let Some(mut side) = start(alloc)? else {
@@ -271,7 +274,7 @@ fn begin_again(rt: &impl Print, alloc: Global) -> io::Result<()> {
     show_start(rt, &mut side, &mut sender, 0x0200, wanted.as_slice())
 }
 
-/// Nothing but the offer, for a long time.
+/// Runs a row in which nothing but the offer happens, for a long time.
 fn offer_alone(rt: &impl Print, alloc: Global) -> io::Result<()> {
     println!(rt; "no order for 20,000 cycles")?;
     let Some(mut side) = start(alloc)? else {
@@ -286,7 +289,7 @@ fn offer_alone(rt: &impl Print, alloc: Global) -> io::Result<()> {
     )
 }
 
-/// All rows.
+/// Runs all rows.
 pub fn show(rt: &impl Print, alloc: Global) -> io::Result<()> {
     offer_alone(rt, alloc)?;
     let words = Manner {

@@ -15,16 +15,17 @@ pub struct Unit {
     sample: u64,
 }
 
-/// What a line of a case says.
+/// The result of a line of a scene.
 #[derive(Clone, Copy, Debug, PartialEq, Eq)]
 pub enum Outcome {
-    /// It was done, or it is what the unit shows.
+    /// The line was done, or the unit shows what it says.
     Holds,
-    /// The unit shows something else.
+    /// The unit shows something else than the line says.
     Differs,
 }
 
 impl Unit {
+    /// Returns new voices and a new echo, with the ramp as table and the sample number 0.
     pub fn new() -> Unit {
         Unit {
             voices: Voices::new(),
@@ -34,7 +35,7 @@ impl Unit {
         }
     }
 
-    /// One line of a case, but for its first and last. RAM has 64 KiB.
+    /// Does one line of a scene, other than its first and last. RAM has 64 KiB.
     pub fn line(&mut self, ram: &mut [u8], line: &str) -> Option<Outcome> {
         if ram.len() != 65536 {
             return None;
@@ -55,7 +56,7 @@ impl Unit {
         Some(Outcome::Holds)
     }
 
-    /// The two numbers of the next sample, left and right.
+    /// Makes the next sample, and returns its left and right numbers.
     pub fn next_sample(&mut self, ram: &mut [u8]) -> (i16, i16)
         requires { length ram.old ≡ 65536 }
         ensures { length ram.new ≡ 65536 }
@@ -65,7 +66,7 @@ impl Unit {
         self.echo.mix(&self.voices, sums, ram)
     }
 
-    /// Writes of registers, before a sample.
+    /// Writes registers before a sample.
     fn write(&mut self, mut words: SplitWhitespace<'_>) -> Option<()> {
         if words.next()?.parse::<u64>().ok()? != self.sample {
             return None;
@@ -80,7 +81,7 @@ impl Unit {
         Some(())
     }
 
-    /// Samples, compared with those of the line.
+    /// Makes samples, and compares them with those of the line.
     fn play(&mut self, ram: &mut [u8], mut words: SplitWhitespace<'_>) -> Option<Outcome>
         requires { length ram.old ≡ 65536 }
     {
@@ -102,7 +103,7 @@ impl Unit {
         }
     }
 
-    /// A register, compared with the line's byte.
+    /// Compares a register with the line's byte.
     fn read(&self, mut words: SplitWhitespace<'_>) -> Option<Outcome> {
         let reg = hexadecimal::<u8>(words.next()?)?;
         if reg >= 128 {
@@ -113,7 +114,7 @@ impl Unit {
     }
 }
 
-/// Whether it holds.
+/// Returns the result of a comparison.
 fn told(same: bool) -> Outcome {
     if same {
         Outcome::Holds
@@ -122,7 +123,7 @@ fn told(same: bool) -> Outcome {
     }
 }
 
-/// The table of which entry i is 4 i, 2047 at most.
+/// Returns the table whose entry i is 4 i, 2047 at most.
 fn ramp() -> Table {
     let mut numbers = [0u16; 512];
     'numbers: for i in 0..512 {
@@ -131,7 +132,7 @@ fn ramp() -> Table {
     Table::of(numbers)
 }
 
-/// A table of a line: the ramp, or that of a seed.
+/// Returns the table of a line: the ramp, or that of a seed.
 fn table(mut words: SplitWhitespace<'_>) -> Option<Table> {
     let word = words.next()?;
     if word.as_bytes() == b"ramp".as_slice() {
@@ -140,7 +141,7 @@ fn table(mut words: SplitWhitespace<'_>) -> Option<Table> {
     Some(random_table(hexadecimal(word)?))
 }
 
-/// The table of a seed.
+/// Returns the table of a seed.
 fn random_table(seed: u32) -> Table {
     let mut generator = Generator::new(seed);
     let mut numbers = [0u16; 512];
@@ -150,7 +151,7 @@ fn random_table(seed: u32) -> Table {
     Table::of(numbers)
 }
 
-/// RAM by a seed.
+/// Fills RAM by a seed.
 fn fill(ram: &mut [u8], mut words: SplitWhitespace<'_>) -> Option<()> {
     let mut generator = Generator::new(hexadecimal(words.next()?)?);
     let ands = words.next()?.parse().ok()?;

@@ -1,6 +1,6 @@
-//! A mixed 65C816 program in a loop with the shape of the console's step.
+//! Measures a mixed 65C816 program in a loop with the shape of the console's step.
 //!
-//! A step asks the processor's next access, looks its page up for a place and a number of clocks, raises a stamp, makes
+//! A step gets the processor's next access, looks its page up for a place and a number of clocks, raises a stamp, makes
 //! the access, and compares the stamp with that of the next event.
 
 ghost use Rattle.std.specs.Prelude.{◌+◌, ◌≤◌, length};
@@ -57,7 +57,7 @@ fn load(memory: &mut [u8], at: usize, bytes: &[u8])
     }
 }
 
-/// The sum of all bytes, each by its place.
+/// Returns the sum of all bytes, weighted by powers of 31, modulo 2^32.
 fn sum(memory: &[u8]) -> u32 {
     let mut sum: u32 = 0;
     for byte in memory {
@@ -66,7 +66,7 @@ fn sum(memory: &[u8]) -> u32 {
     sum
 }
 
-/// A page of 8 KiB: where its first byte stands in the memory, and what an access there costs.
+/// A page of 8 KiB: the index of its first byte in the memory, and the stamps that an access there takes.
 #[derive(Clone, Copy)]
 struct Page {
     base: u32,
@@ -82,7 +82,7 @@ struct Bus {
 }
 
 impl Bus {
-    /// The place of an address in the memory, after the stamp has risen by its clocks.
+    /// Raises the stamp by what an access to an address takes, and returns the index of the address in the memory.
     #[inline(always)]
     fn reach(&mut self, at: u32) -> usize {
         match self.pages.get((at / 8192) as usize) {
@@ -94,7 +94,7 @@ impl Bus {
         }
     }
 
-    /// The byte at an address.
+    /// Returns the byte at an address.
     #[inline(always)]
     fn read(&mut self, at: u32) -> u8 {
         let place = self.reach(at);
@@ -104,7 +104,7 @@ impl Bus {
         }
     }
 
-    /// A byte goes to an address.
+    /// Writes a byte to an address.
     #[inline(always)]
     fn write(&mut self, at: u32, byte: u8) {
         let place = self.reach(at);
@@ -113,7 +113,7 @@ impl Bus {
         }
     }
 
-    /// A cycle in which the bus isn't used.
+    /// Takes a cycle in which the bus isn't used.
     #[inline(always)]
     fn rest(&mut self) {
         self.stamp = self.stamp.wrapping_add(6 * 5632);
@@ -130,13 +130,13 @@ struct Machine {
 }
 
 impl Machine {
-    /// An event has come: the next one is a line later.
+    /// Counts an event; the next one is a line later.
     fn pass(&mut self) {
         self.events = self.events.wrapping_add(1);
         self.next_event = self.next_event.wrapping_add(1364 * 5632);
     }
 
-    /// One step. The stamp has risen before the processor goes on, so that nothing lives across that.
+    /// Takes one step. The stamp rises before the processor advances, so that nothing lives across that.
     #[inline(always)]
     fn step(&mut self) {
         match self.cpu.next() {
@@ -162,7 +162,7 @@ impl Machine {
         }
     }
 
-    /// So many steps.
+    /// Takes the given number of steps.
     fn run(&mut self, steps: u64) {
         for _ in 0..steps {
             self.step();
@@ -170,7 +170,7 @@ impl Machine {
     }
 }
 
-/// So many pages that lie one behind the other, slow ones in the lower half of each bank.
+/// Returns pages that follow one another, with slow ones in the lower half of each bank.
 fn pages(alloc: Global) -> io::Result<Vec<Page>> {
     let mut pages = Vec::new(alloc);
     for number in 0..2048u32 {
@@ -183,7 +183,7 @@ fn pages(alloc: Global) -> io::Result<Vec<Page>> {
     Ok(pages)
 }
 
-/// A memory with the program, its subroutine, the reset vector and two pointers.
+/// Returns a memory with the program, its subroutine, the reset vector and two pointers.
 fn memory(alloc: Global) -> io::Result<Vec<u8>> {
     let mut memory = vec![in alloc; 0u8; 16_777_216]?;
     let bytes = memory.as_mut_slice();
@@ -195,8 +195,8 @@ fn memory(alloc: Global) -> io::Result<Vec<u8>> {
     Ok(memory)
 }
 
-/// So many steps of the 65C816. Prints their number, and with `sums` the registers, the stamp, how many events came and a
-/// sum over the memory.
+/// Runs the given number of steps of the 65C816. Prints the number, and with `sums` the registers, the stamp, how many
+/// events came and a sum over the memory.
 #[inline(never)]
 pub fn cpu_steps<R: AllocGlobal + Print>(rt: &R, steps: u64, sums: bool) -> io::Result<()> {
     let bus = Bus {

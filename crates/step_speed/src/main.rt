@@ -1,14 +1,14 @@
-//! Loops that measure the time of one step, call or sample of a part of the console.
+//! Runs loops to measure the time of one step, call or sample of a part of the console.
 //!
-//! The arguments are what to run and how often, as many such pairs as are wanted:
+//! The arguments are what to run and how often, any number of such pairs:
 //!
 //! - `cpu N`: steps of the 65C816 in a loop with the shape of the console's step (`cpu`);
-//! - `empty N`, `mailbox N`, `burst N`: rounds of calls of the port log (`ports`);
+//! - `empty N`, `mailbox N`, `burst N`: iterations of calls of the port log (`ports`);
 //! - `play N`, `rest N`, `quiet N`: samples of the sound unit; `cycles N`, `work N`: steps of the whole sound machine
 //!   (`sound`).
 //!
-//! It prints a sum over what came out, so that two builds can be compared; of `cpu` the number of steps alone, unless
-//! the word `sums` stands before it. Each loop is a function of its own that isn't built into `main`.
+//! It prints a sum over the results, so that two builds can be compared; for `cpu` the number of steps alone, unless
+//! `sums` comes before it. Each loop is a function of its own that isn't inlined into `main`.
 #![tactic(auto)]
 
 mod cpu;
@@ -21,7 +21,7 @@ use std::env;
 /// More runs than a command line asks for.
 const MOST_WORDS: u32 = 200;
 
-/// Runs a part so often, and prints what came out.
+/// Runs a part the given number of times, and prints the sum of the results.
 fn measure<R: AllocGlobal + Print>(
     rt: &R,
     what: &str,

@@ -1,7 +1,7 @@
-//! Calls of the port log in three scenes.
+//! Measures calls of the port log in three scenes.
 //!
-//! In `empty` both sides read and nothing was written, in `mailbox` each side writes a byte and reads the other's, and in
-//! `burst` two thousand writes wait for their reader. The sum is over what was read.
+//! In `empty` both sides read and nothing was written. In `mailbox` each side writes a byte and reads the other's. In
+//! `burst` two thousand writes are pending for their reader. The sum is over what was read.
 
 ghost use Rattle.std.specs.Prelude.{◌≡◌, ◌+◌, ◌*◌, ◌^◌, ◌<◌, ◌≤◌};
 ghost use Rattle.snes_defs.specs.declared.ports.Side.TheVariants.{Console, Sound};
@@ -13,16 +13,16 @@ use port_log::{Late, PortLog};
 use snes_defs::{Region, Side};
 use std::alloc::Global;
 
-/// Stamps of one round of the first two scenes: more than its steps take.
+/// Stamps of one iteration of the first two scenes: more than its steps take.
 const ROUND: u64 = 200_000;
 
-/// Stamps of one round of a burst, less than a window.
+/// Stamps of one iteration of a burst, less than a window.
 const BURST: u64 = 100_000_000;
 
 /// The writes of a burst.
 const WRITES: u64 = 2000;
 
-/// What was read, 256 where the call was refused.
+/// Returns what was read, or 256 if the call was refused.
 #[inline(always)]
 fn number(read: Result<u8, Late>) -> u64
     ensures { result ≤ 256 }
@@ -33,7 +33,7 @@ fn number(read: Result<u8, Late>) -> u64
     }
 }
 
-/// Both sides publish and read, and nothing was written.
+/// Has both sides publish and read, when nothing was written.
 fn quiet_round(log: &mut PortLog, at: u64) -> u64
     requires below { AreClocksBelow log.old at }
     requires small { at < 2 ^ 62 }
@@ -46,7 +46,7 @@ fn quiet_round(log: &mut PortLog, at: u64) -> u64
     heard + number(log.read(Side::Console, at + 2, 1))
 }
 
-/// Each side writes a byte, and reads the other's.
+/// Has each side write a byte, and read the other's.
 fn mailbox_round(log: &mut PortLog, at: u64, byte: u8) -> u64
     requires below { AreClocksBelow log.old at }
     requires small { at < 2 ^ 62 }
@@ -60,7 +60,7 @@ fn mailbox_round(log: &mut PortLog, at: u64, byte: u8) -> u64
     heard + number(log.read(Side::Console, at + 50_000, 1))
 }
 
-/// A write that isn't seen yet, and a read of its reader.
+/// Makes a write that isn't visible yet, and a read by its reader.
 #[inline(always)]
 fn unseen_write(log: &mut PortLog, base: u64, at: u64, byte: u8) -> u64
     requires writer { clock_of Console log.old ≤ at }
@@ -77,7 +77,7 @@ fn unseen_write(log: &mut PortLog, base: u64, at: u64, byte: u8) -> u64
     number(log.read(Side::Sound, base, 0))
 }
 
-/// Two thousand writes that the reader doesn't see yet, a read after each.
+/// Makes two thousand writes that the reader doesn't see yet, with a read after each.
 fn burst_round(log: &mut PortLog, base: u64) -> u64
     requires below { AreClocksBelow log.old base }
     requires small { base < 2 ^ 61 }
@@ -125,7 +125,8 @@ fn burst(log: &mut PortLog, rounds: u32) -> u64
     sum
 }
 
-/// The sum over what so many rounds of a scene read, or nothing where there is no scene of that name, or no memory.
+/// Returns the sum over what `count` iterations of a scene read; `None` if there is no scene of that name, or
+/// allocation fails.
 #[inline(never)]
 pub fn measured(alloc: Global, scene: &str, count: u64) -> Option<u64> {
     let mut log = PortLog::new(alloc, Region::Ntsc).ok()?;

@@ -1,12 +1,14 @@
-//! The sound unit at work.
+//! Measures the sound unit at work.
 //!
-//! `play` makes samples with eight voices and echo on, `rest` with none as after power on, `quiet` with eight voices
-//! that were released and still have a pitch; `cycles` makes steps of the whole sound machine over a loop that reads a timer
-//! and writes a port, and `work` over one that touches the memory alone, both as a run makes them, by `Machine::quiet`. In the
-//! stored run the sum is 0 at rest, and 1 of 160 cycles: the loop takes 25, begins at cycle 10, and reads the counter in
-//! its third cycle, so its sixth round, from cycle 135 on, is the first behind the tick of cycle 127 and writes a 1; the five
-//! before it write 0, and the seventh comes too late. Of `work` it is the byte that each round of 49 cycles counts up in
-//! its tenth: 4 after 160.
+//! `play` makes samples with eight voices and echo on, `rest` with none as after power on, and `quiet` with eight
+//! voices that were released and still have a pitch. `cycles` takes steps of the whole sound machine over a loop that
+//! reads a timer and writes a port, and `work` over one that touches the memory alone. Both are taken as in a run, by
+//! `Machine::quiet`.
+//!
+//! In the stored run the sum is 0 at rest, and 1 for 160 cycles. The loop takes 25 cycles, begins at cycle 10, and
+//! reads the counter in its third cycle. So its sixth iteration, from cycle 135 on, is the first after the tick of
+//! cycle 127 and writes a 1; the five before it write 0, and the seventh comes too late. For `work` the sum is the byte
+//! that each iteration of 49 cycles increments in its tenth: 4 after 160.
 
 ghost use Rattle.std.specs.Prelude.{◌≡◌, length};
 
@@ -18,8 +20,8 @@ use snes_defs::{Act, Bytes, Cart, Job, MapKind, Region, Spans, Table};
 use std::alloc::Global;
 use std::io;
 
-/// Registers of the eight voices: volumes, pitch, source, envelope. The pitch and the sustain rate
-/// differ from voice to voice.
+/// Sets the registers of the eight voices: volumes, pitch, source, envelope. The pitch and the sustain
+/// rate differ from voice to voice.
 fn set_voices(voices: &mut Voices) {
     for k in 0..8u8 {
         voices.write(16 * k, 0x30);
@@ -34,7 +36,7 @@ fn set_voices(voices: &mut Voices) {
     }
 }
 
-/// Registers that the voices share, with the echo on.
+/// Sets the registers that the voices share, with the echo on.
 fn set_mix(voices: &mut Voices) {
     for (reg, byte) in [
         (0x0C, 0x7F),
@@ -54,7 +56,7 @@ fn set_mix(voices: &mut Voices) {
     }
 }
 
-/// A RAM of noise, with a directory at 7000 whose eight sources begin at 2000.
+/// Fills RAM with noise, and a directory at 7000 whose eight sources begin at 2000.
 fn fill(ram: &mut [u8])
     requires { length ram.old ≡ 65536 }
 {
@@ -76,13 +78,13 @@ fn fill(ram: &mut [u8])
 enum Scene {
     /// Nothing, as after power on.
     BusState,
-    /// They are released and silent, and have a pitch; there is no echo.
+    /// They are silent after release, and have a pitch; there is no echo.
     Quiet,
     /// They play, with echo.
     Play,
 }
 
-/// So many samples.
+/// Makes the given number of samples, and returns the sum over them.
 fn samples(ram: &mut [u8], scene: Scene, count: u64) -> u64 {
     if ram.len() != 65536 {
         return 0;
@@ -127,15 +129,15 @@ const WORK: [u8; 24] = [
     0x00, 0x02, 0x3F, 0xD7, 0xFF, 0x2F, 0xE9, 0x6F,
 ];
 
-/// Where `WORK` counts its rounds.
+/// The address at which `WORK` counts its iterations.
 const ROUNDS: u16 = 0x11;
 
-/// An interpolation table of zeros.
+/// Returns an interpolation table of zeros.
 fn empty_table() -> Table {
     Table::of([0; 512])
 }
 
-/// A job with a program as boot ROM.
+/// Returns a job with a program as boot ROM.
 fn job(alloc: Global, program: [u8; 24]) -> io::Result<Job> {
     let mut boot = [0u8; 64];
     for i in 0..24 {
@@ -160,7 +162,7 @@ fn job(alloc: Global, program: [u8; 24]) -> io::Result<Job> {
 /// The stamps of a cycle.
 const RATE: u64 = 118_125;
 
-/// So many cycles, at most 2^40, and the sum of the bytes that they write to the ports.
+/// Runs the given number of cycles, at most 2^40, and returns the sum of the bytes that they write to the ports.
 fn cycles(side: &mut AudioSide, count: u64) -> u64 {
     let end = count.min(1 << 40) * RATE;
     let mut bytes = [0u8; 4096];
@@ -190,12 +192,12 @@ fn cycles(side: &mut AudioSide, count: u64) -> u64 {
     sum
 }
 
-/// So many zeros.
+/// Returns the given number of zeros.
 fn zeros(alloc: Global, size: usize) -> io::Result<Vec<u8>> {
     Ok(vec![in alloc; 0u8; size]?)
 }
 
-/// The sum of a run, or nothing where there is no run of that name.
+/// Returns the sum of a run; `None` if there is no run of that name.
 #[inline(never)]
 pub fn measured(alloc: Global, what: &str, count: u64) -> io::Result<Option<u64>> {
     let scene = match what {

@@ -3,7 +3,7 @@ ghost use Rattle.std.specs.Prelude.{◌<◌};
 use rand_core::utils::NextWord;
 use rand_pcg::Pcg32;
 
-/// Numbers below limits, from a seed.
+/// A generator of numbers below limits, from a seed.
 #[derive(Drop)]
 pub(crate) struct Dice {
     words: Pcg32,
@@ -16,7 +16,7 @@ impl Dice {
         }
     }
 
-    /// A number below a limit.
+    /// Returns a number below a limit.
     pub(crate) fn below(&mut self, limit: u64) -> u64
         requires { 0 < limit }
         ensures { result < limit }

@@ -1,4 +1,4 @@
-// Pairs of tapes by turns, each beside the serial console of the same two.
+// Tests of pairs of tapes by turns, each against the serial console of the same two.
 ghost use Rattle.std.specs.Prelude.{◌≤◌};
 
 use crate::runs::{Manner, Ran, by_lock, by_serial, by_words};
@@ -13,24 +13,24 @@ use std::test::Fail;
 use std::thread::Threads;
 use turn_watch::{Counts, Watch};
 
-/// Pairs of a region.
+/// The number of pairs of each region.
 const PAIRS: u64 = 100;
 
 /// The end of a run, in least rises of the region: five and a half windows.
 const LENGTH: u64 = 20_000;
 
-/// What came of the pairs of a region.
+/// The results of the pairs of a region.
 #[derive(Clone, Copy, Debug, PartialEq, Eq)]
 struct Compared {
-    /// Pairs of which both sides emitted the serial console's bytes.
+    /// The pairs both of whose sides emitted the serial console's bytes.
     alike: u64,
-    /// Pairs of which both sides heard something: they emitted a byte that is not 0. In twelve of a hundred one
-    /// side only reads, so that the other one hears nothing.
+    /// The pairs both of whose sides got something: they emitted a byte that is not 0. In twelve of a hundred one side
+    /// only reads, so that the other one gets nothing.
     heard: u64,
-    /// Pairs that emitted what the pair before them did by the serial console, of other tapes: none, or the sums would tell
-    /// nothing.
+    /// The pairs that emitted what the pair before them, of other tapes, did by the serial console. There must be none,
+    /// or the sums would show nothing.
     as_before: u64,
-    /// Pairs of which every turn had two threads, and pairs in which both legs of a turn overlapped, where there were
+    /// The pairs in which every turn had two threads, and those in which both legs of a turn overlapped, if there were
     /// four turns or more.
     on_two_threads: u64,
     overlapping: u64,
@@ -53,7 +53,7 @@ enum Carrier {
     Words,
 }
 
-/// What the serial console makes of a pair.
+/// Returns what the serial console makes of a pair.
 fn serially<R: AllocGlobal>(rt: &R, pair: Pair) -> Result<Sums, Fail>
     requires { pair.style.grid ≤ 6 }
 {
@@ -67,7 +67,7 @@ fn serially<R: AllocGlobal>(rt: &R, pair: Pair) -> Result<Sums, Fail>
     by_serial(console, sound, least(region) * LENGTH)
 }
 
-/// And what turns make of it.
+/// Returns what turns make of a pair.
 fn by_turns<R: AllocGlobal + Threads + Files>(
     rt: &R,
     watch: &Watch<'_, R>,
@@ -187,7 +187,7 @@ fn turns_emit_what_the_serial_console_emits_in_pal(rt: HostRuntime) -> Result<()
     Ok(())
 }
 
-/// The words' ring of 8,192 entries, gone round twice: 20,000 writes against 5,000 reads, of which each is emitted.
+/// The ring of 8,192 entries without a lock wraps twice: 20,000 writes against 5,000 reads, each of which is emitted.
 #[test]
 fn the_ring_goes_round_twice(rt: HostRuntime) -> Result<(), Fail> {
     let (console, sound) = writes_and_reads(rt.alloc())?;

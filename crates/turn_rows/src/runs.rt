@@ -17,10 +17,10 @@ use turn_drive::run_turns;
 use turn_watch::{Counts, Watch};
 use word_log::Words;
 
-/// How many turns a run of tapes is given.
+/// The most turns of a run of tapes.
 const MOST_TURNS: u64 = 100_000;
 
-/// How turns follow one another.
+/// How the turns of a run follow one another.
 #[derive(Clone, Copy, Debug, PartialEq, Eq)]
 pub(crate) enum Manner {
     /// By `run_turns`, to near ends.
@@ -29,14 +29,14 @@ pub(crate) enum Manner {
     Bare,
 }
 
-/// What two workers emitted, and what was counted of their turns.
+/// What two workers emitted, and the counts of their turns.
 #[derive(Clone, Copy, Debug, PartialEq, Eq)]
 pub(crate) struct Ran {
     pub(crate) sums: Sums,
     pub(crate) counts: Counts,
 }
 
-/// What the serial console emits.
+/// Returns what the serial console emits.
 pub(crate) fn by_serial(console: Tape, sound: Tape, end: u64) -> Result<Sums, Fail>
     requires one_region { console.state.region ≡ sound.state.region }
     requires console_empty { console.waiting ≡ [] }
@@ -51,14 +51,14 @@ pub(crate) fn by_serial(console: Tape, sound: Tape, end: u64) -> Result<Sums, Fa
     }
 }
 
-/// Whether both tapes have come to a stamp.
+/// Whether both tapes have reached a stamp.
 fn both_at(console: &Tape, sound: &Tape, end: u64) -> bool
     ensures { result ≡ false → (console.now.state.stamp < end) ⊎ (sound.now.state.stamp < end) }
 {
     console.stamp() >= end && sound.stamp() >= end
 }
 
-/// Turns to the end stamp, one after another, until both tapes are there. Whether they are.
+/// Makes turns to the end stamp until both tapes are there. Returns whether they are.
 fn turns_to<R: Threads, W: Wire, G: Gate>(
     rt: &R,
     wire: &W,
@@ -102,7 +102,7 @@ where
     false
 }
 
-/// What turns over a new wire emit.
+/// Returns what turns over a new wire emit.
 fn emitted<R: Threads, W: Wire, G: Gate>(
     rt: &R,
     wire: &W,
@@ -168,7 +168,7 @@ where
     }
 }
 
-/// What turns over the log behind its lock emit. The watch is the gate too.
+/// Returns what turns over the log behind its lock emit. The watch is the gate too.
 pub(crate) fn by_lock<R: AllocGlobal + Threads + Files>(
     rt: &R,
     watch: &Watch<'_, R>,
@@ -194,7 +194,7 @@ pub(crate) fn by_lock<R: AllocGlobal + Threads + Files>(
     })
 }
 
-/// What turns over words without a lock emit. The watch is the gate too.
+/// Returns what turns over words without a lock emit. The watch is the gate too.
 pub(crate) fn by_words<R: AllocGlobal + Threads + Files>(
     rt: &R,
     watch: &Watch<'_, R>,

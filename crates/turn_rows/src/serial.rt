@@ -7,7 +7,7 @@ use snes_defs::{Act, Region, Side};
 use std::alloc::Global;
 use std::test::Fail;
 
-/// A tape of one beat.
+/// Returns a tape of one beat.
 fn tape(alloc: Global, region: Region, rise: u64, act: Act) -> Result<Tape, Fail>
     requires { IsBeat region (record { rise = rise; act = act }) }
     ensures starts { IfOk result (λ t. t.state.stamp ≡ 0) }

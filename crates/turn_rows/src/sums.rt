@@ -3,7 +3,7 @@ use file_shelf::Failed;
 use run_drive::Sink;
 use snes_defs::Side;
 
-/// The bytes of one side: how many, how many of them are not 0, and a hash of them.
+/// The bytes of one side: their number, how many of them are not 0, and their hash.
 #[derive(Clone, Copy, Debug, PartialEq, Eq)]
 pub(crate) struct Track {
     pub(crate) count: u64,
@@ -12,7 +12,7 @@ pub(crate) struct Track {
 }
 
 impl Track {
-    /// Nothing emitted.
+    /// Returns the track of no bytes.
     fn new() -> Track {
         Track {
             count: 0,
@@ -30,7 +30,7 @@ impl Track {
     }
 }
 
-/// What both sides emitted.
+/// Counts and hashes of what both sides emitted.
 #[derive(Clone, Copy, Debug, PartialEq, Eq)]
 pub(crate) struct Sums {
     pub(crate) console: Track,
@@ -46,7 +46,7 @@ impl Sums {
     }
 }
 
-/// A sink of which no clause says anything: what it got is compared where it runs.
+/// A sink about which no clause says anything: what it got is compared at run time.
 impl Sink for Sums {
     ghost holds = { λ _ _ _. Unit {0} };
 

@@ -1,4 +1,4 @@
-// Tapes with several kinds of traffic, by the generator.
+// Generated tapes with several kinds of traffic.
 ghost use Rattle.std.specs.Prelude.{◌≡◌, ◌<◌, ◌≤◌, [], IfOk, vec_len};
 ghost use Rattle.side_law.specs.Tape.{AreBeats, IsBeat};
 ghost use Rattle.side_law.specs.Moves.{IsAtPorts};
@@ -11,10 +11,10 @@ use snes_defs::{Act, Region, Side};
 use std::alloc::Global;
 use std::test::Fail;
 
-/// The beats of a tape.
+/// The number of beats of a tape.
 const BEATS: u64 = 6000;
 
-/// What a side does for a while.
+/// What a side does for some beats.
 #[derive(Clone, Copy, Debug, PartialEq, Eq)]
 enum Traffic {
     /// A write and a read of one port in turn. The other side begins with the read.
@@ -29,17 +29,17 @@ enum Traffic {
     BusState,
 }
 
-/// What the tapes of a pair are like.
+/// The style of the tapes of a pair.
 #[derive(Clone, Copy, Debug, PartialEq, Eq)]
 pub(crate) struct Style {
-    /// Rises are so many different multiples of the least, so that both sides often stand at one stamp. 0: any
-    /// rise from the least to the most.
+    /// The number of different rises, all multiples of the least, so that both sides are often at the same stamp. 0:
+    /// any rise from the least to the most.
     pub(crate) grid: u64,
     /// The side that reads and does nothing else, more often than there is room for bytes.
     pub(crate) reader: Option<Side>,
 }
 
-/// The style of a pair, by its number.
+/// Returns the style of a pair, by its number.
 pub(crate) fn style_of(number: u64) -> Style
     ensures { result.grid ≤ 6 }
 {
@@ -79,7 +79,7 @@ fn some_traffic(dice: &mut Dice) -> Traffic {
     }
 }
 
-/// For how many beats a side goes on with it.
+/// Returns for how many beats a side continues with its traffic.
 fn beats_of(dice: &mut Dice, traffic: Traffic) -> u64
     ensures { 1 ≤ result }
 {
@@ -112,7 +112,7 @@ fn clear(dice: &mut Dice) -> Act
     Act::Clear(1 + dice.below(15) as u8)
 }
 
-/// The act of a beat, where `first` says whether a mailbox writes at it.
+/// Returns the act of a beat; `first` says whether a mailbox writes at it.
 fn act(dice: &mut Dice, traffic: Traffic, first: bool) -> Act
     ensures { IsAtPorts result }
 {
@@ -140,7 +140,7 @@ fn beat(dice: &mut Dice, region: Region, grid: u64, traffic: Traffic, first: boo
     }
 }
 
-/// The tape of a side of a pair.
+/// Returns the tape of a side of a pair.
 #[tactic(auto, using(crate::proofs::Beats::one_more))]
 pub(crate) fn tape(
     alloc: Global,
@@ -178,8 +178,8 @@ pub(crate) fn tape(
     Ok(Tape::new(alloc, region, beats)?)
 }
 
-/// The console's tape of 20,000 writes to port 0, of the bytes 0 to 255 over and over, at the least rise; and the sound
-/// side's of 5,000 reads of it.
+/// Returns the console's tape of 20,000 writes to port 0 at the least rise, and the sound side's tape of 5,000 reads of
+/// it. The bytes are 0 to 255 over and over.
 #[tactic(auto, using(crate::proofs::Beats::one_more))]
 pub(crate) fn writes_and_reads(alloc: Global) -> Result<(Tape, Tape), Fail>
     ensures regions { IfOk result (λ t. t.0.state.region ≡ t.1.state.region) }

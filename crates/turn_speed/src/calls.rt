@@ -1,17 +1,17 @@
-// Calls over a pass while the other side does nothing.
+// Makes calls over a pass while the other side does nothing.
 ghost use Rattle.std.specs.Prelude.{◌≡◌, ◌*◌, ◌^◌, ◌<◌, ◌≤◌};
 ghost use Rattle.snes_defs.specs.declared.region.Region.TheVariants.{Ntsc};
 ghost use Rattle.port_lock.specs.Passes.{IsPassOf};
 
 use port_lock::{Pass, Ports};
 
-/// A clock that no call comes to.
+/// A clock that no call reaches.
 pub const FAR: u64 = 1 << 60;
 
-/// Stamps from one call to the next: the least rise of Ntsc.
+/// Stamps from one call to the next: the least rise in NTSC.
 const RISE: u64 = 33_792;
 
-/// Reads of a port, and the sum of what was read.
+/// Reads a port repeatedly, and returns the sum of what was read.
 pub fn reads(ports: &Ports, pass: &mut Pass, count: u32) -> u64
     requires of { IsPassOf ports.now pass.old }
     requires clock { pass.old.half.at ≡ 0 }
@@ -25,7 +25,7 @@ pub fn reads(ports: &Ports, pass: &mut Pass, count: u32) -> u64
     sum
 }
 
-/// Writes to a port, and how many were taken.
+/// Writes to a port repeatedly, and returns how many writes were taken.
 pub fn writes(ports: &Ports, pass: &mut Pass, count: u32) -> u64
     requires of { IsPassOf ports.now pass.old }
     requires region { ports.now.region ≡ Ntsc }
@@ -41,7 +41,7 @@ pub fn writes(ports: &Ports, pass: &mut Pass, count: u32) -> u64
     sum
 }
 
-/// Advances of the clock, and how many were answered.
+/// Advances the clock repeatedly, and returns how many advances were taken.
 pub fn advances(ports: &Ports, pass: &mut Pass, count: u32) -> u64
     requires of { IsPassOf ports.now pass.old }
     requires clock { pass.old.half.at ≡ 0 }

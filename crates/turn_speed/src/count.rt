@@ -2,9 +2,10 @@ use file_shelf::Failed;
 use run_drive::Sink;
 use snes_defs::Side;
 
-/// A sink that counts the bytes of both sides. Its clauses say nothing of it.
+/// A sink that counts the bytes of both sides. Its clauses say nothing about them.
 #[derive(Drop)]
 pub struct Count {
+    /// The number of bytes.
     pub bytes: u64,
 }
 

@@ -7,20 +7,20 @@ use snes_defs::{Act, NoMemory, Region};
 use std::alloc::Global;
 use std::marker::Model;
 
-/// How an emitter goes on.
+/// The rhythm of an emitter.
 #[derive(Clone, Copy, Debug, PartialEq, Eq)]
 pub struct Rhythm {
     /// Stamps of a step.
     pub rise: u64,
-    /// Steps between two rows that emit none.
+    /// Steps between two rows, which emit nothing.
     pub period: u64,
-    /// Rows before the pause, but for the first one.
+    /// Rows before the pause, not counting the first one.
     pub rows: u64,
-    /// Steps of the pause that emit none.
+    /// Steps of the pause, which emit nothing.
     pub pause: u64,
 }
 
-/// A machine that is always quiet and emits rows of at most `SIZE` bytes, of which it keeps `ROOM` bytes.
+/// A machine that is always quiet and emits rows of at most `SIZE` bytes; it has room for `ROOM` bytes of them.
 #[derive(Drop)]
 pub struct Emitter<const ROOM: usize, const SIZE: usize> {
     region: Region,
@@ -45,7 +45,7 @@ impl<const ROOM: usize, const SIZE: usize> Model for Emitter<ROOM, SIZE> {
 }
 
 impl<const ROOM: usize, const SIZE: usize> Emitter<ROOM, SIZE> {
-    /// An emitter at stamp 0 that emits this row again and again, with no byte waiting.
+    /// Returns an emitter at stamp 0 that emits this row again and again, with no byte pending.
     pub fn new(
         alloc: Global,
         region: Region,

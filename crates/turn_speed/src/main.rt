@@ -1,19 +1,19 @@
-//! Calls over a pass and turns of two machines, to measure their times.
+//! Measures the times of calls over a pass and of turns of two machines.
 //!
 //! The arguments are what to run and how often:
 //!
-//! - `read N`, `write N`, `advance N`: so many calls over a pass, while the other side does nothing;
-//! - `turn N`: so many turns in which each machine makes one step;
+//! - `read N`, `write N`, `advance N`: N calls over a pass, while the other side does nothing;
+//! - `turn N`: N turns in which each machine takes one step;
 //! - `emit N`: N frames, by turns, of two quiet machines that emit as a console and a sound side do;
-//! - `serial N`, `turns N`, `words N`: N frames of two machines each of whose steps costs some 200 ns, serially, by turns
-//!   over the log behind its lock, and by turns over words without a lock;
-//! - `serial-talk N`, `turns-talk N`, `words-talk N`: the same, with a write or a read of both sides each 32 steps.
+//! - `serial N`, `turns N`, `words N`: N frames of two machines each of whose steps costs about 200 ns, serially, by
+//!   turns over the log behind its lock, and by turns over words without a lock;
+//! - `serial-talk N`, `turns-talk N`, `words-talk N`: such frames with a write or a read of both sides every 32 steps.
 //!
 //! - `order N`: N frames of rows and samples by the serial run, and by turns of the serial console with a drain of
 //!   both after each, and whether both were handed on in the same order.
 //!
-//! Without arguments nothing is done. What it prints is the time by the clock, and a count: of the calls answered,
-//! of the turns made, or of the bytes emitted.
+//! Without arguments nothing is done. It prints the wall-clock time, and a count: of the calls that were taken, of the
+//! turns made, or of the bytes emitted.
 #![tactic(auto)]
 
 ghost use Rattle.std.specs.Prelude.{◌≡◌, ◌≤◌};
@@ -40,23 +40,23 @@ use std::time::{Clock, Duration, Instant};
 use std::{env, io};
 use tapes::tape;
 
-/// Steps of the least rise in a frame.
+/// The number of steps of the least rise in a frame.
 const STEPS: u64 = 59_562;
 
-/// What came of a command.
+/// The result of a command.
 #[derive(Drop)]
 struct Taken {
     time: Duration,
     count: u64,
 }
 
-/// Nothing was done.
+/// The result if nothing was done.
 const NOTHING: Taken = Taken {
     time: Duration::ZERO,
     count: 0,
 };
 
-/// Calls of one kind over the sound side's pass, where the console's clock is far off, or over the console's.
+/// Makes calls of one kind over the sound side's pass, while the console's clock is far ahead, or over the console's.
 fn some_calls<R: AllocGlobal + Clock>(rt: &R, what: &str, count: u32) -> io::Result<Taken> {
     let Ok((ports, whole)) = Ports::open(rt.alloc(), Region::Ntsc) else {
         return Ok(NOTHING);
@@ -75,7 +75,7 @@ fn some_calls<R: AllocGlobal + Clock>(rt: &R, what: &str, count: u32) -> io::Res
     })
 }
 
-/// Turns of a step on each side.
+/// Makes turns of a step on each side.
 fn turns<R: AllocGlobal + Threads + Clock>(rt: &R, count: u32) -> io::Result<Taken> {
     let Ok((ports, whole)) = Ports::open(rt.alloc(), Region::Ntsc) else {
         return Ok(NOTHING);
@@ -94,7 +94,7 @@ fn turns<R: AllocGlobal + Threads + Clock>(rt: &R, count: u32) -> io::Result<Tak
     })
 }
 
-/// Frames of rows and samples.
+/// Runs frames of rows and samples.
 fn frames<R: AllocGlobal + Threads + Clock>(rt: &R, count: u32) -> io::Result<Taken>
     requires { count ≤ 36000 }
 {
@@ -116,7 +116,7 @@ enum How {
     ByWords,
 }
 
-/// Frames of two machines that work.
+/// Runs frames of two machines whose steps cost time.
 fn work<R: AllocGlobal + Threads + Clock>(
     rt: &R,
     how: How,
@@ -147,7 +147,7 @@ fn work<R: AllocGlobal + Threads + Clock>(
     })
 }
 
-/// Runs what a word says, so often.
+/// Runs what an argument names, the given number of times.
 fn run<R: AllocGlobal + Threads + Clock>(rt: &R, what: &str, count: u32) -> io::Result<Taken> {
     let few = count.min(36_000);
     match what {

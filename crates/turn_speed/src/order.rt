@@ -1,4 +1,4 @@
-// In which order the serial run hands on what two machines emit.
+// Compares the order in which the serial run passes on what two machines emit.
 ghost use Rattle.std.specs.Prelude.{◌≡◌, ◌^◌, ◌≤◌, [], length};
 
 use crate::pairs::{rows, samples};
@@ -11,19 +11,21 @@ use side_law::Machine;
 use snes_defs::{NoMemory, Side};
 use std::alloc::Global;
 
-/// More turns than two machines of this crate make in a few frames.
+/// More turns than two machines of this crate take in a few frames.
 const MOST_TURNS: u64 = 10_000_000;
 
 /// The takes of a run: how many of each side, and a hash (64-bit FNV-1a) of their sides and sizes, in order.
 #[derive(Clone, Copy, Debug, PartialEq, Eq)]
 pub struct Order {
+    /// The number of takes of the console.
     pub rows: u64,
+    /// The number of takes of the sound side.
     pub samples: u64,
     hash: u64,
 }
 
 impl Order {
-    /// Nothing taken.
+    /// Returns the order of no takes.
     fn new() -> Order {
         Order {
             rows: 0,
@@ -32,7 +34,7 @@ impl Order {
         }
     }
 
-    /// A number more, its low byte first.
+    /// Adds a number to the hash, low byte first.
     fn add(&mut self, number: u64) {
         for byte in number.to_le_bytes() {
             self.hash = hashed(self.hash, byte);
@@ -69,7 +71,7 @@ impl Sink for Order {
     ghost failed_since = { λ _ _ _ _ _ none. none };
 }
 
-/// Rows and samples of so many frames as the serial run hands them on.
+/// Runs frames of rows and samples by the serial run, and returns the order in which they are passed on.
 pub fn by_run(alloc: Global, frames: u32) -> Result<Order, NoMemory>
     requires { frames ≤ 36000 }
 {
@@ -81,7 +83,7 @@ pub fn by_run(alloc: Global, frames: u32) -> Result<Order, NoMemory>
     Ok(order)
 }
 
-/// Turns of the serial console of two machines, up to an end stamp, with both drained after each, the console first.
+/// Runs turns of the serial console up to an end stamp, with both machines drained after each, the console first.
 fn turn_by_turn<C: Machine + Drop, S: Machine + Drop>(
     console: C,
     sound: S,
@@ -108,7 +110,8 @@ fn turn_by_turn<C: Machine + Drop, S: Machine + Drop>(
     }
 }
 
-/// The same with both machines drained after each turn of the serial console, the console first.
+/// Runs frames of rows and samples by turns of the serial console, and returns the order of their takes. Both machines
+/// are drained after each turn, the console first.
 pub fn by_turns(alloc: Global, frames: u32) -> Result<Order, NoMemory>
     requires { frames ≤ 36000 }
 {

@@ -1,4 +1,4 @@
-// Pairs of machines, whole runs of them.
+// Pairs of machines, and whole runs of them.
 ghost use Rattle.std.specs.Prelude.{◌≡◌, ◌≤◌, [], IfOk, length};
 ghost use Rattle.snes_defs.specs.declared.region.Region.TheVariants.{Ntsc};
 
@@ -22,8 +22,8 @@ pub(crate) type Rows = Emitter<65536, 1024>;
 /// A machine that emits as the sound side does.
 pub(crate) type Samples = Emitter<4096, 4>;
 
-/// Rows of 1,024 bytes as the console emits them, a step each 22 master clocks: 62 steps a line, and in a frame
-/// one row at each of the first 239 of 262 lines.
+/// Returns a machine that emits rows of 1,024 bytes as the console does. It takes a step every 22 master clocks, so 62
+/// a line, and emits a row at each of the first 239 of a frame's 262 lines.
 pub(crate) fn rows(alloc: Global) -> Result<Rows, NoMemory>
     ensures region { IfOk result (λ e. e.state.region ≡ Ntsc) }
     ensures starts { IfOk result (λ e. e.state.stamp ≡ 0) }
@@ -41,7 +41,7 @@ pub(crate) fn rows(alloc: Global) -> Result<Rows, NoMemory>
     Emitter::new(alloc, Region::Ntsc, rhythm, row)
 }
 
-/// Samples of four bytes as the sound side emits them, one each 32 cycles.
+/// Returns a machine that emits samples of four bytes as the sound side does, one every 32 cycles.
 pub(crate) fn samples(alloc: Global) -> Result<Samples, NoMemory>
     ensures region { IfOk result (λ e. e.state.region ≡ Ntsc) }
     ensures starts { IfOk result (λ e. e.state.stamp ≡ 0) }
@@ -59,7 +59,7 @@ pub(crate) fn samples(alloc: Global) -> Result<Samples, NoMemory>
     Emitter::new(alloc, Region::Ntsc, rhythm, row)
 }
 
-/// Runs the two by turns, and answers how many turns that took.
+/// Runs the two machines by turns, and returns how many turns that took.
 pub fn emitted<R: Threads>(rt: &R, alloc: Global, frames: u32) -> Result<u64, NoMemory>
     requires { frames ≤ 36000 }
 {
@@ -87,7 +87,7 @@ pub fn emitted<R: Threads>(rt: &R, alloc: Global, frames: u32) -> Result<u64, No
     }
 }
 
-/// Runs two tapes whose steps cost time by turns over a new wire, and answers how many turns that took.
+/// Runs two tapes whose steps cost time by turns over a new wire, and returns how many turns that took.
 fn worked<R: Threads, W: Wire>(
     rt: &R,
     wire: &W,
@@ -126,7 +126,7 @@ where
     }
 }
 
-/// Runs the two over the log behind its lock.
+/// Runs two such tapes by turns over the log behind its lock, and returns how many turns that took.
 pub fn worked_by_lock<R: Threads>(
     rt: &R,
     alloc: Global,
@@ -142,7 +142,7 @@ pub fn worked_by_lock<R: Threads>(
     Ok(worked(rt, &ports, whole, console, sound, frames))
 }
 
-/// Runs the two over words without a lock.
+/// Runs two such tapes by turns over words without a lock, and returns how many turns that took.
 pub fn worked_by_words<R: Threads>(
     rt: &R,
     alloc: Global,
@@ -158,7 +158,7 @@ pub fn worked_by_words<R: Threads>(
     Ok(worked(rt, &words, whole, console, sound, frames))
 }
 
-/// Runs them by the serial console, and answers how many bytes they emitted.
+/// Runs two such tapes by the serial console, and returns how many bytes they emitted.
 pub fn worked_serially(console: Tape, sound: Tape, frames: u32) -> u64
     requires frames { frames ≤ 36000 }
     requires console { (console.state.region ≡ Ntsc) × (console.waiting ≡ []) }

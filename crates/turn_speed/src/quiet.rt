@@ -1,4 +1,4 @@
-// Turns in which next to nothing is done.
+// Makes turns in which next to nothing is done.
 ghost use Rattle.std.specs.Prelude.{◌≡◌, ◌<◌, ◌≤◌, ◌⊎◌, false, []};
 ghost use Rattle.port_lock.specs.Wholes.{IsWholeOf};
 ghost use Rattle.port_wire.specs.Reach.{IsInReach};
@@ -13,14 +13,14 @@ use side_law::{Machine, Tape};
 use snes_defs::Side;
 use std::thread::Threads;
 
-/// Whether both tapes have come to a stamp.
+/// Whether both tapes have reached a stamp.
 fn both_at(console: &Tape, sound: &Tape, end: u64) -> bool
     ensures { result ≡ false → (console.now.state.stamp < end) ⊎ (sound.now.state.stamp < end) }
 {
     console.stamp() >= end && sound.stamp() >= end
 }
 
-/// So many turns, each to an end one least rise later, and how many of them were made.
+/// Makes turns, each to an end one least rise later, and returns how many of them were made.
 pub fn quiet_turns<R: Threads>(
     rt: &R,
     ports: &Ports,

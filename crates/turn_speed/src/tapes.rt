@@ -6,10 +6,10 @@ use side_law::{Beat, Tape};
 use snes_defs::{Act, NoMemory, Region};
 use std::alloc::Global;
 
-/// Stamps of a step: the least rise of Ntsc.
+/// Stamps of a step: the least rise in NTSC.
 pub const RISE: u64 = 33_792;
 
-/// The beat of a step that writes, reads or does nothing at the ports.
+/// Returns the beat of a step that writes, reads or does nothing at the ports.
 fn beat(k: u64) -> Beat
     ensures { IsBeat Ntsc result }
 {
@@ -21,7 +21,7 @@ fn beat(k: u64) -> Beat
     Beat { rise: RISE, act }
 }
 
-/// A tape of Ntsc of so many steps, a write or a read each 32 of them, and quiet ones after them.
+/// Returns an NTSC tape of the given number of steps, with a write or a read every 32 steps, and quiet ones after them.
 #[tactic(auto, using(crate::proofs::Beats::one_more))]
 pub fn tape(alloc: Global, steps: u64) -> Result<Tape, NoMemory>
     ensures region { IfOk result (λ t. t.state.region ≡ Ntsc) }

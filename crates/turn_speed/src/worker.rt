@@ -3,10 +3,10 @@ ghost use Rattle.std.specs.Prelude.{◌≡◌, []};
 use side_law::{Machine, Tape};
 use snes_defs::{Act, Region};
 
-/// Rounds of the generator in a step, some two hundred nanoseconds.
+/// Iterations of the generator in a step: about two hundred nanoseconds.
 const ROUNDS: u32 = 110;
 
-/// A tape each of whose steps costs time: so many rounds of a generator, whose number nothing depends on.
+/// A tape each of whose steps costs time: `ROUNDS` iterations of a generator, on whose number nothing depends.
 #[derive(Drop)]
 pub struct Worker {
     tape: Tape,
@@ -14,6 +14,7 @@ pub struct Worker {
 }
 
 impl Worker {
+    /// Returns a tape whose steps cost time.
     pub fn new(tape: Tape) -> Worker
         ensures { result.tape ≡ tape }
     {
@@ -24,7 +25,7 @@ impl Worker {
     }
 }
 
-/// The number after the rounds of a step.
+/// Returns the number after the iterations of a step.
 fn worked(number: u64) -> u64 {
     let mut x = number;
     for _ in 0..ROUNDS {

@@ -1,19 +1,20 @@
-/// What a watch counted of the turns of a run, or of several runs together.
+/// The counts of the turns of a run, or of several runs together.
 #[derive(Clone, Copy, Debug, PartialEq, Eq)]
 pub struct Counts {
-    /// Turns on which both workers set out, each once, numbered from 0 on and in order.
+    /// The turns that both workers started, each once, numbered from 0 on and in order.
     pub turns: u64,
-    /// Those whose two legs were begun in two different threads.
+    /// The turns whose two legs began in two different threads.
     pub on_two_threads: u64,
-    /// Those in which each worker saw the other before its own leg had begun: so both legs were under way at once.
+    /// The turns in which each worker saw the other before its own leg had begun, so both legs overlapped.
     pub overlapped: u64,
 }
 
-/// From so many turns on a run has to have one in which both legs overlap. A shorter one can miss it: a thread that
-/// begins late finds the other leg at its end.
+/// The number of turns from which on a run must have one in which both legs overlap. A shorter run can miss it: a
+/// thread that begins late finds the other leg at its end.
 const ENOUGH: u64 = 4;
 
 impl Counts {
+    /// Returns the counts of no turns.
     pub fn none() -> Counts {
         Counts {
             turns: 0,
@@ -22,7 +23,7 @@ impl Counts {
         }
     }
 
-    /// These and those of a further run.
+    /// Returns the sum of these counts and those of a further run.
     pub fn and(self, other: Counts) -> Counts {
         Counts {
             turns: self.turns.saturating_add(other.turns),
@@ -31,12 +32,12 @@ impl Counts {
         }
     }
 
-    /// Whether every turn had two threads, of at least one turn.
+    /// Whether there was at least one turn, and every turn had two threads.
     pub fn all_on_two_threads(&self) -> bool {
         0 < self.turns && self.on_two_threads == self.turns
     }
 
-    /// Whether both legs of a turn overlapped, if the run had turns enough to ask for it.
+    /// Whether both legs of a turn overlapped, or the run had too few turns to ask for it.
     pub fn overlaps(&self) -> bool {
         self.turns < ENOUGH || 0 < self.overlapped
     }

@@ -5,7 +5,7 @@ use std::rt::Files;
 /// The file in which Linux shows the thread that reads it: its number comes first.
 const OWN: &str = "/proc/thread-self/stat";
 
-/// The number at the front of a text, or 0 where none is.
+/// Returns the number at the front of a text, or 0 if there is none.
 fn leading_number(text: &[u8]) -> u64 {
     let mut number: u64 = 0;
     for byte in text {
@@ -17,7 +17,7 @@ fn leading_number(text: &[u8]) -> u64 {
     number
 }
 
-/// The number of the thread that calls, or 0 where the system doesn't tell it.
+/// Returns the number of the calling thread, or 0 if the system doesn't show it.
 pub(crate) fn thread_number<R: Files>(rt: &R) -> u64 {
     let mut front = [0u8; 32];
     let Ok(mut file) = fs::open(rt, OWN) else {

@@ -6,18 +6,18 @@ use std::rt::Files;
 use std::sync::atomic::{AtomicU64, Ordering};
 use std::thread::yield_now;
 
-/// How many times a worker looks for the other one as it sets out.
+/// How many times a worker looks for the other one as it starts a turn.
 const LOOKS: u32 = 1_000_000;
 
-/// What the watch knows of one worker. Turns count from 1 here, so that 0 is none.
+/// The watch's record of one worker. Turns count from 1 here, so 0 is none.
 #[derive(Drop)]
 struct Worker {
-    /// The turn on which it set out last, and the thread in which.
+    /// The turn that it started last, and the thread in which it did.
     turn: AtomicU64,
     thread: AtomicU64,
-    /// The last turn in which it saw the other one set out before its own leg began.
+    /// The last turn in which it saw the other one start before its own leg began.
     saw: AtomicU64,
-    /// 1 where a turn was not the one after the last.
+    /// 1 if a turn was not the one after the last.
     jumped: AtomicU64,
 }
 
@@ -31,7 +31,7 @@ impl Worker {
         }
     }
 
-    /// Forgets what it knows.
+    /// Clears the record.
     fn forget(&self) {
         self.turn.store(0, Ordering::SeqCst);
         self.thread.store(0, Ordering::SeqCst);
@@ -40,14 +40,14 @@ impl Worker {
     }
 }
 
-/// A gate that counts, for each turn, whether both workers set out on it, in which threads, and whether both were under
-/// way at once. Both see each other in one turn only where neither leg had begun before the other worker set out.
+/// A gate that records, for each turn, whether both workers started it, in which threads, and whether both legs
+/// overlapped. Both see each other in one turn only if neither leg had begun before the other worker started.
 #[derive(Drop)]
 pub struct Watch<'a, R> {
     rt: &'a R,
     console: Worker,
     sound: Worker,
-    /// How often a worker set out: the second one of a turn gets an odd number.
+    /// How often a worker started a turn: the second one of a turn gets an odd number.
     arrivals: AtomicU64,
     on_two_threads: AtomicU64,
     /// The last turn in which both saw each other, and how many there were.
@@ -56,6 +56,7 @@ pub struct Watch<'a, R> {
 }
 
 impl<'a, R: Files> Watch<'a, R> {
+    /// Returns a watch that has counted nothing.
     pub fn new(rt: &'a R) -> Watch<'a, R> {
         Watch {
             rt,
@@ -68,7 +69,7 @@ impl<'a, R: Files> Watch<'a, R> {
         }
     }
 
-    /// Begins to count anew, for a run that nobody has begun.
+    /// Starts to count again, for a run that has not begun.
     pub fn begin(&self) {
         self.console.forget();
         self.sound.forget();
@@ -78,8 +79,8 @@ impl<'a, R: Files> Watch<'a, R> {
         self.overlapped.store(0, Ordering::SeqCst);
     }
 
-    /// What was counted, once the run is over. No turns where they were not numbered from 0 on, each once and in
-    /// order, and alike for both workers.
+    /// Returns the counts, once the run is over. They have no turns if those were not numbered from 0 on, each once and
+    /// in order, and alike for both workers.
     pub fn counts(&self) -> Counts {
         let turns = self.console.turn.load(Ordering::SeqCst);
         let jumped = self.console.jumped.load(Ordering::SeqCst) != 0
@@ -94,7 +95,7 @@ impl<'a, R: Files> Watch<'a, R> {
         }
     }
 
-    /// A worker notes the turn on which it sets out, and its thread. The second one of a turn compares both threads.
+    /// Records the turn that a worker starts, and its thread. The second worker of a turn compares both threads.
     fn set_out(&self, own: &Worker, other: &Worker, turn: u64) {
         let thread = thread_number(self.rt);
         own.thread.store(thread, Ordering::SeqCst);
@@ -109,7 +110,7 @@ impl<'a, R: Files> Watch<'a, R> {
         }
     }
 
-    /// One look of a worker: whether the other one has set out on the same turn.
+    /// Looks once for the other worker, and returns whether it has started the same turn.
     fn looks(&self, own: &Worker, other: &Worker, turn: u64) -> bool {
         if other.turn.load(Ordering::SeqCst) != turn {
             return false;

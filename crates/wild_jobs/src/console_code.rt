@@ -1,28 +1,28 @@
-//! A cartridge's program at random.
+//! Makes a cartridge with a random program.
 
 use crate::bytes::{Bytes, below};
 use case_text::Generator;
 use std::alloc::Global;
 
-/// The bytes of a cartridge, and those that the program may have at most.
+/// The size of a cartridge, and the most bytes of its program.
 const SIZE: usize = 32_768;
 
 const MOST_CODE: usize = 1_500;
 
-/// Where the header's map byte stands, where the vectors begin, and where an interrupt's RTI stands.
+/// The offsets of the header's map byte, of the vectors, and of an interrupt's RTI.
 const MAP: usize = 0x7fd5;
 
 const VECTORS: usize = 0x7fe0;
 
 const RETURN: usize = 0x7f00;
 
-/// The low byte of one of the four ports, sometimes of a mirror.
+/// Returns the low byte of the address of one of the four ports, sometimes of a mirror.
 fn port(generator: &mut Generator) -> u8 {
     let mirror = if below(generator, 8) == 0 { 0x7c } else { 0x40 };
     mirror + below(generator, 4)
 }
 
-/// Some instructions at the ports: a store, a copy, a sum, a count, a copy of 16 bits.
+/// Adds instructions at the ports: a store, a copy, a sum, a count, a copy of 16 bits.
 fn talk(code: &mut Bytes, g: &mut Generator) -> Option<()> {
     let (from, to, v) = (port(g), port(g), g.byte(1));
     match below(g, 6) {
@@ -35,7 +35,7 @@ fn talk(code: &mut Bytes, g: &mut Generator) -> Option<()> {
     }
 }
 
-/// A wait: some turns of a loop, a poll of a port that gives up, and rarely one that doesn't.
+/// Adds a wait: some iterations of a loop, a poll of a port that gives up, and rarely one that doesn't.
 fn wait(code: &mut Bytes, g: &mut Generator) -> Option<()> {
     let (from, other, v) = (port(g), port(g), g.byte(1));
     match below(g, 8) {
@@ -47,7 +47,7 @@ fn wait(code: &mut Bytes, g: &mut Generator) -> Option<()> {
     }
 }
 
-/// A transfer to the ports, by DMA at once or by HDMA from the next frame on, of bytes of the program.
+/// Adds a transfer of bytes of the program to the ports, by DMA immediately or by HDMA from the next frame on.
 fn transfer(code: &mut Bytes, g: &mut Generator) -> Option<()> {
     let channel = below(g, 8);
     let (pattern, to) = (below(g, 8), port(g));
@@ -68,7 +68,7 @@ fn transfer(code: &mut Bytes, g: &mut Generator) -> Option<()> {
     code.add(&[0xa9, mask, 0x8d, register, 0x42])
 }
 
-/// The picture's and the processor's registers, and modes of the processor.
+/// Adds writes of the PPU's and the processor's registers, and changes of the processor's modes.
 fn switch(code: &mut Bytes, g: &mut Generator) -> Option<()> {
     let v = g.byte(1);
     match below(g, 8) {
@@ -83,7 +83,7 @@ fn switch(code: &mut Bytes, g: &mut Generator) -> Option<()> {
     }
 }
 
-/// Something wild: bytes at random, a jump somewhere, rarely a wait for an interrupt or the end.
+/// Adds something wild: random bytes, a jump somewhere, rarely a wait for an interrupt or a stop.
 fn stray(code: &mut Bytes, g: &mut Generator) -> Option<()> {
     match below(g, 16) {
         0..=6 => code.add(&[g.byte(1), g.byte(1)]),
@@ -93,7 +93,7 @@ fn stray(code: &mut Bytes, g: &mut Generator) -> Option<()> {
     }
 }
 
-/// The program, which begins anew at its end.
+/// Returns the program, which starts again at its end.
 fn program(alloc: Global, g: &mut Generator) -> Option<Bytes> {
     let mut code = Bytes::new(alloc);
     let strays = 1 + below(g, 6);
@@ -117,7 +117,7 @@ fn program(alloc: Global, g: &mut Generator) -> Option<Bytes> {
     Some(code)
 }
 
-/// Words of work: a cartridge of LoROM whose program begins at 8000; an eighth have bytes at random all over.
+/// Returns a cartridge of LoROM whose program begins at 8000; one in eight has random bytes all over instead.
 pub fn cartridge(alloc: Global, g: &mut Generator) -> Option<Bytes> {
     let is_wild = below(g, 8) == 0;
     let mut image = Bytes::new(alloc);

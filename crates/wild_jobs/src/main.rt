@@ -1,9 +1,11 @@
-//! Makes the files of a job from a number: a cartridge and a boot ROM whose programs talk through the ports, wait for each
-//! other, time out, move bytes by DMA and HDMA, switch interrupts, and run wild; a table; a script with pads and resets.
+//! Makes the files of a random job from a number.
 //!
-//! `wild_jobs NUMBER FOLDER` writes `cart.sfc`, `boot.bin`, `table.bin` and `script.txt` into FOLDER, which it makes, and
-//! prints how many frames the job has. Equal numbers make equal files. `tools/evidence/soak.sh` runs many of them by `run` and
-//! by `serial` and compares what comes out; no clause rests on them.
+//! The programs of its cartridge and its boot ROM talk through the ports, wait for each other, time out, move bytes by
+//! DMA and HDMA, switch interrupts, and run wild. It has a table, and a script with pads and resets.
+//!
+//! `wild_jobs NUMBER FOLDER` writes `cart.sfc`, `boot.bin`, `table.bin` and `script.txt` into FOLDER, which it makes.
+//! It prints how many frames the job has. Equal numbers make equal files. `tools/evidence/soak.sh` runs many of them by
+//! `run` and by `serial` and compares their outputs; no clause depends on them.
 #![tactic(auto)]
 
 mod bytes;
@@ -16,10 +18,10 @@ use case_text::Generator;
 use std::alloc::Global;
 use std::{env, fs, io};
 
-/// The entries of a table.
+/// The number of entries of a table.
 const ENTRIES: u32 = 512;
 
-/// A table at random.
+/// Returns a random table.
 fn table(alloc: Global, generator: &mut Generator) -> Option<Bytes> {
     let mut table = Bytes::new(alloc);
     for _ in 0..ENTRIES {
@@ -28,7 +30,7 @@ fn table(alloc: Global, generator: &mut Generator) -> Option<Bytes> {
     Some(table)
 }
 
-/// The four files of a job, and its frames.
+/// The four files of a job, and the number of its frames.
 #[derive(Drop)]
 struct Files {
     cart: Bytes,
@@ -38,7 +40,7 @@ struct Files {
     frames: u32,
 }
 
-/// The files of a number, or nothing for want of memory.
+/// Returns the files of a number; `None` if allocation fails.
 fn make_files(alloc: Global, number: u32) -> Option<Files> {
     let mut generator = Generator::new(number.wrapping_mul(2_654_435_761));
     let frames = 2 + generator.next() / 65_536 % 4;

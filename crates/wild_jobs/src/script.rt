@@ -1,16 +1,16 @@
-//! A script at random.
+//! Makes a random script.
 
 use crate::bytes::Bytes;
 use case_text::Generator;
 use std::alloc::Global;
 
-/// Four hexadecimal digits.
+/// Adds a space and the four hexadecimal digits of a pad.
 fn add_pad(alloc: Global, text: &mut Bytes, pad: u16) -> Option<()> {
     let digits = format!(in alloc; " {pad:04X}").ok()?;
     text.add(digits.as_bytes())
 }
 
-/// A region, and for each frame its pads, of which some but the first begin with a reset.
+/// Returns a script with a region, and the pads of each frame. Some frames, but not the first, may begin with a reset.
 pub fn script(alloc: Global, g: &mut Generator, frames: u32) -> Option<Bytes> {
     let mut text = Bytes::new(alloc);
     text.add(if g.byte(1) % 4 == 0 {

@@ -1,20 +1,20 @@
-//! A boot ROM's program at random.
+//! Makes a boot ROM with a random program.
 
 use crate::bytes::{Bytes, below};
 use case_text::Generator;
 use std::alloc::Global;
 
-/// The bytes of a boot ROM, and where its last branch and its vector stand.
+/// The size of a boot ROM, and the offsets of its last branch and its vector.
 const SIZE: usize = 64;
 
 const BRANCH: usize = 60;
 
-/// One of the four ports.
+/// Returns the address of one of the four ports.
 fn port(generator: &mut Generator) -> u8 {
     0xf4 + below(generator, 4)
 }
 
-/// Some instructions.
+/// Adds some instructions.
 fn piece(g: &mut Generator, code: &mut Bytes) -> Option<()> {
     let (from, to, v) = (port(g), port(g), g.byte(1));
     match below(g, 16) {
@@ -46,7 +46,7 @@ fn piece(g: &mut Generator, code: &mut Bytes) -> Option<()> {
     }
 }
 
-/// A program that begins anew at its end, and whose vector leads to it.
+/// Returns a boot ROM whose program starts again at its end, and whose vector leads to it.
 pub fn boot_rom(alloc: Global, g: &mut Generator) -> Option<Bytes> {
     let mut code = Bytes::new(alloc);
     for _ in 0..64u32 {

@@ -7,12 +7,12 @@ use demo_files::{demo_boot_rom, demo_table};
 use snes_defs::{Job, Region, Spans};
 use std::alloc::Global;
 
-/// SEI, CLC, XCE; then, over and over: 2140 to 2141, INC, to 2140.
+/// A program that uses the ports all the time: SEI, CLC, XCE; then, over and over: 2140 to 2141, INC, to 2140.
 const TALK: [u8; 15] = [
     0x78, 0x18, 0xfb, 0xad, 0x40, 0x21, 0x8d, 0x41, 0x21, 0x1a, 0x8d, 0x40, 0x21, 0x80, 0xf4,
 ];
 
-/// The job of an image, with the demo's boot ROM and table.
+/// Returns the job of an image, with the demo's boot ROM and table.
 fn job_of(alloc: Global, image: Vec<u8>) -> Option<Job>
     ensures script { IfSome result (λ job. job.script ≡ path_script 0 []) }
     ensures region { IfSome result (λ job. job.region ≡ Ntsc) }
@@ -27,7 +27,7 @@ fn job_of(alloc: Global, image: Vec<u8>) -> Option<Job>
     })
 }
 
-/// A cartridge of 32 KiB that reads and writes the ports all the time.
+/// Returns the job of a cartridge of 32 KiB that reads and writes the ports all the time.
 pub fn talking_job(alloc: Global) -> Option<Job>
     ensures script { IfSome result (λ job. job.script ≡ path_script 0 []) }
     ensures region { IfSome result (λ job. job.region ≡ Ntsc) }

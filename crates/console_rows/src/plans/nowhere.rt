@@ -2,7 +2,7 @@ use file_shelf::Failed;
 use run_drive::Sink;
 use snes_defs::Side;
 
-/// A sink that takes every byte and keeps none. Its clauses say nothing of it.
+/// A sink that takes every byte and keeps none. Its clauses say nothing about them.
 #[derive(Drop)]
 pub struct Nowhere;
 

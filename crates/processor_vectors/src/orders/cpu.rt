@@ -5,7 +5,7 @@ use cpu_tables::{Access, Regs};
 use cpu65816::Cpu;
 
 /// A state of the 65C816 in which an instruction is run, and the byte that its accesses get after the opcode. The
-/// numbers are such that each condition of the page is told by one of these six.
+/// numbers are such that one of these six decides each condition of the page.
 #[derive(Clone, Copy)]
 pub(crate) struct CpuState {
     emulation: bool,
@@ -16,12 +16,12 @@ pub(crate) struct CpuState {
     low_d: bool,
     /// N, V, Z and C are set.
     flags: bool,
-    /// Each byte is 01: an index of FF added to it leaves the page, and a branch by it does. Else 00, and none does.
+    /// Each byte is 01: an index of FF added to it leaves the page, and so does a branch by it. Else 00, and none does.
     leaves: bool,
 }
 
 impl CpuState {
-    /// The state of this number, of which there are 64. In emulation mode M and X are 1 whatever it says.
+    /// Returns the state of a number below 64. In emulation mode M and X are 1 whatever it says.
     fn numbered(number: u8) -> CpuState {
         let emulation = number % 2 == 1;
         CpuState {
@@ -41,7 +41,7 @@ impl CpuState {
         flags + narrow_a + narrow_index
     }
 
-    /// The registers. An instruction at 80FD with one byte of operand ends at the last byte of its page.
+    /// Returns the registers. An instruction at 80FD with one byte of operand ends at the last byte of its page.
     fn registers(&self) -> Regs {
         let index = if self.narrow_index { 0x00ff } else { 0x10ff };
         Regs {
@@ -89,7 +89,7 @@ pub(crate) struct CpuRun {
     cpu: Cpu,
     start: Regs,
     byte: u8,
-    /// A reset, of which the registers at the start say nothing.
+    /// Whether this is a reset, which the registers at the start don't show.
     is_reset: bool,
 }
 
@@ -146,7 +146,7 @@ impl Processor for CpuRun {
     }
 }
 
-/// Makes the next access, which gets this byte.
+/// Makes the next access; a read gets this byte.
 fn make(cpu: &mut Cpu, byte: u8) {
     match cpu.next() {
         Access::Fetch(_) | Access::Read(_) => cpu.took(byte),

@@ -9,21 +9,21 @@ pub(crate) enum Kind {
     Internal,
 }
 
-/// What the state in which an instruction is run says of a row.
+/// A state in which an instruction is run, as far as the cycles of a row depend on it.
 pub(crate) trait State: Copy {
     /// Whether an operation of this width has 16 bits.
     fn is_wide(&self, width: Width) -> bool;
 
-    /// Whether a condition of a cycle holds for this opcode; nothing for one that the page doesn't name.
+    /// Whether a condition of a cycle holds for this opcode; `None` for one that the page doesn't name.
     fn holds(&self, condition: &str, opcode: u8) -> Option<bool>;
 }
 
-/// What a cycle of a row stands for: up to five kinds, one after another.
+/// The cycles that a cycle of a row stands for: up to five kinds, one after another.
 pub(crate) type Kinds = [Option<Kind>; 5];
 
 const NOTHING: Kinds = [None, None, None, None, None];
 
-/// One cycle, or the same once more where the operation is wide.
+/// Returns one cycle, or two of this kind if the operation is wide.
 fn by_width(kind: Kind, wide: bool) -> Kinds {
     [
         Some(kind),
@@ -34,7 +34,7 @@ fn by_width(kind: Kind, wide: bool) -> Kinds {
     ]
 }
 
-/// The kinds of a cycle without its condition, as the pages name it.
+/// Returns the kinds of a cycle without its condition, as the pages name it.
 fn named(name: &str, wide: bool) -> Option<Kinds> {
     if name == "change data" {
         let write = Some(Kind::Write);
@@ -55,7 +55,7 @@ fn named(name: &str, wide: bool) -> Option<Kinds> {
     Some(by_width(kind, wide && doubles))
 }
 
-/// What a cycle of a row stands for in a state; nothing for one that no page names.
+/// Returns what a cycle of a row stands for in a state; `None` for one that no page names.
 pub(crate) fn kinds_of<S: State>(
     cycle: &str,
     width: Width,

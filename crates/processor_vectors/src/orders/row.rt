@@ -1,11 +1,11 @@
-/// Which flag of P says how wide an operation is.
+/// The flag of P that gives the width of an operation.
 #[derive(Clone, Copy, PartialEq, Eq)]
 pub(crate) enum Width {
-    /// Always 8 bits, or told by the cycles themselves.
+    /// Always 8 bits, or shown by the cycles themselves.
     None,
-    /// 16 bits where M is 0.
+    /// 16 bits if M is 0.
     M,
-    /// 16 bits where X is 0.
+    /// 16 bits if X is 0.
     X,
 }
 
@@ -21,7 +21,7 @@ pub(crate) struct Row<'a> {
 }
 
 impl<'a> Row<'a> {
-    /// The row in a line of a page: one whose second cell is of opcodes and whose third is a width.
+    /// Reads the row in a line of a page: one whose second cell is of opcodes and whose third is a width.
     pub(crate) fn of(line: &'a str) -> Option<Row<'a>> {
         let inner = line.trim().strip_prefix('|')?.strip_suffix('|')?;
         let (_instructions, rest) = inner.split_once('|')?;

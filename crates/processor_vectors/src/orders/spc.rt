@@ -102,7 +102,7 @@ impl Processor for SpcRun {
     }
 }
 
-/// Makes the next access, which gets this byte.
+/// Makes the next access; a read gets this byte.
 fn make(spc: &mut Spc, byte: u8) {
     match spc.next() {
         SpcAccess::Fetch(_) | SpcAccess::Read(_) => spc.took(byte),

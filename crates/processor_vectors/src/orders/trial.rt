@@ -11,7 +11,7 @@ pub(crate) enum Begin {
     Reset,
 }
 
-/// What the word of a row begins with.
+/// Reads what a word of a row begins.
 fn begin_of(word: &str) -> Option<Begin> {
     match word {
         "NMI" => Some(Begin::Nmi),
@@ -25,16 +25,16 @@ fn begin_of(word: &str) -> Option<Begin> {
 pub(crate) trait Processor: Drop + Sized {
     type State: State;
 
-    /// How many states there are to run an instruction in.
+    /// The number of states in which an instruction is run.
     const STATES: u8;
 
-    /// The state of a number below `STATES`.
+    /// Returns the state of a number below `STATES`.
     fn state(number: u8) -> Self::State;
 
-    /// The processor at the beginning, its opcode fetched where there is one.
+    /// Returns the processor at the beginning of an instruction, after the fetch of its opcode if there is one.
     fn begun(state: &Self::State, begin: Begin) -> Self;
 
-    /// What the next cycle does.
+    /// Returns what the next cycle does on the bus.
     fn kind(&self) -> Kind;
 
     /// Makes the next cycle.
@@ -47,14 +47,14 @@ pub(crate) trait Processor: Drop + Sized {
     fn has_ended(&self) -> bool;
 }
 
-/// Whether the next cycle is of this kind, in the middle of the instruction. It is made.
+/// Whether the next cycle is of this kind, in the middle of the instruction. Makes it.
 fn follows<P: Processor>(processor: &mut P, kind: Kind) -> bool {
     let fits = processor.kind() == kind && processor.is_under_way();
     processor.go_on();
     fits
 }
 
-/// Whether an instruction makes just the cycles of a row in a state; nothing where the row names no cycle.
+/// Whether an instruction makes just the cycles of a row in a state; `None` if the row names no cycle.
 fn run<P: Processor>(row: &Row<'_>, begin: Begin, state: &P::State) -> Option<bool> {
     let mut processor = P::begun(state, begin);
     let opcode = match begin {
@@ -77,8 +77,8 @@ fn run<P: Processor>(row: &Row<'_>, begin: Begin, state: &P::State) -> Option<bo
     Some(fits && processor.has_ended() && processor.kind() == Kind::Fetch)
 }
 
-/// Runs what a word of a row begins in each state, counts its opcode in `seen`, and tells how many instructions were
-/// run and whether all of them fit.
+/// Runs what a word of a row begins in each state, and counts its opcode in `seen`. Returns how many instructions were
+/// run, and whether all of them fit.
 pub(crate) fn run_all<P: Processor>(
     row: &Row<'_>,
     word: &str,

@@ -1,4 +1,4 @@
-//! A picture unit whose tiles are decoded word by word, as they are written.
+//! A PPU whose tiles are decoded word by word, as they are written.
 
 ghost use Rattle.std.specs.Prelude.{◌<◌, length};
 
@@ -9,7 +9,7 @@ use std::alloc::Global;
 use std::marker::Model;
 use tile_cache::TileCache;
 
-/// A picture unit and its decoded tiles, which are in step.
+/// A PPU and its decoded tiles, which are in step.
 #[derive(Drop)]
 pub struct Screen {
     ppu: Ppu,
@@ -44,6 +44,7 @@ impl Drawn {
 }
 
 impl Screen {
+    /// Returns a new PPU and its decoded tiles, unless allocation fails.
     pub fn new(alloc: Global) -> Option<Screen> {
         let Ok(ppu) = Ppu::new(alloc) else {
             return None;
@@ -54,12 +55,12 @@ impl Screen {
         Some(Screen { ppu, tiles })
     }
 
-    /// Writes a register, 2100 plus its number.
+    /// Writes a register, given by its offset from 2100.
     pub fn write(&mut self, register: u8, v: u8) {
         let _word = tile_cache::write(&mut self.ppu, &mut self.tiles, register % 64, v);
     }
 
-    /// A row as `ppu_line` draws it from the decoded tiles.
+    /// Returns a row as `ppu_line` draws it from the decoded tiles.
     pub fn drawn(&self, row: u16) -> Drawn
         requires { row < 239 }
     {
@@ -68,7 +69,7 @@ impl Screen {
         Drawn { dots, over }
     }
 
-    /// The same as `picture_slow` works it out from the memories.
+    /// Returns a row as `picture_slow` works it out from the memories.
     pub fn worked_out(&self, row: u16) -> Drawn
         requires { row < 239 }
     {

@@ -1,4 +1,4 @@
-//! A console made by hand: it writes and reads the four ports, and follows the upload protocol as programs do.
+//! A scripted console: it writes and reads the four ports, and follows the upload protocol as programs do.
 
 ghost use Rattle.std.specs.Prelude.{◌<◌};
 
@@ -6,10 +6,10 @@ use audio_side::AudioSide;
 use side_law::Machine;
 use snes_defs::Act;
 
-/// How many cycles an answer may take.
+/// The most cycles that an answer may take.
 const PATIENCE: u32 = 10_000;
 
-/// What an uploader stores first, and how long it takes from one look or store to the next.
+/// What an uploader stores first, and how long it takes from one read or store to the next.
 #[derive(Clone, Copy)]
 pub struct Manner {
     /// A byte and its index by one store of 16 bits: the index is there first, the byte a cycle later.
@@ -21,22 +21,25 @@ pub struct Manner {
 /// Bytes that follow one another in memory.
 #[derive(Clone, Copy)]
 pub struct Block {
+    /// The address of the first byte.
     pub at: u16,
+    /// The number of bytes.
     pub size: u16,
+    /// What the bytes are.
     pub fill: Fill,
 }
 
-/// What a block's bytes are.
+/// The contents of a block.
 #[derive(Clone, Copy)]
 pub enum Fill {
-    /// Numbers from a first one on, of which no two pages are alike.
+    /// Numbers from a first one on; no two pages are alike.
     From(u8),
-    /// A program, and zeros behind it.
+    /// A program, and zeros after it.
     Program([u8; 25]),
 }
 
 impl Block {
-    /// The byte at an index.
+    /// Returns the byte at an index.
     pub fn byte(&self, index: u16) -> u8 {
         match self.fill {
             Fill::From(first) => {
@@ -52,16 +55,18 @@ impl Block {
     }
 }
 
-/// What the protocol lacks: an answer at a port.
+/// An answer at a port that the protocol misses.
 #[derive(Clone, Copy)]
 pub struct Missing {
+    /// The port.
     pub port: u8,
+    /// The byte that was expected.
     pub byte: u8,
-    /// What stands there.
+    /// The byte that is there.
     pub stands: u8,
 }
 
-/// The console: what it wrote to each port, what the sound side wrote there, and how often.
+/// The scripted console: what it wrote to each port, what the sound side wrote there, and how often.
 #[derive(Clone, Copy)]
 pub struct Sender {
     written: [u8; 4],
@@ -71,6 +76,7 @@ pub struct Sender {
 }
 
 impl Sender {
+    /// Returns a console that wrote nothing yet.
     pub fn new(manner: Manner) -> Sender {
         Sender {
             written: [0; 4],
@@ -80,24 +86,24 @@ impl Sender {
         }
     }
 
-    /// What the sound side shows at its ports.
+    /// Returns the bytes that the sound side has at its ports.
     pub fn shown(&self) -> [u8; 4] {
         self.shown
     }
 
-    /// How often the sound side wrote to each port.
+    /// Returns how often the sound side wrote to each port.
     pub fn counts(&self) -> [u32; 4] {
         self.counts
     }
 
-    /// Lets the sound side go on by so many cycles.
+    /// Runs the sound side for the given number of cycles.
     pub fn pass(&mut self, side: &mut AudioSide, cycles: u32) {
         for _ in 0..cycles {
             self.pass_one(side);
         }
     }
 
-    /// Lets the sound side go on by a cycle.
+    /// Runs the sound side for one cycle.
     pub fn pass_one(&mut self, side: &mut AudioSide) {
         let mut got = 0;
         match side.act() {
@@ -136,7 +142,7 @@ impl Sender {
         self.written[port] = byte;
     }
 
-    /// Looks at a port until a byte stands there.
+    /// Reads a port until a byte is there.
     fn wait(&mut self, side: &mut AudioSide, port: u8, byte: u8) -> Result<(), Missing> {
         let place = usize::from(port % 4);
         let mut passed = 0u32;
@@ -163,7 +169,7 @@ impl Sender {
         self.wait(side, 1, 0xbb)
     }
 
-    /// An order: the address, the kind (zero is a jump), the order's byte, and its echo.
+    /// Sends an order and waits for its echo: the address, the kind (zero is a jump), and the order's byte.
     fn order(&mut self, side: &mut AudioSide, at: u16, kind: u8, byte: u8) -> Result<(), Missing> {
         let [low, high] = at.to_le_bytes();
         self.store(side, 2, low);
@@ -173,13 +179,13 @@ impl Sender {
         self.wait(side, 0, byte)
     }
 
-    /// The order to jump. From now on each cycle is looked at, so that the program is met as it begins.
+    /// Sends the order to jump. From now on it reads at every cycle, so that it meets the program as it begins.
     pub fn jump(&mut self, side: &mut AudioSide, at: u16, byte: u8) -> Result<(), Missing> {
         self.manner.pace = 1;
         self.order(side, at, 0, byte)
     }
 
-    /// A byte of a block, its index, and the index's echo.
+    /// Sends a byte of a block and its index, and waits for the index's echo.
     fn send(&mut self, side: &mut AudioSide, index: u8, byte: u8) -> Result<(), Missing> {
         if self.manner.by_words {
             self.store(side, 0, index);
@@ -192,7 +198,7 @@ impl Sender {
         self.wait(side, 0, index)
     }
 
-    /// Sends a block by an order, and gives the byte of the next order: the last index plus `further`, or 1 more where
+    /// Sends a block by an order, and returns the byte of the next order: the last index plus `further`, or 1 more if
     /// that is zero.
     pub fn block(
         &mut self,
