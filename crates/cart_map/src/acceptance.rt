@@ -51,7 +51,7 @@ pub fn accept(file: Vec<u8>) -> Result<Cart, CartEnd>
     ensures refused { (cause : CartRefused) → result ≡ Err (CartEnd.Refused cause) → verdict file.items ≡ Err cause }
     ensures memory { result ≡ Err CartEnd.NoMemory → 0 < missing (length (image_of file.items)) }
 {
-    let image = without_front(file);
+    let image = image_in(file);
     if image.len() < SMALLEST {
         return Err(CartEnd::Refused(CartRefused::TooShort));
     }
@@ -73,7 +73,7 @@ pub fn accept(file: Vec<u8>) -> Result<Cart, CartEnd>
 
 /// Returns the image in a file.
 #[tactic(auto, using(crate::proofs::Front::front_dropped), unfolding(crate::specs::Accept::image_of))]
-fn without_front(mut file: Vec<u8>) -> Vec<u8>
+fn image_in(mut file: Vec<u8>) -> Vec<u8>
     ensures { result.items ≡ image_of file.items }
 {
     if file.len() % 1024 == FRONT {
@@ -102,7 +102,7 @@ fn judge(rom: &[u8]) -> Result<Header, CartRefused>
     requires { 32768 ≤ length rom.now }
     ensures { result ≡ judged rom.now }
 {
-    match map_of(rom) {
+    match chosen_map(rom) {
         None => Err(CartRefused::NoHeader),
         Some(MapKind::LoRom) => asked(
             MapKind::LoRom,
@@ -118,7 +118,7 @@ fn judge(rom: &[u8]) -> Result<Header, CartRefused>
 }
 
 /// Returns the map whose header is taken.
-fn map_of(rom: &[u8]) -> Option<MapKind>
+fn chosen_map(rom: &[u8]) -> Option<MapKind>
     requires { 32768 ≤ length rom.now }
     ensures chosen { result ≡ chosen rom.now }
     ensures large { result ≡ Some MapKind.HiRom → 65536 ≤ length rom.now }

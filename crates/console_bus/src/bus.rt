@@ -152,7 +152,7 @@ impl Bus {
 
     /// Reads a byte at a place. `got` is the byte that a port to the sound side gives.
     #[inline(always)]
-    pub fn read(&mut self, place: Place, got: u8) -> u8
+    pub fn read_place(&mut self, place: Place, got: u8) -> u8
         requires { IsInside self.old.board.rom self.old.board.ram place }
         ensures byte { result ≡ place_byte self.old place got }
         ensures after { self.new ≡ place_read self.old place }
@@ -169,7 +169,7 @@ impl Bus {
 
     /// Writes a byte at a place. At a port to the sound side the write is left to the caller.
     #[inline(always)]
-    pub fn write(&mut self, place: Place, v: u8)
+    pub fn write_place(&mut self, place: Place, v: u8)
         requires { IsInside self.old.board.rom self.old.board.ram place }
         ensures { self.new ≡ place_written self.old place v }
     {

@@ -22,7 +22,7 @@ impl Bus {
         ensures nmi { result.0 ≡ nmi_level self.now.io }
         ensures irq { result.1 ≡ irq_level self.now.io }
     {
-        self.io.lines()
+        self.io.interrupt_levels()
     }
 
     /// Returns the next byte of a transfer, if one is due.

@@ -145,7 +145,7 @@ fn last_byte(bus: &mut Bus) -> u8
     ensures last { result ≡ bus.old.last }
     ensures stays { bus.new ≡ bus.old }
 {
-    bus.read(BusPlace::Open, 0)
+    bus.read_place(BusPlace::Open, 0)
 }
 
 /// Whether the processor does what another one does, and a byte is the last on the data bus.

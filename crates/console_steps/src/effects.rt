@@ -42,7 +42,7 @@ fn take_byte(bus: &mut Bus, addr: u32, got: u8) -> u8
         return byte;
     }
     let place = bus.place(addr);
-    let byte = bus.read(place, got);
+    let byte = bus.read_place(place, got);
     bus.put(byte);
     byte
 }
@@ -67,7 +67,7 @@ fn put_elsewhere(bus: &mut Bus, addr: u32, v: u8)
     ensures { bus.new ≡ after_write bus.old (place_at bus.old.board addr) v }
 {
     let place = bus.place(addr);
-    bus.write(place, v);
+    bus.write_place(place, v);
     bus.put(v);
 }
 

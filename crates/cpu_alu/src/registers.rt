@@ -118,7 +118,7 @@ pub fn stack_set(regs: Regs, value: u16) -> Regs
 /// Returns the registers with a value in all 16 bits of A, and N and Z by it.
 #[tactic(auto, unfolding(crate::specs::Registers::load_a_wide))]
 #[inline(always)]
-pub fn with_a_wide(regs: Regs, value: u16) -> Regs
+pub fn a_wide_loaded(regs: Regs, value: u16) -> Regs
     ensures { result ≡ load_a_wide regs value }
 {
     Regs {
@@ -131,7 +131,7 @@ pub fn with_a_wide(regs: Regs, value: u16) -> Regs
 /// Returns the registers with a value in D, and N and Z by it.
 #[tactic(auto, unfolding(crate::specs::Registers::load_d))]
 #[inline(always)]
-pub fn with_d(regs: Regs, value: u16) -> Regs
+pub fn d_loaded(regs: Regs, value: u16) -> Regs
     ensures { result ≡ load_d regs value }
 {
     Regs {
@@ -144,7 +144,7 @@ pub fn with_d(regs: Regs, value: u16) -> Regs
 /// Returns the registers with a value in the data bank, and N and Z by it.
 #[tactic(auto, unfolding(crate::specs::Registers::load_bank))]
 #[inline(always)]
-pub fn with_bank(regs: Regs, value: u16) -> Regs
+pub fn bank_loaded(regs: Regs, value: u16) -> Regs
     ensures { result ≡ load_bank regs value }
 {
     let bank = value % 256;

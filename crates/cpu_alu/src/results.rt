@@ -29,11 +29,13 @@ use crate::flow::{
     after_reset, block_moved, branched, far_place, interrupted, jumped, returned_from_interrupt,
 };
 use crate::registers::{
-    bytes_swapped, flag_set, flags_cleared, flags_set, modes_exchanged, pushed_status, stack_set,
-    status_set, with_a_wide, with_bank, with_d,
+    a_wide_loaded, bank_loaded, bytes_swapped, d_loaded, flag_set, flags_cleared, flags_set,
+    modes_exchanged, pushed_status, stack_set, status_set,
 };
 use crate::sums::{add, bits_tested, compared, subtract};
-use crate::width::{accumulator_value, index_numbers, memory_numbers, with_a, with_x, with_y};
+use crate::width::{
+    a_loaded, accumulator_value, index_numbers, memory_numbers, x_loaded, y_loaded,
+};
 use cpu_tables::{CARRY, DECIMAL, IRQ_DISABLE, Mode, OVERFLOW, Op, Regs, Row};
 
 /// Returns the registers after an instruction, and the operand that it writes or pushes (0 if there is none). The head
@@ -75,9 +77,9 @@ pub fn finish(regs: &mut Regs, row: Row, word: u16)
         Op::Cpx => *regs = compared(index_numbers(*regs), regs.x, *regs, word),
         Op::Cpy => *regs = compared(index_numbers(*regs), regs.y, *regs, word),
         Op::Bit => *regs = bits_tested(is_immediate(row.mode), *regs, word),
-        Op::Ora => *regs = with_a(*regs, (regs.a | word) as u32),
-        Op::And => *regs = with_a(*regs, (regs.a & word) as u32),
-        Op::Eor => *regs = with_a(*regs, (regs.a ^ word) as u32),
+        Op::Ora => *regs = a_loaded(*regs, (regs.a | word) as u32),
+        Op::And => *regs = a_loaded(*regs, (regs.a & word) as u32),
+        Op::Eor => *regs = a_loaded(*regs, (regs.a ^ word) as u32),
         // Changes of A or memory.
         Op::Asl => *regs = with_changed(on_a, *regs, asl(row.mode, *regs, word)),
         Op::Lsr => *regs = with_changed(on_a, *regs, lsr(row.mode, *regs, word)),
@@ -88,19 +90,19 @@ pub fn finish(regs: &mut Regs, row: Row, word: u16)
         Op::Tsb => *regs = with_changed(false, *regs, tsb(*regs, word)),
         Op::Trb => *regs = with_changed(false, *regs, trb(*regs, word)),
         // Steps of the indexes.
-        Op::Inx => *regs = with_x(*regs, regs.x as u32 + 1),
-        Op::Iny => *regs = with_y(*regs, regs.y as u32 + 1),
-        Op::Dex => *regs = with_x(*regs, regs.x as u32 + 65535),
-        Op::Dey => *regs = with_y(*regs, regs.y as u32 + 65535),
+        Op::Inx => *regs = x_loaded(*regs, regs.x as u32 + 1),
+        Op::Iny => *regs = y_loaded(*regs, regs.y as u32 + 1),
+        Op::Dex => *regs = x_loaded(*regs, regs.x as u32 + 65535),
+        Op::Dey => *regs = y_loaded(*regs, regs.y as u32 + 65535),
         // Loads and pulls.
-        Op::Lda => *regs = with_a(*regs, word as u32),
-        Op::Ldx => *regs = with_x(*regs, word as u32),
-        Op::Ldy => *regs = with_y(*regs, word as u32),
-        Op::Pla => *regs = with_a(*regs, word as u32),
-        Op::Plx => *regs = with_x(*regs, word as u32),
-        Op::Ply => *regs = with_y(*regs, word as u32),
-        Op::Plb => *regs = with_bank(*regs, word),
-        Op::Pld => *regs = with_d(*regs, word),
+        Op::Lda => *regs = a_loaded(*regs, word as u32),
+        Op::Ldx => *regs = x_loaded(*regs, word as u32),
+        Op::Ldy => *regs = y_loaded(*regs, word as u32),
+        Op::Pla => *regs = a_loaded(*regs, word as u32),
+        Op::Plx => *regs = x_loaded(*regs, word as u32),
+        Op::Ply => *regs = y_loaded(*regs, word as u32),
+        Op::Plb => *regs = bank_loaded(*regs, word),
+        Op::Pld => *regs = d_loaded(*regs, word),
         Op::Plp => *regs = status_set(*regs, (word % 256) as u8),
         // Stores and pushes.
         Op::Sta => {}
@@ -118,18 +120,18 @@ pub fn finish(regs: &mut Regs, row: Row, word: u16)
         Op::Pei => {}
         Op::Per => {}
         // Transfers.
-        Op::Tax => *regs = with_x(*regs, regs.a as u32),
-        Op::Tay => *regs = with_y(*regs, regs.a as u32),
-        Op::Tsx => *regs = with_x(*regs, regs.s as u32),
-        Op::Txy => *regs = with_y(*regs, regs.x as u32),
-        Op::Tyx => *regs = with_x(*regs, regs.y as u32),
-        Op::Txa => *regs = with_a(*regs, regs.x as u32),
-        Op::Tya => *regs = with_a(*regs, regs.y as u32),
+        Op::Tax => *regs = x_loaded(*regs, regs.a as u32),
+        Op::Tay => *regs = y_loaded(*regs, regs.a as u32),
+        Op::Tsx => *regs = x_loaded(*regs, regs.s as u32),
+        Op::Txy => *regs = y_loaded(*regs, regs.x as u32),
+        Op::Tyx => *regs = x_loaded(*regs, regs.y as u32),
+        Op::Txa => *regs = a_loaded(*regs, regs.x as u32),
+        Op::Tya => *regs = a_loaded(*regs, regs.y as u32),
         Op::Txs => *regs = stack_set(*regs, regs.x),
         Op::Tcs => *regs = stack_set(*regs, regs.a),
-        Op::Tcd => *regs = with_d(*regs, regs.a),
-        Op::Tdc => *regs = with_a_wide(*regs, regs.d),
-        Op::Tsc => *regs = with_a_wide(*regs, regs.s),
+        Op::Tcd => *regs = d_loaded(*regs, regs.a),
+        Op::Tdc => *regs = a_wide_loaded(*regs, regs.d),
+        Op::Tsc => *regs = a_wide_loaded(*regs, regs.s),
         Op::Xba => *regs = bytes_swapped(*regs),
         // Flags.
         Op::Clc => *regs = flag_set(*regs, CARRY, false),

@@ -16,7 +16,7 @@ ghost use Rattle.cpu_alu.specs.Sums.{
 };
 
 use crate::width::{
-    accumulator_value, bit_number, memory_numbers, top_bit_at, with_a, with_result,
+    a_loaded, accumulator_value, bit_number, memory_numbers, top_bit_at, with_result,
 };
 use cpu_tables::{CARRY, DECIMAL, NEGATIVE, OVERFLOW, Regs, ZERO};
 use status_bits::{is_set, with_bit};
@@ -130,7 +130,7 @@ fn three_digits(way: Direction, a: u32, m: u32, carry: bool) -> Digits
 /// The sum of two numbers of two digits.
 #[tactic(auto, unfolding(crate::specs::Sums::decimal_sum))]
 #[inline(always)]
-fn add_two_digits(way: Direction, a: u32, m: u32, carry: bool) -> Sum
+fn add_decimal_byte(way: Direction, a: u32, m: u32, carry: bool) -> Sum
     ensures { result ≡ decimal_sum way 1 a m carry }
 {
     let low = one_digit(way, a, m, carry);
@@ -148,7 +148,7 @@ fn add_two_digits(way: Direction, a: u32, m: u32, carry: bool) -> Sum
 /// The sum of two numbers of four digits.
 #[tactic(auto, unfolding(crate::specs::Sums::decimal_sum))]
 #[inline(always)]
-fn add_four_digits(way: Direction, a: u32, m: u32, carry: bool) -> Sum
+fn add_decimal_word(way: Direction, a: u32, m: u32, carry: bool) -> Sum
     ensures { result ≡ decimal_sum way 3 a m carry }
 {
     let low = three_digits(way, a, m, carry);
@@ -175,9 +175,9 @@ fn sum_with_a(way: Direction, regs: Regs, m: u32) -> Sum
     let carry = is_set(regs.p, CARRY);
     if is_set(regs.p, DECIMAL) {
         if size == 256 {
-            add_two_digits(way, a, m, carry)
+            add_decimal_byte(way, a, m, carry)
         } else {
-            add_four_digits(way, a, m, carry)
+            add_decimal_word(way, a, m, carry)
         }
     } else {
         add_binary(size, a, m, bit_number(carry))
@@ -190,7 +190,7 @@ fn sum_with_a(way: Direction, regs: Regs, m: u32) -> Sum
 fn with_sum(regs: Regs, sum: Sum) -> Regs
     ensures { result ≡ take_sum regs sum }
 {
-    let loaded = with_a(regs, sum.value as u32);
+    let loaded = a_loaded(regs, sum.value as u32);
     let p = with_bit(with_bit(loaded.p, CARRY, sum.carry), OVERFLOW, sum.overflow);
     Regs { p, ..loaded }
 }

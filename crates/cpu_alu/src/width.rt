@@ -77,7 +77,7 @@ pub fn a_with(regs: Regs, value: u32) -> u16
 /// Returns the registers with a value in A at its width, and N and Z by it.
 #[tactic(auto, unfolding(crate::specs::Width::load_a))]
 #[inline(always)]
-pub fn with_a(regs: Regs, value: u32) -> Regs
+pub fn a_loaded(regs: Regs, value: u32) -> Regs
     ensures { result ≡ load_a regs value }
 {
     let size = memory_numbers(regs);
@@ -91,7 +91,7 @@ pub fn with_a(regs: Regs, value: u32) -> Regs
 /// Returns the registers with a value in X, and N and Z by it.
 #[tactic(auto, unfolding(crate::specs::Width::load_x))]
 #[inline(always)]
-pub fn with_x(regs: Regs, value: u32) -> Regs
+pub fn x_loaded(regs: Regs, value: u32) -> Regs
     ensures { result ≡ load_x regs value }
 {
     let size = index_numbers(regs);
@@ -106,7 +106,7 @@ pub fn with_x(regs: Regs, value: u32) -> Regs
 /// Returns the registers with a value in Y, and N and Z by it.
 #[tactic(auto, unfolding(crate::specs::Width::load_y))]
 #[inline(always)]
-pub fn with_y(regs: Regs, value: u32) -> Regs
+pub fn y_loaded(regs: Regs, value: u32) -> Regs
     ensures { result ≡ load_y regs value }
 {
     let size = index_numbers(regs);

@@ -315,7 +315,7 @@ impl Channel {
     /// Takes the HDMA byte that was due.
     #[inline(always)]
     #[tactic(auto, unfolding(crate::specs::Channel::worked))]
-    pub(crate) fn take(&mut self, byte: u8)
+    pub(crate) fn work_on(&mut self, byte: u8)
         ensures { self.new ≡ worked self.old byte }
     {
         match self.work {

@@ -122,7 +122,7 @@ impl Dma {
     {
         match self.turn {
             Turn::Nobody => unreachable!(),
-            Turn::Hdma(x) => self.channels[x].take(byte),
+            Turn::Hdma(x) => self.channels[x].work_on(byte),
             Turn::Dma(x) => self.channels[x].run(),
         }
         let (turn, due) = decided(&self.channels);

@@ -105,7 +105,7 @@ impl Io {
 
     /// Returns the levels of NMI and IRQ. NMI is set if its flag and 4200 bit 7 both are; IRQ is its flag.
     #[inline(always)]
-    pub fn lines(&self) -> (bool, bool)
+    pub fn interrupt_levels(&self) -> (bool, bool)
         ensures nmi { result.0 ≡ nmi_level self.now }
         ensures irq { result.1 ≡ irq_level self.now }
     {

@@ -3,7 +3,7 @@ ghost use Rattle.ppu_regs.specs.Picture.{picture_start};
 ghost use Rattle.tile_cache.specs.Bitplanes.{IsInStep};
 
 use ppu_regs::{Dot, Ppu};
-use ppu_tiles::{bg_row, depth};
+use ppu_tiles::{background_row, depth};
 use snes_defs::NoMemory;
 use std::alloc::Global;
 use std::test::Fail;
@@ -83,13 +83,13 @@ fn first_row_has_a_white_pixel_in_each_tile(rt: HostRuntime) -> Result<(), Fail>
         math: true,
     };
     let mut dots = [nothing; 512];
-    bg_row(&p, &tiles, 1, 0, &mut dots);
+    background_row(&p, &tiles, 1, 0, &mut dots);
     assert_eq!(rt; dots[0], white);
     assert_eq!(rt; dots[1], white);
     assert_eq!(rt; dots[2], nothing);
     assert_eq!(rt; dots[15], nothing);
     assert_eq!(rt; dots[496], white);
-    bg_row(&p, &tiles, 1, 1, &mut dots);
+    background_row(&p, &tiles, 1, 1, &mut dots);
     assert_eq!(rt; dots[0], nothing);
     Ok(())
 }

@@ -1,7 +1,7 @@
 use color_window::{inside, mix};
 use picture_scenes::renew;
 use ppu_line::draw;
-use ppu_mode7::m7_row;
+use ppu_mode7::rotated_row;
 use ppu_objects::obj_row;
 use ppu_regs::{Dot, Ppu};
 use snes_defs::NoMemory;
@@ -79,7 +79,7 @@ fn mode_7_repeats_its_tile(rt: HostRuntime) -> Result<(), Fail> {
     writes(&mut p, &[(0x21, 5), (0x22, 0x34), (0x22, 0x12)]);
     let mut dots = [NOTHING; 256];
     if p.registers().mode == 7 {
-        m7_row(&p, 1, 0, &mut dots);
+        rotated_row(&p, 1, 0, &mut dots);
     }
     for x in 0..256usize {
         assert_eq!(rt; dots[x].on, x % 8 == 0);

@@ -73,7 +73,7 @@ fn reads(io: &mut Io, mut words: Line<'_>) -> Option<bool> {
 fn levels(io: &Io, mut words: Line<'_>) -> Option<bool> {
     let levels = words.hexadecimal::<u8>()?;
     let time = time_of(&mut words)?;
-    let (nmi, irq) = io.lines();
+    let (nmi, irq) = io.interrupt_levels();
     let same = nmi == (levels / 16 == 1) && irq == (levels % 16 == 1);
     Some(same && io.irq_time() == time)
 }

@@ -10,7 +10,7 @@ ghost use Rattle.ppu_screens.specs.Screens.{ranked_pixel_at};
 ghost use Rattle.ppu_line.specs.Line.{has_background, has_depth, plane_layer_dot, ranked_pixel_of, main_pixel, sub_pixel};
 
 use arrayvec::ArrayVec;
-use ppu_mode7::m7_planes;
+use ppu_mode7::rotated_planes;
 use ppu_objects::{Sliver, paint_drawn};
 use ppu_regs::{Ppu, RankedRow};
 use ppu_screens::{base, lay_layer};
@@ -86,7 +86,7 @@ fn paint_rotated(p: &Ppu, layer: u8, row: u16, odd: bool, out: &mut RankedRow)
     let named = r.screens(layer).arithmetic;
     let low = base(r, layer, 0, named);
     let high = base(r, layer, 1, named);
-    m7_planes(p, layer, row, low, high, out);
+    rotated_planes(p, layer, row, low, high, out);
 }
 
 /// Paints a background that the mode has: its dots 2x, or 2x + 1 if `odd`.

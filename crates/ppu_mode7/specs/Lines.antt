@@ -1,5 +1,5 @@
 -- What doesn't change along a row of mode 7, and the steps from a place of the plane to its value; words for what stands below
--- `m7_row` and `m7_planes`.
+-- `rotated_row` and `rotated_planes`.
 use Rattle.std.specs.Prelude.{◌≡◌, ℕ, ◌+◌, ◌*◌, ◌/◌, ◌%◌, ◌==◌, Bool, ◌||◌, if◌then◌else◌}
 use Rattle.ppu_regs.specs.declared.registers.Registers.{Registers}
 use Rattle.ppu_regs.specs.Dots.{rank_of}

@@ -92,7 +92,7 @@ fn layer_dot_in(p: &Ppu, is_direct: bool, layer: u8, row: u16, x: usize, value: 
 }
 
 /// Writes the 256 dots of a layer's row: layer 1, or layer 2 of EXTBG.
-pub fn m7_row(p: &Ppu, layer: u8, row: u16, out: &mut [Dot])
+pub fn rotated_row(p: &Ppu, layer: u8, row: u16, out: &mut [Dot])
     requires mode { p.now.registers.mode ≡ 7 }
     requires layer { (layer ≡ 1) ⊎ (layer ≡ 2) }
     requires row { row < 239 }
@@ -133,7 +133,7 @@ fn planes_of(is_direct: bool, layer: u8, values: &[u8; 256], low: u8, high: u8, 
 
 /// Writes a layer's row as two byte planes. `low` and `high` are the rank bytes of the two priorities.
 #[tactic(auto, unfolding(crate::specs::Rotated::rotated_layer_dot, crate::specs::Lines::rank_at))]
-pub fn m7_planes(p: &Ppu, layer: u8, row: u16, low: u8, high: u8, out: &mut RankedRow)
+pub fn rotated_planes(p: &Ppu, layer: u8, row: u16, low: u8, high: u8, out: &mut RankedRow)
     requires { row < 239 }
     ensures ranks { (x : ℕ) → x < 256 → slice_index out.new.ranks x ≡
         rank_of (if (rotated_layer_dot p.now layer row x).priority == 1 then high else low) (rotated_layer_dot p.now layer row x) }

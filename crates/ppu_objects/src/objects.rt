@@ -336,7 +336,7 @@ fn note_near(
 /// Gathers the first 32 objects on a row, in turn, in an empty list. Returns whether there are more. It first marks
 /// all objects by their Y in one pass, and then tests them eight at a time.
 #[tactic(auto, unfolding(crate::specs::Objects::drawn_objects, crate::specs::Objects::passes_range))]
-pub fn gather(p: &Ppu, row: u16, list: &mut ArrayVec<Object, 32>) -> bool
+pub fn gather_in_range(p: &Ppu, row: u16, list: &mut ArrayVec<Object, 32>) -> bool
     requires row { row < 239 }
     requires empty { list.old.items ≡ [] }
     ensures objects { list.new.items ≡ drawn_objects p.now row }

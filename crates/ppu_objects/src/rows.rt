@@ -8,9 +8,9 @@ ghost use Rattle.ppu_objects.specs.Ranks.{object_rank, row_bases, IsOfObjects};
 ghost use Rattle.ppu_regs.specs.declared.dots.LayerDot.{LayerDot};
 ghost use Rattle.ppu_regs.specs.Dots.{no_dot, dot_of};
 
-use crate::objects::{Object, gather};
+use crate::objects::{Object, gather_in_range};
 use crate::painting::{paint, put_lines};
-use crate::slivers::{Sliver, gather_slivers};
+use crate::slivers::{Sliver, gather_in_time};
 use arrayvec::ArrayVec;
 use ppu_regs::{Dot, Over, Ppu, RankedRow};
 
@@ -35,8 +35,8 @@ pub fn gather_row(p: &Ppu, row: u16, slivers: &mut ArrayVec<Sliver, 34>) -> Over
     ensures time { result.time ≡ passes_time p.now row }
 {
     let mut objects: ArrayVec<Object, 32> = ArrayVec::new();
-    let range = gather(p, row, &mut objects);
-    let time = gather_slivers(p.registers().object_tiles.size, objects.as_slice(), slivers);
+    let range = gather_in_range(p, row, &mut objects);
+    let time = gather_in_time(p.registers().object_tiles.size, objects.as_slice(), slivers);
     Over { range, time }
 }
 

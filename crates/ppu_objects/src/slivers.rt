@@ -73,7 +73,7 @@ fn add_slivers(sizes: &Sizes, o: &Object, list: &mut ArrayVec<Sliver, 34>, over:
 /// Gathers the first 34 slivers of some objects, from the last object to the first, in an empty list. Returns
 /// whether there are more.
 #[tactic(auto, unfolding(crate::specs::Slivers::all_slivers), using(crate::proofs::Firsts::turns))]
-pub fn gather_slivers(code: u8, objects: &[Object], list: &mut ArrayVec<Sliver, 34>) -> bool
+pub fn gather_in_time(code: u8, objects: &[Object], list: &mut ArrayVec<Sliver, 34>) -> bool
     requires empty { list.old.items ≡ [] }
     ensures slivers { list.new.items ≡ take 34 (all_slivers code objects.now) }
     ensures time { result ≡ nat_lt 34 (length (all_slivers code objects.now)) }

@@ -7,7 +7,7 @@ use crate::registers::CgramPort;
 /// Writes 2122 CGDATA: keeps the first byte of a colour, and at the second writes its 15 bits.
 #[inline(always)]
 #[tactic(auto, unfolding(crate::specs::Ports::cgram_written, crate::specs::Ports::cgram_port_written))]
-pub fn put(cgram: &mut [u16; 256], port: &mut CgramPort, v: u8)
+pub fn write_byte(cgram: &mut [u16; 256], port: &mut CgramPort, v: u8)
     requires { (k : ℕ) → slice_index cgram.old k < 32768 }
     ensures colours { cgram.new ≡ cgram_written cgram.old port.old v }
     ensures port { port.new ≡ cgram_port_written port.old v }
@@ -27,7 +27,7 @@ pub fn put(cgram: &mut [u16; 256], port: &mut CgramPort, v: u8)
 /// Reads 213B RDCGRAM: a colour's low byte, then its high one.
 #[inline(always)]
 #[tactic(auto, unfolding(crate::specs::Ports::cgram_byte, crate::specs::Ports::cgram_port_read))]
-pub fn take(cgram: &[u16; 256], port: &mut CgramPort) -> u8
+pub fn read_byte(cgram: &[u16; 256], port: &mut CgramPort) -> u8
     ensures byte { result ≡ cgram_byte cgram.now port.old }
     ensures port { port.new ≡ cgram_port_read port.old }
 {

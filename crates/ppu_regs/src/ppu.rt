@@ -152,21 +152,21 @@ impl Ppu {
                 bus
             }
             // 2138 OAMDATAREAD
-            0x38 => self.take_oam(),
+            0x38 => self.read_oam(),
             // 2139 RDVRAML
-            0x39 => (self.take_vram(false) % 256) as u8,
+            0x39 => (self.read_vram(false) % 256) as u8,
             // 213A RDVRAMH
-            0x3a => (self.take_vram(true) / 256) as u8,
+            0x3a => (self.read_vram(true) / 256) as u8,
             // 213B CGDATAREAD
-            0x3b => self.take_colour(),
+            0x3b => self.read_colour(),
             // 213C OPHCT
-            0x3c => self.take_h(),
+            0x3c => self.read_h_count(),
             // 213D OPVCT
-            0x3d => self.take_v(),
+            0x3d => self.read_v_count(),
             // 213E STAT77
             0x3e => self.registers.over.status(),
             // 213F STAT78
-            0x3f => self.take_status(),
+            0x3f => self.read_status(),
             _ => bus,
         }
     }
@@ -262,7 +262,7 @@ impl Ppu {
     fn put_colour(&mut self, v: u8)
         ensures { self.new ≡ colour_put self.old v }
     {
-        cgram::put(&mut self.cgram, &mut self.registers.cgram, v);
+        cgram::write_byte(&mut self.cgram, &mut self.registers.cgram, v);
     }
 
     /// Reads 2137 SLHV: keeps the place of the beam.
@@ -275,7 +275,7 @@ impl Ppu {
 
     /// Reads 2138 OAMDATAREAD.
     #[inline(always)]
-    fn take_oam(&mut self) -> u8
+    fn read_oam(&mut self) -> u8
         ensures byte { result ≡ slice_index self.old.oam (oam_place self.old.registers.oam.address) }
         ensures after { self.new ≡ (record self.old { registers = record self.old.registers { oam = oam_stepped self.old.registers.oam } }) }
     {
@@ -286,27 +286,27 @@ impl Ppu {
 
     /// Reads 2139 RDVRAML or 213A RDVRAMH. Returns the word that was fetched ahead.
     #[inline(always)]
-    fn take_vram(&mut self, high: bool) -> u16
+    fn read_vram(&mut self, high: bool) -> u16
         ensures word { result ≡ self.old.registers.vram.fetched }
         ensures after { self.new ≡ (record self.old { registers = record self.old.registers { vram = vram_port_read self.old.vram self.old.registers.vram high } }) }
     {
         let word = self.registers.vram.fetched;
-        vram::fetch_after(self.vram.as_slice(), &mut self.registers.vram, high);
+        vram::fetch_after_read(self.vram.as_slice(), &mut self.registers.vram, high);
         word
     }
 
     /// Reads 213B RDCGRAM.
     #[inline(always)]
-    fn take_colour(&mut self) -> u8
+    fn read_colour(&mut self) -> u8
         ensures byte { result ≡ cgram_byte self.old.cgram self.old.registers.cgram }
         ensures after { self.new ≡ (record self.old { registers = record self.old.registers { cgram = cgram_port_read self.old.registers.cgram } }) }
     {
-        cgram::take(&self.cgram, &mut self.registers.cgram)
+        cgram::read_byte(&self.cgram, &mut self.registers.cgram)
     }
 
     /// Reads 213C OPHCT.
     #[inline(always)]
-    fn take_h(&mut self) -> u8
+    fn read_h_count(&mut self) -> u8
         ensures byte { result ≡ count_byte self.old.registers.counters.h self.old.registers.counters.h_high }
         ensures after { self.new ≡ (record self.old { registers = record self.old.registers { counters = record self.old.registers.counters { h_high = not self.old.registers.counters.h_high } } }) }
     {
@@ -317,7 +317,7 @@ impl Ppu {
 
     /// Reads 213D OPVCT.
     #[inline(always)]
-    fn take_v(&mut self) -> u8
+    fn read_v_count(&mut self) -> u8
         ensures byte { result ≡ count_byte self.old.registers.counters.v self.old.registers.counters.v_high }
         ensures after { self.new ≡ (record self.old { registers = record self.old.registers { counters = record self.old.registers.counters { v_high = not self.old.registers.counters.v_high } } }) }
     {
@@ -328,7 +328,7 @@ impl Ppu {
 
     /// Reads 213F STAT78, which clears the counters' flag and makes the low byte of both the next one.
     #[inline(always)]
-    fn take_status(&mut self) -> u8
+    fn read_status(&mut self) -> u8
         ensures byte { result ≡ status_two self.old.registers.counters }
         ensures after { self.new ≡ (record self.old { registers = record self.old.registers { counters = record self.old.registers.counters { latched = false; h_high = false; v_high = false } } }) }
     {

@@ -119,7 +119,7 @@ fn fetch(vram: &[u16], port: &mut VramPort)
 /// stepping one.
 #[inline(always)]
 #[tactic(auto, unfolding(crate::specs::Ports::vram_port_read))]
-pub fn fetch_after(vram: &[u16], port: &mut VramPort, high: bool)
+pub fn fetch_after_read(vram: &[u16], port: &mut VramPort, high: bool)
     requires { length vram.now ≡ 32768 }
     ensures { port.new ≡ vram_port_read vram.now port.old high }
 {

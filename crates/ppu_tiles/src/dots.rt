@@ -65,7 +65,7 @@ fn fill(
 
 /// Writes a row of a background as 512 dots with their colours. Dots 2x and 2x + 1 are the same except in modes 5
 /// and 6.
-pub fn bg_row(p: &Ppu, tiles: &TileCache, layer: u8, row: u16, out: &mut [Dot])
+pub fn background_row(p: &Ppu, tiles: &TileCache, layer: u8, row: u16, out: &mut [Dot])
     requires first { 1 ≤ layer }
     requires last { layer ≤ 4 }
     requires depth { IsDepth (depth_of p.now.registers.mode layer) }

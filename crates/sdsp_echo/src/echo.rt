@@ -75,7 +75,7 @@ fn tap_of(x: i16, c: i8) -> i32
 
 /// A tap's coefficient.
 #[inline(always)]
-fn coefficient(voices: &Voices, k: u8) -> i8
+fn tap_coefficient(voices: &Voices, k: u8) -> i8
     requires { k < 8 }
     ensures { result ≡ tap voices.now k }
 {
@@ -89,7 +89,7 @@ fn tapped_by(voices: &Voices, x: i16, k: u8) -> i32
     ensures value { result ≡ tapped x (tap voices.now k) }
     ensures small { unsigned_abs result ≤ 2 ^ 17 }
 {
-    tap_of(x, coefficient(voices, k))
+    tap_of(x, tap_coefficient(voices, k))
 }
 
 /// The sum of the filter's first four taps.

@@ -15,7 +15,7 @@ use snes_defs::Table;
 /// A voice's output.
 #[tactic(auto, unfolding(crate::specs::Sample::output))]
 #[inline(always)]
-pub fn out_of(table: &Table, noise: u16, setting: &Setting, voice: &Voice) -> i32
+pub fn output_of(table: &Table, noise: u16, setting: &Setting, voice: &Voice) -> i32
     ensures value { result ≡ output table.now noise setting.now voice.now }
     ensures small { unsigned_abs result ≤ 2 ^ 20 }
 {
@@ -82,7 +82,7 @@ pub fn sound(table: &Table, noise: u16, setting: &Setting, voice: &Voice, sums: 
     if voice.envelope == 0 {
         (sums, 0)
     } else {
-        let out = out_of(table, noise, setting, voice);
+        let out = output_of(table, noise, setting, voice);
         (mix(sums, out, setting), out)
     }
 }
@@ -138,7 +138,7 @@ fn pitch(setting: &Setting, before: i32) -> u32
 /// Adds the pitch to the position, and decodes the samples that it passes.
 #[tactic(auto, unfolding(crate::specs::Sample::moved))]
 #[inline(always)]
-fn advance(ram: &[u8], entry: u16, pitch: u32, voice: &mut Voice)
+fn move_position(ram: &[u8], entry: u16, pitch: u32, voice: &mut Voice)
     requires ram { length ram.now ≡ 65536 }
     requires pitch { pitch ≤ 65535 }
     ensures { voice.new ≡ moved ram.now entry pitch voice.old }
@@ -160,5 +160,5 @@ pub fn go_on(ram: &[u8], setting: &Setting, s: u64, before: i32, out: i32, voice
 {
     show(out, voice);
     step_envelope(setting, s, voice);
-    advance(ram, setting.entry, pitch(setting, before), voice);
+    move_position(ram, setting.entry, pitch(setting, before), voice);
 }

@@ -63,7 +63,7 @@ pub fn place_at(pc: u16, distance: u8) -> u16
 /// BRK: B is set, and I cleared.
 #[tactic(auto, unfolding(crate::specs::Flow::with_break))]
 #[inline(always)]
-pub fn broken(regs: SpcRegs) -> SpcRegs
+pub fn break_set(regs: SpcRegs) -> SpcRegs
     ensures { result ≡ with_break regs }
 {
     SpcRegs {

@@ -18,6 +18,8 @@ pub mod words;
 
 pub use bits::{byte_with_bit, carry_of_bit};
 pub use changes::Changed;
-pub use flow::{broken, counted_down, is_taken, is_taken_by, place_at};
-pub use results::{change, change_by_a, combine, inside, load, load_word, pop, stored_byte};
+pub use flow::{break_set, counted_down, is_taken, is_taken_by, place_at};
+pub use results::{
+    change, change_by_a, combine, load, load_word, pop, stored_byte, work_internally,
+};
 pub use words::{low_after_step, step_word, word_after_step};

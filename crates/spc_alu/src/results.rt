@@ -192,7 +192,7 @@ fn change_a(regs: &mut SpcRegs, op: SpcOp, mode: SpcMode)
 /// Applies what happens inside the processor, in registers and flags alone.
 #[tactic(auto, unfolding(crate::specs::Results::internal))]
 #[inline(always)]
-pub fn inside(regs: &mut SpcRegs, op: SpcOp, mode: SpcMode)
+pub fn work_internally(regs: &mut SpcRegs, op: SpcOp, mode: SpcMode)
     ensures { regs.new ≡ internal op mode regs.old }
 {
     match op {

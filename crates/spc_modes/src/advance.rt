@@ -5,7 +5,7 @@ ghost use Rattle.spc_modes.specs.Addresses.{fetched, join, pulled, pushed};
 use crate::address::{join_bytes, one_more, place_after, pushed_pointer};
 use crate::micro::Micro;
 use crate::place::Place;
-use spc_alu::{inside, load, load_word, pop, step_word, word_after_step};
+use spc_alu::{load, load_word, pop, step_word, word_after_step, work_internally};
 
 // The steps that have results are out of line, and each is the last thing that a transition does. So the transitions
 // keep nothing over a call, and stay small.
@@ -99,7 +99,7 @@ impl Micro {
         ensures left { remaining self.new ≡ idles_for cycles (ends (internal self.old.row.op self.old.row.mode self.old.here)) }
         ensures start { self.new.start ≡ self.old.start }
     {
-        inside(&mut self.here, self.row.op, self.row.mode);
+        work_internally(&mut self.here, self.row.op, self.row.mode);
         self.end_after(cycles);
     }
 }

@@ -4,7 +4,7 @@ ghost use Rattle.spc_modes.specs.declared.place.Place.TheVariants.{WriteLast, Pu
 use crate::address::place_after_in_page;
 use crate::micro::Micro;
 use crate::place::Place;
-use spc_alu::broken;
+use spc_alu::break_set;
 
 impl Micro {
     ghost use Rattle.spc_modes.specs.Plan.{after, first_access, is_write};
@@ -70,7 +70,7 @@ impl Micro {
             Place::PushLow => self.wrote_counter_low(),
             Place::BreakStatus => {
                 self.pass_push();
-                self.here = broken(self.here);
+                self.here = break_set(self.here);
                 self.place = Place::TargetCycle;
             }
             Place::Between

@@ -14,6 +14,6 @@ returns c x h =
     let high : c.base-high.result ≡ rank_base (layer_rank c.args.p.now.registers c.args.layer 1) (screens_of c.args.p.now.registers c.args.layer).arithmetic = cc in
     painted_pixel c.args.p.now c.args.layer (rotated_layer_dot c.args.p.now c.args.layer c.args.row x) _ _ c.base-low.result
     c.base-high.result (rotated_priority c.args.p.now c.args.layer c.args.row x) (rotated_math c.args.p.now c.args.layer c.args.row x)
-    low high (c.m7_planes.ensures.ranks x h) (c.m7_planes.ensures.numbers x h)
+    low high (c.rotated_planes.ensures.ranks x h) (c.rotated_planes.ensures.numbers x h)
     ∙ ap (ranked_pixel_of c.args.p.now c.args.layer)
     (sym (plane_rotated c.args.p.now c.args.layer c.args.row e x c.requires.mode (half_of x c.args.odd)))

@@ -6,7 +6,7 @@ use Rattle.ppu_objects.specs.Near.{near_mark}
 use Rattle.ppu_objects.specs.declared.objects.Object.{Object}
 use Rattle.ppu_objects.specs.Objects.{on_row, height_of, first_object, drawn_objects, passes_range}
 use Rattle.ppu_objects.proofs.Marks.{none_on_row}
-use Rattle.ppu_objects.proofs.objects.gather.Goals as goal
+use Rattle.ppu_objects.proofs.objects.gather_in_range.Goals as goal
 
 -- without a mark no object stands on the row
 none_of :

@@ -2,7 +2,7 @@
 use Rattle.std.proofs.Common.{◌%◌, inl, inr, ◌∙◌, arith}
 use Rattle.std.proofs.lemmas.Bool.{cases_eq}
 use Rattle.ppu_tiles.proofs.DotSteps.{half_of_dots}
-use Rattle.ppu_tiles.proofs.dots.bg_row.Goals as goal
+use Rattle.ppu_tiles.proofs.dots.background_row.Goals as goal
 
 pub returns : goal.returns
 returns c = λ e h. elim (cases_eq (e % 2) 1) [
