@@ -38,8 +38,9 @@ fault "echo '// docs/use/GONE.$md has the rules.' >>crates/beam/src/lib.rt" crat
 fault "echo '# docs/use/GONE.$md has the rules.' >>tools/evidence/soak.sh" tools/evidence/soak.sh "names docs/use/GONE.$md"
 fault "echo 'What \`GONE.$md\` says.' >>docs/use/TRACE.md" docs/use/TRACE.md "names GONE.$md"
 index=docs/machine/INDEX.md
-fault "sed -i 's/.display_written./\`display_wrote\`/' $index" $index "crates/ppu_regs/specs/Pages.antt has no display_wrote"
+fault "sed -i '/^| 2100 INIDISP /s/.display_written./\`display_wrote\`/' $index" $index "crates/ppu_regs/specs/Pages.antt has no display_wrote"
 fault "sed -i 's/.write_mosaic. |/\`wrote_mosaic\` |/' $index" $index "crates/ppu_regs/src/pages.rt has no wrote_mosaic"
+fault "sed -i '/^| 2122 CGDATA /s/.write_byte./\`read_byte\`/' $index" $index "cgram_written and read_byte have no stem in common"
 fault "sed -i 's/^| 2106 MOSAIC | .PPU.(PPU.$md#written-registers)/| 2106 MOSAIC | [PPU](PPU.$md#tiles)/' $index" $index "PPU.$md has no 2106 in a table below #tiles"
 fault "sed -i '/^| 2106 MOSAIC /d' $index" docs/machine/PPU.md "has the register 2106, which the index lacks"
 fault "sed -i 's/^| mosaic | .*/| mosaic | see mode 7 |/' $index" $index "is no line of an entry"

@@ -6,9 +6,9 @@
 # and of the name of a page, in a source, a script or another page, that is no file. Such a name counts from the top of the repository,
 # from the file's own folder, or from the data folder of its crate.
 #
-# Of docs/machine/INDEX.md it complains of a line whose definition or function is not in the file that it names, of a register whose
-# page has it in no table below the heading that is linked, of an opcode or a term that is not below that heading, and of a register
-# in a table of docs/machine that no line has.
+# Of docs/machine/INDEX.md it complains of a line whose definition or function is not in the file that it names, of a line whose
+# definition and function have no stem in common, of a register whose page has it in no table below the heading that is linked, of
+# an opcode or a term that is not below that heading, and of a register in a table of docs/machine that no line has.
 #
 # It takes no proof and a second. The status is 1 if there is a complaint.
 top=$(cd "$(dirname "${BASH_SOURCE[0]}")/../.." && pwd) || exit 2
@@ -163,6 +163,21 @@ def defines(path, name):
     return re.search(rf"\bfn {word}\b", texts.get(path, ""))
 
 
+def have_one_stem(definition, function):
+    """Whether a word of one name and a word of the other begin alike: `mode_written` and `write_mode`, `dimmed` and `dim_colour`.
+
+    Four letters are enough, or three that are the whole word but for an ending. Words that only join others don't count.
+    """
+    joining = {"after", "before", "from", "with"}
+    for first in set(definition.split("_")) - joining:
+        for second in set(function.split("_")) - joining:
+            shared = len(os.path.commonprefix([first, second]))
+            ends = (re.fullmatch("s|(.?ed)?", word[shared:]) for word in (first, second))
+            if shared > 3 or shared == 3 and all(ends):
+                return True
+    return False
+
+
 def index(page):
     """Complains of lines of the index that lead nowhere, and of registers that it lacks."""
     machine = {p: sections(p) for p in pages if p.startswith("docs/machine/") and p != page}
@@ -181,6 +196,8 @@ def index(page):
         for file, name in (match.groups() for match in names):
             if not defines(f"crates/{file}", name):
                 complain(where, f"crates/{file} has no {name}")
+        if not have_one_stem(names[0][2], names[1][2]):
+            complain(where, f"{names[0][2]} and {names[1][2]} have no stem in common")
         term = None if of_registers else unnamed(cells[0], section(f"docs/machine/{link[1]}", link[2]))
         if term:
             complain(where, f"{link[1]} has no {term} below #{link[2]}")
