@@ -1,0 +1,29 @@
+ghost use Rattle.std.specs.Prelude.{◌≡◌, ◌≤◌, OnOk, OnErr};
+ghost use Rattle.file_shelf.specs.Told.{Appends, AppendsSome, HasRisen};
+ghost use Rattle.file_shelf.specs.Shown.{OnlyPuts};
+ghost use Rattle.frame_sums.specs.Digests.{row_in};
+ghost use Rattle.frame_sums.specs.Text.{text_of};
+
+use crate::line::SumsLine;
+use crate::sums::Digests;
+use file_shelf::{Failed, Out, Shelf};
+
+/// Puts the text of the sums of a run to the output for sums, line by line.
+pub fn put_sums<H: Shelf>(shelf: &mut H, video: &Digests, audio: &Digests) -> Result<(), Failed>
+    requires same { video.now.of.frames ≡ audio.now.of.frames }
+    ensures whole { OnOk result (Appends ((H.shown shelf.old).written Out.Sums) ((H.shown shelf.new).written Out.Sums)
+        (text_of (row_in video.now.rows.items) (row_in audio.now.rows.items) video.now.all audio.now.all video.now.of.frames)) }
+    ensures some { OnErr result (AppendsSome ((H.shown shelf.old).written Out.Sums) ((H.shown shelf.new).written Out.Sums)
+        (text_of (row_in video.now.rows.items) (row_in audio.now.rows.items) video.now.all audio.now.all video.now.of.frames)) }
+    ensures failed { OnErr result (HasRisen ((H.shown shelf.old).write_faults Out.Sums) ((H.shown shelf.new).write_faults Out.Sums)) }
+    ensures only { OnlyPuts (H.shown shelf.old) (H.shown shelf.new) Out.Sums }
+{
+    shelf.put(Out::Sums, SumsLine::head().bytes())?;
+    for frame in 0..video.of.frames {
+        let at = frame as usize;
+        let line = SumsLine::of_frame(frame, &video.rows[at], &audio.rows[at]);
+        shelf.put(Out::Sums, line.bytes())?;
+    }
+    let line = SumsLine::of_all(&video.all, &audio.all);
+    shelf.put(Out::Sums, line.bytes())
+}
