@@ -1,1 +1,3 @@
+pub mod DigestLemmas
 pub mod PieceLemmas
+pub mod TextLemmas

@@ -20,7 +20,7 @@ pub struct Pieces {
 
 impl Pieces {
     /// The first byte of a frame, from 0, among all that the side emits.
-    #[tactic(auto, unfolding(crate::specs::Pieces::start_of), using(crate::proofs::PieceLemmas::few))]
+    #[tactic(auto, unfolding(crate::specs::Pieces::start_of), using(crate::proofs::PieceLemmas::starts))]
     pub(crate) fn start(&self, frame: u32) -> u64
         requires { frame ≤ 36000 }
         ensures start { result ≡ start_of self.now.region self.now.side frame }
