@@ -2,6 +2,7 @@
 use Rattle.std.specs.Prelude.{◌≡◌, ℕ, ◌+◌, ◌<◌, ◌≤◌, List, [], length, drop, slice_index_or}
 use Rattle.sha2.specs.Sha256.{sha256}
 use Rattle.sha2.specs.Hashers.{Holds256}
+use Rattle.sha2.specs.declared.Sha256.{Sha256}
 use Rattle.snes_defs.specs.declared.region.Region.{Region}
 use Rattle.snes_defs.specs.declared.ports.Side.{Side}
 use Rattle.snes_defs.specs.declared.ports.Side.TheVariants.{Console, Sound}
@@ -30,12 +31,15 @@ AreRows of bytes rows = (frame : ℕ) → frame < of.frames → IsRow of bytes r
 
 -- The sums of the frames that are over are those of their bytes. Of the frame under way, what was taken is in the hasher, and so
 -- many bytes are still to come.
-pub record AreCut (cuts : Cuts) (bytes : List ℕ) : Type 0 where
-  pub over : (frame : ℕ) → frame < cuts.done → start_of cuts.of.region cuts.of.side (frame + 1) ≤ length bytes
-  pub rows : (frame : ℕ) → frame < cuts.done → IsRow cuts.of bytes cuts.rows.items frame
-  pub begun : cuts.done < cuts.of.frames → start_of cuts.of.region cuts.of.side cuts.done ≤ length bytes
-  pub part : cuts.done < cuts.of.frames → Holds256 cuts.part (drop (start_of cuts.of.region cuts.of.side cuts.done) bytes)
-  pub left : cuts.done < cuts.of.frames → length bytes + cuts.left ≡ start_of cuts.of.region cuts.of.side (cuts.done + 1)
+pub record IsCut (of : Pieces) (rows : List (List ℕ)) (done left : ℕ) (part : Sha256) (bytes : List ℕ) : Type 0 where
+  pub over : (frame : ℕ) → frame < done → start_of of.region of.side (frame + 1) ≤ length bytes
+  pub rows_are : (frame : ℕ) → frame < done → IsRow of bytes rows frame
+  pub begun : done < of.frames → start_of of.region of.side done ≤ length bytes
+  pub part_holds : done < of.frames → Holds256 part (drop (start_of of.region of.side done) bytes)
+  pub left_is : done < of.frames → length bytes + left ≡ start_of of.region of.side (done + 1)
+
+abbrev pub AreCut : Cuts → List ℕ → Type 0
+AreCut cuts bytes = IsCut cuts.of cuts.rows.items cuts.done cuts.left cuts.part bytes
 
 -- and all bytes are in the other hasher
 pub record AreSummed (sums : SideSums) (bytes : List ℕ) : Type 0 where
