@@ -53,8 +53,8 @@ module _ (of : Pieces) where
       ⊎_elim
       (λ e. subst (λ g. row_in (slice_set rows at digest) g ≡ sha256 (piece_of of.region of.side g bytes)) (sym e) (get_or-set_same rows at digest [] within ∙ is))
       (⊎_elim
-          (λ less. get_or-set_other rows at f digest [] (λ e. absurd (omega (arith, e, less))) ∙ before f less)
-          (λ more. absurd (omega (arith, more, lt))))
+      (λ less. get_or-set_other rows at f digest [] (λ e. absurd (omega (arith, e, less))) ∙ before f less)
+      (λ more. absurd (omega (arith, more, lt))))
       (cases_order f at)
 
   -- the frame under way is over

@@ -4,7 +4,7 @@ use Rattle.sha2.specs.Sha256.{sha256}
 use Rattle.snes_defs.specs.declared.region.Region.{Region}
 use Rattle.snes_defs.specs.declared.ports.Side.TheVariants.{Console, Sound}
 use Rattle.frame_sums.specs.declared.pieces.Pieces.{Pieces}
-use Rattle.frame_sums.specs.declared.sums.Digests.{Digests}
+use Rattle.frame_sums.specs.declared.digests.Digests.{Digests}
 use Rattle.frame_sums.specs.Pieces.{piece_of}
 use Rattle.frame_sums.specs.Digests.{pieces_of, row_in, AreDigests}
 use Rattle.frame_sums.specs.Text.{head_text, line_text, frames_text, text_of, sums_text}

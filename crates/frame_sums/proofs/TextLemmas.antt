@@ -6,7 +6,18 @@ use Rattle.std.proofs.Math.Seq.{take-append-add}
 use Rattle.file_shelf.specs.declared.shelves.Out.{Out}
 use Rattle.file_shelf.specs.Told.{Holds, Appends, AppendsSome}
 use Rattle.file_shelf.specs.Shown.{Shown, OnlyPuts}
-use Rattle.frame_sums.specs.Text.{head_text, line_text, frames_text, text_of}
+use Rattle.frame_sums.specs.Text.{hex_text, head_text, line_text, frames_text, text_of}
+
+-- a line, as its parts are pushed one after another
+pub line_is : (name picture sound : List ℕ) → line_text name picture sound ≡ ((((name ++ 44 ∷ []) ++ hex_text picture) ++ 44 ∷ []) ++ hex_text sound) ++ 10 ∷ []
+unfolding line_text
+line_is name picture sound =
+    sym (
+    append_assoc (((name ++ 44 ∷ []) ++ hex_text picture) ++ 44 ∷ []) (hex_text sound) (10 ∷ [])
+    ∙ append_assoc ((name ++ 44 ∷ []) ++ hex_text picture) (44 ∷ []) (hex_text sound ++ 10 ∷ [])
+    ∙ append_assoc (name ++ 44 ∷ []) (hex_text picture) (44 ∷ (hex_text sound ++ 10 ∷ []))
+    ∙ append_assoc name (44 ∷ []) (hex_text picture ++ 44 ∷ (hex_text sound ++ 10 ∷ []))
+    )
 
 module _ (picture sound : ℕ → List ℕ) where
   abbrev Lines : ℕ → List ℕ
@@ -30,12 +41,13 @@ module _ (picture sound : ℕ → List ℕ) where
       ⊎_elim
       (λ e. ([], frames_next total ∙ ap (λ n. Lines n ++ Line n) (sym e) ∙ ap (λ l. Lines frame ++ l) (sym (append-nil (Line frame)))))
       (⊎_elim
-          (λ lt. let more = frames_split frame total lt in
-              (more.0 ++ Line total,
-                  frames_next total ∙ ap (λ l. l ++ Line total) more.1
-                  ∙ append_assoc (Lines frame) (Line frame ++ more.0) (Line total)
-                  ∙ ap (λ l. Lines frame ++ l) (append_assoc (Line frame) more.0 (Line total))))
-          (λ gt. absurd (omega (arith, h, gt))))
+      (λ lt. let more = frames_split frame total lt in (
+        more.0 ++ Line total,
+        frames_next total ∙ ap (λ l. l ++ Line total) more.1
+            ∙ append_assoc (Lines frame) (Line frame ++ more.0) (Line total)
+            ∙ ap (λ l. Lines frame ++ l) (append_assoc (Line frame) more.0 (Line total)),
+      ))
+      (λ gt. absurd (omega (arith, h, gt))))
       (cases_order frame total)
 
 -- bytes were put, and then others

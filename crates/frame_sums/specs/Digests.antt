@@ -9,7 +9,7 @@ use Rattle.snes_defs.specs.declared.ports.Side.TheVariants.{Console, Sound}
 use Rattle.frame_sums.specs.declared.pieces.Pieces.{Pieces}
 use Rattle.frame_sums.specs.declared.cuts.Cuts.{Cuts}
 use Rattle.frame_sums.specs.declared.sums.SideSums.{SideSums}
-use Rattle.frame_sums.specs.declared.sums.Digests.{Digests}
+use Rattle.frame_sums.specs.declared.digests.Digests.{Digests}
 use Rattle.frame_sums.specs.declared.sums.FrameSums.{FrameSums}
 use Rattle.frame_sums.specs.Pieces.{start_of, piece_of}
 

@@ -6,11 +6,14 @@
 #![tactic(auto)]
 
 mod cuts;
+mod cutting;
+mod digests;
 mod line;
 mod pieces;
 mod put;
 mod sums;
 
+pub use digests::Digests;
 pub use pieces::Pieces;
 pub use put::put_sums;
-pub use sums::{Digests, FrameSums};
+pub use sums::FrameSums;

@@ -55,6 +55,7 @@ impl SumsLine {
     }
 
     /// A line of this name with two sums.
+    #[tactic(auto, using(crate::proofs::TextLemmas::line_is))]
     fn of(name: &str, picture: &[u8; 32], sound: &[u8; 32]) -> SumsLine
         requires { length name.now ≤ 40 }
         ensures { result ≡ line_text name.now picture.now sound.now }

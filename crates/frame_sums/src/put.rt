@@ -4,8 +4,8 @@ ghost use Rattle.file_shelf.specs.Shown.{OnlyPuts};
 ghost use Rattle.frame_sums.specs.Digests.{row_in};
 ghost use Rattle.frame_sums.specs.Text.{text_of};
 
+use crate::digests::Digests;
 use crate::line::SumsLine;
-use crate::sums::Digests;
 use file_shelf::{Failed, Out, Shelf};
 
 /// Puts the text of the sums of a run to the output for sums, line by line.

@@ -4,6 +4,7 @@ ghost use Rattle.run_drive.specs.Run.{Adds, AddsSome};
 ghost use Rattle.frame_sums.specs.Digests.{AreSummed, AreDigests, AreNew};
 
 use crate::cuts::Cuts;
+use crate::digests::Digests;
 use crate::pieces::Pieces;
 use file_shelf::Failed;
 use run_drive::Sink;
@@ -16,15 +17,6 @@ use std::alloc::Global;
 pub(crate) struct SideSums {
     pub(crate) cuts: Cuts,
     pub(crate) all: Sha256,
-}
-
-/// The sums of what one side emitted: of each frame, and of all its bytes.
-#[derive(Drop)]
-pub struct Digests {
-    pub(crate) of: Pieces,
-    pub(crate) rows: Vec<[u8; 32]>,
-    pub(crate) all: [u8; 32],
-    ghost size: { vec_len rows ≡ of.frames },
 }
 
 impl SideSums {

@@ -11,7 +11,7 @@ use Rattle.run_drive.specs.Played.{IsPlayable, PlayedWhole}
 use Rattle.run_io.specs.declared.options.Count.TheVariants.{Frames}
 use Rattle.run_io.specs.Form.{Order, Fits}
 use Rattle.run_io.specs.Lists.{AllOf}
-use Rattle.frame_sums.specs.declared.sums.Digests.{Digests}
+use Rattle.frame_sums.specs.declared.digests.Digests.{Digests}
 use Rattle.frame_sums.specs.declared.sums.FrameSums.{FrameSums}
 use Rattle.frame_sums.specs.Digests.{pieces_of, row_in, AreNew, AreSummed, AreDigests, HasTaken}
 use Rattle.frame_sums.specs.Text.{text_of, sums_text}
