@@ -1,5 +1,5 @@
 -- How the sums of frames go on.
-use Rattle.std.proofs.Common.{◌≡◌, ◌≢◌, ℕ, ◌+◌, ◌-◌, ◌<◌, ◌≤◌, List, [], ◌++◌, length, drop, slice_set, slice_index_or, refl, ap, sym, ◌∙◌, subst, ⊎_elim, length-append, length-drop, arith}
+use Rattle.std.proofs.Common.{◌≡◌, ◌≢◌, ℕ, ◌+◌, ◌-◌, ◌<◌, ◌≤◌, List, [], ◌∷◌, ◌++◌, length, drop, slice_set, slice_index_or, refl, ap, sym, ◌∙◌, subst, ⊎_elim, length-append, length-drop, arith}
 use Rattle.std.proofs.lemmas.List.{drop-append-le, get_or-set_same, get_or-set_other}
 use Rattle.std.proofs.lemmas.Bool.{cases_order}
 use Rattle.sha2.specs.Sha256.{sha256}
@@ -76,3 +76,8 @@ module _ (of : Pieces) where
         part_holds = λ lt. subst (Holds256 then) (sym (drop_end (Start (done + 1)) had (omega (arith, end)))) empty;
         left_is = λ lt. omega (arith, end, is lt, starts_rise of.region of.side (done + 1));
       }
+
+-- a list of no length
+pub none_left : (l : List ℕ) → length l ≡ 0 → l ≡ []
+none_left [] h = refl
+none_left (x ∷ l) h = absurd (omega (arith, h))

@@ -54,3 +54,8 @@ drop_end n bytes le = none (drop n bytes) (omega (arith, le, length-drop n bytes
     none : (l : List ℕ) → length l ≤ 0 → l ≡ []
     none [] h = refl
     none (x ∷ l) h = absurd (omega (arith, h))
+
+-- of a frame that begins behind the end nothing came
+pub piece_none : (region : Region) (side : Side) (frame : ℕ) (bytes : List ℕ) → length bytes ≤ start_of region side frame → piece_of region side frame bytes ≡ []
+piece_none region side frame bytes le =
+    piece_is region side frame bytes (omega (arith, le, starts_rise region side frame)) ∙ drop_end (start_of region side frame) bytes le

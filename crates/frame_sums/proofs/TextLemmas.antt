@@ -1,6 +1,6 @@
 -- The lines of frames, one after another; and puts of lines, which put the text.
 use Rattle.std.proofs.Common.{◌≡◌, ℕ, zero, suc, ◌+◌, ◌-◌, ◌<◌, ◌≤◌, min, List, [], ◌∷◌, ◌++◌, length, take, decimal, codes, Option, refl, ap, sym, ◌∙◌, subst, append_assoc, add-one, length-append, ⊎_elim, arith}
-use Rattle.std.proofs.lemmas.List.{take-append-le, append-nil, take_min}
+use Rattle.std.proofs.lemmas.List.{take-append-le, append-nil, take_all, take_min}
 use Rattle.std.proofs.lemmas.Bool.{cases_order}
 use Rattle.std.proofs.Math.Seq.{take-append-add}
 use Rattle.file_shelf.specs.declared.shelves.Out.{Out}
@@ -49,6 +49,37 @@ module _ (picture sound : ℕ → List ℕ) where
       ))
       (λ gt. absurd (omega (arith, h, gt))))
       (cases_order frame total)
+
+  -- the next line
+  pub frames_more : (frame : ℕ) → Lines (frame + 1) ≡ Lines frame ++ Line frame
+  frames_more frame = let next : frame + 1 ≡ suc frame = omega arith in ap Lines next ∙ frames_next frame
+
+  pub head_more : (frame : ℕ) → (head_text ++ Lines frame) ++ Line frame ≡ head_text ++ Lines (frame + 1)
+  head_more frame = append_assoc head_text (Lines frame) (Line frame) ∙ ap (λ l. head_text ++ l) (sym (frames_more frame))
+
+  -- the text up to a line, the line, and the rest
+  pub text_split : (video audio : List ℕ) (frame total : ℕ) → frame < total
+      → (rest : List ℕ) × (text_of picture sound video audio total ≡ (head_text ++ Lines frame) ++ (Line frame ++ rest))
+  text_split video audio frame total lt =
+      let all = line_text (codes "all") video audio in
+      let split = frames_split frame total lt in (
+        split.0 ++ all,
+        ap (λ l. head_text ++ (l ++ all)) split.1
+            ∙ ap (λ l. head_text ++ l) (append_assoc (Lines frame) (Line frame ++ split.0) all ∙ ap (λ l. Lines frame ++ l) (append_assoc (Line frame) split.0 all))
+            ∙ sym (append_assoc head_text (Lines frame) (Line frame ++ (split.0 ++ all))),
+      )
+
+-- all bytes are the first ones
+pub all_appended : (a b : Option (List ℕ)) (bytes : List ℕ) → Appends a b bytes → AppendsSome a b bytes
+all_appended a b bytes h = λ had held. (length bytes, subst (λ l. Holds b (had ++ l)) (sym (take_all (length bytes) bytes (omega arith))) (h had held))
+
+-- the first of the first line's bytes
+pub some_first : (a b : Option (List ℕ)) (y rest whole : List ℕ) → whole ≡ y ++ rest → AppendsSome a b y → AppendsSome a b whole
+some_first a b y rest whole is some = λ had h.
+    let part = some had h in
+    let n = min part.0 (length y) in
+    let all : take n whole ≡ take part.0 y = ap (take n) is ∙ take-append-le n y rest (omega arith) ∙ take_min part.0 y in
+    (n, subst (λ l. Holds b (had ++ l)) (sym all) part.1)
 
 -- bytes were put, and then others
 pub appends_then : (a b c : Option (List ℕ)) (x y : List ℕ) → Appends a b x → Appends b c y → Appends a c (x ++ y)

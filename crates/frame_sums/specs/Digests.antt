@@ -58,6 +58,16 @@ pub record AreDigests (digests : Digests) (bytes : List ℕ) : Type 0 where
   pub rows : AreRows digests.of bytes digests.rows.items
   pub all : digests.all ≡ sha256 bytes
 
+-- a run of so many frames emits some video and some audio, and these are their sums
+pub record AreSumsOf (emits : List ℕ → List ℕ → Type 0) (region : Region) (frames : ℕ) (video_sums audio_sums : Digests) : Type 0 where
+  pub video : List ℕ
+  pub audio : List ℕ
+  pub emitted : emits video audio
+  pub video_of : video_sums.of ≡ pieces_of region Console frames
+  pub audio_of : audio_sums.of ≡ pieces_of region Sound frames
+  pub pictures : AreDigests video_sums video
+  pub sounds : AreDigests audio_sums audio
+
 -- these may be the bytes that were taken of a side
 abbrev pub HasTaken : FrameSums → Side → List ℕ → Type 0
 HasTaken sums Console bytes = AreSummed sums.video bytes

@@ -17,7 +17,7 @@ impl Cuts {
         let Ok(rows) = vec![in alloc; [0u8; 32]; of.frames as usize] else {
             return Err(NoMemory);
         };
-        let left = if of.frames == 0 { 0 } else { of.size(0) };
+        let left = of.size(0);
         Ok(Cuts {
             of,
             rows,
@@ -33,14 +33,30 @@ impl Cuts {
         ensures taken { (had : List ℕ) → AreCut self.old had → AreCut self.new (had ++ bytes.now) }
     {
         let mut rest = bytes;
-        'cutting: while self.done < self.rows.len() && !rest.is_empty() {
+        'cutting: while self.done < self.rows.len() {
+            if rest.len() == 0 {
+                return;
+            }
             let count = self.left.min(rest.len() as u64) as usize;
             let (first, more) = rest.split_at(count);
-            self.take_some(first);
-            if self.left == 0 {
-                self.close();
-            }
+            self.take_part(first);
             rest = more;
+        }
+    }
+
+    /// Takes bytes of the frame under way, which is over if no more are to come.
+    fn take_part(&mut self, bytes: &[u8])
+        requires under_way { self.old.done < self.old.of.frames }
+        requires few { length bytes.now ≤ self.old.left }
+        requires some { length bytes.now ≡ 0 → self.old.left ≡ 0 }
+        ensures of { self.new.of ≡ self.old.of }
+        ensures done { self.old.done ≤ self.new.done }
+        ensures goes_on { length bytes.now ≡ 0 → self.old.done < self.new.done }
+        ensures taken { (had : List ℕ) → AreCut self.old had → AreCut self.new (had ++ bytes.now) }
+    {
+        self.take_some(bytes);
+        if self.left == 0 {
+            self.close();
         }
     }
 

@@ -10,10 +10,12 @@ mod cutting;
 mod digests;
 mod line;
 mod pieces;
+mod playing;
 mod put;
 mod sums;
 
 pub use digests::Digests;
 pub use pieces::Pieces;
+pub use playing::play_summed;
 pub use put::put_sums;
 pub use sums::FrameSums;

@@ -1,19 +1,17 @@
 -- What is put to the output for sums is what `sums` makes.
 use Rattle.std.proofs.Common.{◌≡◌, ◌≤◌, ℕ, List, [], ◌∷◌, length, Option, refl, sym, ap, ◌∙◌, subst, arith}
-use Rattle.std.proofs.lemmas.List.{take_all}
 use Rattle.snes_defs.specs.declared.cart.Job.{Job}
-use Rattle.snes_defs.specs.declared.ports.Side.TheVariants as side
 use Rattle.file_shelf.specs.declared.shelves.Input.{Input}
 use Rattle.file_shelf.specs.declared.shelves.Out.TheVariants.{Sums}
 use Rattle.file_shelf.specs.Told.{Holds, Appends, AppendsSome}
 use Rattle.file_shelf.specs.Shown.{Shown, OnlyPuts}
-use Rattle.run_drive.specs.Played.{IsPlayable, PlayedWhole}
+use Rattle.run_drive.specs.Played.{IsPlayable}
 use Rattle.run_io.specs.declared.options.Count.TheVariants.{Frames}
 use Rattle.run_io.specs.Form.{Order, Fits}
 use Rattle.run_io.specs.Lists.{AllOf}
 use Rattle.frame_sums.specs.declared.digests.Digests.{Digests}
-use Rattle.frame_sums.specs.declared.sums.FrameSums.{FrameSums}
-use Rattle.frame_sums.specs.Digests.{pieces_of, row_in, AreNew, AreSummed, AreDigests, HasTaken}
+use Rattle.frame_sums.specs.declared.pieces.Pieces.{Pieces}
+use Rattle.frame_sums.specs.Digests.{row_in, AreSumsOf}
 use Rattle.frame_sums.specs.Text.{text_of, sums_text}
 use Rattle.frame_sums.proofs.DigestLemmas.{digests_text}
 use Rattle.snes_program.specs.Command.{CanMake, HoldsWhole, HoldsFirst}
@@ -56,25 +54,14 @@ module _ (emits : Job → List ℕ → List ℕ → Type 0) (order : Order) (tol
           tt,
         )
 
-    pub sums_all : Appends (before.written Sums) (after.written Sums) (sums_text job.region job.frames video audio)
-        → AllOf (HoldsFirst (sums emits) order told after.written) (Sums ∷ [])
-    sums_all puts =
-        let text = sums_text job.region job.frames video audio in (
-          record {
-            contents = λ o. text;
-            line = run_line job;
-            makes = record { job = job; shows = shows; video = video; audio = audio; emitted = emitted; sums = refl; says = refl };
-            count = length text;
-            holds = subst (Holds (after.written Sums)) (sym (take_all (length text) text (omega arith))) (puts [] empty);
-          },
-          tt,
-        )
+-- what is put is the text of the sums of what the run emitted
+pub emitted_text : (emits : List ℕ → List ℕ → Type 0) (job : Job) (v a : Digests) → (h : AreSumsOf emits job.region job.frames v a)
+    → text_of (row_in v.rows.items) (row_in a.rows.items) v.all a.all v.of.frames ≡ sums_text job.region job.frames h.video h.audio
+emitted_text emits job v a h = digests_text job.region job.frames v a h.video h.audio h.video_of h.audio_of h.pictures h.sounds
 
--- what was put is the text of the sums of what the run emitted
-module _ (job : Job) (old new : FrameSums) (begins : AreNew old job.region job.frames) (same : (new.video.cuts.of ≡ old.video.cuts.of) × (new.audio.cuts.of ≡ old.audio.cuts.of)) (v a : Digests)
-    (v_of : v.of ≡ new.video.cuts.of) (a_of : a.of ≡ new.audio.cuts.of) (video audio : List ℕ) (pictures : AreDigests v video) (sounds : AreDigests a audio) where
-  pub emitted_text : text_of (row_in v.rows.items) (row_in a.rows.items) v.all a.all v.of.frames ≡ sums_text job.region job.frames video audio
-  emitted_text = digests_text job.region job.frames v a video audio (v_of ∙ same.0 ∙ begins.video_of) (a_of ∙ same.1 ∙ begins.audio_of) pictures sounds
+-- both sides have as many frames
+pub as_many : (emits : List ℕ → List ℕ → Type 0) (job : Job) (v a : Digests) → AreSumsOf emits job.region job.frames v a → v.of.frames ≡ a.of.frames
+as_many emits job v a h = ap (λ (o : Pieces). o.frames) h.video_of ∙ sym (ap (λ (o : Pieces). o.frames) h.audio_of)
 
 pub sums_only : (a b : Shown) → OnlyPuts a b Sums → OnlyTouches (Sums ∷ []) a b
 sums_only a b h = record {

@@ -2,7 +2,7 @@ use crate::command::Performs;
 use crate::job::{JobFiles, job_of, line_of_run};
 use crate::loads::Loads;
 use file_shelf::{Failed, Input, Out, Shelf};
-use frame_sums::{FrameSums, put_sums};
+use frame_sums::{FrameSums, play_summed, put_sums};
 use port_wire::Gate;
 use run_drive::Player;
 use run_io::{Asked, Count, Form, Line};
@@ -86,15 +86,8 @@ impl<P: Player> Performs for SumsRun<P> {
         ready: ReadySums<P>,
         shelf: &mut H,
     ) -> Result<Line, Out> {
-        let ReadySums {
-            player,
-            mut sums,
-            line,
-        } = ready;
-        let Ok(()) = player.play_serial(&mut sums) else {
-            unreachable!();
-        };
-        let (video, audio) = sums.finish();
+        let ReadySums { player, sums, line } = ready;
+        let (video, audio) = play_summed(player, sums);
         match put_sums(shelf, &video, &audio) {
             Ok(()) => Ok(line),
             Err(Failed) => Err(Out::Sums),

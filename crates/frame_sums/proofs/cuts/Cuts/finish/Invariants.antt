@@ -2,7 +2,7 @@ use Rattle.std.proofs.Common.{◌≡◌, ◌+◌, ◌-◌, ◌<◌, ◌≤◌, �
 use Rattle.sha2.specs.Hashers.{Holds256}
 use Rattle.frame_sums.specs.Digests.{AreCut, IsRow}
 use Rattle.frame_sums.specs.Pieces.{start_of, piece_of}
-use Rattle.frame_sums.proofs.cutting.Cuts.finish.Given as goal
+use Rattle.frame_sums.proofs.cuts.Cuts.finish.Given as goal
 
 -- the rows so far are the sums of their frames, what came of the next frame is in the hasher, and no more came
 abbrev pub invariant-finishing : goal.invariant-finishing

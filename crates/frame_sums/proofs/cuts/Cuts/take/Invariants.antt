@@ -1,6 +1,6 @@
 use Rattle.std.proofs.Common.{◌≡◌, ◌+◌, ◌-◌, ℕ, List, ◌++◌, length}
 use Rattle.frame_sums.specs.Digests.{AreCut}
-use Rattle.frame_sums.proofs.cutting.Cuts.take.Given as goal
+use Rattle.frame_sums.proofs.cuts.Cuts.take.Given as goal
 
 -- what is taken so far, and what is left, are all bytes
 abbrev pub invariant-cutting : goal.invariant-cutting
