@@ -45,7 +45,7 @@ pub fn say_why(
     cause: Option<Cause>,
 ) -> io::Result<()> {
     match status {
-        Status::Ok => Ok(()),
+        Status::Ok | Status::Differs => Ok(()),
         Status::Usage => match explain::<Console>(words) {
             Some(mistake) => tell_mistake(rt, &mistake),
             None => Ok(()),
