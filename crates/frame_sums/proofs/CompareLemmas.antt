@@ -23,7 +23,7 @@ list_same (x ∷ a) (y ∷ b) =
     (λ n. inr (λ k. n (let h : x ≡ y = cc in h)))
     (number_same x y)
 
-pair_same : (a b : SumPair) → a.picture ≡ b.picture → a.sound ≡ b.sound → a ≡ b
+pub pair_same : (a b : SumPair) → a.picture ≡ b.picture → a.sound ≡ b.sound → a ≡ b
 pair_same a b pictures sounds = cc
 
 module _ (file : SumsIn) (frames : ℕ) (pair : ℕ → SumPair) (all : SumPair) where
