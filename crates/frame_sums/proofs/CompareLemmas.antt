@@ -49,15 +49,15 @@ module _ (file : SumsIn) (frames : ℕ) (pair : ℕ → SumPair) (all : SumPair)
   search_frames (suc n) run has =
       ⊎_elim
       (λ before.
-          let reached : IsReached file frames pair all n = record { in_run = omega (arith, run); in_file = omega (arith, has); before = before } in
-          ⊎_elim
-          (λ pictures.
-              ⊎_elim
-              (λ sounds. inl (same_more n before (pair_same (pair_at file n) (pair n) pictures sounds)))
-              (λ differ. inr (differs.Sound n, (reached, (pictures, differ))))
-              (list_same (pair_at file n).sound (pair n).sound))
-          (λ differ. inr (differs.Picture n, (reached, differ)))
-          (list_same (pair_at file n).picture (pair n).picture))
+      let reached : IsReached file frames pair all n = record { in_run = omega (arith, run); in_file = omega (arith, has); before = before } in
+      ⊎_elim
+      (λ pictures.
+      ⊎_elim
+      (λ sounds. inl (same_more n before (pair_same (pair_at file n) (pair n) pictures sounds)))
+      (λ differ. inr (differs.Sound n, (reached, (pictures, differ))))
+      (list_same (pair_at file n).sound (pair n).sound))
+      (λ differ. inr (differs.Picture n, (reached, differ)))
+      (list_same (pair_at file n).picture (pair n).picture))
       (λ found. inr found)
       (search_frames n (omega (arith, run)) (omega (arith, has)))
 
@@ -77,10 +77,10 @@ module _ (file : SumsIn) (frames : ℕ) (pair : ℕ → SumPair) (all : SumPair)
           let frames_same : AreFramesSame file frames pair all = record { count = count; frames_are = λ f lt. same f (omega (arith, lt, count)) } in
           ⊎_elim
           (λ pictures.
-              ⊎_elim
-              (λ sounds. (None, (frames_same, pair_same file.all all pictures sounds)))
-              (λ differ. (Some differs.AllSound, (frames_same, (pictures, differ))))
-              (list_same file.all.sound all.sound))
+          ⊎_elim
+          (λ sounds. (None, (frames_same, pair_same file.all all pictures sounds)))
+          (λ differ. (Some differs.AllSound, (frames_same, (pictures, differ))))
+          (list_same file.all.sound all.sound))
           (λ differ. (Some differs.AllPictures, (frames_same, differ)))
           (list_same file.all.picture all.picture)
 

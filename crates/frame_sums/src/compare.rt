@@ -2,8 +2,8 @@ ghost use Rattle.std.specs.Prelude.{◌≡◌};
 ghost use Rattle.frame_sums.specs.Compare.{IsFound};
 ghost use Rattle.frame_sums.specs.Digests.{digest_pair, digest_all};
 
+use crate::digests::Digests;
 use crate::file::SumsFile;
-use crate::sums::Digests;
 
 /// The first line in which a file of sums and a run differ.
 #[derive(Clone, Copy, Debug, PartialEq, Eq)]

@@ -11,7 +11,7 @@ use Rattle.run_io.specs.Form.{Order, Fits}
 use Rattle.frame_sums.specs.declared.compare.Difference.{Difference}
 use Rattle.frame_sums.specs.declared.file.SumPair.{SumPair}
 use Rattle.frame_sums.specs.declared.pieces.Pieces.{Pieces}
-use Rattle.frame_sums.specs.declared.sums.Digests.{Digests}
+use Rattle.frame_sums.specs.declared.digests.Digests.{Digests}
 use Rattle.frame_sums.specs.declared.sums.FrameSums.{FrameSums}
 use Rattle.frame_sums.specs.Compare.{run_pair, run_all, IsFound}
 use Rattle.frame_sums.specs.Digests.{AreNew, AreDigests, digest_pair, digest_all}
