@@ -1,5 +1,5 @@
 -- What is found of a file of sums and a run is what `check` makes.
-use Rattle.std.proofs.Common.{◌≡◌, ◌<◌, ◌≤◌, ℕ, List, [], Option, None, Some, IfSome, refl, ap, sym, ◌∙◌, subst, arith}
+use Rattle.std.proofs.Common.{◌≡◌, ◌≤◌, ℕ, List, [], Option, IfSome, refl}
 use Rattle.snes_defs.specs.declared.cart.Job.{Job}
 use Rattle.file_shelf.specs.declared.shelves.Input.{Input}
 use Rattle.file_shelf.specs.declared.shelves.Input.TheVariants.{Sums}
@@ -9,12 +9,9 @@ use Rattle.run_drive.specs.Played.{IsPlayable}
 use Rattle.run_io.specs.declared.options.Count.TheVariants.{Frames}
 use Rattle.run_io.specs.Form.{Order, Fits}
 use Rattle.frame_sums.specs.declared.compare.Difference.{Difference}
-use Rattle.frame_sums.specs.declared.file.SumPair.{SumPair}
-use Rattle.frame_sums.specs.declared.pieces.Pieces.{Pieces}
 use Rattle.frame_sums.specs.declared.digests.Digests.{Digests}
-use Rattle.frame_sums.specs.declared.sums.FrameSums.{FrameSums}
 use Rattle.frame_sums.specs.Compare.{run_pair, run_all, IsFound}
-use Rattle.frame_sums.specs.Digests.{AreNew, AreDigests, digest_pair, digest_all}
+use Rattle.frame_sums.specs.Digests.{AreSumsOf, digest_pair, digest_all}
 use Rattle.frame_sums.specs.SumsFile.{SumsIn}
 use Rattle.frame_sums.proofs.CompareLemmas.{search}
 use Rattle.frame_sums.proofs.DigestLemmas.{digests_found}
@@ -69,9 +66,7 @@ module _ (emits : Job → List ℕ → List ℕ → Type 0) (order : Order) (tol
     holds = tt;
   }
 
--- what was found by the digests was found by the sums of what the run emitted
-pub emitted_found : (job : Job) (old new : FrameSums) → AreNew old job.region job.frames → (new.video.cuts.of ≡ old.video.cuts.of) × (new.audio.cuts.of ≡ old.audio.cuts.of) → (v a : Digests)
-    → v.of ≡ new.video.cuts.of → a.of ≡ new.audio.cuts.of → (video audio : List ℕ) → AreDigests v video → AreDigests a audio → (file : SumsIn) (found : Option Difference)
-    → IsFound file v.of.frames (digest_pair v a) (digest_all v a) found → IsFound file job.frames (run_pair job.region video audio) (run_all video audio) found
-emitted_found job old new begins same v a v_of a_of video audio pictures sounds file found h =
-    digests_found job.region job.frames v a video audio (v_of ∙ same.0 ∙ begins.video_of) (a_of ∙ same.1 ∙ begins.audio_of) pictures sounds file found h
+-- what is found by the digests is found by the sums of what the run emitted
+pub emitted_found : (emits : List ℕ → List ℕ → Type 0) (job : Job) (v a : Digests) → (h : AreSumsOf emits job.region job.frames v a) → (file : SumsIn) (found : Option Difference)
+    → IsFound file v.of.frames (digest_pair v a) (digest_all v a) found → IsFound file job.frames (run_pair job.region h.video h.audio) (run_all h.video h.audio) found
+emitted_found emits job v a h file found is = digests_found job.region job.frames v a h.video h.audio h.video_of h.audio_of h.pictures h.sounds file found is

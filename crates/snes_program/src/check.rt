@@ -7,7 +7,7 @@ use crate::job::{JobFiles, job_of, line_of_run};
 use crate::loads::Loads;
 use crate::sums_file::SumsInput;
 use file_shelf::{Input, Out, Shelf};
-use frame_sums::{Difference, FrameSums, SumsFile, first_difference};
+use frame_sums::{Difference, FrameSums, SumsFile, first_difference, play_summed};
 use port_wire::Gate;
 use run_drive::Player;
 use run_io::{Asked, Count, Form, Line, all_differ_line, frame_differs_line, frames_differ_line};
@@ -124,14 +124,11 @@ impl<P: Player> Performs for Check<P> {
     ) -> Result<Line, Out> {
         let ReadyCheck {
             player,
-            mut sums,
+            sums,
             file,
             line,
         } = ready;
-        let Ok(()) = player.play_serial(&mut sums) else {
-            unreachable!();
-        };
-        let (video, audio) = sums.finish();
+        let (video, audio) = play_summed(player, sums);
         match first_difference(&file, &video, &audio) {
             Some(difference) => Ok(difference_line(difference)),
             None => Ok(line),
