@@ -1,9 +1,9 @@
 #!/usr/bin/env python3
 """Whether `snes dump` writes what cartridges at random have put into the memories.
 
-    tools/evidence/try_states.py SNES BOOT TABLE [FROM TO]
+    tools/evidence/try_states.py SNES SCENE [FROM TO]
 
-SNES is the program, BOOT and TABLE are the files that ./scene writes. Each number from FROM to before TO (0 and 200) makes a
+SNES is the program, SCENE the one that writes the free boot ROM and table. Each number from FROM to before TO (0 and 200) makes a
 cartridge whose program fills parts of work RAM, VRAM, CGRAM and OAM by DMA, stores bytes into its own RAM, uploads a program and
 bytes into the RAM of the SPC700, and stops with registers of its choice; the uploaded program writes registers of the S-DSP and
 the ports, and stops too. What the file has to hold then is worked out here, by nothing of the sources. Where the page of the
@@ -174,19 +174,19 @@ class Job:
 
 
 def main():
-    if len(sys.argv) not in (4, 6):
+    if len(sys.argv) not in (3, 5):
         sys.exit(__doc__)
-    snes, boot, table = sys.argv[1:4]
-    first, last = map(int, sys.argv[4:6]) if len(sys.argv) == 6 else (0, 200)
+    snes, scene = sys.argv[1:3]
+    first, last = map(int, sys.argv[3:5]) if len(sys.argv) == 5 else (0, 200)
     bad = 0
     with tempfile.TemporaryDirectory() as folder:
         name = lambda it: os.path.join(folder, it)
-        open(name("script"), "w").close()
+        subprocess.run([scene, folder], check=True, stdout=subprocess.DEVNULL)
         for seed in range(first, last):
             job = Job(seed)
             with open(name("cart"), "wb") as file:
                 file.write(job.rom)
-            words = ["dump", "--cart", name("cart"), "--boot", boot, "--table", table, "--script", name("script"), "--frames", str(FRAMES), "--state", name("state")]
+            words = ["dump", "--cart", name("cart"), "--boot", name("boot.bin"), "--table", name("table.bin"), "--script", name("script.txt"), "--frames", str(FRAMES), "--state", name("state")]
             done = subprocess.run([snes, *words], capture_output=True, text=True)
             if done.returncode:
                 sys.exit(f"{seed}: status {done.returncode}, {done.stdout}{done.stderr}")

@@ -124,9 +124,9 @@ impl State {
     pub fn read<R: Files + AllocGlobal>(rt: &R, name: &str) -> Result<State> {
         let mut bytes = vec![in rt.alloc(); 0u8; MOST]?;
         let mut file = films::open(rt, name)?;
-        let count = match read_piece(&mut file, bytes.as_mut_slice())
-            .context(format_args!("cannot read {name}"))?
-        {
+        let count = match read_piece(&mut file, bytes.as_mut_slice()).context(format_args!(
+            "cannot read {name}"
+        ))? {
             Piece::Whole => MOST,
             Piece::End => 0,
             Piece::Cut(count) => count,

@@ -50,7 +50,10 @@ fn compare_memory<R: Print>(
         let first = a.byte(at);
         let second = b.byte(at);
         if first != second && found.count() {
-            println!(rt; "{} {address:05x}: {first:02x} and {second:02x}", memory.name)?;
+            println!(rt;
+                "{} {address:05x}: {first:02x} and {second:02x}",
+                memory.name
+            )?;
         }
     }
     Ok(())

@@ -56,7 +56,7 @@ static WORDS: [Word; 27] = words![
     "diff" Kind::Placed, "B" "" "" "the same";
     "diff" Kind::Text, "png" "OUT" "" "a picture of the first frame that differs: red where it does";
     "diff" Kind::Flag, "audio" "" "" "A and B are raw samples";
-    "diff" Kind::Flag, "state" "" "" against &["audio", "png"] "A and B are states of snes dump";
+    "diff" Kind::Flag, "state" "" "" against &["audio", "png"], "A and B are states of snes dump";
     "diff" Kind::Number, "lines" "COUNT" "20" "with --state: how many differences are printed at most";
     "sheet" Kind::Placed, "VIDEO" "" "" "raw frames; - is standard input";
     "sheet" Kind::Placed, "OUT" "" "" "the PNG";

@@ -27,7 +27,10 @@ fn explain_form<C: Performs>(words: &[Word]) -> Option<Mistake<'_>>
 
 /// Returns the mistake in the arguments after this name, if there is one. The commands are listed as in `call_named`.
 #[tactic(auto, unfolding(crate::specs::Commands::asked_by))]
-fn explain_named<'a, P: PlanPlayer + StatePlayer>(name: &'a str, words: &'a [Word]) -> Option<Mistake<'a>>
+fn explain_named<'a, P: PlanPlayer + StatePlayer>(
+    name: &'a str,
+    words: &'a [Word],
+) -> Option<Mistake<'a>>
     ensures { MatchOption result (¬ IsNothing (asked_by P.emits P.leaves name.now words.now)) (λ mistake. IsNothing (asked_by P.emits P.leaves name.now words.now)) }
 {
     if name == "run" {
