@@ -1,11 +1,15 @@
 -- Numbers, registers and memories as bytes of a state file, low byte first.
-use Rattle.std.specs.Prelude.{ℕ, zero, suc, ◌/◌, ◌%◌, Bool, List, [], ◌∷◌, ◌++◌, replicate, slice_index, if◌then◌else◌}
+use Rattle.std.specs.Prelude.{ℕ, zero, suc, ◌/◌, ◌%◌, Bool, List, [], ◌∷◌, ◌++◌, codes, replicate, slice_index, if◌then◌else◌}
 use Rattle.snes_defs.specs.declared.region.Region.{Region}
 use Rattle.snes_defs.specs.declared.region.Region.TheVariants.{Ntsc, Pal}
 use Rattle.cpu_tables.specs.declared.regs.Regs.{Regs}
 use Rattle.spc_tables.specs.declared.regs.SpcRegs.{SpcRegs}
 use Rattle.sdsp_voice.specs.Registers.{read}
 use Rattle.sdsp_voice.specs.declared.voices.Voices.{Voices}
+
+-- what a state file begins with
+unfoldable pub text : List ℕ
+text = codes "SNESDUMP"
 
 -- a number of 16 bits, and one of 32
 abbrev pub word : ℕ → List ℕ
@@ -33,15 +37,15 @@ region_number Ntsc = 0
 region_number Pal = 1
 
 -- the version of the format, the region, two zeros; then the number of frames, and the size of the cartridge's RAM
-abbrev pub number_bytes : Region → ℕ → ℕ → List ℕ
+unfoldable pub number_bytes : Region → ℕ → ℕ → List ℕ
 number_bytes region frames ram = 1 ∷ (region_number region ∷ (0 ∷ (0 ∷ (long frames ++ long ram))))
 
 -- the 65C816: A, X, Y, S, D, PC, then DBR, PBR, P and E
-abbrev pub cpu_bytes : Regs → List ℕ
+unfoldable pub cpu_bytes : Regs → List ℕ
 cpu_bytes r =
     word r.a ++ (word r.x ++ (word r.y ++ (word r.s ++ (word r.d ++ (word r.pc
     ++ (r.dbr ∷ (r.pbr ∷ (r.p ∷ ((if r.e then 1 else 0) ∷ [])))))))))
 
 -- the SPC700: A, X, Y, SP, then PC, PSW and a zero
-abbrev pub spc_bytes : SpcRegs → List ℕ
+unfoldable pub spc_bytes : SpcRegs → List ℕ
 spc_bytes r = r.a ∷ (r.x ∷ (r.y ∷ (r.sp ∷ (word r.pc ++ (r.psw ∷ (0 ∷ []))))))

@@ -1,5 +1,5 @@
 -- THE BYTES OF A STATE of the serial console. `docs/use/STATE.md` has the same as a table.
-use Rattle.std.specs.Prelude.{ℕ, List, ◌++◌, take, drop, codes}
+use Rattle.std.specs.Prelude.{ℕ, List, ◌++◌, take, drop}
 use Rattle.snes_defs.specs.declared.region.Region.{Region}
 use Rattle.side_law.specs.Serial.{SerialState}
 use Rattle.cpu_tables.specs.declared.regs.Regs.{Regs}
@@ -11,7 +11,7 @@ use Rattle.spc_tables.specs.declared.regs.SpcRegs.{SpcRegs}
 use Rattle.spc700.specs.Instruction as spc
 use Rattle.sdsp_voice.specs.declared.voices.Voices.{Voices}
 use Rattle.audio_side.specs.Sound.{SoundState}
-use Rattle.state_file.specs.Bytes.{number_bytes, cpu_bytes, spc_bytes, zeros, words_below, shown_below}
+use Rattle.state_file.specs.Bytes.{text, number_bytes, cpu_bytes, spc_bytes, zeros, words_below, shown_below}
 
 -- In front of each part stand the offsets of what it joins.
 
@@ -20,7 +20,7 @@ use Rattle.state_file.specs.Bytes.{number_bytes, cpu_bytes, spc_bytes, zeros, wo
 -- 0038 the bytes that the SPC700 reads at its ports, 003C those that the 65C816 reads
 unfoldable pub header_of : (region : Region) (frames ram : ℕ) (cpu : Regs) (spc : SpcRegs) (to_sound to_console : List ℕ) → List ℕ
 header_of region frames ram cpu spc to_sound to_console =
-    codes "SNESDUMP" ++ (number_bytes region frames ram ++ (zeros 12 ++ (cpu_bytes cpu ++ (spc_bytes spc ++ (to_sound ++ to_console)))))
+    text ++ (number_bytes region frames ram ++ (zeros 12 ++ (cpu_bytes cpu ++ (spc_bytes spc ++ (to_sound ++ to_console)))))
 
 -- 0040 zeros, 0080 what the registers of the S-DSP show, 0100 zeros
 unfoldable pub dsp_of : Voices → List ℕ

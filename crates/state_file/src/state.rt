@@ -5,7 +5,7 @@ ghost use Rattle.console_steps.specs.ConsoleState.{ConsoleState};
 ghost use Rattle.console_machine.specs.Side as console_side;
 ghost use Rattle.audio_side.specs.Sound.{SoundState};
 ghost use Rattle.audio_side.specs.Sound as sound_side;
-ghost use Rattle.state_file.specs.Bytes.{number_bytes, region_number, cpu_bytes, spc_bytes, shown_below};
+ghost use Rattle.state_file.specs.Bytes.{text, number_bytes, region_number, cpu_bytes, spc_bytes, shown_below};
 ghost use Rattle.state_file.specs.State.{header_of, dsp_of, tables_of, memories_of, state_bytes};
 
 use crate::bytes::StateBytes;
@@ -19,11 +19,17 @@ use side_law::Machine;
 use snes_defs::Region;
 use spc_tables::SpcRegs;
 
-/// The text that a state file begins with.
-const TEXT: &[u8; 8] = b"SNESDUMP";
-
 /// The bytes of work RAM.
 const WORK_RAM: usize = 131_072;
+
+/// The text that a state file begins with.
+#[tactic(auto, unfolding(crate::specs::Bytes::text))]
+fn first_text() -> [u8; 8]
+    ensures bytes { result ≡ text }
+    ensures size { length result ≡ 8 }
+{
+    [b'S', b'N', b'E', b'S', b'D', b'U', b'M', b'P']
+}
 
 /// The number of a region.
 fn number_of(region: Region) -> u8
@@ -36,8 +42,10 @@ fn number_of(region: Region) -> u8
 }
 
 /// The version of the format, the region, and two numbers of 32 bits.
+#[tactic(auto, unfolding(crate::specs::Bytes::number_bytes))]
 fn numbers(region: Region, frames: u32, ram: u32) -> [u8; 12]
-    ensures { result ≡ number_bytes region frames ram }
+    ensures bytes { result ≡ number_bytes region frames ram }
+    ensures size { length result ≡ 12 }
 {
     [
         1,
@@ -69,8 +77,10 @@ fn high(number: u16) -> u8
 }
 
 /// The registers of the 65C816.
+#[tactic(auto, unfolding(crate::specs::Bytes::cpu_bytes))]
 fn cpu_registers(r: Regs) -> [u8; 16]
-    ensures { result ≡ cpu_bytes r }
+    ensures bytes { result ≡ cpu_bytes r }
+    ensures size { length result ≡ 16 }
 {
     let e = if r.e { 1 } else { 0 };
     [
@@ -94,8 +104,10 @@ fn cpu_registers(r: Regs) -> [u8; 16]
 }
 
 /// The registers of the SPC700.
+#[tactic(auto, unfolding(crate::specs::Bytes::spc_bytes))]
 fn spc_registers(r: SpcRegs) -> [u8; 8]
-    ensures { result ≡ spc_bytes r }
+    ensures bytes { result ≡ spc_bytes r }
+    ensures size { length result ≡ 8 }
 {
     [r.a, r.x, r.y, r.sp, low(r.pc), high(r.pc), r.psw, 0]
 }
@@ -116,7 +128,7 @@ fn put_header(
     ensures size { length to.new.bytes ≡ length to.old.bytes + 64 }
     ensures room { to.new.room ≡ to.old.room }
 {
-    to.add(TEXT.as_slice());
+    to.add(&first_text());
     to.add(&numbers(region, frames, ram));
     to.add_zeros(12);
     to.add(&cpu_registers(cpu));
@@ -159,6 +171,7 @@ fn put_tables(to: &mut StateBytes, picture: &Ppu)
     ensures size { length to.new.bytes ≡ length to.old.bytes + 65024 }
     ensures room { to.new.room ≡ to.old.room }
 {
+    picture.in_range();
     to.add_words(picture.cgram());
     to.add(picture.oam());
     to.add_zeros(63_968);
@@ -177,7 +190,8 @@ fn put_memories(to: &mut StateBytes, bus: &Bus, sound: &AudioSide)
     to.add(&memory[..WORK_RAM]);
     to.add_words(bus.picture().vram());
     to.add(sound.ram());
-    to.add(&memory[WORK_RAM..WORK_RAM + ram]);
+    let behind = &memory[WORK_RAM..];
+    to.add(&behind[..ram]);
 }
 
 /// Puts the state of a serial console whose cartridge's RAM there is memory for, after that many frames.
