@@ -5,6 +5,9 @@ use anyhow::Result;
 use companion_words::NO;
 use std::rt::Files;
 
+/// The bytes of the header, whose numbers are printed in decimal.
+const HEADER: usize = 0x20;
+
 /// What was found so far of two states, and how many lines may still be printed.
 #[derive(Drop)]
 struct Found {
@@ -30,7 +33,11 @@ fn compare_fields<R: Print>(rt: &R, a: &State, b: &State, found: &mut Found) -> 
         let first = a.number(field.at, field.size);
         let second = b.number(field.at, field.size);
         if first != second && found.count() {
-            println!(rt; "{}: {first:x} and {second:x}", field.name)?;
+            if field.at < HEADER {
+                println!(rt; "{}: {first} and {second}", field.name)?;
+            } else {
+                println!(rt; "{}: {first:02x} and {second:02x}", field.name)?;
+            }
         }
     }
     Ok(())
