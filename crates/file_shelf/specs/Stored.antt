@@ -3,7 +3,7 @@ use Rattle.std.specs.Prelude.{ℕ, ◌+◌, Bool, false, ◌||◌, nat_lt, List,
 use Rattle.std.specs.Option.{option_map}
 use Rattle.std.specs.Str.{bytes_eq}
 use Rattle.file_shelf.specs.declared.shelves.Out.{Out}
-use Rattle.file_shelf.specs.declared.shelves.Out.TheVariants.{Video, Sound, Image, Sums, Say}
+use Rattle.file_shelf.specs.declared.shelves.Out.TheVariants.{Video, Sound, Image, Sums, State, Say}
 
 -- a file
 pub record NamedBytes : Type 0 where
@@ -25,6 +25,7 @@ pub record Stored : Type 0 where
   pub sound : Written
   pub image : Written
   pub sums : Written
+  pub state : Written
   pub say : Written
 
 -- the bytes of the first file of that name
@@ -60,6 +61,7 @@ output_of s Video = s.video
 output_of s Sound = s.sound
 output_of s Image = s.image
 output_of s Sums = s.sums
+output_of s State = s.state
 output_of s Say = s.say
 
 -- a store with another value for one of the outputs
@@ -68,6 +70,7 @@ with_output s Video w = record s { video = w }
 with_output s Sound w = record s { sound = w }
 with_output s Image w = record s { image = w }
 with_output s Sums w = record s { sums = w }
+with_output s State w = record s { state = w }
 with_output s Say w = record s { say = w }
 
 -- nothing held, and nothing put
@@ -78,5 +81,6 @@ nothing_stored room = record {
   sound = blank [] room;
   image = blank [] room;
   sums = blank [] room;
+  state = blank [] room;
   say = blank [] room;
 }

@@ -10,6 +10,7 @@ pub(crate) struct Counts {
     sound: u64,
     image: u64,
     sums: u64,
+    state: u64,
     say: u64,
 }
 
@@ -22,6 +23,7 @@ impl Counts {
             sound: 0,
             image: 0,
             sums: 0,
+            state: 0,
             say: 0,
         }
     }
@@ -34,6 +36,7 @@ impl Counts {
             Out::Sound => self.sound,
             Out::Image => self.image,
             Out::Sums => self.sums,
+            Out::State => self.state,
             Out::Say => self.say,
         }
     }
@@ -46,6 +49,7 @@ impl Counts {
             Out::Sound => self.sound = self.sound.saturating_add(1),
             Out::Image => self.image = self.image.saturating_add(1),
             Out::Sums => self.sums = self.sums.saturating_add(1),
+            Out::State => self.state = self.state.saturating_add(1),
             Out::Say => self.say = self.say.saturating_add(1),
         }
     }

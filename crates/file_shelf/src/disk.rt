@@ -37,6 +37,7 @@ pub struct FileShelf<'a, R: Files + Print> {
     sound: Option<Buffered<R::File>>,
     image: Option<Buffered<R::File>>,
     sums: Option<Buffered<R::File>>,
+    state: Option<Buffered<R::File>>,
     load_faults: u64,
     write_faults: Counts,
     known: KnownFiles,
@@ -48,7 +49,7 @@ impl<'a, R: Files + Print> Model for FileShelf<'a, R> {
 
     ghost Value = { Edge };
 
-    ghost view = { λ s. record { loads = s.load_faults; writes = s.write_faults; video = kept_of R.File.contents s.video; sound = kept_of R.File.contents s.sound; image = kept_of R.File.contents s.image; sums = kept_of R.File.contents s.sums } };
+    ghost view = { λ s. record { loads = s.load_faults; writes = s.write_faults; video = kept_of R.File.contents s.video; sound = kept_of R.File.contents s.sound; image = kept_of R.File.contents s.image; sums = kept_of R.File.contents s.sums; state = kept_of R.File.contents s.state } };
 }
 
 impl<'a, R: Files + Print> FileShelf<'a, R> {
@@ -62,6 +63,7 @@ impl<'a, R: Files + Print> FileShelf<'a, R> {
             sound: None,
             image: None,
             sums: None,
+            state: None,
             load_faults: 0,
             write_faults: Counts::new(),
             known: KnownFiles::of_streams(
@@ -151,6 +153,7 @@ impl<R: Files + Print> Shelf for FileShelf<'_, R> {
             Out::Sound => self.sound = Some(Buffered::new(file)),
             Out::Image => self.image = Some(Buffered::new(file)),
             Out::Sums => self.sums = Some(Buffered::new(file)),
+            Out::State => self.state = Some(Buffered::new(file)),
             Out::Say => {}
         }
         Ok(())
@@ -176,6 +179,7 @@ impl<R: Files + Print> Shelf for FileShelf<'_, R> {
             Out::Sound => put_created(&mut self.sound, bytes),
             Out::Image => put_created(&mut self.image, bytes),
             Out::Sums => put_created(&mut self.sums, bytes),
+            Out::State => put_created(&mut self.state, bytes),
             Out::Say => say(self.rt, bytes),
         };
         match end {
@@ -204,6 +208,7 @@ impl<R: Files + Print> Shelf for FileShelf<'_, R> {
             Out::Sound => flush_created(&mut self.sound),
             Out::Image => flush_created(&mut self.image),
             Out::Sums => flush_created(&mut self.sums),
+            Out::State => flush_created(&mut self.state),
             Out::Say => Ok(()),
         };
         match end {

@@ -35,6 +35,7 @@ pub(crate) struct KnownFiles {
     sound: Option<Identity>,
     image: Option<Identity>,
     sums: Option<Identity>,
+    state: Option<Identity>,
     said: Option<Identity>,
     warned: Option<Identity>,
 }
@@ -51,6 +52,7 @@ impl KnownFiles {
             sound: None,
             image: None,
             sums: None,
+            state: None,
             said,
             warned,
         }
@@ -84,10 +86,11 @@ impl KnownFiles {
         ensures { result ≡ is_created_otherwise self.now out file }
     {
         match out {
-            Out::Video => is_one_of([self.sound, self.image, self.sums], file),
-            Out::Sound => is_one_of([self.video, self.image, self.sums], file),
-            Out::Image => is_one_of([self.video, self.sound, self.sums], file),
-            Out::Sums => is_one_of([self.video, self.sound, self.image], file),
+            Out::Video => is_one_of([self.sound, self.image, self.sums, self.state], file),
+            Out::Sound => is_one_of([self.video, self.image, self.sums, self.state], file),
+            Out::Image => is_one_of([self.video, self.sound, self.sums, self.state], file),
+            Out::Sums => is_one_of([self.video, self.sound, self.image, self.state], file),
+            Out::State => is_one_of([self.video, self.sound, self.image, self.sums], file),
             Out::Say => false,
         }
     }
@@ -106,13 +109,14 @@ impl KnownFiles {
             Out::Sound => self.sound = file,
             Out::Image => self.image = file,
             Out::Sums => self.sums = file,
+            Out::State => self.state = file,
             Out::Say => {}
         }
     }
 }
 
-/// Whether a file is one of three that may be known.
-fn is_one_of(known: [Option<Identity>; 3], file: Identity) -> bool
+/// Whether a file is one of four that may be known.
+fn is_one_of(known: [Option<Identity>; 4], file: Identity) -> bool
     ensures { result ≡ list_any (λ one. is_same one file) known }
 {
     known.iter().any(|one| is_same(*one, file))

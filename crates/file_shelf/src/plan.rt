@@ -123,6 +123,7 @@ fn is_same_out(out: Out, other: Out) -> bool
         (Out::Sound, Out::Sound) => true,
         (Out::Image, Out::Image) => true,
         (Out::Sums, Out::Sums) => true,
+        (Out::State, Out::State) => true,
         (Out::Say, Out::Say) => true,
         _ => false,
     }

@@ -32,6 +32,8 @@ pub enum Out {
     Image,
     /// The sums of the frames of a run.
     Sums,
+    /// Registers and memories at the end of a run.
+    State,
     /// The line for the user, standard output.
     Say,
 }

@@ -117,6 +117,7 @@ pub(crate) struct Store {
     sound: Output,
     image: Output,
     sums: Output,
+    state: Output,
     say: Output,
 }
 
@@ -125,7 +126,7 @@ impl Model for Store {
 
     ghost Value = { Stored };
 
-    ghost view = { λ s. record { files = s.files.items; video = s.video; sound = s.sound; image = s.image; sums = s.sums; say = s.say } };
+    ghost view = { λ s. record { files = s.files.items; video = s.video; sound = s.sound; image = s.image; sums = s.sums; state = s.state; say = s.say } };
 }
 
 impl Store {
@@ -140,6 +141,7 @@ impl Store {
             sound: Output::new(alloc, room)?,
             image: Output::new(alloc, room)?,
             sums: Output::new(alloc, room)?,
+            state: Output::new(alloc, room)?,
             say: Output::new(alloc, room)?,
         })
     }
@@ -189,6 +191,7 @@ impl Store {
             Out::Sound => self.sound.create(name),
             Out::Image => self.image.create(name),
             Out::Sums => self.sums.create(name),
+            Out::State => self.state.create(name),
             Out::Say => self.say.create(name),
         }
     }
@@ -202,6 +205,7 @@ impl Store {
             Out::Sound => self.sound.put(bytes),
             Out::Image => self.image.put(bytes),
             Out::Sums => self.sums.put(bytes),
+            Out::State => self.state.put(bytes),
             Out::Say => self.say.put(bytes),
         }
     }
@@ -214,6 +218,7 @@ impl Store {
             Out::Sound => &self.sound,
             Out::Image => &self.image,
             Out::Sums => &self.sums,
+            Out::State => &self.state,
             Out::Say => &self.say,
         }
     }

@@ -98,6 +98,7 @@ fn failure_of(text: &str) -> Option<Failure> {
         b"sound" => ShelfCall::Put(Some(Out::Sound)),
         b"image" => ShelfCall::Put(Some(Out::Image)),
         b"sums" => ShelfCall::Put(Some(Out::Sums)),
+        b"state" => ShelfCall::Put(Some(Out::State)),
         b"say" => ShelfCall::Put(Some(Out::Say)),
         _ => return None,
     };

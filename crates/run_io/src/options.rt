@@ -45,6 +45,7 @@ pub(crate) fn option_of_output(out: Out) -> &'static str
         Out::Sound => "--audio",
         Out::Image => "--out",
         Out::Sums => "--sums",
+        Out::State => "--state",
         Out::Say => "",
     }
 }

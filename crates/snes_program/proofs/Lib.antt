@@ -3,6 +3,7 @@ pub mod CheckLemmas
 pub mod Clauses
 pub mod DemoCartridge
 pub mod DemoLemmas
+pub mod DumpLemmas
 pub mod Ending
 pub mod Explaining
 pub mod HelpLemmas

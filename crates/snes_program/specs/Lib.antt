@@ -2,6 +2,7 @@ pub mod Check
 pub mod Command
 pub mod Commands
 pub mod Demo
+pub mod Dump
 pub mod Ends
 pub mod Help
 pub mod Job
