@@ -1,11 +1,11 @@
 -- What a shelf over real files keeps: its counts of faults, and of each output what it can tell.
 use Rattle.std.specs.Prelude.{◌≡◌, ℕ, ◌≤◌, Bool, true, false, not, length, List, take, Option, None, Some}
 use Rattle.std.specs.Io.KnownBytes.{Appends, Keeps}
-use Rattle.file_shelf.specs.Counts.{counted, none_counted}
-use Rattle.file_shelf.specs.declared.counts.Counts.{Counts}
+use Rattle.shelf.specs.Counts.{counted, none_counted}
+use Rattle.shelf.specs.declared.counts.Counts.{Counts}
 use Rattle.file_shelf.specs.declared.buffered.Buffered.{Buffered}
-use Rattle.file_shelf.specs.declared.shelves.Out.{Out}
-use Rattle.file_shelf.specs.declared.shelves.Out.TheVariants.{Video, Sound, Image, Sums, State, Say}
+use Rattle.shelf.specs.declared.shelves.Out.{Out}
+use Rattle.shelf.specs.declared.shelves.Out.TheVariants.{Video, Sound, Image, Sums, State, Say}
 use Rattle.file_shelf.specs.Given.{given_to}
 
 -- An output: whether it takes bytes, which it does from its creation to a fault; what was given to it since, behind

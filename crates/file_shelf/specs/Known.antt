@@ -1,8 +1,8 @@
 -- Which files a shelf over real files has to do with already, and what else a file to write is.
 use Rattle.std.specs.Prelude.{ℕ, Bool, false, ◌||◌, ◌&&◌, nat_eq, List, [], ◌∷◌, Option, None, Some, replicate, if◌then◌else◌}
 use Rattle.std.specs.List.{list_any}
-use Rattle.file_shelf.specs.declared.shelves.Out.{Out}
-use Rattle.file_shelf.specs.declared.shelves.Out.TheVariants.{Video, Sound, Image, Sums, State, Say}
+use Rattle.shelf.specs.declared.shelves.Out.{Out}
+use Rattle.shelf.specs.declared.shelves.Out.TheVariants.{Video, Sound, Image, Sums, State, Say}
 use Rattle.file_shelf.specs.declared.known.Identity.{Identity}
 use Rattle.file_shelf.specs.declared.known.Clash.{Clash}
 use Rattle.file_shelf.specs.declared.known.Clash.TheVariants.{Loaded, Created, Stream}

@@ -2,17 +2,16 @@ ghost use Rattle.std.specs.Prelude.{◌≡◌, ◌≢◌, ◌<◌, ◌≤◌, �
 ghost use Rattle.std.specs.Io.KnownBytes.{Appends as AppendsKnown, Keeps};
 ghost use Rattle.file_shelf.specs.Given.{held_after};
 ghost use Rattle.file_shelf.specs.Shelves.{shown_by_files};
-ghost use Rattle.file_shelf.specs.Shown.{IsUntouched, IsCreated, OnlyCreates, OnlyLoads, OnlyPuts};
-ghost use Rattle.file_shelf.specs.Told.{Holds, Appends, AppendsSome, HasRisen};
-ghost use Rattle.file_shelf.specs.Counts.{next, count_of};
+ghost use Rattle.shelf.specs.Shown.{IsUntouched, IsCreated, OnlyCreates, OnlyLoads, OnlyPuts};
+ghost use Rattle.shelf.specs.Told.{Holds, Appends, AppendsSome, HasRisen};
+ghost use Rattle.shelf.specs.Counts.{next, count_of};
 ghost use Rattle.file_shelf.specs.Edge.{new_edge, kept_of, kept_in, faulted, IsNew, Took, TookSome, Wrote, WroteSome};
 
 use crate::buffered::{Buffered, write_whole};
 use crate::cause::Cause;
-use crate::counts::Counts;
 use crate::known::KnownFiles;
 use crate::opened::{create_apart, identity_at, open_known};
-use crate::shelves::{Failed, LoadEnd, Out, Shelf};
+use shelf::{Counts, Failed, LoadEnd, Out, Shelf};
 use std::io::{self, Read, Write};
 use std::marker::Model;
 use std::rt::Files;

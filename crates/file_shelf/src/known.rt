@@ -2,7 +2,7 @@ ghost use Rattle.std.specs.Prelude.{◌≡◌};
 ghost use Rattle.std.specs.List.{list_any};
 ghost use Rattle.file_shelf.specs.Known.{is_same, is_loaded, is_created_otherwise, clash_of, none_known};
 
-use crate::shelves::Out;
+use shelf::Out;
 
 /// How many loads are remembered: more than any command has inputs.
 const MOST_LOADED: usize = 8;

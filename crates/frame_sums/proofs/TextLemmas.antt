@@ -3,9 +3,9 @@ use Rattle.std.proofs.Common.{◌≡◌, ℕ, zero, suc, ◌+◌, ◌-◌, ◌<�
 use Rattle.std.proofs.lemmas.List.{take-append-le, append-nil, take_all, take_min}
 use Rattle.std.proofs.lemmas.Bool.{cases_order}
 use Rattle.std.proofs.Math.Seq.{take-append-add}
-use Rattle.file_shelf.specs.declared.shelves.Out.{Out}
-use Rattle.file_shelf.specs.Told.{Holds, Appends, AppendsSome}
-use Rattle.file_shelf.specs.Shown.{Shown, OnlyPuts}
+use Rattle.shelf.specs.declared.shelves.Out.{Out}
+use Rattle.shelf.specs.Told.{Holds, Appends, AppendsSome}
+use Rattle.shelf.specs.Shown.{Shown, OnlyPuts}
 use Rattle.frame_sums.specs.Text.{hex_text, head_text, line_text, frames_text, text_of}
 
 -- a line, as its parts are pushed one after another

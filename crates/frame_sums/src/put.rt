@@ -1,12 +1,12 @@
 ghost use Rattle.std.specs.Prelude.{◌≡◌, ◌≤◌, ◌<◌, decimal, OnOk, OnErr};
-ghost use Rattle.file_shelf.specs.Told.{Appends, AppendsSome, HasRisen};
-ghost use Rattle.file_shelf.specs.Shown.{OnlyPuts};
+ghost use Rattle.shelf.specs.Told.{Appends, AppendsSome, HasRisen};
+ghost use Rattle.shelf.specs.Shown.{OnlyPuts};
 ghost use Rattle.frame_sums.specs.Digests.{row_in};
 ghost use Rattle.frame_sums.specs.Text.{line_text, text_of};
 
 use crate::digests::Digests;
 use crate::line::SumsLine;
-use file_shelf::{Failed, Out, Shelf};
+use shelf::{Failed, Out, Shelf};
 
 /// Puts the text of the sums of a run to the output for sums, line by line.
 pub fn put_sums<H: Shelf>(shelf: &mut H, video: &Digests, audio: &Digests) -> Result<(), Failed>

@@ -6,7 +6,7 @@ ghost use Rattle.frame_sums.specs.Digests.{AreSummed, AreDigests, AreNew};
 use crate::cuts::Cuts;
 use crate::digests::Digests;
 use crate::pieces::Pieces;
-use file_shelf::Failed;
+use shelf::Failed;
 use run_drive::Sink;
 use sha2::{Digest, Sha256};
 use snes_defs::{NoMemory, Region, Side};

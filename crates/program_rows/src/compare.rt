@@ -1,5 +1,5 @@
 use crate::rows::Outcome;
-use file_shelf::Out;
+use shelf::Out;
 
 /// Whether an output has the same name and bytes in two outcomes.
 fn is_same_output(one: &Outcome, other: &Outcome, out: Out) -> bool {

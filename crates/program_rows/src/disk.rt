@@ -1,9 +1,10 @@
 // Runs rows over real files.
 use crate::answer::answer;
 use crate::rows::{Outcome, Rows, performed, words_of};
-use file_shelf::{FileShelf, Out};
+use file_shelf::FileShelf;
 use port_wire::OpenGate;
 use run_io::Argv;
+use shelf::Out;
 use snes_program::Status;
 use std::rt::Files;
 use std::thread::Threads;

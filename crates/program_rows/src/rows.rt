@@ -1,8 +1,9 @@
 use crate::answer::answer;
 use crate::files::Files;
-use file_shelf::{MemShelf, Out, ShelfCall};
+use memory_shelves::{MemShelf, ShelfCall};
 use port_wire::{Gate, OpenGate};
 use run_io::Argv;
+use shelf::Out;
 use snes_program::Status;
 use std::alloc::Global;
 use std::str;

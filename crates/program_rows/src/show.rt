@@ -1,7 +1,7 @@
 ghost use Rattle.std.specs.Prelude.{◌≤◌, length};
 
 use crate::rows::Outcome;
-use file_shelf::Out;
+use shelf::Out;
 use std::{io, str};
 
 /// The most runs of equal units by which an output is printed.

@@ -9,7 +9,7 @@ ghost use Rattle.run_io.specs.Form.{number_first, count_in, count_options, is_le
 use crate::options::{Count, is_optional};
 use crate::pairs::{input_name, is_value, number_in, output_name, word_behind};
 use crate::words::Word;
-use file_shelf::{Input, Out};
+use shelf::{Input, Out};
 
 /// The form of the arguments after a command's name.
 #[derive(Clone, Copy)]

@@ -1,6 +1,6 @@
-// What a run reads and prints: the arguments of the command line, the shelf of files, and the lines for the user.
+// What a run reads and prints: the arguments of the command line, and the lines for the user.
 //
-// Builds on the shelf, whose items it re-exports. `read_form` accepts the arguments after a command's name if and only
+// Builds on the names of inputs and outputs (`shelf`). `read_form` accepts the arguments after a command's name if and only
 // if they have the given form (`specs/Form.antt`). It doesn't know which commands there are. Making a line allocates
 // nothing, so that a failed allocation can be reported too.
 #![tactic(auto)]
@@ -13,9 +13,6 @@ mod options;
 mod pairs;
 mod words;
 
-pub use file_shelf::{
-    Cause, Clash, Failed, FileShelf, Input, LoadEnd, MemShelf, Out, Shelf, ShelfCall, SureShelf,
-};
 pub use forms::{Asked, Form, read_form};
 pub use help::{help_line, version_line};
 pub use lines::{

@@ -5,8 +5,8 @@ ghost use Rattle.run_io.specs.Line.{line_of, hex_digit, hex_byte, frames_text, d
 
 use arrayvec::ArrayString;
 use cart_map::CartRefused;
-use file_shelf::{Input, Out};
 use itoa::Buffer;
+use shelf::{Input, Out};
 use snes_defs::Side;
 use std::marker::Model;
 

@@ -9,7 +9,7 @@ use crate::forms::Form;
 use crate::options::{is_optional, option_of_input, option_of_output};
 use crate::pairs::{is_value, number_in, output_name, word_behind};
 use crate::words::Word;
-use file_shelf::Out;
+use shelf::Out;
 use std::fmt::{self, Display, Formatter};
 
 /// The kinds of mistake in the arguments of a command line.

@@ -1,7 +1,7 @@
 ghost use Rattle.std.specs.Prelude.{◌≡◌};
 ghost use Rattle.run_io.specs.Options.{is_optional, input_option, output_option, count_option, digits_of, most_of};
 
-use file_shelf::{Input, Out};
+use shelf::{Input, Out};
 
 /// The kinds of number that an option takes.
 #[derive(Clone, Copy, Debug, PartialEq, Eq)]

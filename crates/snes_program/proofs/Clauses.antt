@@ -2,11 +2,11 @@
 use Rattle.std.proofs.Common.{◌≡◌, ◌≢◌, ℕ, true, false, if◌then◌else◌, List, [], ◌∷◌, length, Option, None, Some, IfSome, IsSomeAnd, refl, sym, ap, ◌∙◌, subst, inl, inr, ⊎_elim, arith}
 use Rattle.std.specs.Prelude.{◌⊎◌}
 use Rattle.std.proofs.lemmas.List.{take_all}
-use Rattle.file_shelf.specs.declared.shelves.Input.{Input}
-use Rattle.file_shelf.specs.declared.shelves.Out.{Out}
-use Rattle.file_shelf.specs.declared.shelves.Out.TheVariants as out
-use Rattle.file_shelf.specs.Told.{Holds, HasRisen}
-use Rattle.file_shelf.specs.Shown.{Shown, IsKept, OnlyPuts}
+use Rattle.shelf.specs.declared.shelves.Input.{Input}
+use Rattle.shelf.specs.declared.shelves.Out.{Out}
+use Rattle.shelf.specs.declared.shelves.Out.TheVariants as out
+use Rattle.shelf.specs.Told.{Holds, HasRisen}
+use Rattle.shelf.specs.Shown.{Shown, IsKept, OnlyPuts}
 use Rattle.run_io.specs.Form.{Order}
 use Rattle.run_io.specs.Lists.{AllOf, FirstThat, IsOneOf}
 use Rattle.snes_program.specs.declared.status.Why.{Why}

@@ -2,10 +2,10 @@
 use Rattle.std.proofs.Common.{◌≡◌, ◌≤◌, ℕ, List, [], ◌∷◌, length, Option, refl, sym, subst, arith}
 use Rattle.std.proofs.lemmas.List.{take_all}
 use Rattle.snes_defs.specs.declared.cart.Job.{Job}
-use Rattle.file_shelf.specs.declared.shelves.Input.{Input}
-use Rattle.file_shelf.specs.declared.shelves.Out.TheVariants.{State}
-use Rattle.file_shelf.specs.Told.{Holds, Appends, AppendsSome}
-use Rattle.file_shelf.specs.Shown.{Shown}
+use Rattle.shelf.specs.declared.shelves.Input.{Input}
+use Rattle.shelf.specs.declared.shelves.Out.TheVariants.{State}
+use Rattle.shelf.specs.Told.{Holds, Appends, AppendsSome}
+use Rattle.shelf.specs.Shown.{Shown}
 use Rattle.run_drive.specs.Ended.{IsLeft}
 use Rattle.run_io.specs.declared.options.Count.TheVariants.{Frames}
 use Rattle.run_io.specs.Form.{Order, Fits}

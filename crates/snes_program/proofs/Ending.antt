@@ -1,11 +1,11 @@
 -- How a call ends, from how its loads, creations and fills ended and what was said.
 use Rattle.std.proofs.Common.{◌≡◌, ◌≢◌, ℕ, true, false, if◌then◌else◌, List, [], take, Option, None, Some, IfSome, Result, Ok as good, Err, IfOk, IfErr, refl, sym, ap, ◌∙◌, subst, inl, inr, ⊎_elim, arith}
 use Rattle.std.specs.Prelude.{◌⊎◌}
-use Rattle.file_shelf.specs.declared.shelves.Input.{Input}
-use Rattle.file_shelf.specs.declared.shelves.Out.{Out}
-use Rattle.file_shelf.specs.declared.shelves.Out.TheVariants as out
-use Rattle.file_shelf.specs.Told.{Holds, Appends, AppendsSome, HasRisen}
-use Rattle.file_shelf.specs.Shown.{Shown, IsUntouched, IsPassedOver, OnlyLoads, OnlyPuts}
+use Rattle.shelf.specs.declared.shelves.Input.{Input}
+use Rattle.shelf.specs.declared.shelves.Out.{Out}
+use Rattle.shelf.specs.declared.shelves.Out.TheVariants as out
+use Rattle.shelf.specs.Told.{Holds, Appends, AppendsSome, HasRisen}
+use Rattle.shelf.specs.Shown.{Shown, IsUntouched, IsPassedOver, OnlyLoads, OnlyPuts}
 use Rattle.run_drive.specs.OutputLaws.{risen_since}
 use Rattle.run_io.specs.Words.{input_name, output_name}
 use Rattle.run_io.specs.Form.{Order, order_in}

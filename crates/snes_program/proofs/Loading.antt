@@ -1,8 +1,8 @@
 -- Loads one after another.
 use Rattle.std.proofs.Common.{◌≡◌, ℕ, ◌<◌, List, ◌++◌, length, Option, IfSome, Some, None, refl, sym, ap, subst, ◌∙◌, arith}
-use Rattle.file_shelf.specs.declared.shelves.Input.{Input}
-use Rattle.file_shelf.specs.Told.{Holds}
-use Rattle.file_shelf.specs.Shown.{Shown, OnlyLoads}
+use Rattle.shelf.specs.declared.shelves.Input.{Input}
+use Rattle.shelf.specs.Told.{Holds}
+use Rattle.shelf.specs.Shown.{Shown, OnlyLoads}
 use Rattle.run_drive.specs.OutputLaws.{risen_since}
 use Rattle.run_io.specs.Lists.{AllOf}
 use Rattle.run_io.specs.Words.{input_name}

@@ -1,10 +1,10 @@
 -- What is put to the output for sums is what `sums` makes.
 use Rattle.std.proofs.Common.{◌≡◌, ◌≤◌, ℕ, List, [], ◌∷◌, length, Option, refl, sym, ap, ◌∙◌, subst, arith}
 use Rattle.snes_defs.specs.declared.cart.Job.{Job}
-use Rattle.file_shelf.specs.declared.shelves.Input.{Input}
-use Rattle.file_shelf.specs.declared.shelves.Out.TheVariants.{Sums}
-use Rattle.file_shelf.specs.Told.{Holds, Appends, AppendsSome}
-use Rattle.file_shelf.specs.Shown.{Shown, OnlyPuts}
+use Rattle.shelf.specs.declared.shelves.Input.{Input}
+use Rattle.shelf.specs.declared.shelves.Out.TheVariants.{Sums}
+use Rattle.shelf.specs.Told.{Holds, Appends, AppendsSome}
+use Rattle.shelf.specs.Shown.{Shown, OnlyPuts}
 use Rattle.run_drive.specs.Played.{IsPlayable}
 use Rattle.run_io.specs.declared.options.Count.TheVariants.{Frames}
 use Rattle.run_io.specs.Form.{Order, Fits}

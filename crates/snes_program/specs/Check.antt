@@ -3,9 +3,9 @@ use Rattle.std.specs.Prelude.{◌≡◌, ℕ, Bool, false, List, [], ◌∷◌, 
 use Rattle.std.specs.Str.{bytes_eq}
 use Rattle.snes_defs.specs.declared.cart.Job.{Job}
 use Rattle.snes_defs.specs.declared.ports.Side.TheVariants as side
-use Rattle.file_shelf.specs.declared.shelves.Input.{Input}
-use Rattle.file_shelf.specs.declared.shelves.Input.TheVariants.{Cart, Boot, Table, Script, Sums}
-use Rattle.file_shelf.specs.declared.shelves.Out.{Out}
+use Rattle.shelf.specs.declared.shelves.Input.{Input}
+use Rattle.shelf.specs.declared.shelves.Input.TheVariants.{Cart, Boot, Table, Script, Sums}
+use Rattle.shelf.specs.declared.shelves.Out.{Out}
 use Rattle.frame_sums.specs.declared.compare.Difference.{Difference}
 use Rattle.frame_sums.specs.declared.compare.Difference.TheVariants as differs
 use Rattle.frame_sums.specs.SumsFile.{SumsIn}

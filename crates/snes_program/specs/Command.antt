@@ -1,8 +1,8 @@
 -- What a command is, and when outputs hold what it makes.
 use Rattle.std.specs.Prelude.{ℕ, Bool, false, List, Option, take}
-use Rattle.file_shelf.specs.declared.shelves.Input.{Input}
-use Rattle.file_shelf.specs.declared.shelves.Out.{Out}
-use Rattle.file_shelf.specs.Told.{Holds}
+use Rattle.shelf.specs.declared.shelves.Input.{Input}
+use Rattle.shelf.specs.declared.shelves.Out.{Out}
+use Rattle.shelf.specs.Told.{Holds}
 use Rattle.run_io.specs.Form.{FormValue, Order}
 use Rattle.run_io.specs.Lists.{AllOf}
 

@@ -2,11 +2,11 @@
 -- is said here alone.
 use Rattle.std.specs.Prelude.{◌≡◌, ◌≢◌, ◌⊎◌, ℕ, ◌≤◌, Bool, true, not, ◌&&◌, if◌then◌else◌, List, [], ◌∷◌, Option, IfSome}
 use Rattle.std.specs.List.{list_any}
-use Rattle.file_shelf.specs.declared.shelves.Out.{Out}
-use Rattle.file_shelf.specs.declared.shelves.Out.TheVariants.{Say}
-use Rattle.file_shelf.specs.Plan.{same_out}
-use Rattle.file_shelf.specs.Told.{Holds, HasRisen}
-use Rattle.file_shelf.specs.Shown.{Shown, IsUntouched, IsPassedOver, IsCreated, IsKept, OnlyPuts}
+use Rattle.shelf.specs.declared.shelves.Out.{Out}
+use Rattle.shelf.specs.declared.shelves.Out.TheVariants.{Say}
+use Rattle.shelf.specs.Outs.{same_out}
+use Rattle.shelf.specs.Told.{Holds, HasRisen}
+use Rattle.shelf.specs.Shown.{Shown, IsUntouched, IsPassedOver, IsCreated, IsKept, OnlyPuts}
 use Rattle.run_io.specs.Words.{output_name}
 use Rattle.run_io.specs.Form.{Order}
 use Rattle.run_io.specs.Lists.{AllOf, FirstThat}

@@ -1,7 +1,7 @@
 -- THE COMMANDS `--help` AND `--version`: a text is printed, and nothing else is done.
 use Rattle.std.specs.Prelude.{◌≡◌, ℕ, false, List, [], Option, None}
-use Rattle.file_shelf.specs.declared.shelves.Input.{Input}
-use Rattle.file_shelf.specs.declared.shelves.Out.{Out}
+use Rattle.shelf.specs.declared.shelves.Input.{Input}
+use Rattle.shelf.specs.declared.shelves.Out.{Out}
 use Rattle.run_io.specs.Form.{FormValue, Order}
 use Rattle.run_io.specs.Line.{help_text, version_text}
 use Rattle.snes_program.specs.Command.{Command, never}

@@ -10,8 +10,8 @@ use Rattle.input_files.specs.Script.{script_of}
 use Rattle.input_files.specs.Plan.{plan_of}
 use Rattle.input_files.specs.declared.plan.PlanStep.{PlanStep}
 use Rattle.frame_sums.specs.SumsFile.{SumsIn, sums_of_file}
-use Rattle.file_shelf.specs.declared.shelves.Input.{Input}
-use Rattle.file_shelf.specs.declared.shelves.Input.TheVariants as input
+use Rattle.shelf.specs.declared.shelves.Input.{Input}
+use Rattle.shelf.specs.declared.shelves.Input.TheVariants as input
 use Rattle.snes_program.specs.declared.status.Why.{Why}
 use Rattle.snes_program.specs.declared.status.Why.TheVariants as why
 

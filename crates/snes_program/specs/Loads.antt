@@ -1,9 +1,9 @@
 -- How inputs are loaded and accepted, in their order.
 use Rattle.std.specs.Prelude.{◌≡◌, ℕ, nat_eq, if◌then◌else◌, List, [], length, Option, Some, None, IfSome, IsSomeAnd}
-use Rattle.file_shelf.specs.declared.shelves.Input.{Input}
-use Rattle.file_shelf.specs.declared.shelves.Input.TheVariants.{Boot, Table, Script}
-use Rattle.file_shelf.specs.Told.{HasRisen}
-use Rattle.file_shelf.specs.Shown.{Shown}
+use Rattle.shelf.specs.declared.shelves.Input.{Input}
+use Rattle.shelf.specs.declared.shelves.Input.TheVariants.{Boot, Table, Script}
+use Rattle.shelf.specs.Told.{HasRisen}
+use Rattle.shelf.specs.Shown.{Shown}
 use Rattle.free_files.specs.Boot.{free_boot}
 use Rattle.free_files.specs.Interpolation.{interpolation, table_bytes}
 use Rattle.run_io.specs.Words.{input_name}

@@ -1,9 +1,9 @@
 -- THE COMMAND `make`: a number makes the image of a cartridge.
 use Rattle.std.specs.Prelude.{◌≡◌, ℕ, ◌<◌, true, List, [], ◌∷◌, length, slice_index, Option, None}
 use Rattle.demo_files.specs.Image.{byte_of}
-use Rattle.file_shelf.specs.declared.shelves.Input.{Input}
-use Rattle.file_shelf.specs.declared.shelves.Out.{Out}
-use Rattle.file_shelf.specs.declared.shelves.Out.TheVariants.{Image}
+use Rattle.shelf.specs.declared.shelves.Input.{Input}
+use Rattle.shelf.specs.declared.shelves.Out.{Out}
+use Rattle.shelf.specs.declared.shelves.Out.TheVariants.{Image}
 use Rattle.run_io.specs.Line.{line_of, image_text}
 use Rattle.run_io.specs.Form.{FormValue, Order}
 use Rattle.snes_program.specs.Command.{Command, never}

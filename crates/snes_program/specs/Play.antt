@@ -1,9 +1,9 @@
 -- THE COMMAND `play`: a sound file is played by the sound side alone, and its first pairs become sound.
 use Rattle.std.specs.Prelude.{◌≡◌, ℕ, false, List, [], ◌∷◌, Option, Some, IfSome}
-use Rattle.file_shelf.specs.declared.shelves.Input.{Input}
-use Rattle.file_shelf.specs.declared.shelves.Input.TheVariants.{Spc, Table}
-use Rattle.file_shelf.specs.declared.shelves.Out.{Out}
-use Rattle.file_shelf.specs.declared.shelves.Out.TheVariants.{Sound}
+use Rattle.shelf.specs.declared.shelves.Input.{Input}
+use Rattle.shelf.specs.declared.shelves.Input.TheVariants.{Spc, Table}
+use Rattle.shelf.specs.declared.shelves.Out.{Out}
+use Rattle.shelf.specs.declared.shelves.Out.TheVariants.{Sound}
 use Rattle.input_files.specs.Table.{IsTableFile}
 use Rattle.run_io.specs.declared.options.Count.TheVariants.{Samples}
 use Rattle.run_io.specs.Line.{line_of, samples_text}

@@ -1,10 +1,10 @@
 -- THE COMMAND `rewind`: a cartridge, a boot ROM and a table make a console, and a plan of kept moments is played on it.
 use Rattle.std.specs.Prelude.{◌≡◌, ℕ, false, List, [], ◌∷◌, Option, None, IfSome}
 use Rattle.snes_defs.specs.declared.cart.Job.{Job}
-use Rattle.file_shelf.specs.declared.shelves.Input.{Input}
-use Rattle.file_shelf.specs.declared.shelves.Input.TheVariants.{Cart, Boot, Table, Plan}
-use Rattle.file_shelf.specs.declared.shelves.Out.{Out}
-use Rattle.file_shelf.specs.declared.shelves.Out.TheVariants.{Video, Sound}
+use Rattle.shelf.specs.declared.shelves.Input.{Input}
+use Rattle.shelf.specs.declared.shelves.Input.TheVariants.{Cart, Boot, Table, Plan}
+use Rattle.shelf.specs.declared.shelves.Out.{Out}
+use Rattle.shelf.specs.declared.shelves.Out.TheVariants.{Video, Sound}
 use Rattle.input_files.specs.Table.{IsTableFile}
 use Rattle.input_files.specs.Plan.{frames_in}
 use Rattle.input_files.specs.declared.plan.PlanStep.{PlanStep}

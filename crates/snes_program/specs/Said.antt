@@ -1,8 +1,8 @@
 -- What is said of an answer.
 use Rattle.std.specs.Prelude.{◌≡◌, List, ℕ, ◌⊎◌}
-use Rattle.file_shelf.specs.declared.shelves.Out.TheVariants as out
-use Rattle.file_shelf.specs.Told.{Appends, AppendsSome, HasRisen}
-use Rattle.file_shelf.specs.Shown.{Shown}
+use Rattle.shelf.specs.declared.shelves.Out.TheVariants as out
+use Rattle.shelf.specs.Told.{Appends, AppendsSome, HasRisen}
+use Rattle.shelf.specs.Shown.{Shown}
 use Rattle.snes_program.specs.declared.status.Status.{Status}
 use Rattle.snes_program.specs.declared.status.Status.TheVariants.{WriteFault}
 

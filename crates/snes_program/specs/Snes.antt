@@ -1,8 +1,8 @@
 -- Words of the contract of `snes`, over the answer, the words and what the shelf shows before and after.
 use Rattle.std.specs.Prelude.{◌≡◌, ◌⊎◌, ℕ, ◌<◌, ◌≤◌, List}
-use Rattle.file_shelf.specs.declared.shelves.Out.TheVariants as out
-use Rattle.file_shelf.specs.Told.{HasRisen}
-use Rattle.file_shelf.specs.Shown.{Shown}
+use Rattle.shelf.specs.declared.shelves.Out.TheVariants as out
+use Rattle.shelf.specs.Told.{HasRisen}
+use Rattle.shelf.specs.Shown.{Shown}
 use Rattle.run_io.specs.Form.{Order}
 use Rattle.run_io.specs.Lists.{AllOf, FirstThat}
 use Rattle.snes_program.specs.declared.status.Why.{Why}

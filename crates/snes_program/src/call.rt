@@ -15,7 +15,7 @@ use crate::run::{Run, Way};
 use crate::say::{refuse, say};
 use crate::status::Status;
 use crate::sums_run::SumsRun;
-use file_shelf::Shelf;
+use shelf::Shelf;
 use plan_drive::PlanPlayer;
 use port_wire::Gate;
 use run_drive::StatePlayer;

@@ -6,7 +6,7 @@ use crate::command::Performs;
 use crate::job::{JobFiles, job_of, line_of_run};
 use crate::loads::Loads;
 use crate::sums_file::SumsInput;
-use file_shelf::{Input, Out, Shelf};
+use shelf::{Input, Out, Shelf};
 use frame_sums::{Difference, FrameSums, SumsFile, first_difference, play_summed};
 use port_wire::Gate;
 use run_drive::Player;
@@ -64,7 +64,7 @@ fn difference_line(difference: Difference) -> Line
 
 impl<P: Player> Performs for Check<P> {
     ghost use Rattle.std.specs.Prelude.{◌≡◌, refl, List, ℕ, IfSome};
-    ghost use Rattle.file_shelf.specs.declared.shelves.Input.TheVariants as input;
+    ghost use Rattle.shelf.specs.declared.shelves.Input.TheVariants as input;
     ghost use Rattle.snes_defs.specs.declared.cart.Job.{Job};
     ghost use Rattle.run_drive.specs.Played.{IsPlayable};
     ghost use Rattle.frame_sums.specs.Digests.{AreNew};

@@ -1,7 +1,7 @@
 use crate::command::Performs;
 use crate::job::{JobFiles, job_of, line_of_run};
 use crate::loads::Loads;
-use file_shelf::{Failed, Input, Out, Shelf};
+use shelf::{Failed, Input, Out, Shelf};
 use port_wire::Gate;
 use run_drive::StatePlayer;
 use run_io::{Asked, Count, Form, Line};

@@ -1,7 +1,7 @@
 ghost use Rattle.std.specs.Prelude.{◌≡◌, IfOk, MatchOption};
 ghost use Rattle.snes_program.specs.Loads.{free_bytes, free_in};
 
-use file_shelf::Input;
+use shelf::Input;
 use free_files::{free_boot_rom, interpolation_file};
 use run_io::{Word, input_name};
 use snes_defs::NoMemory;

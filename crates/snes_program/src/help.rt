@@ -3,7 +3,7 @@ ghost use Rattle.run_io.specs.Form.{form_by};
 ghost use Rattle.snes_program.specs.Help.{text_form};
 
 use crate::command::Performs;
-use file_shelf::{Out, Shelf};
+use shelf::{Out, Shelf};
 use port_wire::Gate;
 use run_io::{Asked, Form, Line, help_line, version_line};
 use snes_defs::NoMemory;

@@ -1,13 +1,13 @@
 ghost use Rattle.std.specs.Prelude.{◌≡◌, ◌≤◌, ◌<◌, ℕ, List, [], ◌++◌, length, OnOk, IfOk, IfErr, Option, IfSome};
-ghost use Rattle.file_shelf.specs.Told.{Holds};
-ghost use Rattle.file_shelf.specs.Shown.{OnlyLoads};
+ghost use Rattle.shelf.specs.Told.{Holds};
+ghost use Rattle.shelf.specs.Shown.{OnlyLoads};
 ghost use Rattle.run_io.specs.Lists.{AllOf};
 ghost use Rattle.snes_program.specs.Kinds.{input_of, AreRefused};
 ghost use Rattle.snes_program.specs.Loads.{told_in, ShowsAccepted, EndsInput, EndsInputs};
 
 use crate::free::free_of;
 use crate::status::{Status, Why};
-use file_shelf::{Input, LoadEnd, Shelf};
+use shelf::{Input, LoadEnd, Shelf};
 use run_io::{Word, input_name};
 use snes_defs::NoMemory;
 use std::alloc::Global;
@@ -16,7 +16,7 @@ use std::alloc::Global;
 /// so does a pair of implementors, of which the first is loaded first.
 pub(crate) trait Loads {
     ghost use Rattle.std.specs.Prelude.{ℕ, List, Option};
-    ghost use Rattle.file_shelf.specs.declared.shelves.Input.{Input};
+    ghost use Rattle.shelf.specs.declared.shelves.Input.{Input};
 
     type Value: Drop;
 

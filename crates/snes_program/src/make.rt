@@ -1,6 +1,6 @@
 use crate::command::Performs;
 use demo_files::image;
-use file_shelf::{Failed, Out, Shelf};
+use shelf::{Failed, Out, Shelf};
 use port_wire::Gate;
 use run_io::{Asked, Form, Line, image_line};
 use snes_defs::NoMemory;

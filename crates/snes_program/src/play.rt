@@ -3,7 +3,7 @@ use crate::loads::Loads;
 use crate::sound_out::play_sound;
 use crate::spc::SpcFile;
 use crate::table::TableFile;
-use file_shelf::{Failed, Input, Out, Shelf};
+use shelf::{Failed, Input, Out, Shelf};
 use port_wire::Gate;
 use run_io::{Asked, Count, Form, Line, samples_line};
 use snes_defs::NoMemory;

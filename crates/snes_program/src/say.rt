@@ -1,5 +1,5 @@
 ghost use Rattle.std.specs.Prelude.{◌≡◌, IfOk, IfErr, IfSome};
-ghost use Rattle.file_shelf.specs.Shown.{OnlyPuts};
+ghost use Rattle.shelf.specs.Shown.{OnlyPuts};
 ghost use Rattle.run_io.specs.Line.{line_of};
 ghost use Rattle.snes_program.specs.Status.{refusal_of, refused_text};
 ghost use Rattle.snes_program.specs.Said.{IsSaid, Says};
@@ -8,7 +8,7 @@ ghost use Rattle.snes_program.specs.Ends.{due_of};
 use crate::command::Performs;
 use crate::put_whole::put_whole;
 use crate::status::{Status, Why};
-use file_shelf::{Out, Shelf};
+use shelf::{Out, Shelf};
 use run_io::{
     Line, boot_refused_line, cannot_read_line, cannot_write_line, cart_refused_line,
     no_memory_line, plan_refused_line, script_refused_line, spc_no_text_line, spc_too_long_line,

@@ -3,7 +3,7 @@ ghost use Rattle.snes_program.specs.Kinds.{input_of};
 ghost use Rattle.snes_program.specs.Status.{exit_of};
 
 use cart_map::CartRefused;
-use file_shelf::{Input, Out};
+use shelf::{Input, Out};
 use spc_player::SpcRefused;
 
 /// The reason why an input was not accepted.

@@ -1,8 +1,8 @@
 ghost use Rattle.std.specs.Prelude.{◌≡◌, ◌≢◌, ◌⊎◌, [], IfSome};
-ghost use Rattle.file_shelf.specs.declared.shelves.Input.{Input};
-ghost use Rattle.file_shelf.specs.declared.shelves.Out.{Out};
-ghost use Rattle.file_shelf.specs.Told.{HasRisen};
-ghost use Rattle.file_shelf.specs.Shown.{IsPassedOver, IsKept, OnlyPuts};
+ghost use Rattle.shelf.specs.declared.shelves.Input.{Input};
+ghost use Rattle.shelf.specs.declared.shelves.Out.{Out};
+ghost use Rattle.shelf.specs.Told.{HasRisen};
+ghost use Rattle.shelf.specs.Shown.{IsPassedOver, IsKept, OnlyPuts};
 ghost use Rattle.run_io.specs.Lists.{AllOf, IsOneOf};
 ghost use Rattle.snes_program.specs.declared.status.Why.{Why};
 ghost use Rattle.snes_program.specs.Loads.{EndsInputs};
@@ -14,7 +14,7 @@ ghost use Rattle.snes_program.specs.Snes.{OrNoMemory, IsEarly, IsLate, IsOver, I
 
 use crate::call::performed;
 use crate::status::Status;
-use file_shelf::Shelf;
+use shelf::Shelf;
 use plan_drive::PlanPlayer;
 use port_wire::Gate;
 use run_drive::StatePlayer;

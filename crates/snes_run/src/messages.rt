@@ -1,6 +1,8 @@
 // The messages on standard error. Their texts are not promised, and a failed write of one is ignored.
+use file_shelf::Cause;
 use job_player::Console;
-use run_io::{Argv, Cause, Line, Mistake, Out, input_given, output_given};
+use run_io::{Argv, Line, Mistake, input_given, output_given};
+use shelf::Out;
 use snes_program::{Status, explain, refusal_line};
 use std::io;
 

@@ -2,9 +2,10 @@
 
 use anyhow::{Result, anyhow, bail};
 use cart_map::{CartEnd, CartRefused, accept};
-use file_shelf::{FileShelf, LoadEnd, Shelf};
+use file_shelf::FileShelf;
 use free_files::{free_boot_rom, interpolation_table};
 use input_files::{ScriptEnd, read_boot, read_script, read_table};
+use shelf::{LoadEnd, Shelf};
 use snes_defs::{Cart, Job, MOST_FRAMES, Spans, Table};
 use std::alloc::Global;
 use std::rt::Files;

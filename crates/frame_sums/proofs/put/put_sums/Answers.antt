@@ -1,6 +1,6 @@
 use Rattle.std.proofs.Common.{◌≡◌, ◌+◌, ◌++◌, [], codes, sym, ap, ◌∙◌, subst, append_assoc, append-nil, refl, arith}
-use Rattle.file_shelf.specs.declared.shelves.Out.TheVariants as out
-use Rattle.file_shelf.specs.Told.{Appends, AppendsSome}
+use Rattle.shelf.specs.declared.shelves.Out.TheVariants as out
+use Rattle.shelf.specs.Told.{Appends, AppendsSome}
 use Rattle.frame_sums.specs.Digests.{row_in}
 use Rattle.frame_sums.specs.Text.{head_text, line_text, frames_text, text_of}
 use Rattle.frame_sums.proofs.TextLemmas.{all_appended, frames_none, head_more, text_split, some_first, some_then, appends_then, puts_then}

@@ -1,7 +1,7 @@
 use Rattle.std.proofs.Common.{◌++◌}
-use Rattle.file_shelf.specs.declared.shelves.Out.TheVariants as out
-use Rattle.file_shelf.specs.Told.{Appends}
-use Rattle.file_shelf.specs.Shown.{OnlyPuts}
+use Rattle.shelf.specs.declared.shelves.Out.TheVariants as out
+use Rattle.shelf.specs.Told.{Appends}
+use Rattle.shelf.specs.Shown.{OnlyPuts}
 use Rattle.frame_sums.specs.Digests.{row_in}
 use Rattle.frame_sums.specs.Text.{head_text, frames_text}
 use Rattle.frame_sums.proofs.put.put_sums.Given as goal

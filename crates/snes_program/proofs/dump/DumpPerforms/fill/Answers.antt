@@ -1,6 +1,6 @@
 use Rattle.std.proofs.Common.{List, ℕ, subst}
-use Rattle.file_shelf.specs.declared.shelves.Out.TheVariants.{State}
-use Rattle.file_shelf.specs.Told.{Appends, AppendsSome}
+use Rattle.shelf.specs.declared.shelves.Out.TheVariants.{State}
+use Rattle.shelf.specs.Told.{Appends, AppendsSome}
 use Rattle.run_io.specs.Form.{order_by}
 use Rattle.snes_program.specs.Loads.{told_in}
 use Rattle.snes_program.proofs.DumpLemmas.{dump_whole, dump_first, dump_all}

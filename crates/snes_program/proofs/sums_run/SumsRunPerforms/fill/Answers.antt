@@ -1,6 +1,6 @@
 use Rattle.std.proofs.Common.{subst}
-use Rattle.file_shelf.specs.declared.shelves.Out.TheVariants as out
-use Rattle.file_shelf.specs.Told.{Appends, AppendsSome}
+use Rattle.shelf.specs.declared.shelves.Out.TheVariants as out
+use Rattle.shelf.specs.Told.{Appends, AppendsSome}
 use Rattle.run_io.specs.Form.{order_by}
 use Rattle.snes_program.specs.Loads.{told_in}
 use Rattle.snes_program.proofs.SumsRunLemmas.{sums_whole, sums_first, emitted_text, as_many}

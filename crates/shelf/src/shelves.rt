@@ -1,6 +1,6 @@
 ghost use Rattle.std.specs.Prelude.{◌≡◌, ◌+◌, ◌<◌, ◌≤◌, [], length, vec_len, OnOk, OnErr, IfSome, IsErrOf};
-ghost use Rattle.file_shelf.specs.Told.{Holds, Appends, AppendsSome, HasRisen};
-ghost use Rattle.file_shelf.specs.Shown.{Shown, IsUntouched, IsCreated, OnlyLoads, OnlyCreates, OnlyPuts};
+ghost use Rattle.shelf.specs.Told.{Holds, Appends, AppendsSome, HasRisen};
+ghost use Rattle.shelf.specs.Shown.{Shown, IsUntouched, IsCreated, OnlyLoads, OnlyCreates, OnlyPuts};
 
 /// The kinds of files that the program loads.
 #[derive(Clone, Copy, Debug, PartialEq, Eq)]

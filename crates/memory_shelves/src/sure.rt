@@ -1,9 +1,9 @@
 ghost use Rattle.std.specs.Prelude.{◌≡◌, ◌<◌, ◌≤◌, ◌↔◌, [], length, OnOk, OnErr, IfOk, IsOk, IsErrOf, vec_len, unwrap_or};
-ghost use Rattle.file_shelf.specs.Stored.{Stored, holding, held_in, blank, added, output_of, with_output, nothing_stored};
-ghost use Rattle.file_shelf.specs.Shelves.{shown_by_sure};
+ghost use Rattle.memory_shelves.specs.Stored.{Stored, holding, held_in, blank, added, output_of, with_output, nothing_stored};
+ghost use Rattle.memory_shelves.specs.Shelves.{shown_by_sure};
 
-use crate::shelves::{Failed, LoadEnd, Out, Shelf};
 use crate::store::Store;
+use shelf::{Failed, LoadEnd, Out, Shelf};
 use snes_defs::NoMemory;
 use std::alloc::Global;
 use std::marker::Model;
@@ -18,7 +18,7 @@ pub struct SureShelf {
 }
 
 impl Model for SureShelf {
-    ghost use Rattle.file_shelf.specs.Stored.{Stored};
+    ghost use Rattle.memory_shelves.specs.Stored.{Stored};
 
     ghost Value = { Stored };
 

@@ -1,11 +1,11 @@
 -- A shelf in memory whose calls fail where it was planned.
 use Rattle.std.specs.Prelude.{ℕ, Bool, ◌||◌, is_none, List, [], ◌∷◌, ◌++◌, slice_index, slice_set, Option, Some, None, if◌then◌else◌}
-use Rattle.file_shelf.specs.Counts.{next, counted, none_counted}
-use Rattle.file_shelf.specs.declared.counts.Counts.{Counts}
-use Rattle.file_shelf.specs.declared.shelves.Out.{Out}
-use Rattle.file_shelf.specs.Stored.{Stored, held_in, place_of, holding, blank, added, output_of, with_output, nothing_stored}
-use Rattle.file_shelf.specs.declared.plan.ShelfCall.{ShelfCall}
-use Rattle.file_shelf.specs.Plan.{Planned, nothing_planned, load_fails, create_fails, put_fails, after_load, after_create, after_put}
+use Rattle.shelf.specs.Counts.{next, counted, none_counted}
+use Rattle.shelf.specs.declared.counts.Counts.{Counts}
+use Rattle.shelf.specs.declared.shelves.Out.{Out}
+use Rattle.memory_shelves.specs.Stored.{Stored, held_in, place_of, holding, blank, added, output_of, with_output, nothing_stored}
+use Rattle.memory_shelves.specs.declared.plan.ShelfCall.{ShelfCall}
+use Rattle.memory_shelves.specs.Plan.{Planned, nothing_planned, load_fails, create_fails, put_fails, after_load, after_create, after_put}
 
 -- The faults of loads: one count for each file, in the order of the files, and one that all names
 -- which are not held share.

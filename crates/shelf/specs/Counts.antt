@@ -1,8 +1,8 @@
 -- Counts of calls and faults, which stand still at the end of their 64 bits.
 use Rattle.std.specs.Prelude.{ℕ, ◌+◌, ◌^◌, nat_lt, if◌then◌else◌}
-use Rattle.file_shelf.specs.declared.shelves.Out.{Out}
-use Rattle.file_shelf.specs.declared.shelves.Out.TheVariants.{Video, Sound, Image, Sums, State, Say}
-use Rattle.file_shelf.specs.declared.counts.Counts.{Counts}
+use Rattle.shelf.specs.declared.shelves.Out.{Out}
+use Rattle.shelf.specs.declared.shelves.Out.TheVariants.{Video, Sound, Image, Sums, State, Say}
+use Rattle.shelf.specs.declared.counts.Counts.{Counts}
 
 -- a count after one more
 abbrev pub next : ℕ → ℕ

@@ -1,9 +1,9 @@
 -- What doesn't fit is cut off.
 use Rattle.std.proofs.Common.{◌≡◌, ◌++◌, ◌-◌, ◌<◌, ◌≤◌, length, take, arith, string_bytes}
 use Rattle.std.proofs.lemmas.Grind.{common_steps}
-use Rattle.file_shelf.specs.Stored.{Written, added}
-use Rattle.file_shelf.proofs.StoredLemmas.{added_past}
-use Rattle.file_shelf.proofs.store.Output.put.Goals as goal
+use Rattle.memory_shelves.specs.Stored.{Written, added}
+use Rattle.memory_shelves.proofs.StoredLemmas.{added_past}
+use Rattle.memory_shelves.proofs.store.Output.put.Goals as goal
 
 pub returns-else-bytes-left : goal.returns-else-bytes-left
 returns-else-bytes-left c =

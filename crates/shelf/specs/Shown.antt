@@ -1,8 +1,8 @@
 -- What a shelf shows at one moment, and how much of it a call changes.
 use Rattle.std.specs.Prelude.{◌≡◌, ◌≢◌, ℕ, ◌≤◌, List, [], Option}
-use Rattle.file_shelf.specs.declared.shelves.Out.{Out}
-use Rattle.file_shelf.specs.declared.shelves.Out.TheVariants.{Video, Sound}
-use Rattle.file_shelf.specs.Told.{Holds}
+use Rattle.shelf.specs.declared.shelves.Out.{Out}
+use Rattle.shelf.specs.declared.shelves.Out.TheVariants.{Video, Sound}
+use Rattle.shelf.specs.Told.{Holds}
 
 -- The bytes held under each name, the bytes that were put to each output and the name under which it was
 -- created, as far as the shelf tells them; how many of the bytes of an output, the last ones, are not yet

@@ -1,17 +1,16 @@
 ghost use Rattle.std.specs.Prelude.{◌≡◌, ℕ, ◌<◌, ◌≤◌, ◌↔◌, List, [], ◌∷◌, false, length, drop, Some, None, OnOk, OnErr, IfOk, IsOk, IsErr, IsErrOf, IsSomeAnd, IsTrue, vec_len};
 ghost use Rattle.std.specs.Option.{ForSome};
-ghost use Rattle.file_shelf.specs.Memory.{fault_count, raised, faults_of, load_failing, loaded, created, filled, given, planned, empty_memory};
-ghost use Rattle.file_shelf.specs.Plan.{create_fails, put_fails};
-ghost use Rattle.file_shelf.specs.Told.{HasRisen, Appends, AppendsSome};
-ghost use Rattle.file_shelf.specs.Shown.{IsUntouched, IsCreated, OnlyCreates, OnlyPuts};
-ghost use Rattle.file_shelf.specs.Counts.{count_of};
-ghost use Rattle.file_shelf.specs.Shelves.{shown_by_memory};
-ghost use Rattle.file_shelf.specs.Stored.{held_in, output_of};
+ghost use Rattle.memory_shelves.specs.Memory.{fault_count, raised, faults_of, load_failing, loaded, created, filled, given, planned, empty_memory};
+ghost use Rattle.memory_shelves.specs.Plan.{create_fails, put_fails};
+ghost use Rattle.shelf.specs.Told.{HasRisen, Appends, AppendsSome};
+ghost use Rattle.shelf.specs.Shown.{IsUntouched, IsCreated, OnlyCreates, OnlyPuts};
+ghost use Rattle.shelf.specs.Counts.{count_of};
+ghost use Rattle.memory_shelves.specs.Shelves.{shown_by_memory};
+ghost use Rattle.memory_shelves.specs.Stored.{held_in, output_of};
 
-use crate::counts::Counts;
 use crate::plan::{Plan, ShelfCall};
-use crate::shelves::{Failed, LoadEnd, Out, Shelf};
 use crate::store::Store;
+use shelf::{Counts, Failed, LoadEnd, Out, Shelf};
 use snes_defs::NoMemory;
 use std::alloc::{AllocError, Global};
 use std::marker::Model;
@@ -25,7 +24,7 @@ struct LoadFaults {
 }
 
 impl Model for LoadFaults {
-    ghost use Rattle.file_shelf.specs.Memory.{LoadFaults as Faults};
+    ghost use Rattle.memory_shelves.specs.Memory.{LoadFaults as Faults};
 
     ghost Value = { Faults };
 
@@ -84,7 +83,7 @@ pub struct MemShelf {
 
 impl Model for MemShelf {
     ghost use Rattle.std.specs.Prelude.{◌≡◌, length};
-    ghost use Rattle.file_shelf.specs.Memory.{Memory};
+    ghost use Rattle.memory_shelves.specs.Memory.{Memory};
 
     ghost Value = { Memory };
 

@@ -1,13 +1,13 @@
 -- Which calls of a shelf in memory fail: those that were planned.
 use Rattle.std.specs.Prelude.{ℕ, Bool, true, false, ◌||◌, ◌&&◌, ◌==◌, List, [], Some, None}
 use Rattle.std.specs.List.{list_any}
-use Rattle.file_shelf.specs.Counts.{next, count_of, counted, none_counted}
-use Rattle.file_shelf.specs.declared.counts.Counts.{Counts}
-use Rattle.file_shelf.specs.declared.shelves.Out.{Out}
-use Rattle.file_shelf.specs.declared.shelves.Out.TheVariants.{Video, Sound, Image, Sums, State, Say}
-use Rattle.file_shelf.specs.declared.plan.ShelfCall.{ShelfCall}
-use Rattle.file_shelf.specs.declared.plan.ShelfCall.TheVariants.{Load, Create, Put}
-use Rattle.file_shelf.specs.declared.plan.Failure.{Failure}
+use Rattle.shelf.specs.Outs.{same_out}
+use Rattle.shelf.specs.Counts.{next, count_of, counted, none_counted}
+use Rattle.shelf.specs.declared.counts.Counts.{Counts}
+use Rattle.shelf.specs.declared.shelves.Out.{Out}
+use Rattle.memory_shelves.specs.declared.plan.ShelfCall.{ShelfCall}
+use Rattle.memory_shelves.specs.declared.plan.ShelfCall.TheVariants.{Load, Create, Put}
+use Rattle.memory_shelves.specs.declared.plan.Failure.{Failure}
 
 -- The planned failures, how many loads, creates and puts were made, and how many puts on each output.
 pub record Planned : Type 0 where
@@ -20,15 +20,6 @@ pub record Planned : Type 0 where
 -- nothing planned, and no call made
 abbrev pub nothing_planned : Planned
 nothing_planned = record { failures = []; loads = 0; creates = 0; puts = 0; own_puts = none_counted }
-
-abbrev pub same_out : Out → Out → Bool
-same_out Video Video = true
-same_out Sound Sound = true
-same_out Image Image = true
-same_out Sums Sums = true
-same_out State State = true
-same_out Say Say = true
-same_out _ _ = false
 
 abbrev pub same_call : ShelfCall → ShelfCall → Bool
 same_call Load Load = true

@@ -2,7 +2,7 @@
 use Rattle.std.proofs.Common.{◌≡◌, ℕ, ◌+◌, ◌-◌, ◌<◌, ◌≤◌, true, ◌||◌, nat_lt, List, ◌++◌, length, take, arith, ap, ◌∙◌}
 use Rattle.std.proofs.lemmas.Bool.{or_right, lt-ltb}
 use Rattle.std.proofs.Math.Seq.{take-append-add}
-use Rattle.file_shelf.specs.Stored.{Written, added}
+use Rattle.memory_shelves.specs.Stored.{Written, added}
 
 -- of more bytes than there is room for, those that fit are kept, and the output is overrun
 pub added_past : (w : Written) (more : List ℕ) → length w.bytes ≤ w.room → w.room - length w.bytes < length more

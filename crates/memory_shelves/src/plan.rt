@@ -1,8 +1,7 @@
 ghost use Rattle.std.specs.Prelude.{◌≡◌, ◌++◌, ◌∷◌, [], OnOk, OnErr};
-ghost use Rattle.file_shelf.specs.Plan.{nothing_planned, same_out, same_call, is_failure, load_fails, create_fails, put_fails, after_load, after_create, after_put};
+ghost use Rattle.memory_shelves.specs.Plan.{nothing_planned, same_out, same_call, is_failure, load_fails, create_fails, put_fails, after_load, after_create, after_put};
 
-use crate::counts::Counts;
-use crate::shelves::Out;
+use shelf::{Counts, Out};
 use std::alloc::{AllocError, Global};
 use std::marker::Model;
 
@@ -35,7 +34,7 @@ pub(crate) struct Plan {
 }
 
 impl Model for Plan {
-    ghost use Rattle.file_shelf.specs.Plan.{Planned};
+    ghost use Rattle.memory_shelves.specs.Plan.{Planned};
 
     ghost Value = { Planned };
 

@@ -1,9 +1,9 @@
 ghost use Rattle.std.specs.Prelude.{◌≡◌, ◌<◌, ◌≤◌, [], length, Some, None, OnOk, OnErr, IfOk, IfSome, MatchOption, find};
 ghost use Rattle.std.specs.Option.{option_copied};
 ghost use Rattle.std.specs.Str.{bytes_eq};
-ghost use Rattle.file_shelf.specs.Stored.{NamedBytes, Written, Stored, holding, held_in, place_of, blank, added, output_of, with_output, nothing_stored};
+ghost use Rattle.memory_shelves.specs.Stored.{NamedBytes, Written, Stored, holding, held_in, place_of, blank, added, output_of, with_output, nothing_stored};
 
-use crate::shelves::Out;
+use shelf::Out;
 use std::alloc::{AllocError, Global};
 use std::marker::Model;
 
@@ -19,7 +19,7 @@ struct HeldFile {
 
 impl Model for HeldFile {
     ghost use Rattle.std.specs.Prelude.{string_bytes};
-    ghost use Rattle.file_shelf.specs.Stored.{NamedBytes};
+    ghost use Rattle.memory_shelves.specs.Stored.{NamedBytes};
 
     ghost Value = { NamedBytes };
 
@@ -52,7 +52,7 @@ struct Output {
 impl Model for Output {
     ghost use Rattle.std.specs.Prelude.{◌≤◌, string_bytes, vec_capacity, vec_len};
     ghost use Rattle.std.specs.String.{string_capacity};
-    ghost use Rattle.file_shelf.specs.Stored.{Written};
+    ghost use Rattle.memory_shelves.specs.Stored.{Written};
 
     ghost Value = { Written };
 
@@ -122,7 +122,7 @@ pub(crate) struct Store {
 }
 
 impl Model for Store {
-    ghost use Rattle.file_shelf.specs.Stored.{Stored};
+    ghost use Rattle.memory_shelves.specs.Stored.{Stored};
 
     ghost Value = { Stored };
 

@@ -1,11 +1,11 @@
 ghost use Rattle.std.specs.Prelude.{◌≡◌};
-ghost use Rattle.file_shelf.specs.Counts.{count_of, counted, none_counted};
+ghost use Rattle.shelf.specs.Counts.{count_of, counted, none_counted};
 
 use crate::shelves::Out;
 
 /// A count for each output, which stays at the highest 64-bit number.
 #[derive(Clone, Copy)]
-pub(crate) struct Counts {
+pub struct Counts {
     video: u64,
     sound: u64,
     image: u64,
@@ -15,7 +15,8 @@ pub(crate) struct Counts {
 }
 
 impl Counts {
-    pub(crate) fn new() -> Counts
+    /// Returns counts of nothing.
+    pub fn new() -> Counts
         ensures none { result ≡ none_counted }
     {
         Counts {
@@ -28,7 +29,8 @@ impl Counts {
         }
     }
 
-    pub(crate) fn of(&self, out: Out) -> u64
+    /// Returns the count of an output.
+    pub fn of(&self, out: Out) -> u64
         ensures count { result ≡ count_of self.now out }
     {
         match out {
@@ -41,7 +43,8 @@ impl Counts {
         }
     }
 
-    pub(crate) fn raise(&mut self, out: Out)
+    /// Raises the count of an output by one, if it is not the highest number.
+    pub fn raise(&mut self, out: Out)
         ensures raised { self.new ≡ counted self.old out }
     {
         match out {
