@@ -86,7 +86,8 @@ fn place_in(alloc: Global, fields: &Fields<'_>) -> Result<(Memory, Address)> {
         Some(address) => Some((Memory::Bus, address)),
         None => None,
     };
-    for (key, memory, most) in MEMORIES {
+    for entry in MEMORIES.as_slice() {
+        let (key, memory, most) = *entry;
         if let Some(at) = fields.number(key, most)? {
             if place.is_some() {
                 bail!("{}: more than one place", fields.path());

@@ -1,5 +1,8 @@
 //! SHA-256 sums as they are printed and read, and the file of a run's golden sums.
 
+ghost use Rattle.std.specs.Prelude.{◌≡◌};
+ghost use Rattle.sha2.specs.Sha256.{sha256};
+
 use anyhow::{Result, bail};
 use sha2::{Digest, Sha256};
 use std::alloc::Global;
@@ -7,11 +10,14 @@ use std::fmt;
 
 /// A sum.
 #[derive(Clone, Copy, PartialEq, Eq)]
-pub struct Sum(pub [u8; 32]);
+pub struct Sum {
+    /// Its bytes.
+    pub bytes: [u8; 32],
+}
 
 impl fmt::Display for Sum {
     fn fmt<W: fmt::Write>(&self, f: &mut fmt::Formatter<W>) -> fmt::Result {
-        for byte in self.0 {
+        for byte in self.bytes {
             write!(f, "{byte:02x}")?;
         }
         Ok(())
@@ -20,15 +26,19 @@ impl fmt::Display for Sum {
 
 impl Sum {
     /// Returns the sum of these bytes.
-    pub fn of(bytes: &[u8]) -> Sum {
-        Sum(Sha256::digest(bytes))
+    pub fn of(bytes: &[u8]) -> Sum
+        ensures { result.bytes ≡ sha256 bytes.now }
+    {
+        Sum {
+            bytes: Sha256::digest(bytes),
+        }
     }
 
     /// Reads 64 hexadecimal digits.
     pub fn read(text: &str) -> Option<Sum> {
         let mut bytes = [0u8; 32];
         match hex::decode_to_slice(text, &mut bytes) {
-            Ok(()) => Some(Sum(bytes)),
+            Ok(()) => Some(Sum { bytes }),
             Err(_) => None,
         }
     }

@@ -22,8 +22,8 @@ const SCRIPT: usize = 1_048_576;
 /// The cartridge of a case as the console takes it: the job of its run, or why it is refused.
 #[derive(Drop)]
 pub enum Input {
-    /// The job.
-    Job(Job),
+    /// The job of its run.
+    Runs(Job),
     /// The words of the refusal.
     Refused(String),
 }
@@ -140,7 +140,7 @@ pub fn input_of<R: Files + Print>(
     let name = name_in(alloc, folder, case.cart.as_str())?;
     let bytes = load(rt, alloc, name.as_str(), CART)?;
     match accept(bytes) {
-        Ok(cart) => Ok(Input::Job(job_of(rt, alloc, folder, case, cart)?)),
+        Ok(cart) => Ok(Input::Runs(job_of(rt, alloc, folder, case, cart)?)),
         Err(CartEnd::NoMemory) => bail!("no memory"),
         Err(CartEnd::Refused(cause)) => Ok(Input::Refused(words_of(alloc, cause)?)),
     }

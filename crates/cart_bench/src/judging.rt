@@ -306,15 +306,27 @@ impl<'a> Judging<'a> {
     /// Returns the verdict, with the sums of the whole run.
     fn end(self) -> Verdict {
         let Judging {
+            alloc: _,
+            case: _,
+            keeps: _,
+            golden: _,
+            places: _,
             mut verdict,
             frames,
             pictures,
             sounds,
-            ..
+            heard: _,
+            other_pictures: _,
+            other_sounds: _,
+            other_film: _,
         } = self;
         let all = Sums {
-            picture: Sum(pictures.finalize()),
-            sound: Some(Sum(sounds.finalize())),
+            picture: Sum {
+                bytes: pictures.finalize(),
+            },
+            sound: Some(Sum {
+                bytes: sounds.finalize(),
+            }),
         };
         verdict.sums = Some(RunSums { frames, all });
         verdict
@@ -428,7 +440,7 @@ fn try_case<R: Files + Print + AllocGlobal>(
     let alloc = rt.alloc();
     match input_of(rt, alloc, wanted.folder, case)? {
         Input::Refused(cause) => judge_refusal(alloc, case, cause.as_str()),
-        Input::Job(job) => {
+        Input::Runs(job) => {
             if case.refused.is_some() {
                 let mut verdict = Verdict::new(alloc);
                 verdict.fail(String::from_str(alloc, "the cartridge is accepted")?)?;

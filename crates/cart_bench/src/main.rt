@@ -123,7 +123,8 @@ fn write_files<R: Files + AllocGlobal>(
     words: &ArgMatches<'_>,
     name: &str,
     counts: &Counts,
-    (cases, verdicts): (&[&Case], &[Verdict]),
+    cases: &[&Case],
+    verdicts: &[Verdict],
 ) -> Result<()> {
     let alloc = rt.alloc();
     if let Some(out) = words.get_str("junit") {
@@ -175,7 +176,8 @@ fn run_file<R: Files + Print + Eprint + AllocGlobal>(
         words,
         name,
         &counts,
-        (cases.as_slice(), verdicts.as_slice()),
+        cases.as_slice(),
+        verdicts.as_slice(),
     )?;
     Ok(if counts.faults > 0 {
         FAULT

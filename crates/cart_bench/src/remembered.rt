@@ -22,10 +22,12 @@ fn compare_number(
     alloc: Global,
     played: &Played,
     frame: u32,
-    (memory, first): (Memory, u32),
+    place: (Memory, u32),
     size: u32,
-    (least, most): (u32, u32),
+    bounds: (u32, u32),
 ) -> Result<Option<String>, AllocError> {
+    let (memory, first) = place;
+    let (least, most) = bounds;
     let Some(low) = byte_of(played, memory, first, 0) else {
         return Ok(Some(missing(alloc, frame, memory, first)?));
     };
@@ -42,14 +44,14 @@ fn compare_number(
         return Ok(None);
     }
     let name = name_of(memory);
-    let bounds = if least == most {
+    let wanted = if least == most {
         format!(in alloc; "{least} (0x{least:02X})")?
     } else {
         format!(in alloc; "{least} to {most}")?
     };
     Ok(Some(format!(in alloc;
         "frame {frame}: {name} 0x{first:04X} is {number} (0x{number:02X}), expected {}",
-        bounds.as_str()
+        wanted.as_str()
     )?))
 }
 
@@ -58,9 +60,10 @@ fn compare_bytes(
     alloc: Global,
     played: &Played,
     frame: u32,
-    (memory, first): (Memory, u32),
+    place: (Memory, u32),
     bytes: &[u8],
 ) -> Result<Option<String>, AllocError> {
+    let (memory, first) = place;
     let mut differing = 0u32;
     let mut line = None;
     let mut offset = 0u32;
