@@ -10,7 +10,13 @@ pub enum Memory {
     Wram,
     /// The cartridge's RAM.
     Sram,
-    /// The sound RAM, as the SPC700 reads it.
+    /// The memory of the PPU for tiles and maps.
+    Vram,
+    /// The memory of the PPU for colours.
+    Cgram,
+    /// The memory of the PPU for objects.
+    Oam,
+    /// The sound RAM.
     Aram,
     /// The 65C816's address space, as far as it is memory.
     Bus,

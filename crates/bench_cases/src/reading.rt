@@ -15,14 +15,18 @@ static CASE: [&str; 15] = [
 ];
 
 /// The keys of a memory check.
-static MEMORY: [&str; 10] = [
-    "at", "wram", "sram", "aram", "bus", "label", "offset", "byte", "word", "bytes",
+static MEMORY: [&str; 13] = [
+    "at", "wram", "sram", "vram", "cgram", "oam", "aram", "bus", "label", "offset", "byte", "word",
+    "bytes",
 ];
 
 /// Each memory, the key of an offset in it, and its greatest offset.
-static MEMORIES: [(&str, Memory, u32); 4] = [
+static MEMORIES: [(&str, Memory, u32); 7] = [
     ("wram", Memory::Wram, 0x1FFFF),
     ("sram", Memory::Sram, 0x1FFFF),
+    ("vram", Memory::Vram, 0xFFFF),
+    ("cgram", Memory::Cgram, 0x1FF),
+    ("oam", Memory::Oam, 0x21F),
     ("aram", Memory::Aram, 0xFFFF),
     ("bus", Memory::Bus, 0xFF_FFFF),
 ];

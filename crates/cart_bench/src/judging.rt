@@ -154,21 +154,20 @@ impl<'a> Judging<'a> {
         let alloc = self.alloc;
         let frame = check.at;
         let mut is_same = true;
-        if check
-            .picture
-            .is_some_and(|expected| expected != sums.picture)
-        {
-            is_same = false;
-            self.verdict.fail(format!(in alloc;
-                "frame {frame}: the picture has the sum {}",
-                sums.picture
-            )?)?;
+        if let Some(expected) = check.picture {
+            let picture = sums.picture;
+            if expected != picture {
+                is_same = false;
+                self.verdict.fail(format!(in alloc;
+                    "frame {frame}: the picture has the sum {picture}, not {expected}"
+                )?)?;
+            }
         }
         if let (Some(expected), Some(sound)) = (check.sound, sums.sound) {
             if expected != sound {
                 is_same = false;
                 self.verdict.fail(format!(in alloc;
-                    "frame {frame}: the sound has the sum {sound}"
+                    "frame {frame}: the sound has the sum {sound}, not {expected}"
                 )?)?;
             }
         }
