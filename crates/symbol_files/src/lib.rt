@@ -10,9 +10,11 @@ mod fields;
 mod forms;
 mod numbers;
 mod refused;
+mod source_lines;
 mod symbols;
 
 pub use refused::Refused;
+pub use source_lines::{SourceLine, SourceLines};
 pub use symbols::{Found, Symbols};
 
 #[cfg(test)]

@@ -133,6 +133,17 @@ impl Symbols {
         Ok(symbols)
     }
 
+    /// Returns how many labels there are.
+    pub fn count(&self) -> usize {
+        self.labels.len()
+    }
+
+    /// Returns a label and its address, by its place in the order of addresses.
+    pub fn label(&self, place: usize) -> Option<(&str, u32)> {
+        let label = self.labels.as_slice().get(place)?;
+        Some((label.name.as_str(), label.value))
+    }
+
     /// Returns what a name stands for.
     pub fn find(&self, name: &str) -> Found {
         find_among(
