@@ -1,22 +1,23 @@
 //! The log of code and data (CDL), as the debugger of Mesen keeps it.
 
-use crate::marks::{Coverage, DATA, ENTRY, INDEX, JUMP, MEMORY, OPCODE, OPERAND, TRANSFER};
+ghost use Rattle.std.specs.Prelude.{◌≡◌};
+ghost use Rattle.rom_coverage.specs.Marks.{log_of};
+
+use crate::marks::Coverage;
 use film_formats::{crc_of_chunk, push_little4};
 use std::alloc::{AllocError, Global};
 
 /// Returns the byte of the log for a byte of ROM with these marks. Data is what the processor or DMA read.
-pub fn log_byte(marks: u8) -> u8 {
-    let code = if marks & (OPCODE | OPERAND) == 0 {
-        0
-    } else {
-        1
-    };
-    let data = if marks & (DATA | TRANSFER) == 0 { 0 } else { 2 };
-    let jump = if marks & JUMP == 0 { 0 } else { 4 };
-    let entry = if marks & ENTRY == 0 { 0 } else { 8 };
-    let index = if marks & INDEX == 0 { 0 } else { 16 };
-    let memory = if marks & MEMORY == 0 { 0 } else { 32 };
-    code | data | jump | entry | index | memory
+pub fn log_byte(marks: u8) -> u8
+    ensures { result ≡ log_of marks }
+{
+    let code = if marks % 4 == 0 { 0 } else { 1 };
+    let data = if marks / 4 % 4 == 0 { 0 } else { 2 };
+    let jump = marks / 16 % 2;
+    let entry = marks / 32 % 2;
+    let index = marks / 64 % 2;
+    let memory = marks / 128 % 2;
+    code + data + 4 * jump + 8 * entry + 16 * index + 32 * memory
 }
 
 /// Returns the log of a ROM: `CDLv2`, the CRC-32 of the ROM with its low byte first, and a byte for each byte of ROM.

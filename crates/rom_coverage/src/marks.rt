@@ -1,5 +1,8 @@
 //! The marks of each byte of ROM.
 
+ghost use Rattle.std.specs.Prelude.{◌≡◌};
+ghost use Rattle.rom_coverage.specs.Marks.{used_as};
+
 use cpu_tables::{INDEX_8, MEMORY_8, Mode, Op, row};
 use std::alloc::{AllocError, Global};
 
@@ -180,12 +183,14 @@ impl Coverage {
 }
 
 /// Returns how a byte with these marks was used.
-pub fn use_of(marks: u8) -> Use {
-    if marks & (OPCODE | OPERAND) != 0 {
+pub fn use_of(marks: u8) -> Use
+    ensures { result ≡ used_as marks }
+{
+    if marks % 4 != 0 {
         Use::Executed
-    } else if marks & DATA != 0 {
+    } else if marks / 4 % 2 != 0 {
         Use::Data
-    } else if marks & TRANSFER != 0 {
+    } else if marks / 8 % 2 != 0 {
         Use::Transfer
     } else {
         Use::Never

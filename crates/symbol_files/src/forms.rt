@@ -1,7 +1,7 @@
 //! The forms of symbol files, and the symbol of a line in each.
 
 use crate::fields::field;
-use crate::numbers::{address_of, hex_of};
+use crate::numbers::{address_of, banked_of, hex_of};
 
 /// A form of symbol files.
 #[derive(Clone, Copy, Debug, PartialEq, Eq)]
@@ -90,7 +90,7 @@ fn debug_symbol(fields: &str) -> Option<Item<'_>> {
         return Some(Item::Nothing);
     }
     let digits = field(fields, "val")?.strip_prefix("0x")?;
-    let value = hex_of(digits, 8)?;
+    let value = hex_of(digits)?;
     match (kind == "lab", address_of(digits)) {
         (true, Some(address)) => Some(Item::Label(name, address)),
         (true, None) => None,
@@ -143,12 +143,11 @@ fn section_item(text: &str, section: Section) -> Option<Item<'_>> {
         Section::Labels => {
             let (place, name) = two_words(text)?;
             let (bank, address) = place.split_once(":")?;
-            let address = hex_of(address, 4)?;
-            Some(Item::Label(name, hex_of(bank, 2)? * 65_536 + address))
+            Some(Item::Label(name, banked_of(bank, address)?))
         }
         Section::Values => {
             let (value, name) = two_words(text)?;
-            Some(Item::Value(name, hex_of(value, 8)?))
+            Some(Item::Value(name, hex_of(value)?))
         }
         Section::Other => Some(Item::Nothing),
     }

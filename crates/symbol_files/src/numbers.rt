@@ -3,9 +3,9 @@
 /// The first number that is no address of 24 bits.
 const END: u32 = 1 << 24;
 
-/// Returns the number of these hexadecimal digits, of which there are from one to `most`, at most eight.
-pub fn hex_of(digits: &str, most: usize) -> Option<u32> {
-    if digits.is_empty() || digits.len() > most || digits.len() > 8 {
+/// Returns the number of from one to eight hexadecimal digits.
+pub fn hex_of(digits: &str) -> Option<u32> {
+    if digits.is_empty() || digits.len() > 8 {
         return None;
     }
     for byte in digits.as_bytes() {
@@ -18,8 +18,19 @@ pub fn hex_of(digits: &str, most: usize) -> Option<u32> {
 
 /// Returns the address of 24 bits in from one to eight hexadecimal digits.
 pub fn address_of(digits: &str) -> Option<u32> {
-    let number = hex_of(digits, 8)?;
+    let number = hex_of(digits)?;
     if number < END { Some(number) } else { None }
+}
+
+/// Returns the address of a bank and a place in it, both in hexadecimal digits.
+pub fn banked_of(bank: &str, offset: &str) -> Option<u32> {
+    let bank = hex_of(bank)?;
+    let offset = hex_of(offset)?;
+    if bank < 256 && offset < 65_536 {
+        Some(65_536 * bank + offset)
+    } else {
+        None
+    }
 }
 
 /// Returns the number of decimal digits.
