@@ -4,7 +4,7 @@
 #     tools/evidence/try_trace_words.sh [TRACE]
 #
 # TRACE is the built program (crates/snes_trace/out/snes_trace). The cartridge is that of crates/snes_trace/data, whose fifteen
-# instructions TRACE.md lists. The status is 1 if a case differs.
+# instructions docs/use/TRACE.md lists. The status is 1 if a case differs.
 top=$(cd "$(dirname "${BASH_SOURCE[0]}")/../.." && pwd) || exit 2
 trace=$(readlink -f "${1:-$top/crates/snes_trace/out/snes_trace}")
 [ -x "$trace" ] || { echo "no program: $trace (ONLY_BUILD=1 tools/run_built.sh trace snes_trace builds it)" >&2; exit 2; }
@@ -35,7 +35,7 @@ try 0 '00801D A9  LDA #$01' "${until[@]}" bytes
 try 0 '00801D A9  LDA #$01' "${until[@]}" '80801D opcode'
 try 0 '00801F 8D  STA $420B' "${until[@]}" 'start_dma write'
 try 0 '008022 DB  STP' "${until[@]}" 'frame 1'
-try 0 '' "${until[@]}" 'wram[0x10]=0x55'
+try 0 '' "${until[@]}" 'wram[0x10]=0'
 try 1 '' "${until[@]}" 'wram[0x10]=0x2A'
 try 1 '' "${until[@]}" 'reset=0x19'
 try 0 '' "${until[@]}" 'reset=24'
