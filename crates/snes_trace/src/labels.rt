@@ -81,7 +81,10 @@ impl Labels {
         let rows = self.rows.as_slice();
         let mut first = 0usize;
         let mut left = rows.len();
-        while left > 0 {
+        for _ in 0..64 {
+            if left == 0 {
+                break;
+            }
             let half = left / 2;
             match rows.get(first.saturating_add(half)) {
                 Some(middle) if middle.number < number => {

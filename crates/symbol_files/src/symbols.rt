@@ -50,7 +50,10 @@ fn find_among(symbols: &[Symbol], name: &str, before: Found) -> Found {
 fn count_below(symbols: &[Symbol], value: u32) -> usize {
     let mut first = 0usize;
     let mut left = symbols.len();
-    while left > 0 {
+    for _ in 0..64 {
+        if left == 0 {
+            break;
+        }
         let half = left / 2;
         match symbols.get(first.saturating_add(half)) {
             Some(middle) if middle.value < value => {
