@@ -3,7 +3,8 @@
 use crate::digits::{push_hex2, push_number, push_spaces, push_text};
 use crate::labels::Named;
 use crate::parts::{
-    kind_name, push_address, push_here, push_instruction, push_named2, push_named4, push_port, side_name,
+    kind_name, push_address, push_here, push_instruction, push_named2, push_named4, push_port,
+    side_name,
 };
 use crate::position::position_at;
 use crate::step::{Instruction, Step, Way};
