@@ -50,8 +50,8 @@ fn address_of(word: &str) -> Option<(u32, bool)> {
     Some((number, digits.len() > 4))
 }
 
-/// Returns the address that a label or digits name, and whether it names a bank. Digits behind a dollar sign are never a
-/// label. A label that stands for several addresses names none.
+/// Returns the address that a label or digits name, and whether it names a bank. Digits behind a dollar sign are
+/// never a label. A label that stands for several addresses names none.
 pub fn place_of(labels: &Labels, word: &str) -> Option<(u32, bool)> {
     match labels.find(word) {
         Found::One(address) if address < 0x100_0000 => Some((address, true)),

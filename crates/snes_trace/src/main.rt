@@ -8,7 +8,8 @@
 //! With `--coverage` it tells no step, but which bytes of the cartridge's ROM the run used (`rom_coverage`).
 //!
 //! The status is 0 if the trace was written. It is 1 if what was to end it was not reached, or if there are breakpoints
-//! and none was hit. It is 2 if something could not be read or written or was refused, or if the command line is invalid.
+//! and none was hit. It is 2 if something could not be read or written or was refused, or if the command line is
+//! invalid.
 #![tactic(auto)]
 
 mod breaks;

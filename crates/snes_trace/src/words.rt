@@ -46,8 +46,9 @@ that of the A side and 002100 to 0021FF. # begins a comment. A label of --symbol
 --coverage writes a log of code and data (FILE ends in .cdl), a picture (.png), or a record of lines of
 source for lcov (.info, with a debug file of ld65 as --symbols). Standard output gets a table, a bank a line.
 
-Statuses: 0 done; 1 --until was not reached, or without it there are breakpoints and none was hit; 2 a file could not be read or is refused,
-the trace could not be written, or the words are at fault: standard error says which.";
+Statuses: 0 done; 1 --until was not reached, or without it there are breakpoints and none was hit; 2 a
+file could not be read or is refused, the trace could not be written, or the words are at fault:
+standard error says which.";
 
 /// The command line.
 pub fn program() -> Program {
