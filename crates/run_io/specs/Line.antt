@@ -92,6 +92,7 @@ abbrev pub cannot_write_text : Out → Option (List ℕ)
 cannot_write_text out.Video = Some (codes "cannot write video")
 cannot_write_text out.Sound = Some (codes "cannot write sound")
 cannot_write_text out.Image = Some (codes "cannot write image")
+cannot_write_text out.State = Some (codes "cannot write state")
 cannot_write_text out.Say = None
 
 -- there was no memory

@@ -21,6 +21,7 @@ abbrev pub output_option : Out → List ℕ
 output_option out.Video = codes "--video"
 output_option out.Sound = codes "--audio"
 output_option out.Image = codes "--out"
+output_option out.State = codes "--state"
 output_option out.Say = []
 
 -- the option of a number, the most decimal digits that it has, and its greatest value

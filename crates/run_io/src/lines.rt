@@ -150,7 +150,7 @@ pub fn cannot_read_line(input: Input) -> Line
     })
 }
 
-/// Returns the line of an output that was not written: `cannot write video`, or `sound`, `image`. There is none for
+/// Returns the line of an output that was not written: `cannot write video`, or `sound`, `image`, `state`. There is none for
 /// `Out::Say`, which the lines themselves go to.
 pub fn cannot_write_line(out: Out) -> Option<Line>
     ensures text { result ≡ option_map line_of (cannot_write_text out) }
@@ -159,6 +159,7 @@ pub fn cannot_write_line(out: Out) -> Option<Line>
         Out::Video => Some(whole("cannot write video\n")),
         Out::Sound => Some(whole("cannot write sound\n")),
         Out::Image => Some(whole("cannot write image\n")),
+        Out::State => Some(whole("cannot write state\n")),
         Out::Say => None,
     }
 }

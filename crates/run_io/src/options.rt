@@ -34,6 +34,7 @@ pub(crate) fn option_of_output(out: Out) -> &'static str
         Out::Video => "--video",
         Out::Sound => "--audio",
         Out::Image => "--out",
+        Out::State => "--state",
         Out::Say => "",
     }
 }
