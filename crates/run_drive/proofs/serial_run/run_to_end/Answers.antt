@@ -1,11 +1,13 @@
-use Rattle.std.proofs.Common.{subst, sym, rules, arith}
+use Rattle.std.proofs.Common.{◌≡◌, ◌≤◌, length, subst, sym, rules, arith}
 use Rattle.std.proofs.lemmas.Grind.{common_steps}
 use Rattle.snes_defs.specs.declared.ports.Side.TheVariants.{Console, Sound}
 use Rattle.side_law.specs.Serial.{serial_of}
+use Rattle.serial_console.specs.Serial.{console_of, sound_of}
 use Rattle.side_law.proofs.SerialKeeps.{serving_at_first}
 use Rattle.side_law.proofs.SerialRuns.{run_ends}
+use Rattle.run_drive.proofs.Ending.{run_has_ended}
 use Rattle.run_drive.proofs.Running.{run_starts, run_leads, run_is_whole, whole_is_first, console_taken, console_failed, sound_taken, sound_failed}
-use Rattle.run_drive.proofs.serial_run.run_serial.Goals as goal
+use Rattle.run_drive.proofs.serial_run.run_to_end.Goals as goal
 
 pub loop-serial-init : goal.loop-serial-init
 loop-serial-init g c = record {
@@ -103,3 +105,15 @@ returns-clause-first g c = λ m n console sound.
     whole_is_first C.moves S.moves C.stands S.stands c.args.end m n _
     (run_is_whole C.moves S.moves C.stands S.stands C.waiting S.waiting c.args.end m n C.stamp_of S.stamp_of of_console.stands_stamp of_sound.stands_stamp _ _
     (c.loop-serial.invariant.running m n console sound) (search rules))
+
+pub returns-clause-ended : goal.returns-clause-ended
+returns-clause-ended g c = λ m n console sound.
+    let C = g.C.Machine in
+    let S = g.S.Machine in
+    let of_console = g.met.C.Machine g.world.𝓛 g.world.𝓜 g.world.𝓡 ((λ s x. x), (λ x. x), (λ x. x), λ x. x) in
+    let of_sound = g.met.S.Machine g.world.𝓛 g.world.𝓜 g.world.𝓡 ((λ s x. x), (λ x. x), (λ x. x), λ x. x) in
+    let over : (c.args.end ≤ C.stamp_of (console_of c.loop-serial.serial)) × (c.args.end ≤ S.stamp_of (sound_of c.loop-serial.serial))
+    × (length (C.waiting (console_of c.loop-serial.serial)) ≡ 0) × (length (S.waiting (sound_of c.loop-serial.serial)) ≡ 0)
+    = search rules in
+    run_has_ended C.moves S.moves C.stands S.stands C.waiting S.waiting c.args.end m n C.stamp_of S.stamp_of of_console.stands_stamp of_sound.stands_stamp _ _
+    (c.loop-serial.invariant.running m n console sound) over.0 over.1

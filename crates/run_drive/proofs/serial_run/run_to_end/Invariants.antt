@@ -1,7 +1,7 @@
 use Rattle.std.proofs.Common.{◌+◌, ◌*◌, ◌-◌, ◌<◌, ◌≤◌, length, min}
 use Rattle.serial_console.specs.Serial.{console_of, sound_of}
 use Rattle.run_drive.proofs.Running.{IsRunning}
-use Rattle.run_drive.proofs.serial_run.run_serial.Given as goal
+use Rattle.run_drive.proofs.serial_run.run_to_end.Given as goal
 
 abbrev pub invariant-loop-serial : goal.invariant-loop-serial
 invariant-loop-serial g l =
