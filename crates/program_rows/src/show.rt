@@ -10,6 +10,9 @@ const MOST_RUNS: usize = 8;
 /// The length of the longest name that is printed; a longer one is shown by its length.
 const MOST_LETTERS: usize = 64;
 
+/// The bytes of a state that are printed in one line.
+const LINE: usize = 16;
+
 /// How much of an output is printed.
 #[derive(Clone, Copy, Debug, PartialEq, Eq)]
 pub enum Detail {
@@ -95,6 +98,28 @@ fn show_output<R: Print>(
     println!(rt; "")
 }
 
+/// Prints sixteen bytes of a state behind their offset.
+fn show_line<R: Print>(rt: &R, at: usize, line: &[u8]) -> io::Result<()> {
+    print!(rt; "    {at:05x} ")?;
+    for byte in line {
+        print!(rt; " {byte:02x}")?;
+    }
+    println!(rt; "")
+}
+
+/// Prints a state that was created: how many bytes it has, and each line of sixteen that has one other than 0.
+fn show_state<R: Print>(rt: &R, outcome: &Outcome) -> io::Result<()> {
+    let name = outcome.shelf.named(Out::State);
+    let bytes = outcome.shelf.written(Out::State);
+    show_output(rt, "state", name, bytes, Detail::Length)?;
+    for (number, line) in bytes.chunks(LINE).enumerate() {
+        if line.iter().any(|byte| *byte != 0) {
+            show_line(rt, number.saturating_mul(LINE), line)?;
+        }
+    }
+    Ok(())
+}
+
 /// Prints the exit status and the line of the program.
 pub fn show_answer<R: Print>(rt: &R, outcome: &Outcome) -> io::Result<()> {
     let exit = outcome.status.exit();
@@ -112,5 +137,6 @@ pub fn show_outputs<R: Print>(rt: &R, outcome: &Outcome, detail: Detail) -> io::
     let image = shelf.written(Out::Image);
     show_output(rt, "video", shelf.named(Out::Video), video, detail)?;
     show_output(rt, "sound", shelf.named(Out::Sound), sound, detail)?;
-    show_output(rt, "image", shelf.named(Out::Image), image, detail)
+    show_output(rt, "image", shelf.named(Out::Image), image, detail)?;
+    show_state(rt, outcome)
 }

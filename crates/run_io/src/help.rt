@@ -21,6 +21,8 @@ snes demo NUMBER --frames N\n\
 \x20           run that cartridge in memory, and print the sums of what it put out\n\
 snes rewind --cart FILE --boot FILE --table FILE --plan FILE --video FILE --audio FILE\n\
 \x20           play a plan: lines go COUNT PAD1 PAD2, keep SLOT, back SLOT (docs/use/REWIND.md)\n\
+snes dump --cart FILE --boot FILE --table FILE --script FILE --frames N --state FILE\n\
+\x20           run a cartridge, and write the registers and memories at its end (docs/use/STATE.md)\n\
 snes --help, snes -h, snes --version\n\
 \x20           print this text, or the version\n\
 ./snes --quiet ..\n\

@@ -189,6 +189,7 @@ module _ (command : Command) (order : Order) (before mid after : Shown) (apart :
   passed out.Video none = inr (over_then before mid after out.Video (only.others out.Video none) (puts.others out.Video (λ e. cc)))
   passed out.Sound none = inr (over_then before mid after out.Sound (only.others out.Sound none) (puts.others out.Sound (λ e. cc)))
   passed out.Image none = inr (over_then before mid after out.Image (only.others out.Image none) (puts.others out.Image (λ e. cc)))
+  passed out.State none = inr (over_then before mid after out.State (only.others out.State none) (puts.others out.State (λ e. cc)))
 
   -- the call ended as the command did
   pub call_ends : (outcome : Result (List ℕ) Status) (status : Status)

@@ -2,6 +2,7 @@ pub mod Adding
 pub mod Clauses
 pub mod DemoCartridge
 pub mod DemoLemmas
+pub mod DumpLemmas
 pub mod Ending
 pub mod Explaining
 pub mod HelpLemmas

@@ -1,6 +1,7 @@
 pub mod Command
 pub mod Commands
 pub mod Demo
+pub mod Dump
 pub mod Ends
 pub mod Help
 pub mod Job

@@ -4,6 +4,7 @@ ghost use Rattle.snes_program.specs.Ends.{EndsCall, EndsWish};
 
 use crate::command::Performs;
 use crate::demo::Demo;
+use crate::dump::Dump;
 use crate::help::{Help, Version};
 use crate::make::Make;
 use crate::perform::perform;
@@ -15,6 +16,7 @@ use crate::status::Status;
 use file_shelf::Shelf;
 use plan_drive::PlanPlayer;
 use port_wire::Gate;
+use run_drive::StatePlayer;
 use run_io::{Argv, Asked, Word, read_form};
 use std::thread::Threads;
 
@@ -52,14 +54,14 @@ fn call<C: Performs, R: AllocGlobal + Threads, H: Shelf>(
 
 /// Calls the command of this name. THE COMMANDS are listed here, and in `asked_by`.
 #[tactic(auto, unfolding(crate::specs::Commands::asked_by))]
-fn call_named<P: PlanPlayer, R: AllocGlobal + Threads, H: Shelf>(
+fn call_named<P: PlanPlayer + StatePlayer, R: AllocGlobal + Threads, H: Shelf>(
     rt: &R,
     gate: &dyn Gate,
     name: &str,
     words: &[Word],
     shelf: &mut H,
 ) -> Status
-    ensures { EndsWish (asked_by P.emits name.now words.now) (H.shown shelf.old) (H.shown shelf.new) result }
+    ensures { EndsWish (asked_by P.emits P.leaves name.now words.now) (H.shown shelf.old) (H.shown shelf.new) result }
 {
     if name == "run" {
         return call(&Run::<P>::by(Way::Turns), rt, gate, words, shelf);
@@ -82,6 +84,9 @@ fn call_named<P: PlanPlayer, R: AllocGlobal + Threads, H: Shelf>(
     if name == "rewind" {
         return call(&Rewind::<P>::new(), rt, gate, words, shelf);
     }
+    if name == "dump" {
+        return call(&Dump::<P>::new(), rt, gate, words, shelf);
+    }
     if name == "--help" {
         return call(&Help, rt, gate, words, shelf);
     }
@@ -96,13 +101,13 @@ fn call_named<P: PlanPlayer, R: AllocGlobal + Threads, H: Shelf>(
 
 /// Performs the command that the arguments ask for, prints how it ended, and returns the status.
 #[tactic(auto, using(crate::proofs::Ending::reads))]
-pub(crate) fn performed<P: PlanPlayer, R: AllocGlobal + Threads, H: Shelf>(
+pub(crate) fn performed<P: PlanPlayer + StatePlayer, R: AllocGlobal + Threads, H: Shelf>(
     rt: &R,
     gate: &dyn Gate,
     words: &Argv,
     shelf: &mut H,
 ) -> Status
-    ensures { EndsWish (asked P.emits words.now) (H.shown shelf.old) (H.shown shelf.new) result }
+    ensures { EndsWish (asked P.emits P.leaves words.now) (H.shown shelf.old) (H.shown shelf.new) result }
 {
     match words.all().split_first() {
         Some((name, words)) => call_named::<P, R, H>(rt, gate, name.text(), words, shelf),
