@@ -158,6 +158,10 @@ pub fn say_difference<R: Files + Print + AllocGlobal>(
 ) -> Result<u8> {
     let first = words.get_str("A").unwrap_or("-");
     let second = words.get_str("B").unwrap_or("-");
+    if words.get_flag("state") {
+        let lines = words.get_one::<u64>("lines").unwrap_or(20);
+        return crate::state_apart::say_difference(rt, first, second, lines);
+    }
     if words.get_flag("audio") {
         return crate::samples::say_difference(rt, first, second);
     }

@@ -3,7 +3,7 @@
 use companion_words::{About, Kind, Program, Word, words};
 
 /// The commands.
-static COMMANDS: [About; 6] = [
+static COMMANDS: [About; 7] = [
     About {
         name: "png",
         text: "One frame as PNG, as a television shows it: 512 by 478, each row twice",
@@ -28,13 +28,20 @@ static COMMANDS: [About; 6] = [
         name: "avi",
         text: "Picture and sound as AVI, uncompressed: 512 by 478, at the region's exact rate",
     },
+    About {
+        name: "state",
+        text: "What a state of snes dump holds: registers, and the lines of each memory that have a byte other than 0",
+    },
 ];
 
 /// The names of the regions.
 const REGIONS: &[&str] = &["ntsc", "pal"];
 
+/// The names of the memories of a state.
+const MEMORIES: &[&str] = &["dsp", "cgram", "oam", "wram", "vram", "aram", "sram"];
+
 /// The words of all commands.
-static WORDS: [Word; 21] = words![
+static WORDS: [Word; 27] = words![
     "png" Kind::Placed, "VIDEO" "" "" "raw frames; - is standard input";
     "png" Kind::PlacedNumber, "FRAME" "" "" "its number, from 0";
     "png" Kind::Placed, "OUT" "" "" "the PNG";
@@ -49,6 +56,8 @@ static WORDS: [Word; 21] = words![
     "diff" Kind::Placed, "B" "" "" "the same";
     "diff" Kind::Text, "png" "OUT" "" "a picture of the first frame that differs: red where it does";
     "diff" Kind::Flag, "audio" "" "" "A and B are raw samples";
+    "diff" Kind::Flag, "state" "" "" against &["audio", "png"], "A and B are states of snes dump";
+    "diff" Kind::Number, "lines" "COUNT" "20" "with --state: how many differences are printed at most";
     "sheet" Kind::Placed, "VIDEO" "" "" "raw frames; - is standard input";
     "sheet" Kind::Placed, "OUT" "" "" "the PNG";
     "sheet" Kind::Positive, "every" "FRAMES" "60" "a picture each so many frames, from frame 0 on";
@@ -56,6 +65,10 @@ static WORDS: [Word; 21] = words![
     "avi" Kind::Placed, "AUDIO" "" "" "raw samples";
     "avi" Kind::Placed, "OUT" "" "" "the AVI";
     "avi" Kind::Choice(REGIONS), "region" "REGION" "" "ntsc or pal; else as the lengths of the two files say, and ntsc of pipes";
+    "state" Kind::Placed, "FILE" "" "" "the state; - is standard input";
+    "state" Kind::Choice(MEMORIES), "memory" "NAME" "" "one memory alone, with its lines of zeros";
+    "state" Kind::Text, "from" "ADDRESS" "" "with --memory: its first address, decimal or from 0x on; else 0";
+    "state" Kind::Text, "count" "COUNT" "" "with --memory: how many bytes; else all";
 ];
 
 /// What the help says last.
@@ -67,7 +80,7 @@ or the command line is at fault: standard error says which.";
 pub fn program() -> Program {
     Program {
         name: "look",
-        about: "Looks at the raw frames and samples that snes wrote",
+        about: "Looks at the raw frames, the samples and the states that snes wrote",
         commands: &COMMANDS,
         words: &WORDS,
         needs_words: true,
