@@ -14,6 +14,7 @@ import sys
 
 TOP = os.path.dirname(os.path.dirname(os.path.dirname(os.path.realpath(__file__))))
 FORMATS = ("The files", "The outputs", "Statuses and lines", "Limits")
+STATE = ("The layout", "What the parts mean")
 
 
 def text_of(name):
@@ -31,7 +32,7 @@ class Command:
 def installed(text):
     """The text, with the names that things have where they are installed."""
     text = re.sub(r"docs/use/COMMANDS\.md", "snes(5)", text)
-    text = re.sub(r"docs/use/REWIND\.md", "snes(5)", text)
+    text = re.sub(r"docs/use/(REWIND|STATE)\.md", "snes(5)", text)
     return text.replace("./scene", "snes-scene").replace("./snes", "snes")
 
 
@@ -261,10 +262,14 @@ def scene_page(program, version, date):
 
 
 def formats_page(version, date):
-    sections = dict(re.findall(r"^## (.+)\n((?:(?!## ).*\n?)*)", text_of("docs/use/COMMANDS.md"), re.M))
+    def sections_of(name):
+        return re.findall(r"^## (.+)\n((?:(?!## ).*\n?)*)", text_of(name), re.M)
+
+    sections = dict(sections_of("docs/use/COMMANDS.md") + sections_of("docs/use/STATE.md"))
     page = head("snes", 5, date, version, "files that snes reads and writes, its messages and its limits")
-    for name in FORMATS:
-        for line in page_of(f"## {name}\n" + installed(sections[name])):
+    for name in FORMATS[:2] + STATE + FORMATS[2:]:
+        title = name.replace("The layout", "The state file")
+        for line in page_of(f"## {title}\n" + installed(sections[name])):
             # A paragraph begins with its section anyway.
             if line != ".PP" or not page[-1].startswith(".S"):
                 page.append(line)
