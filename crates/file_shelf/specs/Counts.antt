@@ -1,7 +1,7 @@
 -- Counts of calls and faults, which stand still at the end of their 64 bits.
 use Rattle.std.specs.Prelude.{ℕ, ◌+◌, ◌^◌, nat_lt, if◌then◌else◌}
 use Rattle.file_shelf.specs.declared.shelves.Out.{Out}
-use Rattle.file_shelf.specs.declared.shelves.Out.TheVariants.{Video, Sound, Image, Say}
+use Rattle.file_shelf.specs.declared.shelves.Out.TheVariants.{Video, Sound, Image, Sums, Say}
 use Rattle.file_shelf.specs.declared.counts.Counts.{Counts}
 
 -- a count after one more
@@ -13,6 +13,7 @@ abbrev pub count_of : Counts → Out → ℕ
 count_of counts Video = counts.video
 count_of counts Sound = counts.sound
 count_of counts Image = counts.image
+count_of counts Sums = counts.sums
 count_of counts Say = counts.say
 
 -- the counts after one more of an output
@@ -20,8 +21,9 @@ abbrev pub counted : Counts → Out → Counts
 counted counts Video = record counts { video = next counts.video }
 counted counts Sound = record counts { sound = next counts.sound }
 counted counts Image = record counts { image = next counts.image }
+counted counts Sums = record counts { sums = next counts.sums }
 counted counts Say = record counts { say = next counts.say }
 
 -- nothing counted
 abbrev pub none_counted : Counts
-none_counted = record { video = 0; sound = 0; image = 0; say = 0 }
+none_counted = record { video = 0; sound = 0; image = 0; sums = 0; say = 0 }

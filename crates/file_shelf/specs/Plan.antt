@@ -4,7 +4,7 @@ use Rattle.std.specs.List.{list_any}
 use Rattle.file_shelf.specs.Counts.{next, count_of, counted, none_counted}
 use Rattle.file_shelf.specs.declared.counts.Counts.{Counts}
 use Rattle.file_shelf.specs.declared.shelves.Out.{Out}
-use Rattle.file_shelf.specs.declared.shelves.Out.TheVariants.{Video, Sound, Image, Say}
+use Rattle.file_shelf.specs.declared.shelves.Out.TheVariants.{Video, Sound, Image, Sums, Say}
 use Rattle.file_shelf.specs.declared.plan.ShelfCall.{ShelfCall}
 use Rattle.file_shelf.specs.declared.plan.ShelfCall.TheVariants.{Load, Create, Put}
 use Rattle.file_shelf.specs.declared.plan.Failure.{Failure}
@@ -25,6 +25,7 @@ abbrev pub same_out : Out → Out → Bool
 same_out Video Video = true
 same_out Sound Sound = true
 same_out Image Image = true
+same_out Sums Sums = true
 same_out Say Say = true
 same_out _ _ = false
 

@@ -3,7 +3,7 @@ use Rattle.std.specs.Prelude.{ℕ, ◌+◌, Bool, false, ◌||◌, nat_lt, List,
 use Rattle.std.specs.Option.{option_map}
 use Rattle.std.specs.Str.{bytes_eq}
 use Rattle.file_shelf.specs.declared.shelves.Out.{Out}
-use Rattle.file_shelf.specs.declared.shelves.Out.TheVariants.{Video, Sound, Image, Say}
+use Rattle.file_shelf.specs.declared.shelves.Out.TheVariants.{Video, Sound, Image, Sums, Say}
 
 -- a file
 pub record NamedBytes : Type 0 where
@@ -18,12 +18,13 @@ pub record Written : Type 0 where
   pub bytes : List ℕ
   pub overrun : Bool
 
--- the files, the last that was given first, and the four outputs
+-- the files, the last that was given first, and the five outputs
 pub record Stored : Type 0 where
   pub files : List NamedBytes
   pub video : Written
   pub sound : Written
   pub image : Written
+  pub sums : Written
   pub say : Written
 
 -- the bytes of the first file of that name
@@ -58,6 +59,7 @@ abbrev pub output_of : Stored → Out → Written
 output_of s Video = s.video
 output_of s Sound = s.sound
 output_of s Image = s.image
+output_of s Sums = s.sums
 output_of s Say = s.say
 
 -- a store with another value for one of the outputs
@@ -65,6 +67,7 @@ abbrev pub with_output : Stored → Out → Written → Stored
 with_output s Video w = record s { video = w }
 with_output s Sound w = record s { sound = w }
 with_output s Image w = record s { image = w }
+with_output s Sums w = record s { sums = w }
 with_output s Say w = record s { say = w }
 
 -- nothing held, and nothing put
@@ -74,5 +77,6 @@ nothing_stored room = record {
   video = blank [] room;
   sound = blank [] room;
   image = blank [] room;
+  sums = blank [] room;
   say = blank [] room;
 }

@@ -9,6 +9,7 @@ pub(crate) struct Counts {
     video: u64,
     sound: u64,
     image: u64,
+    sums: u64,
     say: u64,
 }
 
@@ -20,6 +21,7 @@ impl Counts {
             video: 0,
             sound: 0,
             image: 0,
+            sums: 0,
             say: 0,
         }
     }
@@ -31,6 +33,7 @@ impl Counts {
             Out::Video => self.video,
             Out::Sound => self.sound,
             Out::Image => self.image,
+            Out::Sums => self.sums,
             Out::Say => self.say,
         }
     }
@@ -42,6 +45,7 @@ impl Counts {
             Out::Video => self.video = self.video.saturating_add(1),
             Out::Sound => self.sound = self.sound.saturating_add(1),
             Out::Image => self.image = self.image.saturating_add(1),
+            Out::Sums => self.sums = self.sums.saturating_add(1),
             Out::Say => self.say = self.say.saturating_add(1),
         }
     }

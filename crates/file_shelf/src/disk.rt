@@ -36,6 +36,7 @@ pub struct FileShelf<'a, R: Files + Print> {
     video: Option<Buffered<R::File>>,
     sound: Option<Buffered<R::File>>,
     image: Option<Buffered<R::File>>,
+    sums: Option<Buffered<R::File>>,
     load_faults: u64,
     write_faults: Counts,
     known: KnownFiles,
@@ -47,7 +48,7 @@ impl<'a, R: Files + Print> Model for FileShelf<'a, R> {
 
     ghost Value = { Edge };
 
-    ghost view = { λ s. record { loads = s.load_faults; writes = s.write_faults; video = kept_of R.File.contents s.video; sound = kept_of R.File.contents s.sound; image = kept_of R.File.contents s.image } };
+    ghost view = { λ s. record { loads = s.load_faults; writes = s.write_faults; video = kept_of R.File.contents s.video; sound = kept_of R.File.contents s.sound; image = kept_of R.File.contents s.image; sums = kept_of R.File.contents s.sums } };
 }
 
 impl<'a, R: Files + Print> FileShelf<'a, R> {
@@ -60,6 +61,7 @@ impl<'a, R: Files + Print> FileShelf<'a, R> {
             video: None,
             sound: None,
             image: None,
+            sums: None,
             load_faults: 0,
             write_faults: Counts::new(),
             known: KnownFiles::of_streams(
@@ -148,6 +150,7 @@ impl<R: Files + Print> Shelf for FileShelf<'_, R> {
             Out::Video => self.video = Some(Buffered::new(file)),
             Out::Sound => self.sound = Some(Buffered::new(file)),
             Out::Image => self.image = Some(Buffered::new(file)),
+            Out::Sums => self.sums = Some(Buffered::new(file)),
             Out::Say => {}
         }
         Ok(())
@@ -172,6 +175,7 @@ impl<R: Files + Print> Shelf for FileShelf<'_, R> {
             Out::Video => put_created(&mut self.video, bytes),
             Out::Sound => put_created(&mut self.sound, bytes),
             Out::Image => put_created(&mut self.image, bytes),
+            Out::Sums => put_created(&mut self.sums, bytes),
             Out::Say => say(self.rt, bytes),
         };
         match end {
@@ -199,6 +203,7 @@ impl<R: Files + Print> Shelf for FileShelf<'_, R> {
             Out::Video => flush_created(&mut self.video),
             Out::Sound => flush_created(&mut self.sound),
             Out::Image => flush_created(&mut self.image),
+            Out::Sums => flush_created(&mut self.sums),
             Out::Say => Ok(()),
         };
         match end {

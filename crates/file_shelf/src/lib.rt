@@ -1,4 +1,4 @@
-// The shelf of files: named files that a run loads whole, and four outputs that it writes.
+// The shelf of files: named files that a run loads whole, and five outputs that it writes.
 //
 // Builds on std alone, apart from the plain types. `Shelf` is the trait that the layers above are generic over. It
 // shows what is held and written, or keeps it to itself. It counts its faults, so that a caller can show the cause of

@@ -122,6 +122,7 @@ fn is_same_out(out: Out, other: Out) -> bool
         (Out::Video, Out::Video) => true,
         (Out::Sound, Out::Sound) => true,
         (Out::Image, Out::Image) => true,
+        (Out::Sums, Out::Sums) => true,
         (Out::Say, Out::Say) => true,
         _ => false,
     }

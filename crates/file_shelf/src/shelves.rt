@@ -17,9 +17,11 @@ pub enum Input {
     Script,
     /// The plan of a rewinder.
     Plan,
+    /// The sums that a run is compared with.
+    Sums,
 }
 
-/// The four places that the program writes to.
+/// The five places that the program writes to.
 #[derive(Clone, Copy, Debug, PartialEq, Eq)]
 pub enum Out {
     /// The frames of a run.
@@ -28,6 +30,8 @@ pub enum Out {
     Sound,
     /// A cartridge that the program makes.
     Image,
+    /// The sums of the frames of a run.
+    Sums,
     /// The line for the user, standard output.
     Say,
 }
@@ -47,7 +51,7 @@ pub enum LoadEnd {
 #[derive(Clone, Copy, Debug, PartialEq, Eq)]
 pub struct Failed;
 
-/// A shelf of files: named files that can be loaded, and four outputs that can be written.
+/// A shelf of files: named files that can be loaded, and five outputs that can be written.
 ///
 /// Contracts see what a shelf holds and what was written as far as the shelf shows it. One in memory does; one over
 /// real files shows nothing. Each shelf shows how many of the bytes that were put to an output are not yet written.

@@ -116,6 +116,7 @@ pub(crate) struct Store {
     video: Output,
     sound: Output,
     image: Output,
+    sums: Output,
     say: Output,
 }
 
@@ -124,7 +125,7 @@ impl Model for Store {
 
     ghost Value = { Stored };
 
-    ghost view = { λ s. record { files = s.files.items; video = s.video; sound = s.sound; image = s.image; say = s.say } };
+    ghost view = { λ s. record { files = s.files.items; video = s.video; sound = s.sound; image = s.image; sums = s.sums; say = s.say } };
 }
 
 impl Store {
@@ -138,6 +139,7 @@ impl Store {
             video: Output::new(alloc, room)?,
             sound: Output::new(alloc, room)?,
             image: Output::new(alloc, room)?,
+            sums: Output::new(alloc, room)?,
             say: Output::new(alloc, room)?,
         })
     }
@@ -186,6 +188,7 @@ impl Store {
             Out::Video => self.video.create(name),
             Out::Sound => self.sound.create(name),
             Out::Image => self.image.create(name),
+            Out::Sums => self.sums.create(name),
             Out::Say => self.say.create(name),
         }
     }
@@ -198,6 +201,7 @@ impl Store {
             Out::Video => self.video.put(bytes),
             Out::Sound => self.sound.put(bytes),
             Out::Image => self.image.put(bytes),
+            Out::Sums => self.sums.put(bytes),
             Out::Say => self.say.put(bytes),
         }
     }
@@ -209,6 +213,7 @@ impl Store {
             Out::Video => &self.video,
             Out::Sound => &self.sound,
             Out::Image => &self.image,
+            Out::Sums => &self.sums,
             Out::Say => &self.say,
         }
     }

@@ -97,6 +97,7 @@ fn failure_of(text: &str) -> Option<Failure> {
         b"video" => ShelfCall::Put(Some(Out::Video)),
         b"sound" => ShelfCall::Put(Some(Out::Sound)),
         b"image" => ShelfCall::Put(Some(Out::Image)),
+        b"sums" => ShelfCall::Put(Some(Out::Sums)),
         b"say" => ShelfCall::Put(Some(Out::Say)),
         _ => return None,
     };

@@ -104,13 +104,27 @@ pub fn show_answer<R: Print>(rt: &R, outcome: &Outcome) -> io::Result<()> {
     }
 }
 
+/// Prints a text that was written, line by line.
+fn show_text<R: Print>(rt: &R, what: &str, name: &str, bytes: &[u8]) -> io::Result<()> {
+    if name.is_empty() {
+        return Ok(());
+    }
+    println!(rt; "  {what} {name}: {} bytes", bytes.len())?;
+    for line in str::from_utf8(bytes).unwrap_or("no text").lines() {
+        println!(rt; "    {line}")?;
+    }
+    Ok(())
+}
+
 /// Prints the outputs that were created.
 pub fn show_outputs<R: Print>(rt: &R, outcome: &Outcome, detail: Detail) -> io::Result<()> {
     let shelf = &outcome.shelf;
     let video = shelf.written(Out::Video);
     let sound = shelf.written(Out::Sound);
     let image = shelf.written(Out::Image);
+    let sums = shelf.written(Out::Sums);
     show_output(rt, "video", shelf.named(Out::Video), video, detail)?;
     show_output(rt, "sound", shelf.named(Out::Sound), sound, detail)?;
-    show_output(rt, "image", shelf.named(Out::Image), image, detail)
+    show_output(rt, "image", shelf.named(Out::Image), image, detail)?;
+    show_text(rt, "sums", shelf.named(Out::Sums), sums)
 }

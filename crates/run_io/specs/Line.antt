@@ -86,12 +86,14 @@ cannot_read_text input.Spc = codes "cannot read spc"
 cannot_read_text input.Table = codes "cannot read table"
 cannot_read_text input.Script = codes "cannot read script"
 cannot_read_text input.Plan = codes "cannot read plan"
+cannot_read_text input.Sums = codes "cannot read sums"
 
 -- an output was not written; there is no line for the output that the lines themselves go to
 abbrev pub cannot_write_text : Out → Option (List ℕ)
 cannot_write_text out.Video = Some (codes "cannot write video")
 cannot_write_text out.Sound = Some (codes "cannot write sound")
 cannot_write_text out.Image = Some (codes "cannot write image")
+cannot_write_text out.Sums = Some (codes "cannot write sums")
 cannot_write_text out.Say = None
 
 -- there was no memory

@@ -136,7 +136,8 @@ pub fn usage_line() -> Line
     whole("usage: snes run, serial, make or demo\n")
 }
 
-/// Returns the line of a file that was not loaded: `cannot read cart`, or `boot`, `spc`, `table`, `script`, `plan`.
+/// Returns the line of a file that was not loaded: `cannot read cart`, or `boot`, `spc`, `table`, `script`, `plan`,
+/// `sums`.
 pub fn cannot_read_line(input: Input) -> Line
     ensures text { result ≡ line_of (cannot_read_text input) }
 {
@@ -147,10 +148,11 @@ pub fn cannot_read_line(input: Input) -> Line
         Input::Table => "cannot read table\n",
         Input::Script => "cannot read script\n",
         Input::Plan => "cannot read plan\n",
+        Input::Sums => "cannot read sums\n",
     })
 }
 
-/// Returns the line of an output that was not written: `cannot write video`, or `sound`, `image`. There is none for
+/// Returns the line of an output that was not written: `cannot write video`, or `sound`, `image`, `sums`. There is none for
 /// `Out::Say`, which the lines themselves go to.
 pub fn cannot_write_line(out: Out) -> Option<Line>
     ensures text { result ≡ option_map line_of (cannot_write_text out) }
@@ -159,6 +161,7 @@ pub fn cannot_write_line(out: Out) -> Option<Line>
         Out::Video => Some(whole("cannot write video\n")),
         Out::Sound => Some(whole("cannot write sound\n")),
         Out::Image => Some(whole("cannot write image\n")),
+        Out::Sums => Some(whole("cannot write sums\n")),
         Out::Say => None,
     }
 }

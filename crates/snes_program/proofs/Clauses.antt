@@ -129,6 +129,7 @@ module _ (command : Command) (order : Order) (before after : Shown) where
         early out.Video differ late = absurd (omega arith)
         early out.Sound differ late = absurd (omega arith)
         early out.Image differ late = absurd (omega arith)
+        early out.Sums differ late = absurd (omega arith)
 
     pub usage : (status : Status) → Answered status ⊎ Short status → status ≡ Usage → ⊥
     usage = by (λ s. s ≡ Usage → ⊥) (λ a e. cc) (λ a risen e. cc) (λ i k e. cc) (λ i k e. cc) (λ o differ k e. cc) (λ k e. cc)
@@ -186,6 +187,7 @@ module _ (command : Command) (order : Order) (before after : Shown) where
         late out.Video early = absurd (omega arith)
         late out.Sound early = absurd (omega arith)
         late out.Image early = absurd (omega arith)
+        late out.Sums early = absurd (omega arith)
 
     abbrev AllLeft : Type 0
     AllLeft = AllOf (IsLeft command order before after) command.form.outputs
@@ -207,6 +209,7 @@ module _ (command : Command) (order : Order) (before after : Shown) where
         write out.Video differ k = k.earlier
         write out.Sound differ k = k.earlier
         write out.Image differ k = k.earlier
+        write out.Sums differ k = k.earlier
 
     -- with all accepted and no fault counted, the answer is Ok or want of memory
     pub complete : (status : Status) → Answered status ⊎ Short status → IsClean command order before after → OrNoMemory status Ok

@@ -14,7 +14,7 @@ use Rattle.snes_program.specs.declared.status.Status.{Status}
 use Rattle.snes_program.specs.declared.status.Status.TheVariants.{Ok, Usage, LoadFault, Refused, WriteFault, NoMemory}
 use Rattle.snes_program.specs.Command.{Command, HoldsWhole, HoldsFirst}
 use Rattle.snes_program.specs.Commands.{ordered, asks}
-use Rattle.snes_program.specs.Loads.{told_in, ShowsAccepted, EndsInput, EndsInputs}
+use Rattle.snes_program.specs.Loads.{free_in, free_or, told_in, ShowsAccepted, EndsInput, EndsInputs}
 use Rattle.snes_program.specs.Said.{IsSaid, Says}
 use Rattle.snes_program.specs.Status.{refusal_of}
 use Rattle.snes_program.specs.Ends.{are_apart, OnlyTouches, OnlySays, IsNamed, IsFresh, IsMade, IsDone, IsBegun, IsLeft, IsWriteFault, IsAnswered, EndsShort, OnlyCommanded, EndsCall, EndsUsage, EndsWish}
@@ -74,7 +74,7 @@ module _ (command : Command) (order : Order) (z a : Shown) (loads : OnlyLoads z 
 
     module _ (created : AllOf (IsFresh order b) command.form.outputs) (c : Shown) (fills : OnlyTouches command.form.outputs b c) (same : c.named ≡ b.named) where
       told_same : told_in b order.pairs ≡ told_in z order.pairs
-      told_same = ap {B = Input → Option (List ℕ)} (λ (held : List ℕ → Option (List ℕ)) (input : Input). held (input_name order.pairs input)) (opens.held ∙ loads.held)
+      told_same = ap {B = Input → Option (List ℕ)} (λ (held : List ℕ → Option (List ℕ)) (input : Input). free_or (free_in order.pairs input) (held (input_name order.pairs input))) (opens.held ∙ loads.held)
 
       still : (o : Out) → IsFresh order b o → IsNamed order c.named o
       still o h = subst (λ (n : Out → Option (List ℕ)). IsNamed order n o) (sym same) h.named
@@ -189,6 +189,7 @@ module _ (command : Command) (order : Order) (before mid after : Shown) (apart :
   passed out.Video none = inr (over_then before mid after out.Video (only.others out.Video none) (puts.others out.Video (λ e. cc)))
   passed out.Sound none = inr (over_then before mid after out.Sound (only.others out.Sound none) (puts.others out.Sound (λ e. cc)))
   passed out.Image none = inr (over_then before mid after out.Image (only.others out.Image none) (puts.others out.Image (λ e. cc)))
+  passed out.Sums none = inr (over_then before mid after out.Sums (only.others out.Sums none) (puts.others out.Sums (λ e. cc)))
 
   -- the call ended as the command did
   pub call_ends : (outcome : Result (List ℕ) Status) (status : Status)

@@ -15,3 +15,4 @@ pub mod Putting
 pub mod RewindLemmas
 pub mod RunLemmas
 pub mod SpcLemmas
+pub mod SumsRunLemmas

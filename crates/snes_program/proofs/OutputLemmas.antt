@@ -29,6 +29,7 @@ same_self : (one : Out) → same_out one one ≡ true
 same_self out.Video = refl
 same_self out.Sound = refl
 same_self out.Image = refl
+same_self out.Sums = refl
 same_self out.Say = refl
 
 same_not : (one other : Out) → same_out one other ≡ false → other ≢ one

@@ -16,3 +16,4 @@ pub mod Snes
 pub mod SoundOut
 pub mod Status
 pub mod Sums
+pub mod SumsRun

@@ -21,6 +21,7 @@ abbrev pub rewind_form : FormValue
 rewind_form = record {
   numbered = false;
   inputs = Cart ∷ (Boot ∷ (Table ∷ (Plan ∷ [])));
+  optional = [];
   count = None;
   outputs = Video ∷ (Sound ∷ []);
 }

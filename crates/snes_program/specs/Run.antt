@@ -15,6 +15,7 @@ abbrev pub run_form : FormValue
 run_form = record {
   numbered = false;
   inputs = Cart ∷ (Boot ∷ (Table ∷ (Script ∷ [])));
+  optional = [];
   count = Some Frames;
   outputs = Video ∷ (Sound ∷ []);
 }

@@ -12,6 +12,7 @@ use crate::rewind::Rewind;
 use crate::run::{Run, Way};
 use crate::say::{refuse, say};
 use crate::status::Status;
+use crate::sums_run::SumsRun;
 use file_shelf::Shelf;
 use plan_drive::PlanPlayer;
 use port_wire::Gate;
@@ -81,6 +82,9 @@ fn call_named<P: PlanPlayer, R: AllocGlobal + Threads, H: Shelf>(
     }
     if name == "rewind" {
         return call(&Rewind::<P>::new(), rt, gate, words, shelf);
+    }
+    if name == "sums" {
+        return call(&SumsRun::<P>::new(), rt, gate, words, shelf);
     }
     if name == "--help" {
         return call(&Help, rt, gate, words, shelf);

@@ -67,6 +67,7 @@ impl<P: Player> Performs for Demo<P> {
         Form {
             numbered: true,
             inputs: &[],
+            optional: &[],
             count: Some(Count::Frames),
             outputs: &[],
         }

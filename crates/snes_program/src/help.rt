@@ -23,6 +23,7 @@ fn no_words() -> Form
     Form {
         numbered: false,
         inputs: &[],
+        optional: &[],
         count: None,
         outputs: &[],
     }

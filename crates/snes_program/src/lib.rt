@@ -14,6 +14,7 @@ mod call;
 mod cart;
 mod command;
 mod demo;
+mod free;
 mod help;
 mod job;
 mod loads;
@@ -32,6 +33,7 @@ mod sound_out;
 mod spc;
 mod status;
 mod sums;
+mod sums_run;
 mod table;
 mod top;
 

@@ -28,6 +28,7 @@ impl Performs for Make {
         Form {
             numbered: true,
             inputs: &[],
+            optional: &[],
             count: None,
             outputs: &OUTPUTS,
         }

@@ -8,6 +8,7 @@ use crate::make::Make;
 use crate::play::Play;
 use crate::rewind::Rewind;
 use crate::run::Run;
+use crate::sums_run::SumsRun;
 use plan_drive::PlanPlayer;
 use run_io::{Argv, Fault, Mistake, Word, mistake_in, read_form};
 
@@ -48,6 +49,9 @@ fn explain_named<'a, P: PlanPlayer>(name: &'a str, words: &'a [Word]) -> Option<
     }
     if name == "rewind" {
         return explain_form::<Rewind<P>>(words);
+    }
+    if name == "sums" {
+        return explain_form::<SumsRun<P>>(words);
     }
     if name == "--help" {
         return explain_form::<Help>(words);

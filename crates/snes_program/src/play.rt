@@ -37,6 +37,7 @@ impl Performs for Play {
         Form {
             numbered: false,
             inputs: &INPUTS,
+            optional: &[],
             count: Some(Count::Samples),
             outputs: &OUTPUTS,
         }

@@ -118,6 +118,7 @@ impl<P: PlanPlayer> Performs for Rewind<P> {
         Form {
             numbered: false,
             inputs: &INPUTS,
+            optional: &[],
             count: None,
             outputs: &OUTPUTS,
         }

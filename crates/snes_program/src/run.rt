@@ -99,6 +99,7 @@ impl<P: Player> Performs for Run<P> {
         Form {
             numbered: false,
             inputs: &INPUTS,
+            optional: &[],
             count: Some(Count::Frames),
             outputs: &OUTPUTS,
         }

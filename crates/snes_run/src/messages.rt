@@ -16,7 +16,7 @@ fn text_of(line: &Line) -> &str {
 fn tell_mistake(rt: &HostRuntime, mistake: &Mistake<'_>) -> io::Result<()> {
     eprintln!(rt; "snes: {mistake}")?;
     eprintln!(rt;
-        "snes: the commands are run, serial, lockless, play, make, demo and rewind; snes --help says more"
+        "snes: the commands are run, serial, lockless, play, make, demo, rewind and sums; snes --help says more"
     )
 }
 

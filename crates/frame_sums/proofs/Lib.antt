@@ -1,0 +1,4 @@
+pub mod CutLemmas
+pub mod DigestLemmas
+pub mod PieceLemmas
+pub mod TextLemmas
