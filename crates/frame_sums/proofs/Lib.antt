@@ -1,3 +1,4 @@
+pub mod CompareLemmas
 pub mod CutLemmas
 pub mod DigestLemmas
 pub mod PieceLemmas

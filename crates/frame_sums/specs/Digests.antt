@@ -7,6 +7,7 @@ use Rattle.snes_defs.specs.declared.region.Region.{Region}
 use Rattle.snes_defs.specs.declared.ports.Side.{Side}
 use Rattle.snes_defs.specs.declared.ports.Side.TheVariants.{Console, Sound}
 use Rattle.frame_sums.specs.declared.pieces.Pieces.{Pieces}
+use Rattle.frame_sums.specs.declared.file.SumPair.{SumPair}
 use Rattle.frame_sums.specs.declared.cuts.Cuts.{Cuts}
 use Rattle.frame_sums.specs.declared.sums.SideSums.{SideSums}
 use Rattle.frame_sums.specs.declared.digests.Digests.{Digests}
@@ -72,3 +73,10 @@ pub record AreSumsOf (emits : List ℕ → List ℕ → Type 0) (region : Region
 abbrev pub HasTaken : FrameSums → Side → List ℕ → Type 0
 HasTaken sums Console bytes = AreSummed sums.video bytes
 HasTaken sums Sound bytes = AreSummed sums.audio bytes
+
+-- the sums of a frame, by those of both sides, and the sums of all frames
+abbrev pub digest_pair : (video audio : Digests) → ℕ → SumPair
+digest_pair video audio frame = record { picture = row_in video.rows.items frame; sound = row_in audio.rows.items frame }
+
+abbrev pub digest_all : (video audio : Digests) → SumPair
+digest_all video audio = record { picture = video.all; sound = audio.all }

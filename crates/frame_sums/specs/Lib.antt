@@ -1,3 +1,5 @@
-pub mod Pieces
-pub mod Text
+pub mod Compare
 pub mod Digests
+pub mod Pieces
+pub mod SumsFile
+pub mod Text

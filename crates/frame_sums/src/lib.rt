@@ -5,16 +5,21 @@
 // `put_sums` writes the text (`specs/Text.antt`) line by line. No memory is taken but by `FrameSums::new`.
 #![tactic(auto)]
 
+mod compare;
 mod cuts;
 mod cutting;
 mod digests;
+mod file;
 mod line;
 mod pieces;
 mod playing;
 mod put;
+mod reading;
 mod sums;
 
+pub use compare::{Difference, first_difference};
 pub use digests::Digests;
+pub use file::{SumPair, SumsEnd, SumsFile, read_sums};
 pub use pieces::Pieces;
 pub use playing::play_summed;
 pub use put::put_sums;

@@ -1,5 +1,7 @@
 -- The lines for the user.
 use Rattle.std.specs.Prelude.{ℕ, ◌+◌, ◌/◌, ◌%◌, List, [], ◌∷◌, ◌++◌, codes, decimal, Option, Some, None, nat_lt, if◌then◌else◌}
+use Rattle.snes_defs.specs.declared.ports.Side.{Side}
+use Rattle.snes_defs.specs.declared.ports.Side.TheVariants.{Console, Sound}
 use Rattle.cart_map.specs.declared.refused.CartRefused.{CartRefused}
 use Rattle.cart_map.specs.declared.refused.CartRefused.TheVariants as cart
 use Rattle.file_shelf.specs.declared.shelves.Input.{Input}
@@ -73,6 +75,24 @@ script_refused_text line = codes "script refused at line " ++ decimal line
 
 abbrev pub plan_refused_text : ℕ → List ℕ
 plan_refused_text line = codes "plan refused at line " ++ decimal line
+
+abbrev pub sums_refused_text : ℕ → List ℕ
+sums_refused_text line = codes "sums refused at line " ++ decimal line
+
+-- the column of a side in a file of sums
+abbrev pub column_text : Side → List ℕ
+column_text Console = codes " picture"
+column_text Sound = codes " sound"
+
+-- the first difference between a run and a file of sums: at a frame, in how many frames there are, or in the sum of all
+abbrev pub frame_differs_text : ℕ → Side → List ℕ
+frame_differs_text frame side = codes "differs: frame " ++ decimal frame ++ column_text side
+
+abbrev pub frames_differ_text : List ℕ
+frames_differ_text = codes "differs: frames"
+
+abbrev pub all_differ_text : Side → List ℕ
+all_differ_text side = codes "differs: all" ++ column_text side
 
 -- the words are in no form
 abbrev pub usage_text : List ℕ

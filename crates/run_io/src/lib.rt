@@ -19,9 +19,10 @@ pub use file_shelf::{
 pub use forms::{Asked, Form, read_form};
 pub use help::{help_line, version_line};
 pub use lines::{
-    Line, boot_refused_line, cannot_read_line, cannot_write_line, cart_refused_line, demo_line,
-    frames_line, image_line, no_memory_line, plan_refused_line, samples_line, script_refused_line,
-    spc_no_text_line, spc_too_long_line, spc_too_short_line, table_refused_line, usage_line,
+    Line, all_differ_line, boot_refused_line, cannot_read_line, cannot_write_line,
+    cart_refused_line, demo_line, frame_differs_line, frames_differ_line, frames_line, image_line,
+    no_memory_line, plan_refused_line, samples_line, script_refused_line, spc_no_text_line,
+    spc_too_long_line, spc_too_short_line, sums_refused_line, table_refused_line, usage_line,
 };
 pub use mistakes::{Fault, Mistake, mistake_in};
 pub use options::Count;

@@ -1,4 +1,5 @@
 pub mod Adding
+pub mod CheckLemmas
 pub mod Clauses
 pub mod DemoCartridge
 pub mod DemoLemmas

@@ -8,7 +8,7 @@ use Rattle.run_io.specs.Lists.{AllOf}
 use Rattle.run_io.specs.Words.{input_name}
 use Rattle.snes_program.specs.declared.status.Why.{Why}
 use Rattle.snes_program.specs.declared.status.Status.{Status}
-use Rattle.snes_program.specs.declared.status.Status.TheVariants.{Ok, Usage, LoadFault, Refused, WriteFault, NoMemory}
+use Rattle.snes_program.specs.declared.status.Status.TheVariants.{Ok, Usage, LoadFault, Refused, WriteFault, NoMemory, Differs}
 use Rattle.snes_program.specs.Kinds.{input_of, AreRefused}
 use Rattle.snes_program.specs.Loads.{free_in, free_or, told_in, ShowsAccepted, EndsInput, EndsInputs}
 use Rattle.snes_program.proofs.Lists.{all_then, first_front, first_behind, first_map}
@@ -50,6 +50,7 @@ module _ (pairs : List (List ℕ)) where
   ends_since a b c only NoMemory input h = tt
   ends_since a b c only Ok input h = h
   ends_since a b c only Usage input h = h
+  ends_since a b c only Differs input h = h
   ends_since a b c only (WriteFault out) input h = h
 
   -- the first inputs were not taken

@@ -31,5 +31,6 @@ spc_accepted bytes h = record { unrefused = go }
     go (why.Table entry) is refused = cc
     go (why.Script line) is refused = cc
     go (why.Plan line) is refused = cc
+    go (why.Sums line) is refused = cc
 
 pub ruleset spc = (spc_longer, spc_accepted)

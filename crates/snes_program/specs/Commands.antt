@@ -10,6 +10,7 @@ use Rattle.snes_program.specs.Play.{play}
 use Rattle.snes_program.specs.Demo.{demo}
 use Rattle.snes_program.specs.Rewind.{rewind}
 use Rattle.snes_program.specs.SumsRun.{sums}
+use Rattle.snes_program.specs.Check.{check}
 use Rattle.snes_program.specs.Help.{help, version}
 
 -- what words ask for: a command and what they give it, or nothing where they are in no form
@@ -40,10 +41,11 @@ asked_by emits name words =
     where_true (bytes_eq name (codes "demo")) (asks (demo emits) words) (
     where_true (bytes_eq name (codes "rewind")) (asks (rewind emits) words) (
     where_true (bytes_eq name (codes "sums")) (asks (sums emits) words) (
+    where_true (bytes_eq name (codes "check")) (asks (check emits) words) (
     where_true (bytes_eq name (codes "--help")) (asks help words) (
     where_true (bytes_eq name (codes "-h")) (asks help words) (
     where_true (bytes_eq name (codes "--version")) (asks version words)
-    Nothing))))))))))
+    Nothing)))))))))))
 
 -- the first word is the name
 abbrev pub asked : (Job → List ℕ → List ℕ → Type 0) → List (List ℕ) → Wish

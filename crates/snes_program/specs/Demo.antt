@@ -11,7 +11,7 @@ use Rattle.run_io.specs.Line.{line_of, demo_text}
 use Rattle.run_io.specs.Form.{FormValue, Order}
 use Rattle.snes_program.specs.Kinds.{IsCartIn}
 use Rattle.snes_program.specs.Make.{IsImage}
-use Rattle.snes_program.specs.Command.{Command}
+use Rattle.snes_program.specs.Command.{Command, never}
 
 -- the words: a number, and frames. It loads and creates nothing.
 abbrev pub demo_form : FormValue
@@ -44,4 +44,4 @@ pub record MakesDemo (emits : Job → List ℕ → List ℕ → Type 0) (order :
   pub says : line ≡ line_of (demo_text order.count (samples_before_of Ntsc (end_stamp_of Ntsc order.count)) (sum_in video) (sum_in audio))
 
 abbrev pub demo : (Job → List ℕ → List ℕ → Type 0) → Command
-demo emits = record { form = demo_form; Makes = MakesDemo emits }
+demo emits = record { form = demo_form; Makes = MakesDemo emits; differs = never }

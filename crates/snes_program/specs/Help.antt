@@ -4,7 +4,7 @@ use Rattle.file_shelf.specs.declared.shelves.Input.{Input}
 use Rattle.file_shelf.specs.declared.shelves.Out.{Out}
 use Rattle.run_io.specs.Form.{FormValue, Order}
 use Rattle.run_io.specs.Line.{help_text, version_text}
-use Rattle.snes_program.specs.Command.{Command}
+use Rattle.snes_program.specs.Command.{Command, never}
 
 -- the words: none behind the name; nothing is loaded, and no output is created
 abbrev pub text_form : FormValue
@@ -15,7 +15,7 @@ pub record MakesText (text : List ℕ) (order : Order) (told : Input → Option 
   pub says : line ≡ text
 
 abbrev pub help : Command
-help = record { form = text_form; Makes = MakesText help_text }
+help = record { form = text_form; Makes = MakesText help_text; differs = never }
 
 abbrev pub version : Command
-version = record { form = text_form; Makes = MakesText version_text }
+version = record { form = text_form; Makes = MakesText version_text; differs = never }

@@ -6,7 +6,7 @@ use Rattle.file_shelf.specs.declared.shelves.Out.{Out}
 use Rattle.file_shelf.specs.declared.shelves.Out.TheVariants.{Image}
 use Rattle.run_io.specs.Line.{line_of, image_text}
 use Rattle.run_io.specs.Form.{FormValue, Order}
-use Rattle.snes_program.specs.Command.{Command}
+use Rattle.snes_program.specs.Command.{Command, never}
 
 -- the words: a number, and an output
 abbrev pub make_form : FormValue
@@ -23,4 +23,4 @@ pub record MakesImage (order : Order) (told : Input → Option (List ℕ)) (cont
   pub says : line ≡ line_of image_text
 
 abbrev pub make : Command
-make = record { form = make_form; Makes = MakesImage }
+make = record { form = make_form; Makes = MakesImage; differs = never }

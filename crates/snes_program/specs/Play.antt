@@ -10,7 +10,7 @@ use Rattle.run_io.specs.Line.{line_of, samples_text}
 use Rattle.run_io.specs.Form.{FormValue, Order}
 use Rattle.spc_player.specs.SoundFile.{Image, image_of}
 use Rattle.spc_player.specs.Play.{AreFirstPairs, play_start}
-use Rattle.snes_program.specs.Command.{Command}
+use Rattle.snes_program.specs.Command.{Command, never}
 
 -- the words: a sound file and a table, samples, and an output
 abbrev pub play_form : FormValue
@@ -30,4 +30,4 @@ pub record MakesPlay (order : Order) (told : Input → Option (List ℕ)) (conte
   pub says : line ≡ line_of (samples_text order.count)
 
 abbrev pub play : Command
-play = record { form = play_form; Makes = MakesPlay }
+play = record { form = play_form; Makes = MakesPlay; differs = never }

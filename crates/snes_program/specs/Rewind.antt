@@ -14,7 +14,7 @@ use Rattle.plan_drive.specs.Samples.{samples_in}
 use Rattle.run_io.specs.Form.{FormValue, Order}
 use Rattle.run_io.specs.Line.{line_of, frames_text}
 use Rattle.snes_program.specs.Kinds.{IsCartIn, IsPlanIn}
-use Rattle.snes_program.specs.Command.{Command}
+use Rattle.snes_program.specs.Command.{Command, never}
 
 -- the words: inputs and outputs
 abbrev pub rewind_form : FormValue
@@ -47,4 +47,4 @@ pub record MakesRewind (emits : Job → List ℕ → List ℕ → Type 0) (order
   pub says : line ≡ plan_line steps
 
 abbrev pub rewind : (Job → List ℕ → List ℕ → Type 0) → Command
-rewind emits = record { form = rewind_form; Makes = MakesRewind emits }
+rewind emits = record { form = rewind_form; Makes = MakesRewind emits; differs = never }

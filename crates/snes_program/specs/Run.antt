@@ -8,7 +8,7 @@ use Rattle.file_shelf.specs.declared.shelves.Out.TheVariants.{Video, Sound}
 use Rattle.run_io.specs.declared.options.Count.TheVariants.{Frames}
 use Rattle.run_io.specs.Form.{FormValue, Order}
 use Rattle.snes_program.specs.Job.{ShowsJob, run_line}
-use Rattle.snes_program.specs.Command.{Command}
+use Rattle.snes_program.specs.Command.{Command, never}
 
 -- the words: inputs, frames and outputs
 abbrev pub run_form : FormValue
@@ -28,4 +28,4 @@ pub record MakesRun (emits : Job → List ℕ → List ℕ → Type 0) (order : 
   pub says : line ≡ run_line job
 
 abbrev pub run : (Job → List ℕ → List ℕ → Type 0) → Command
-run emits = record { form = run_form; Makes = MakesRun emits }
+run emits = record { form = run_form; Makes = MakesRun emits; differs = never }

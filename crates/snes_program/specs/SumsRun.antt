@@ -9,7 +9,7 @@ use Rattle.frame_sums.specs.Text.{sums_text}
 use Rattle.run_io.specs.declared.options.Count.TheVariants.{Frames}
 use Rattle.run_io.specs.Form.{FormValue, Order}
 use Rattle.snes_program.specs.Job.{ShowsJob, run_line}
-use Rattle.snes_program.specs.Command.{Command}
+use Rattle.snes_program.specs.Command.{Command, never}
 
 -- the words: inputs, of which all but the cartridge may be left out, frames, and an output
 abbrev pub sums_form : FormValue
@@ -32,4 +32,4 @@ pub record MakesSums (emits : Job → List ℕ → List ℕ → Type 0) (order :
   pub says : line ≡ run_line job
 
 abbrev pub sums : (Job → List ℕ → List ℕ → Type 0) → Command
-sums emits = record { form = sums_form; Makes = MakesSums emits }
+sums emits = record { form = sums_form; Makes = MakesSums emits; differs = never }

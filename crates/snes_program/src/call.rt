@@ -2,6 +2,7 @@ ghost use Rattle.run_io.specs.Form.{order_by, Fits};
 ghost use Rattle.snes_program.specs.Commands.{asks, asked_by, asked};
 ghost use Rattle.snes_program.specs.Ends.{EndsCall, EndsWish};
 
+use crate::check::Check;
 use crate::command::Performs;
 use crate::demo::Demo;
 use crate::help::{Help, Version};
@@ -31,7 +32,7 @@ fn commanded<C: Performs, R: AllocGlobal + Threads, H: Shelf>(
     ensures { EndsCall C.command (order_by asked.now) (H.shown shelf.old) (H.shown shelf.new) result }
 {
     let outcome = perform(command, rt, gate, asked, shelf);
-    say(shelf, outcome)
+    say::<C, H>(shelf, outcome)
 }
 
 /// Reads the arguments after a command's name by its form, and performs the command.
@@ -85,6 +86,9 @@ fn call_named<P: PlanPlayer, R: AllocGlobal + Threads, H: Shelf>(
     }
     if name == "sums" {
         return call(&SumsRun::<P>::new(), rt, gate, words, shelf);
+    }
+    if name == "check" {
+        return call(&Check::<P>::new(), rt, gate, words, shelf);
     }
     if name == "--help" {
         return call(&Help, rt, gate, words, shelf);

@@ -35,6 +35,10 @@ pub(crate) trait Performs {
     fn form() -> Form
         ensures { form_by result ≡ command.form };
 
+    /// Whether the line says that what the command compares differs.
+    fn differs(line: &Line) -> bool
+        ensures { result ≡ command.differs line.now };
+
     /// Allocates everything that the command needs.
     fn ready(
         &self,

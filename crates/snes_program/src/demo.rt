@@ -73,6 +73,10 @@ impl<P: Player> Performs for Demo<P> {
         }
     }
 
+    fn differs(_line: &Line) -> bool {
+        false
+    }
+
     fn ready(&self, alloc: Global, asked: &Asked<'_>, _inputs: ()) -> Result<P, NoMemory> {
         let job = demo_job(alloc, asked.number, asked.count)?;
         let player = P::ready(alloc, &job)?;

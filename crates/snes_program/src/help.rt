@@ -45,6 +45,10 @@ impl Performs for Help {
         no_words()
     }
 
+    fn differs(_line: &Line) -> bool {
+        false
+    }
+
     fn ready(&self, _alloc: Global, _asked: &Asked<'_>, _inputs: ()) -> Result<(), NoMemory> {
         Ok(())
     }
@@ -79,6 +83,10 @@ impl Performs for Version {
 
     fn form() -> Form {
         no_words()
+    }
+
+    fn differs(_line: &Line) -> bool {
+        false
     }
 
     fn ready(&self, _alloc: Global, _asked: &Asked<'_>, _inputs: ()) -> Result<(), NoMemory> {

@@ -12,6 +12,7 @@
 mod boot;
 mod call;
 mod cart;
+mod check;
 mod command;
 mod demo;
 mod free;
@@ -33,6 +34,7 @@ mod sound_out;
 mod spc;
 mod status;
 mod sums;
+mod sums_file;
 mod sums_run;
 mod table;
 mod top;

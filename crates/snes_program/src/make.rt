@@ -34,6 +34,10 @@ impl Performs for Make {
         }
     }
 
+    fn differs(_line: &Line) -> bool {
+        false
+    }
+
     fn ready(&self, alloc: Global, asked: &Asked<'_>, _inputs: ()) -> Result<Vec<u8>, NoMemory> {
         let bytes = image(alloc, asked.number)?;
         Ok(bytes)

@@ -1,6 +1,7 @@
 ghost use Rattle.std.specs.Prelude.{MatchOption};
 ghost use Rattle.snes_program.specs.Commands.{asks, asked_by, asked, IsNothing};
 
+use crate::check::Check;
 use crate::command::Performs;
 use crate::demo::Demo;
 use crate::help::{Help, Version};
@@ -52,6 +53,9 @@ fn explain_named<'a, P: PlanPlayer>(name: &'a str, words: &'a [Word]) -> Option<
     }
     if name == "sums" {
         return explain_form::<SumsRun<P>>(words);
+    }
+    if name == "check" {
+        return explain_form::<Check<P>>(words);
     }
     if name == "--help" {
         return explain_form::<Help>(words);

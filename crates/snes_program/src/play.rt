@@ -43,6 +43,10 @@ impl Performs for Play {
         }
     }
 
+    fn differs(_line: &Line) -> bool {
+        false
+    }
+
     fn ready(
         &self,
         alloc: Global,

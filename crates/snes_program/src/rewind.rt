@@ -124,6 +124,10 @@ impl<P: PlanPlayer> Performs for Rewind<P> {
         }
     }
 
+    fn differs(_line: &Line) -> bool {
+        false
+    }
+
     fn ready(
         &self,
         alloc: Global,

@@ -105,6 +105,10 @@ impl<P: Player> Performs for Run<P> {
         }
     }
 
+    fn differs(_line: &Line) -> bool {
+        false
+    }
+
     fn ready(
         &self,
         alloc: Global,

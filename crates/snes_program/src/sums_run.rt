@@ -65,6 +65,10 @@ impl<P: Player> Performs for SumsRun<P> {
         }
     }
 
+    fn differs(_line: &Line) -> bool {
+        false
+    }
+
     fn ready(
         &self,
         alloc: Global,

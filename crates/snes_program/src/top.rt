@@ -39,7 +39,7 @@ pub fn snes<P: PlanPlayer, R: AllocGlobal + Threads, H: Shelf>(
     ensures headline { IfAsks (asked P.emits words.now) (λ command order. IsOver result → IsAnswered command order (H.shown shelf.old) (H.shown shelf.new) result) }
 
     // Completeness: if all inputs are accepted and no fault is counted, it returns Ok, unless allocation fails.
-    ensures complete { IfAsks (asked P.emits words.now) (λ command order. IsClean command order (H.shown shelf.old) (H.shown shelf.new) → OrNoMemory result Status.Ok) }
+    ensures complete { IfAsks (asked P.emits words.now) (λ command order. IsClean command order (H.shown shelf.old) (H.shown shelf.new) → OrNoMemory command result) }
 
     // Usage: if and only if the arguments are invalid.
     ensures usage { result ≡ Status.Usage → IsNothing (asked P.emits words.now) }

@@ -16,7 +16,7 @@ fn text_of(line: &Line) -> &str {
 fn tell_mistake(rt: &HostRuntime, mistake: &Mistake<'_>) -> io::Result<()> {
     eprintln!(rt; "snes: {mistake}")?;
     eprintln!(rt;
-        "snes: the commands are run, serial, lockless, play, make, demo, rewind and sums; snes --help says more"
+        "snes: the commands are run, serial, lockless, play, make, demo, rewind, sums and check; snes --help says more"
     )
 }
 
@@ -45,7 +45,7 @@ pub fn say_why(
     cause: Option<Cause>,
 ) -> io::Result<()> {
     match status {
-        Status::Ok => Ok(()),
+        Status::Ok | Status::Differs => Ok(()),
         Status::Usage => match explain::<Console>(words) {
             Some(mistake) => tell_mistake(rt, &mistake),
             None => Ok(()),
