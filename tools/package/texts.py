@@ -14,6 +14,7 @@ import sys
 
 TOP = os.path.dirname(os.path.dirname(os.path.dirname(os.path.realpath(__file__))))
 FORMATS = ("The files", "The outputs", "Statuses and lines", "Limits")
+STATE = ("The layout", "What the parts mean")
 
 
 def text_of(name):
@@ -31,7 +32,7 @@ class Command:
 def installed(text):
     """The text, with the names that things have where they are installed."""
     text = re.sub(r"docs/use/COMMANDS\.md", "snes(5)", text)
-    text = re.sub(r"docs/use/REWIND\.md", "snes(5)", text)
+    text = re.sub(r"docs/use/(REWIND|STATE)\.md", "snes(5)", text)
     return text.replace("./scene", "snes-scene").replace("./snes", "snes")
 
 
@@ -240,16 +241,17 @@ def trace_page(program, version, date):
     page += [".SH DESCRIPTION", escaped(sentence(whole.what)), ".SH OPTIONS"]
     for option, value, meaning in whole.options:
         page += [".TP", option_tag(option, value), escaped(sentence(meaning))]
+    heads = {"A file of breakpoints": ".SH BREAKPOINTS", "--symbols": ".SH SYMBOLS", "--until": ".SH END", "--coverage": ".SH COVERAGE", "Statuses: ": ".SH EXIT STATUS"}
     for paragraph in after.split("\n\n"):
-        is_statuses = paragraph.startswith("Statuses: ")
-        page += [".SH EXIT STATUS" if is_statuses else ".SH BREAKPOINTS" if "breakpoints" in paragraph else ".PP"]
+        page += [next((head for begin, head in heads.items() if paragraph.startswith(begin)), ".PP")]
         page += [escaped(sentence(" ".join(paragraph.removeprefix("Statuses: ").split())))]
     return page + list(ending([("snes", 1), ("snes", 5)])), whole
 
 
-def scene_page(program, version, date):
+def plain_page(name, what, program, version, date):
+    """The page of a program without commands: its arguments, options and statuses."""
     whole, parts, after = clap_help(program)
-    page = head("snes-scene", 1, date, version, "free cartridges and the files that a run of snes needs") + [".SH SYNOPSIS", f"\\fBsnes\\-scene\\fR {escaped(whole.synopsis)}"]
+    page = head(name, 1, date, version, what) + [".SH SYNOPSIS", f"\\fB{escaped(name)}\\fR {escaped(whole.synopsis)}"]
     page += [".SH DESCRIPTION", escaped(sentence(whole.what))]
     for argument, meaning in parts.get("Arguments", []):
         page += [".TP", f"\\fI{argument.strip('<>[]')}\\fR", escaped(sentence(meaning))]
@@ -261,10 +263,14 @@ def scene_page(program, version, date):
 
 
 def formats_page(version, date):
-    sections = dict(re.findall(r"^## (.+)\n((?:(?!## ).*\n?)*)", text_of("docs/use/COMMANDS.md"), re.M))
+    def sections_of(name):
+        return re.findall(r"^## (.+)\n((?:(?!## ).*\n?)*)", text_of(name), re.M)
+
+    sections = dict(sections_of("docs/use/COMMANDS.md") + sections_of("docs/use/STATE.md"))
     page = head("snes", 5, date, version, "files that snes reads and writes, its messages and its limits")
-    for name in FORMATS:
-        for line in page_of(f"## {name}\n" + installed(sections[name])):
+    for name in FORMATS[:2] + STATE + FORMATS[2:]:
+        title = name.replace("The layout", "The state file")
+        for line in page_of(f"## {title}\n" + installed(sections[name])):
             # A paragraph begins with its section anyway.
             if line != ".PP" or not page[-1].startswith(".S"):
                 page.append(line)
@@ -352,7 +358,7 @@ def main():
     commands, _, _ = snes_help()
     look_text, look_commands = look_page(look, version, date)
     trace_text, trace_whole = trace_page(trace, version, date)
-    scene_text, scene_whole = scene_page(scene, version, date)
+    scene_text, scene_whole = plain_page("snes-scene", "free cartridges and the files that a run of snes needs", scene, version, date)
     write(out, "man/man1/snes.1", snes_page(version, date))
     write(out, "man/man1/snes-look.1", look_text)
     write(out, "man/man1/snes-trace.1", trace_text)

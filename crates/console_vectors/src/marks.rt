@@ -1,6 +1,6 @@
 use case_text::{hashed, no_hash};
-use file_shelf::Failed;
 use run_drive::Sink;
+use shelf::Failed;
 use snes_defs::Side;
 
 /// The bytes that one side emits in a frame: their number and their hash.

@@ -1,3 +1,3 @@
 pub mod EdgeLemmas
 pub mod GatheredLemmas
-pub mod StoredLemmas
+pub mod LoadLemmas

@@ -2,17 +2,16 @@ ghost use Rattle.std.specs.Prelude.{◌≡◌, ◌≢◌, ◌<◌, ◌≤◌, �
 ghost use Rattle.std.specs.Io.KnownBytes.{Appends as AppendsKnown, Keeps};
 ghost use Rattle.file_shelf.specs.Given.{held_after};
 ghost use Rattle.file_shelf.specs.Shelves.{shown_by_files};
-ghost use Rattle.file_shelf.specs.Shown.{IsUntouched, IsCreated, OnlyCreates, OnlyLoads, OnlyPuts};
-ghost use Rattle.file_shelf.specs.Told.{Holds, Appends, AppendsSome, HasRisen};
-ghost use Rattle.file_shelf.specs.Counts.{next, count_of};
+ghost use Rattle.shelf.specs.Shown.{IsUntouched, IsCreated, OnlyCreates, OnlyLoads, OnlyPuts};
+ghost use Rattle.shelf.specs.Told.{Holds, Appends, AppendsSome, HasRisen};
+ghost use Rattle.shelf.specs.Counts.{next, count_of};
 ghost use Rattle.file_shelf.specs.Edge.{new_edge, kept_of, kept_in, faulted, IsNew, Took, TookSome, Wrote, WroteSome};
 
 use crate::buffered::{Buffered, write_whole};
 use crate::cause::Cause;
-use crate::counts::Counts;
-use crate::known::KnownFiles;
+use crate::known::{Identity, KnownFiles};
 use crate::opened::{create_apart, identity_at, open_known};
-use crate::shelves::{Failed, LoadEnd, Out, Shelf};
+use shelf::{Counts, Failed, LoadEnd, Out, Shelf};
 use std::io::{self, Read, Write};
 use std::marker::Model;
 use std::rt::Files;
@@ -36,6 +35,8 @@ pub struct FileShelf<'a, R: Files + Print> {
     video: Option<Buffered<R::File>>,
     sound: Option<Buffered<R::File>>,
     image: Option<Buffered<R::File>>,
+    sums: Option<Buffered<R::File>>,
+    state: Option<Buffered<R::File>>,
     load_faults: u64,
     write_faults: Counts,
     known: KnownFiles,
@@ -47,7 +48,7 @@ impl<'a, R: Files + Print> Model for FileShelf<'a, R> {
 
     ghost Value = { Edge };
 
-    ghost view = { λ s. record { loads = s.load_faults; writes = s.write_faults; video = kept_of R.File.contents s.video; sound = kept_of R.File.contents s.sound; image = kept_of R.File.contents s.image } };
+    ghost view = { λ s. record { loads = s.load_faults; writes = s.write_faults; video = kept_of R.File.contents s.video; sound = kept_of R.File.contents s.sound; image = kept_of R.File.contents s.image; sums = kept_of R.File.contents s.sums; state = kept_of R.File.contents s.state } };
 }
 
 impl<'a, R: Files + Print> FileShelf<'a, R> {
@@ -60,6 +61,8 @@ impl<'a, R: Files + Print> FileShelf<'a, R> {
             video: None,
             sound: None,
             image: None,
+            sums: None,
+            state: None,
             load_faults: 0,
             write_faults: Counts::new(),
             known: KnownFiles::of_streams(
@@ -83,12 +86,39 @@ impl<'a, R: Files + Print> FileShelf<'a, R> {
         self.first_fault = self.first_fault.or(Some(cause));
     }
 
+    /// Notes a file that was loaded.
+    fn note_loaded(&mut self, file: Option<Identity>)
+        ensures { self.new ≡ self.old }
+    {
+        self.known.add_loaded(file);
+    }
+
     /// Counts a fault of an output.
     fn count_write(&mut self, out: Out, cause: Cause)
         ensures { self.new ≡ faulted self.old out }
     {
         self.write_faults.raise(out);
         self.first_fault = self.first_fault.or(Some(cause));
+    }
+
+    /// Puts bytes to an output, and counts nothing.
+    fn put_to(&mut self, out: Out, bytes: &[u8]) -> Result<(), Cause>
+        ensures took { OnOk result (Took (kept_in self.old out) (kept_in self.new out) bytes.now) }
+        ensures unwritten { OnOk result (out ≢ Out.Say → (kept_in self.new out).unwritten ≡ held_after (kept_in self.old out).unwritten (length bytes.now)) }
+        ensures some { OnErr result (out ≢ Out.Say → TookSome (kept_in self.old out) (kept_in self.new out) bytes.now) }
+        ensures no_more_held_back { OnErr result ((kept_in self.new out).unwritten ≤ (kept_in self.old out).unwritten) }
+        ensures loads { self.new.loads ≡ self.old.loads }
+        ensures writes { self.new.writes ≡ self.old.writes }
+        ensures others { (other : Out) → other ≢ out → kept_in self.new other ≡ kept_in self.old other }
+    {
+        match out {
+            Out::Video => put_created(&mut self.video, bytes),
+            Out::Sound => put_created(&mut self.sound, bytes),
+            Out::Image => put_created(&mut self.image, bytes),
+            Out::Sums => put_created(&mut self.sums, bytes),
+            Out::State => put_created(&mut self.state, bytes),
+            Out::Say => say(self.rt, bytes),
+        }
     }
 }
 
@@ -111,9 +141,11 @@ impl<R: Files + Print> Shelf for FileShelf<'_, R> {
                 return Err(LoadEnd::Failed);
             }
         };
-        self.known.add_loaded(identity);
         match read_whole(&mut file, limit, into) {
-            Ok(()) => Ok(()),
+            Ok(()) => {
+                self.note_loaded(identity);
+                Ok(())
+            }
             Err(ReadEnd::Fault(kind)) => {
                 self.count_load(Cause::System(kind));
                 Err(LoadEnd::Failed)
@@ -148,6 +180,8 @@ impl<R: Files + Print> Shelf for FileShelf<'_, R> {
             Out::Video => self.video = Some(Buffered::new(file)),
             Out::Sound => self.sound = Some(Buffered::new(file)),
             Out::Image => self.image = Some(Buffered::new(file)),
+            Out::Sums => self.sums = Some(Buffered::new(file)),
+            Out::State => self.state = Some(Buffered::new(file)),
             Out::Say => {}
         }
         Ok(())
@@ -168,13 +202,7 @@ impl<R: Files + Print> Shelf for FileShelf<'_, R> {
         ensures no_more_held_back { OnErr result ((kept_in self.new out).unwritten ≤ (kept_in self.old out).unwritten) }
         ensures only { OnlyPuts (shown_by_files self.old) (shown_by_files self.new) out }
     {
-        let end = match out {
-            Out::Video => put_created(&mut self.video, bytes),
-            Out::Sound => put_created(&mut self.sound, bytes),
-            Out::Image => put_created(&mut self.image, bytes),
-            Out::Say => say(self.rt, bytes),
-        };
-        match end {
+        match self.put_to(out, bytes) {
             Ok(()) => Ok(()),
             Err(cause) => {
                 self.count_write(out, cause);
@@ -199,6 +227,8 @@ impl<R: Files + Print> Shelf for FileShelf<'_, R> {
             Out::Video => flush_created(&mut self.video),
             Out::Sound => flush_created(&mut self.sound),
             Out::Image => flush_created(&mut self.image),
+            Out::Sums => flush_created(&mut self.sums),
+            Out::State => flush_created(&mut self.state),
             Out::Say => Ok(()),
         };
         match end {

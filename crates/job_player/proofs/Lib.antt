@@ -1,4 +1,5 @@
 pub mod Ends
+pub mod Remains
 pub mod Plays
 pub mod Ready
 pub mod Planning

@@ -7,8 +7,8 @@ ghost use Rattle.memory_player.specs.SliceLaws.{fills_none, fills_more};
 
 use crate::filling::Filling;
 use crate::inputs::End;
-use file_shelf::Failed;
 use run_drive::Sink;
+use shelf::Failed;
 use snes_defs::Side;
 
 /// The number of bytes of output at the front of each slice.

@@ -23,4 +23,4 @@ mod picture;
 #[cfg(test)]
 mod readers;
 #[cfg(test)]
-mod shelf;
+mod shelf_rows;

@@ -1,13 +1,13 @@
 -- A text that is printed is what its command makes.
 use Rattle.std.proofs.Common.{◌≡◌, ℕ, List, [], Option, refl}
-use Rattle.file_shelf.specs.declared.shelves.Input.{Input}
-use Rattle.file_shelf.specs.declared.shelves.Out.{Out}
+use Rattle.shelf.specs.declared.shelves.Input.{Input}
+use Rattle.shelf.specs.declared.shelves.Out.{Out}
 use Rattle.run_io.specs.Form.{Order}
-use Rattle.snes_program.specs.Command.{Command, CanMake, HoldsWhole}
+use Rattle.snes_program.specs.Command.{Command, CanMake, HoldsWhole, never}
 use Rattle.snes_program.specs.Help.{text_form, MakesText}
 
 abbrev tells : List ℕ → Command
-tells text = record { form = text_form; Makes = MakesText text }
+tells text = record { form = text_form; Makes = MakesText text; differs = never }
 
 module _ (text : List ℕ) (order : Order) (told : Input → Option (List ℕ)) where
   pub text_can : CanMake (tells text) order told

@@ -6,9 +6,9 @@ use crate::command::Performs;
 use crate::loads::Loads;
 use crate::outputs::{create_all, flush_all};
 use crate::status::Status;
-use file_shelf::Shelf;
 use port_wire::Gate;
 use run_io::{Asked, Line};
+use shelf::Shelf;
 use std::thread::Threads;
 
 /// Performs a command, and returns the line to print.

@@ -1,8 +1,8 @@
 use crate::loads::{Loads, fetch};
 use crate::status::{Status, Why};
-use file_shelf::{Input, Shelf};
 use input_files::{Plan, PlanEnd, read_plan};
 use run_io::Word;
+use shelf::{Input, Shelf};
 use std::alloc::Global;
 
 /// The plan of the command `rewind`: at most 1,048,576 bytes.
@@ -10,7 +10,7 @@ pub(crate) struct PlanFile;
 
 impl Loads for PlanFile {
     ghost use Rattle.std.specs.Prelude.{[], ◌∷◌, IfSome};
-    ghost use Rattle.file_shelf.specs.declared.shelves.Input.TheVariants as input;
+    ghost use Rattle.shelf.specs.declared.shelves.Input.TheVariants as input;
     ghost use Rattle.snes_program.specs.Kinds.{IsPlanIn};
 
     type Value = Plan;

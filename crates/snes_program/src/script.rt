@@ -1,8 +1,8 @@
 use crate::loads::{Loads, fetch};
 use crate::status::{Status, Why};
-use file_shelf::{Input, Shelf};
 use input_files::{ScriptEnd, read_script};
 use run_io::Word;
+use shelf::{Input, Shelf};
 use snes_defs::Spans;
 use std::alloc::Global;
 
@@ -11,7 +11,7 @@ pub(crate) struct ScriptFile;
 
 impl Loads for ScriptFile {
     ghost use Rattle.std.specs.Prelude.{[], ◌∷◌, IfSome};
-    ghost use Rattle.file_shelf.specs.declared.shelves.Input.TheVariants as input;
+    ghost use Rattle.shelf.specs.declared.shelves.Input.TheVariants as input;
     ghost use Rattle.snes_program.specs.Kinds.{IsScriptIn};
 
     type Value = Spans;

@@ -3,8 +3,8 @@ ghost use Rattle.snes_defs.specs.declared.ports.Side.{Side};
 ghost use Rattle.run_drive.specs.Run.{Adds, AddsSome};
 ghost use Rattle.snes_program.specs.Demo.{sum_in};
 
-use file_shelf::Failed;
 use run_drive::Sink;
+use shelf::Failed;
 use snes_defs::Side;
 
 /// The sums of the bytes of video and of audio, modulo 2^64.

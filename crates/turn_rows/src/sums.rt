@@ -1,6 +1,6 @@
 use case_text::{hashed, no_hash};
-use file_shelf::Failed;
 use run_drive::Sink;
+use shelf::Failed;
 use snes_defs::Side;
 
 /// The bytes of one side: their number, how many of them are not 0, and their hash.

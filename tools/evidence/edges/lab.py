@@ -24,6 +24,9 @@ COMMANDS = {
     "play": (("spc", "table"), ("--samples", str(SAMPLES)), {"audio": "sound"}),
     "make": ((), ("7",), {"out": "image"}),
     "rewind": (("cart", "boot", "table", "plan"), (), {"video": "video", "audio": "sound"}),
+    # The sums of so many frames take more than a page.
+    "sums": (JOB, ("--frames", "60"), {"sums": "sums"}),
+    "dump": (JOB, ("--frames", str(FRAMES)), {"state": "state"}),
 }
 USAGE = b"usage: snes run, serial, make or demo\n"
 PLAN = b"go 3 0000 0000\nkeep 0\ngo 2 8000 0000\nback 0\ngo 3 0000 8000\n"

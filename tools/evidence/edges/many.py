@@ -99,11 +99,15 @@ def nothing(room):
 def faults(room):
     games = Folder(room)
     games.add("a.sfc", 1)
-    for bad in ("sheet", "sums"):
-        write(room.path("bad"), f'#!/bin/sh\n[ "$1" = {bad} ] || exec {room.bench.programs["look"]} "$@"\ncat >/dev/null; echo no >&2; exit 2\n'.encode())
+    # A `look` that makes no sheet, and an `snes` that writes no sums though it says that all went well.
+    look = '[ "$1" = sheet ] || exec {} "$@"\ncat >/dev/null; echo no >&2; exit 2\n'
+    snes = '[ "$1" = sums ] || exec {} "$@"\necho frames 2 samples 1064\n'
+    for program, bad in (("look", look), ("snes", snes)):
+        write(room.path("bad"), ("#!/bin/sh\n" + bad.format(room.bench.programs[program])).encode())
         os.chmod(room.path("bad"), 0o755)
-        end = games.call(LOOK=room.path("bad"), SNES=room.bench.programs["snes"])
-        same(f"status with bad {bad}", end.status, 1)
+        programs = {name.upper(): room.bench.programs[name] for name in ("look", "snes")}
+        end = games.call(**{**programs, program.upper(): room.path("bad")})
+        same(f"status with a bad {program}", end.status, 1)
         assert b"status 9" in games.kept("a.line"), games.kept("a.line")
         os.remove(f"{games.results}/a.line")
     games.call().came(0)
@@ -113,6 +117,30 @@ def faults(room):
     games.call("--manifest").came(1, b"", b"0 of 2 runs")
     assert b"# c was not run" in games.kept("manifest"), games.kept("manifest")
     games.call("--manifest", frames=9).came(1)
+
+
+@case("many: --check runs again what another machine kept, and names what differs")
+def checked(room):
+    if not shutil.which("parallel"):
+        return
+    games = Folder(room)
+    for number in range(3):
+        games.add(f"{number}.sfc", number)
+    write(f"{games.path}/bad.sfc", b"short")
+    games.call().came(1)
+    games.call("--check", frames=9).came(0, b"", b"each run is as")
+    sums = games.kept("1.csv")
+    last = sums[-2:-1]
+    write(f"{games.results}/1.csv", sums[:-2] + (b"0" if last != b"0" else b"1") + b"\n")
+    end = games.call("--check")
+    assert end.status == 1 and b"1: differs: all sound" in end.err and b"1.csv: FAILED" in end.err, (end.status, end.err)
+    write(f"{games.results}/1.csv", sums)
+    games.add("2.sfc", 7)
+    games.call("--check").came(1, b"", b"2: differs: frame ")
+    os.remove(f"{games.results}/0.line")
+    games.call("--check").came(1, b"", b"0: was not run")
+    os.remove(f"{games.results}/manifest")
+    games.call("--check").came(1, b"", b"no manifest")
 
 
 @case("many: a share ends with a status, and the array job keeps what is said")

@@ -6,7 +6,7 @@ import threading
 from lab import COMMANDS, USAGE, case, read, same
 
 # How much of each output is read, before the reader goes away.
-TAKEN = {"video": 700_001, "audio": 9_001, "out": 100_001}
+TAKEN = {"video": 700_001, "audio": 9_001, "out": 100_001, "state": 100_001}
 
 
 def reader_goes(command, option, shell):
@@ -61,8 +61,8 @@ def by_pipes(command):
 
 for _command, (_options, _, _outputs) in COMMANDS.items():
     for _option in _outputs:
-        # The sound of a few frames fits into what is gathered and a pipe holds: nobody is told that it was not read.
-        if (_command, _option) in (("run", "audio"), ("serial", "audio"), ("lockless", "audio"), ("rewind", "audio")):
+        # The sound or the sums of a few frames fit into what is gathered and a pipe holds: nobody is told that they were not read.
+        if _option in ("audio", "sums") and _command != "play":
             continue
         case(f"readers: {_command}, a reader of {_option} that goes away")(reader_goes(_command, _option, ""))
         case(f"readers: {_command}, the same where SIGPIPE is ignored")(reader_goes(_command, _option, "trap '' PIPE;"))

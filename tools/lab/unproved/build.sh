@@ -43,6 +43,10 @@ for word; do
     [ -f "$work/module.bc" ] && [ "\$(stat -c %s "\$word")" -lt "\$(stat -c %s "$work/module.bc")" ] || cp "\$word" "$work/module.bc" ;;
   esac
 done
+# The whole program comes with checks of addresses. Nobody runs what that would compile.
+for word; do
+  [ "\$word" != -fsanitize=address ] || exit 1
+done
 exec "$kit/toolchain/bin/clang" "\$@"
 TEXT
 chmod +x "$work/kit/toolchain/bin/clang"

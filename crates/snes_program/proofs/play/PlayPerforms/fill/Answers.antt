@@ -1,7 +1,7 @@
 use Rattle.spc_player.specs.Play.{play_start}
 use Rattle.run_io.specs.Form.{order_by}
 use Rattle.snes_program.specs.Loads.{told_in}
-use Rattle.snes_program.proofs.PlayLemmas.{play_whole, play_first}
+use Rattle.snes_program.proofs.PlayLemmas.{play_whole, play_first, play_only}
 use Rattle.snes_program.proofs.play.PlayPerforms.fill.Goals as goal
 
 pub returns-in-Ok-clause-whole : goal.returns-in-Ok-clause-whole
@@ -25,3 +25,6 @@ returns-clause-first g c =
     let b = g.H.Shelf.shown c.play_sound.new.shelf in
     let r = c.requires.ready in
     play_first (order_by c.args.asked.now) (told_in a c.args.asked.now.pairs.now) r.0 r.1 r.2 a b c.requires.created.0 (c.play_sound.ensures.first (play_start r.0 r.1) r.3)
+
+pub returns-in-Ok-clause-only : goal.returns-in-Ok-clause-only
+returns-in-Ok-clause-only g c = play_only (g.H.Shelf.shown c.args.shelf.now) (g.H.Shelf.shown c.play_sound.new.shelf) c.play_sound.ensures.only

@@ -1,0 +1,6 @@
+pub mod CompareLemmas
+pub mod CutLemmas
+pub mod DigestLemmas
+pub mod PieceLemmas
+pub mod ReadLemmas
+pub mod TextLemmas
