@@ -11,6 +11,7 @@
 #                  cartridges of examples/, if it is there (build_examples.sh)
 #     device       full devices and names that can't be made, by the built program
 #     ends         what ./trace says of machines that go nowhere (try_trace_ends.sh)
+#     states       what snes dump writes of cartridges at random (try_states.py)
 #     edges        the cases of try_edges.py by the built programs; 10,000 hostile inputs and command lines (try_hostile.py);
 #                  each fault of tools/evidence/edges is told (try_edge_faults.sh)
 #     allocations  each request for memory is refused once (refuse_each_allocation.sh)
@@ -40,7 +41,7 @@ watched=${CONSOLE_ROWS:-$top/crates/console_rows/out/console_rows}
 commit=$(git -C "$top" rev-parse --short HEAD) || exit 2
 read -r kit _ < <(rt version) || exit 2
 parts=("$@")
-[ $# -gt 0 ] || parts=(edits device ends edges allocations soak rows workers bodies)
+[ $# -gt 0 ] || parts=(edits device ends states edges allocations soak rows workers bodies)
 
 # A full device, a device that takes everything, a name that can't be made: what the program says and its status.
 device() {
@@ -128,6 +129,11 @@ edits() {
   item listings now "$top/tools/gate/check_listings.py"
   item table now "$top/tools/make_table.py"
   ! command -v ca65 >/dev/null || item examples now "$top/tools/build_examples.sh"
+}
+
+states() {
+  local scene=$top/crates/scene_cart/out/scene_cart
+  item random "$(sum_of "$snes" "$scene" "$top/tools/evidence/try_states.py")" "$top/tools/evidence/try_states.py" "$snes" "$scene"
 }
 
 # The programs and scripts that the cases are tried with.

@@ -1,10 +1,10 @@
 #!/usr/bin/env python3
 """Writes the man pages and the completions of an installed snes, of the texts by which its programs help.
 
-    tools/package/texts.py OUT LOOK TRACE SCENE VERSION DATE
+    tools/package/texts.py OUT LOOK TRACE SCENE BENCH VERSION DATE
 
-OUT is a folder, as `usr/share` of a package. LOOK, TRACE and SCENE are the programs frame_look, snes_trace and scene_cart, whose
---help is read. The help of snes is in crates/run_io/src/help.rt, the formats are in docs/use/COMMANDS.md.
+OUT is a folder, as `usr/share` of a package. LOOK, TRACE, SCENE and BENCH are the programs frame_look, snes_trace, scene_cart and
+cart_bench, whose --help is read. The help of snes is in crates/run_io/src/help.rt, the formats are in docs/use/COMMANDS.md.
 So an option that a program has is in its page and in its completions, and none is that it has not. DATE is 2026-11-29, for one.
 """
 import os
@@ -14,6 +14,7 @@ import sys
 
 TOP = os.path.dirname(os.path.dirname(os.path.dirname(os.path.realpath(__file__))))
 FORMATS = ("The files", "The outputs", "Statuses and lines", "Limits")
+STATE = ("The layout", "What the parts mean")
 
 
 def text_of(name):
@@ -31,7 +32,7 @@ class Command:
 def installed(text):
     """The text, with the names that things have where they are installed."""
     text = re.sub(r"docs/use/COMMANDS\.md", "snes(5)", text)
-    text = re.sub(r"docs/use/REWIND\.md", "snes(5)", text)
+    text = re.sub(r"docs/use/(REWIND|STATE)\.md", "snes(5)", text)
     return text.replace("./scene", "snes-scene").replace("./snes", "snes")
 
 
@@ -206,7 +207,7 @@ def snes_page(version, date):
             meaning = "the program was not found"
         page += [".TP", f"\\fB{number}\\fR", escaped(meaning) + "."]
     page += [".SH FILES", ".TP", "\\fI/usr/share/doc/snes/PROVED\\fR", "By which commit and toolchain the programs were made, whether they were proved, and the checksum of each file."]
-    return page + list(ending([("snes-look", 1), ("snes-scene", 1), ("snes-trace", 1), ("snes", 5)]))
+    return page + list(ending([("snes-bench", 1), ("snes-look", 1), ("snes-scene", 1), ("snes-trace", 1), ("snes", 5)]))
 
 
 def sentence(text):
@@ -247,9 +248,10 @@ def trace_page(program, version, date):
     return page + list(ending([("snes", 1), ("snes", 5)])), whole
 
 
-def scene_page(program, version, date):
+def plain_page(name, what, program, version, date):
+    """The page of a program without commands: its arguments, options and statuses."""
     whole, parts, after = clap_help(program)
-    page = head("snes-scene", 1, date, version, "free cartridges and the files that a run of snes needs") + [".SH SYNOPSIS", f"\\fBsnes\\-scene\\fR {escaped(whole.synopsis)}"]
+    page = head(name, 1, date, version, what) + [".SH SYNOPSIS", f"\\fB{escaped(name)}\\fR {escaped(whole.synopsis)}"]
     page += [".SH DESCRIPTION", escaped(sentence(whole.what))]
     for argument, meaning in parts.get("Arguments", []):
         page += [".TP", f"\\fI{argument.strip('<>[]')}\\fR", escaped(sentence(meaning))]
@@ -261,10 +263,14 @@ def scene_page(program, version, date):
 
 
 def formats_page(version, date):
-    sections = dict(re.findall(r"^## (.+)\n((?:(?!## ).*\n?)*)", text_of("docs/use/COMMANDS.md"), re.M))
+    def sections_of(name):
+        return re.findall(r"^## (.+)\n((?:(?!## ).*\n?)*)", text_of(name), re.M)
+
+    sections = dict(sections_of("docs/use/COMMANDS.md") + sections_of("docs/use/STATE.md"))
     page = head("snes", 5, date, version, "files that snes reads and writes, its messages and its limits")
-    for name in FORMATS:
-        for line in page_of(f"## {name}\n" + installed(sections[name])):
+    for name in FORMATS[:2] + STATE + FORMATS[2:]:
+        title = name.replace("The layout", "The state file")
+        for line in page_of(f"## {title}\n" + installed(sections[name])):
             # A paragraph begins with its section anyway.
             if line != ".PP" or not page[-1].startswith(".S"):
                 page.append(line)
@@ -346,23 +352,26 @@ def write(out, name, lines):
 
 
 def main():
-    if len(sys.argv) != 7:
+    if len(sys.argv) != 8:
         sys.exit(__doc__)
-    out, look, trace, scene, version, date = sys.argv[1:]
+    out, look, trace, scene, bench, version, date = sys.argv[1:]
     commands, _, _ = snes_help()
     look_text, look_commands = look_page(look, version, date)
     trace_text, trace_whole = trace_page(trace, version, date)
-    scene_text, scene_whole = scene_page(scene, version, date)
+    scene_text, scene_whole = plain_page("snes-scene", "free cartridges and the files that a run of snes needs", scene, version, date)
+    bench_text, bench_whole = plain_page("snes-bench", "cases of cartridges, and what each is expected to do", bench, version, date)
     write(out, "man/man1/snes.1", snes_page(version, date))
     write(out, "man/man1/snes-look.1", look_text)
     write(out, "man/man1/snes-trace.1", trace_text)
     write(out, "man/man1/snes-scene.1", scene_text)
+    write(out, "man/man1/snes-bench.1", bench_text)
     write(out, "man/man5/snes.5", formats_page(version, date))
     programs = {
         "snes": (commands, ["--help", "--version", "--quiet"]),
         "snes-look": ([it for it, _ in look_commands], ["--help", "--version"]),
         "snes-trace": ([trace_whole], ["--version"]),
         "snes-scene": ([scene_whole], ["--version"]),
+        "snes-bench": ([bench_whole], ["--version"]),
     }
     for name, (known, first) in programs.items():
         write(out, f"bash-completion/completions/{name}", bash(name, known, first))

@@ -108,6 +108,14 @@ impl AudioSide {
         keep_ram(&self.parts.hardware, ports, into);
     }
 
+    /// The 65,536 bytes of RAM, those under the boot ROM and under the registers F0 to FF too.
+    pub fn ram(&self) -> &[u8]
+        ensures bytes { result.now ≡ self.now.hardware.ram }
+        ensures size { length result.now ≡ 65536 }
+    {
+        self.parts.hardware.ram.as_slice()
+    }
+
     /// The byte that a register of the S-DSP shows.
     pub fn dsp(&self, register: u8) -> u8
         requires { register < 128 }

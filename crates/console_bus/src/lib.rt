@@ -11,6 +11,7 @@ mod bus;
 mod cart_board;
 mod copy;
 mod happenings;
+mod lends;
 mod start;
 
 pub use address_map::MemoryAccess;

@@ -16,11 +16,12 @@
 
 mod files;
 
-use file_shelf::{Out, SureShelf};
 use files::{Programs, shelf};
 use job_player::Console;
+use memory_shelves::SureShelf;
 use port_wire::{Gate, OpenGate};
 use run_io::Argv;
+use shelf::Out;
 use snes_program::{Status, snes};
 use std::alloc::Global;
 use std::rt::Files;

@@ -1,3 +1,2 @@
 pub mod EdgeLemmas
 pub mod GatheredLemmas
-pub mod StoredLemmas

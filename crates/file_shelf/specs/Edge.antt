@@ -1,11 +1,11 @@
 -- What a shelf over real files keeps: its counts of faults, and of each output what it can tell.
 use Rattle.std.specs.Prelude.{◌≡◌, ℕ, ◌≤◌, Bool, true, false, not, length, List, take, Option, None, Some}
 use Rattle.std.specs.Io.KnownBytes.{Appends, Keeps}
-use Rattle.file_shelf.specs.Counts.{counted, none_counted}
-use Rattle.file_shelf.specs.declared.counts.Counts.{Counts}
+use Rattle.shelf.specs.Counts.{counted, none_counted}
+use Rattle.shelf.specs.declared.counts.Counts.{Counts}
 use Rattle.file_shelf.specs.declared.buffered.Buffered.{Buffered}
-use Rattle.file_shelf.specs.declared.shelves.Out.{Out}
-use Rattle.file_shelf.specs.declared.shelves.Out.TheVariants.{Video, Sound, Image, Say}
+use Rattle.shelf.specs.declared.shelves.Out.{Out}
+use Rattle.shelf.specs.declared.shelves.Out.TheVariants.{Video, Sound, Image, Sums, State, Say}
 use Rattle.file_shelf.specs.Given.{given_to}
 
 -- An output: whether it takes bytes, which it does from its creation to a fault; what was given to it since, behind
@@ -32,16 +32,20 @@ pub record Edge : Type 0 where
   pub video : Kept
   pub sound : Kept
   pub image : Kept
+  pub sums : Kept
+  pub state : Kept
 
 -- no fault yet, and no output
 abbrev pub new_edge : Edge
-new_edge = record { loads = 0; writes = none_counted; video = not_created; sound = not_created; image = not_created }
+new_edge = record { loads = 0; writes = none_counted; video = not_created; sound = not_created; image = not_created; sums = not_created; state = not_created }
 
 -- one of the outputs: standard output is always there, tells nothing and gathers nothing
 abbrev pub kept_in : Edge → Out → Kept
 kept_in e Video = e.video
 kept_in e Sound = e.sound
 kept_in e Image = e.image
+kept_in e Sums = e.sums
+kept_in e State = e.state
 kept_in e Say = record { is_open = true; given = None; unwritten = 0 }
 
 -- the edge after one more fault of an output

@@ -1,8 +1,8 @@
 -- Which files a shelf over real files has to do with already, and what else a file to write is.
-use Rattle.std.specs.Prelude.{ℕ, Bool, false, ◌||◌, ◌&&◌, nat_eq, List, Option, None, Some, replicate, if◌then◌else◌}
+use Rattle.std.specs.Prelude.{ℕ, Bool, false, ◌||◌, ◌&&◌, nat_eq, List, [], ◌∷◌, Option, None, Some, replicate, if◌then◌else◌}
 use Rattle.std.specs.List.{list_any}
-use Rattle.file_shelf.specs.declared.shelves.Out.{Out}
-use Rattle.file_shelf.specs.declared.shelves.Out.TheVariants.{Video, Sound, Image, Say}
+use Rattle.shelf.specs.declared.shelves.Out.{Out}
+use Rattle.shelf.specs.declared.shelves.Out.TheVariants.{Video, Sound, Image, Sums, State, Say}
 use Rattle.file_shelf.specs.declared.known.Identity.{Identity}
 use Rattle.file_shelf.specs.declared.known.Clash.{Clash}
 use Rattle.file_shelf.specs.declared.known.Clash.TheVariants.{Loaded, Created, Stream}
@@ -19,9 +19,11 @@ is_loaded known file = list_any (λ one. is_same one file) known.loaded
 
 -- another output is written to this file
 abbrev pub is_created_otherwise : KnownFiles → Out → Identity → Bool
-is_created_otherwise known Video file = is_same known.sound file || is_same known.image file
-is_created_otherwise known Sound file = is_same known.video file || is_same known.image file
-is_created_otherwise known Image file = is_same known.video file || is_same known.sound file
+is_created_otherwise known Video file = list_any (λ one. is_same one file) (known.sound ∷ (known.image ∷ (known.sums ∷ (known.state ∷ []))))
+is_created_otherwise known Sound file = list_any (λ one. is_same one file) (known.video ∷ (known.image ∷ (known.sums ∷ (known.state ∷ []))))
+is_created_otherwise known Image file = list_any (λ one. is_same one file) (known.video ∷ (known.sound ∷ (known.sums ∷ (known.state ∷ []))))
+is_created_otherwise known Sums file = list_any (λ one. is_same one file) (known.video ∷ (known.sound ∷ (known.image ∷ (known.state ∷ []))))
+is_created_otherwise known State file = list_any (λ one. is_same one file) (known.video ∷ (known.sound ∷ (known.image ∷ (known.sums ∷ []))))
 is_created_otherwise known Say file = false
 
 -- what else the file is that an output is to be written to: one that was loaded, another output, or what a stream goes to
@@ -39,6 +41,8 @@ none_known said warned = record {
   video = None;
   sound = None;
   image = None;
+  sums = None;
+  state = None;
   said = said;
   warned = warned;
 }

@@ -1,10 +1,4 @@
-pub mod Counts
 pub mod Edge
 pub mod Given
 pub mod Known
-pub mod Memory
-pub mod Plan
 pub mod Shelves
-pub mod Shown
-pub mod Stored
-pub mod Told

@@ -2,17 +2,16 @@ ghost use Rattle.std.specs.Prelude.{◌≡◌, ◌≢◌, ◌<◌, ◌≤◌, �
 ghost use Rattle.std.specs.Io.KnownBytes.{Appends as AppendsKnown, Keeps};
 ghost use Rattle.file_shelf.specs.Given.{held_after};
 ghost use Rattle.file_shelf.specs.Shelves.{shown_by_files};
-ghost use Rattle.file_shelf.specs.Shown.{IsUntouched, IsCreated, OnlyCreates, OnlyLoads, OnlyPuts};
-ghost use Rattle.file_shelf.specs.Told.{Holds, Appends, AppendsSome, HasRisen};
-ghost use Rattle.file_shelf.specs.Counts.{next, count_of};
+ghost use Rattle.shelf.specs.Shown.{IsUntouched, IsCreated, OnlyCreates, OnlyLoads, OnlyPuts};
+ghost use Rattle.shelf.specs.Told.{Holds, Appends, AppendsSome, HasRisen};
+ghost use Rattle.shelf.specs.Counts.{next, count_of};
 ghost use Rattle.file_shelf.specs.Edge.{new_edge, kept_of, kept_in, faulted, IsNew, Took, TookSome, Wrote, WroteSome};
 
 use crate::buffered::{Buffered, write_whole};
 use crate::cause::Cause;
-use crate::counts::Counts;
 use crate::known::KnownFiles;
 use crate::opened::{create_apart, identity_at, open_known};
-use crate::shelves::{Failed, LoadEnd, Out, Shelf};
+use shelf::{Counts, Failed, LoadEnd, Out, Shelf};
 use std::io::{self, Read, Write};
 use std::marker::Model;
 use std::rt::Files;
@@ -36,6 +35,8 @@ pub struct FileShelf<'a, R: Files + Print> {
     video: Option<Buffered<R::File>>,
     sound: Option<Buffered<R::File>>,
     image: Option<Buffered<R::File>>,
+    sums: Option<Buffered<R::File>>,
+    state: Option<Buffered<R::File>>,
     load_faults: u64,
     write_faults: Counts,
     known: KnownFiles,
@@ -47,7 +48,7 @@ impl<'a, R: Files + Print> Model for FileShelf<'a, R> {
 
     ghost Value = { Edge };
 
-    ghost view = { λ s. record { loads = s.load_faults; writes = s.write_faults; video = kept_of R.File.contents s.video; sound = kept_of R.File.contents s.sound; image = kept_of R.File.contents s.image } };
+    ghost view = { λ s. record { loads = s.load_faults; writes = s.write_faults; video = kept_of R.File.contents s.video; sound = kept_of R.File.contents s.sound; image = kept_of R.File.contents s.image; sums = kept_of R.File.contents s.sums; state = kept_of R.File.contents s.state } };
 }
 
 impl<'a, R: Files + Print> FileShelf<'a, R> {
@@ -60,6 +61,8 @@ impl<'a, R: Files + Print> FileShelf<'a, R> {
             video: None,
             sound: None,
             image: None,
+            sums: None,
+            state: None,
             load_faults: 0,
             write_faults: Counts::new(),
             known: KnownFiles::of_streams(
@@ -148,6 +151,8 @@ impl<R: Files + Print> Shelf for FileShelf<'_, R> {
             Out::Video => self.video = Some(Buffered::new(file)),
             Out::Sound => self.sound = Some(Buffered::new(file)),
             Out::Image => self.image = Some(Buffered::new(file)),
+            Out::Sums => self.sums = Some(Buffered::new(file)),
+            Out::State => self.state = Some(Buffered::new(file)),
             Out::Say => {}
         }
         Ok(())
@@ -172,6 +177,8 @@ impl<R: Files + Print> Shelf for FileShelf<'_, R> {
             Out::Video => put_created(&mut self.video, bytes),
             Out::Sound => put_created(&mut self.sound, bytes),
             Out::Image => put_created(&mut self.image, bytes),
+            Out::Sums => put_created(&mut self.sums, bytes),
+            Out::State => put_created(&mut self.state, bytes),
             Out::Say => say(self.rt, bytes),
         };
         match end {
@@ -199,6 +206,8 @@ impl<R: Files + Print> Shelf for FileShelf<'_, R> {
             Out::Video => flush_created(&mut self.video),
             Out::Sound => flush_created(&mut self.sound),
             Out::Image => flush_created(&mut self.image),
+            Out::Sums => flush_created(&mut self.sums),
+            Out::State => flush_created(&mut self.state),
             Out::Say => Ok(()),
         };
         match end {

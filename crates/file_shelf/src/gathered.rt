@@ -1,6 +1,6 @@
 ghost use Rattle.std.specs.Prelude.{◌≡◌, ℕ, ◌+◌, ◌<◌, ◌≤◌, ◌++◌, List, [], length, take, drop, OnOk, OnErr};
 
-use crate::shelves::Failed;
+use shelf::Failed;
 use std::marker::Model;
 
 /// How many bytes are gathered before they are written: 16 rows of a frame.

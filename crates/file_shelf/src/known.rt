@@ -1,7 +1,8 @@
 ghost use Rattle.std.specs.Prelude.{◌≡◌};
+ghost use Rattle.std.specs.List.{list_any};
 ghost use Rattle.file_shelf.specs.Known.{is_same, is_loaded, is_created_otherwise, clash_of, none_known};
 
-use crate::shelves::Out;
+use shelf::Out;
 
 /// How many loads are remembered: more than any command has inputs.
 const MOST_LOADED: usize = 8;
@@ -33,6 +34,8 @@ pub(crate) struct KnownFiles {
     video: Option<Identity>,
     sound: Option<Identity>,
     image: Option<Identity>,
+    sums: Option<Identity>,
+    state: Option<Identity>,
     said: Option<Identity>,
     warned: Option<Identity>,
 }
@@ -48,6 +51,8 @@ impl KnownFiles {
             video: None,
             sound: None,
             image: None,
+            sums: None,
+            state: None,
             said,
             warned,
         }
@@ -81,9 +86,11 @@ impl KnownFiles {
         ensures { result ≡ is_created_otherwise self.now out file }
     {
         match out {
-            Out::Video => is_same(self.sound, file) || is_same(self.image, file),
-            Out::Sound => is_same(self.video, file) || is_same(self.image, file),
-            Out::Image => is_same(self.video, file) || is_same(self.sound, file),
+            Out::Video => is_one_of([self.sound, self.image, self.sums, self.state], file),
+            Out::Sound => is_one_of([self.video, self.image, self.sums, self.state], file),
+            Out::Image => is_one_of([self.video, self.sound, self.sums, self.state], file),
+            Out::Sums => is_one_of([self.video, self.sound, self.image, self.state], file),
+            Out::State => is_one_of([self.video, self.sound, self.image, self.sums], file),
             Out::Say => false,
         }
     }
@@ -101,9 +108,18 @@ impl KnownFiles {
             Out::Video => self.video = file,
             Out::Sound => self.sound = file,
             Out::Image => self.image = file,
+            Out::Sums => self.sums = file,
+            Out::State => self.state = file,
             Out::Say => {}
         }
     }
+}
+
+/// Whether a file is one of four that may be known.
+fn is_one_of(known: [Option<Identity>; 4], file: Identity) -> bool
+    ensures { result ≡ list_any (λ one. is_same one file) known }
+{
+    known.iter().any(|one| is_same(*one, file))
 }
 
 /// Whether a file is known, and this one.

@@ -1,30 +1,16 @@
-// The shelf of files: named files that a run loads whole, and four outputs that it writes.
+// The shelf over real files: the edge to the system's files, which shows nothing of what it holds.
 //
-// Builds on std alone, apart from the plain types. `Shelf` is the trait that the layers above are generic over. It
-// shows what is held and written, or keeps it to itself. It counts its faults, so that a caller can show the cause of
-// each failure. `SureShelf` and `MemShelf` are in memory and show all. `FileShelf` is the edge to the system's files
-// and shows nothing.
-//
-// A caller loads into an empty `Vec`, and creates each output except `Out::Say` before it puts to it.
+// It is a `Shelf` (crate `shelf`). A run comes in many small puts, so it gathers the bytes of an output before it writes
+// them. It refuses an output that is a file already in use, and says what the system reported at the first fault.
 #![tactic(auto)]
 
 mod buffered;
 mod cause;
-mod counts;
 mod disk;
 mod gathered;
 mod known;
-mod mem;
 mod opened;
-mod plan;
-mod shelves;
-mod store;
-mod sure;
 
 pub use cause::Cause;
 pub use disk::FileShelf;
 pub use known::Clash;
-pub use mem::MemShelf;
-pub use plan::ShelfCall;
-pub use shelves::{Failed, Input, LoadEnd, Out, Shelf};
-pub use sure::SureShelf;

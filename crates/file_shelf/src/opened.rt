@@ -1,6 +1,6 @@
 use crate::cause::Cause;
 use crate::known::{Identity, KnownFiles};
-use crate::shelves::Out;
+use shelf::Out;
 use std::fs::{self, Metadata, OpenFile, OpenOptions};
 use std::os::unix::fs::MetadataExt;
 use std::rt::Files;

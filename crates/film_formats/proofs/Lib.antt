@@ -1,4 +1,7 @@
+pub mod BitLemmas
+pub mod MatchLemmas
 pub mod MixedLemmas
+pub mod PaletteLemmas
 pub mod PictureLemmas
 pub mod ReadLemmas
 pub mod RowLemmas

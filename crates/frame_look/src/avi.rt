@@ -180,7 +180,7 @@ pub fn write_avi<R: Files + Print + AllocGlobal>(rt: &R, words: &ArgMatches<'_>)
         ahead: VecDeque::new(alloc),
         ended: false,
     };
-    let out = BufWriter::new(alloc, films::create(rt, name)?)?;
+    let out = BufWriter::new(alloc, films::create(rt, name, &[video, audio])?)?;
     let mut making = Making {
         chunks,
         sounds,

@@ -13,7 +13,7 @@ use std::rt::Files;
 
 /// A dot's 15 bits and its 24-bit colour, as they are printed.
 #[derive(Clone, Copy)]
-struct Dot(u16);
+pub struct Dot(pub u16);
 
 impl fmt::Display for Dot {
     fn fmt<W: fmt::Write>(&self, f: &mut fmt::Formatter<W>) -> fmt::Result {
@@ -75,12 +75,13 @@ fn count_rest<F: Read + Drop>(frames: &mut Frames<'_, F>) -> Result<u64> {
     Ok(count)
 }
 
-/// Compares two films, frame by frame. Writes a picture of the first frame that differs, if one is wanted.
+/// Compares two films, frame by frame. Writes a picture of the first frame that differs, if one is wanted, to a file
+/// that is none of the inputs.
 fn compare_films<R: Files + AllocGlobal>(
     rt: &R,
     a: &mut Frames<'_, R::File>,
     b: &mut Frames<'_, R::File>,
-    png: Option<&str>,
+    png: Option<(&str, &[&str])>,
 ) -> Result<Found> {
     let mut found = Found {
         both: 0,
@@ -97,9 +98,9 @@ fn compare_films<R: Files + AllocGlobal>(
                     found.differing = found.differing.saturating_add(1);
                     if found.place.is_none() {
                         found.place = Some(place);
-                        if let Some(out) = png {
+                        if let Some((out, inputs)) = png {
                             let file = marked_png(rt.alloc(), a.frame(), b.frame())?;
-                            films::write(rt, out, file.as_slice())?;
+                            films::write(rt, out, inputs, file.as_slice())?;
                         }
                     }
                 }
@@ -158,11 +159,20 @@ pub fn say_difference<R: Files + Print + AllocGlobal>(
 ) -> Result<u8> {
     let first = words.get_str("A").unwrap_or("-");
     let second = words.get_str("B").unwrap_or("-");
+    if words.get_flag("state") {
+        let lines = words.get_one::<u64>("lines").unwrap_or(20);
+        return crate::state_apart::say_difference(rt, first, second, lines);
+    }
     if words.get_flag("audio") {
         return crate::samples::say_difference(rt, first, second);
     }
+    if let Some(frame) = words.get_one::<u64>("frame") {
+        return crate::golden::say_difference(rt, first, frame, second, words.get_str("png"));
+    }
+    let inputs = [first, second];
+    let png = words.get_str("png").map(|out| (out, inputs.as_slice()));
     let mut a = Frames::new(rt.alloc(), first, films::open(rt, first)?)?;
     let mut b = Frames::new(rt.alloc(), second, films::open(rt, second)?)?;
-    let found = compare_films(rt, &mut a, &mut b, words.get_str("png"))?;
+    let found = compare_films(rt, &mut a, &mut b, png)?;
     tell(rt, &found)
 }

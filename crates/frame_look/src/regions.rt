@@ -49,3 +49,34 @@ pub fn region_of<R: Files>(rt: &R, words: &ArgMatches<'_>, video: &str, audio: &
         },
     }
 }
+
+/// Whether so many samples are those of a whole number of frames of a region.
+fn is_whole(region: Region, samples: u64) -> bool {
+    for frames in 0..=MOST_FRAMES {
+        if samples_upto(region, frames).is_ok_and(|upto| upto == samples) {
+            return true;
+        }
+    }
+    false
+}
+
+/// The region of a sound alone: the one given, else the only one of which its length is a whole number of frames.
+pub fn region_of_sound<R: Files>(rt: &R, words: &ArgMatches<'_>, audio: &str) -> Result<Region> {
+    match words.get_str("region") {
+        Some("pal") => return Ok(Region::Pal),
+        Some(_) => return Ok(Region::Ntsc),
+        None => {}
+    }
+    if let Some(bytes) = films::length(rt, audio) {
+        let samples = bytes / SAMPLE_BYTES as u64;
+        match (
+            is_whole(Region::Ntsc, samples),
+            is_whole(Region::Pal, samples),
+        ) {
+            (true, false) => return Ok(Region::Ntsc),
+            (false, true) => return Ok(Region::Pal),
+            _ => {}
+        }
+    }
+    bail!("the length of {audio} does not tell its region: give --region ntsc or pal")
+}

@@ -175,6 +175,6 @@ pub fn write_sheet<R: Files + Print + AllocGlobal>(rt: &R, words: &ArgMatches<'_
         bail!("{name} has no frames");
     }
     let file = sheet.png(rt.alloc())?;
-    films::write(rt, out, file.as_slice())?;
+    films::write(rt, out, &[name], file.as_slice())?;
     Ok(0)
 }

@@ -134,7 +134,7 @@ pub fn write_wav<R: Files + Print + AllocGlobal>(rt: &R, words: &ArgMatches<'_>)
     let mut from = films::open(rt, name)?;
     let known = films::length(rt, name);
     let header = header_of(alloc, name, known.unwrap_or(0))?;
-    let file = films::create(rt, out)?;
+    let file = films::create(rt, out, &[name])?;
     let mut to = BufWriter::new(alloc, file)?;
     to.write_all(header.as_slice())
         .context(format_args!("cannot write {out}"))?;

@@ -3,7 +3,7 @@
 use companion_words::{About, Kind, Program, Word, words};
 
 /// The commands.
-static COMMANDS: [About; 6] = [
+static COMMANDS: [About; 8] = [
     About {
         name: "png",
         text: "One frame as PNG, as a television shows it: 512 by 478, each row twice",
@@ -18,23 +18,34 @@ static COMMANDS: [About; 6] = [
     },
     About {
         name: "diff",
-        text: "Whether two films are alike, and where they first differ. Status 0: alike; 1: different; 2: not to be read",
+        text: "Whether two films are alike, or a frame and a PNG, and where they first differ. Status 0: alike; 1: different; 2: not to be read",
     },
     About {
         name: "sheet",
         text: "A sheet of small pictures with their numbers, as PNG",
     },
     About {
+        name: "cut",
+        text: "Some frames alone, or their samples: of COUNT frames from FROM on",
+    },
+    About {
         name: "avi",
         text: "Picture and sound as AVI, uncompressed: 512 by 478, at the region's exact rate",
+    },
+    About {
+        name: "state",
+        text: "What a state of snes dump holds: registers, and the lines of each memory that have a byte other than 0",
     },
 ];
 
 /// The names of the regions.
 const REGIONS: &[&str] = &["ntsc", "pal"];
 
+/// The names of the memories of a state.
+const MEMORIES: &[&str] = &["dsp", "cgram", "oam", "wram", "vram", "aram", "sram"];
+
 /// The words of all commands.
-static WORDS: [Word; 21] = words![
+static WORDS: [Word; 34] = words![
     "png" Kind::Placed, "VIDEO" "" "" "raw frames; - is standard input";
     "png" Kind::PlacedNumber, "FRAME" "" "" "its number, from 0";
     "png" Kind::Placed, "OUT" "" "" "the PNG";
@@ -46,16 +57,29 @@ static WORDS: [Word; 21] = words![
     "sums" Kind::Choice(REGIONS), "region" "REGION" "" "ntsc or pal; else as the lengths of the two files say, and ntsc of pipes";
     "sums" Kind::Flag, "json" "" "" "JSON in place of CSV";
     "diff" Kind::Placed, "A" "" "" "raw frames, or samples with --audio";
-    "diff" Kind::Placed, "B" "" "" "the same";
+    "diff" Kind::Placed, "B" "" "" "the same; with --frame a PNG";
+    "diff" Kind::Number, "frame" "FRAME" "" against &["audio", "state"], "compare frame FRAME of A, from 0, with the PNG B: 512 or 256 by 478, 448, 239 or 224";
     "diff" Kind::Text, "png" "OUT" "" "a picture of the first frame that differs: red where it does";
     "diff" Kind::Flag, "audio" "" "" "A and B are raw samples";
+    "diff" Kind::Flag, "state" "" "" against &["audio", "png"], "A and B are states of snes dump";
+    "diff" Kind::Number, "lines" "COUNT" "20" "with --state: how many differences are printed at most";
     "sheet" Kind::Placed, "VIDEO" "" "" "raw frames; - is standard input";
     "sheet" Kind::Placed, "OUT" "" "" "the PNG";
     "sheet" Kind::Positive, "every" "FRAMES" "60" "a picture each so many frames, from frame 0 on";
+    "cut" Kind::Placed, "FILM" "" "" "raw frames, or samples with --audio; - is standard input";
+    "cut" Kind::PlacedNumber, "FROM" "" "" "the first frame, from 0";
+    "cut" Kind::PlacedNumber, "COUNT" "" "" "how many frames";
+    "cut" Kind::Placed, "OUT" "" "" "the raw frames or samples";
+    "cut" Kind::Flag, "audio" "" "" "FILM is the raw samples of a film, and so is OUT";
+    "cut" Kind::Choice(REGIONS), "region" "REGION" "" "of samples: ntsc or pal; else as the length of the file says";
     "avi" Kind::Placed, "VIDEO" "" "" "raw frames; - is standard input";
     "avi" Kind::Placed, "AUDIO" "" "" "raw samples";
     "avi" Kind::Placed, "OUT" "" "" "the AVI";
     "avi" Kind::Choice(REGIONS), "region" "REGION" "" "ntsc or pal; else as the lengths of the two files say, and ntsc of pipes";
+    "state" Kind::Placed, "FILE" "" "" "the state; - is standard input";
+    "state" Kind::Choice(MEMORIES), "memory" "NAME" "" "one memory alone, with its lines of zeros";
+    "state" Kind::Text, "from" "ADDRESS" "" "with --memory: its first address, decimal or from 0x on; else 0";
+    "state" Kind::Text, "count" "COUNT" "" "with --memory: how many bytes; else all";
 ];
 
 /// What the help says last.
@@ -67,7 +91,7 @@ or the command line is at fault: standard error says which.";
 pub fn program() -> Program {
     Program {
         name: "look",
-        about: "Looks at the raw frames and samples that snes wrote",
+        about: "Looks at the raw frames, the samples and the states that snes wrote",
         commands: &COMMANDS,
         words: &WORDS,
         needs_words: true,

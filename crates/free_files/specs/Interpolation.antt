@@ -1,5 +1,5 @@
 -- The interpolation table of the S-DSP, by the formula of nocash fullsnes (docs/machine/S-DSP.md); tools/make_table.py makes it.
-use Rattle.std.specs.Prelude.{ℕ, List, [], ◌∷◌}
+use Rattle.std.specs.Prelude.{ℕ, ◌/◌, ◌%◌, List, [], ◌∷◌}
 
 -- the 512 numbers, from entry 0 on
 unfoldable pub interpolation : List ℕ
@@ -36,3 +36,8 @@ interpolation =
     1253 ∷ 1255 ∷ 1257 ∷ 1259 ∷ 1261 ∷ 1263 ∷ 1265 ∷ 1267 ∷ 1269 ∷ 1270 ∷ 1272 ∷ 1274 ∷ 1275 ∷ 1277 ∷ 1279 ∷ 1280 ∷
     1282 ∷ 1283 ∷ 1284 ∷ 1286 ∷ 1287 ∷ 1288 ∷ 1290 ∷ 1291 ∷ 1292 ∷ 1293 ∷ 1294 ∷ 1295 ∷ 1296 ∷ 1297 ∷ 1297 ∷ 1298 ∷
     1299 ∷ 1300 ∷ 1300 ∷ 1301 ∷ 1302 ∷ 1302 ∷ 1303 ∷ 1303 ∷ 1303 ∷ 1304 ∷ 1304 ∷ 1304 ∷ 1304 ∷ 1304 ∷ 1305 ∷ 1305 ∷ [])
+
+-- the bytes of a table's file: two for each number, the low one first
+abbrev pub table_bytes : List ℕ → List ℕ
+table_bytes [] = []
+table_bytes (number ∷ rest) = number % 256 ∷ (number / 256 ∷ table_bytes rest)

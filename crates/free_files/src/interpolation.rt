@@ -1,7 +1,8 @@
-ghost use Rattle.std.specs.Prelude.{◌≡◌};
-ghost use Rattle.free_files.specs.Interpolation.{interpolation};
+ghost use Rattle.std.specs.Prelude.{◌≡◌, IfOk};
+ghost use Rattle.free_files.specs.Interpolation.{interpolation, table_bytes};
 
-use snes_defs::Table;
+use snes_defs::{NoMemory, Table};
+use std::alloc::Global;
 
 /// The 512 numbers.
 static NUMBERS: [u16; 512] = [
@@ -39,4 +40,28 @@ pub fn interpolation_table() -> Table
     ensures { result ≡ interpolation }
 {
     Table::of(NUMBERS)
+}
+
+/// The file of the interpolation table: 1,024 bytes.
+#[tactic(auto, unfolding(crate::specs::Interpolation::interpolation))]
+pub fn interpolation_file(alloc: Global) -> Result<Vec<u8>, NoMemory>
+    ensures { IfOk result (λ file. file.items ≡ table_bytes interpolation) }
+{
+    bytes_of(alloc, &NUMBERS)
+}
+
+/// The bytes of numbers: two for each, the low one first.
+fn bytes_of(alloc: Global, numbers: &[u16]) -> Result<Vec<u8>, NoMemory>
+    ensures { IfOk result (λ bytes. bytes.items ≡ table_bytes numbers.now) }
+{
+    let mut bytes = Vec::new(alloc);
+    for number in numbers {
+        let Ok(()) = bytes.push((*number % 256) as u8) else {
+            return Err(NoMemory);
+        };
+        let Ok(()) = bytes.push((*number / 256) as u8) else {
+            return Err(NoMemory);
+        };
+    }
+    Ok(bytes)
 }

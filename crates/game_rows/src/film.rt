@@ -1,5 +1,5 @@
 use case_text::{hashed, no_hash};
-use file_shelf::Failed;
+use shelf::Failed;
 use run_drive::Sink;
 use snes_defs::Side;
 use std::alloc::{AllocError, Global};

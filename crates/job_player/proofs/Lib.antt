@@ -1,4 +1,5 @@
 pub mod Ends
+pub mod Leaving
 pub mod Plays
 pub mod Ready
 pub mod Planning

@@ -7,7 +7,9 @@
 #![tactic(auto)]
 
 mod console;
+mod left;
 mod planned;
 
 pub use console::{Carrier, Console, play_by_turns};
+pub use left::Leaving;
 pub use planned::Planned;

@@ -4,7 +4,7 @@ use Rattle.std.proofs.lemmas.Bool.{cases_order}
 use Rattle.snes_defs.specs.declared.cart.Job.{Job}
 use Rattle.snes_defs.specs.declared.ports.Side.{Side}
 use Rattle.snes_defs.specs.declared.ports.Side.TheVariants.{Console, Sound}
-use Rattle.file_shelf.specs.declared.shelves.Input.{Input}
+use Rattle.shelf.specs.declared.shelves.Input.{Input}
 use Rattle.snes_program.specs.Job.{ShowsJob}
 use Rattle.run_drive.specs.Played.{PlayedWhole, PlayedFirst}
 use Rattle.memory_player.specs.declared.inputs.End.{End}

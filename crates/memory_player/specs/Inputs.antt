@@ -1,7 +1,7 @@
 -- Four slices are told as the four files of a job, and why they make none.
 use Rattle.std.specs.Prelude.{◌≡◌, ℕ, List, [], ◌∷◌, Option, Some}
-use Rattle.file_shelf.specs.declared.shelves.Input.{Input}
-use Rattle.file_shelf.specs.declared.shelves.Input.TheVariants.{Cart, Boot, Table, Script}
+use Rattle.shelf.specs.declared.shelves.Input.{Input}
+use Rattle.shelf.specs.declared.shelves.Input.TheVariants.{Cart, Boot, Table, Script}
 use Rattle.run_io.specs.Lists.{FirstThat}
 use Rattle.snes_program.specs.Kinds.{input_of, AreRefused}
 use Rattle.snes_program.specs.Loads.{TellsAccepted, TellsRefused}

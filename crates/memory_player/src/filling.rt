@@ -2,7 +2,7 @@ ghost use Rattle.std.specs.Prelude.{◌≡◌, ◌<◌, nat_lt, length, IfOk, On
 ghost use Rattle.run_drive.specs.Run.{Adds, AddsSome};
 ghost use Rattle.memory_player.specs.Filled.{Handed, OnlyFront};
 
-use file_shelf::Failed;
+use shelf::Failed;
 use snes_defs::NoMemory;
 use std::alloc::Global;
 

@@ -1,5 +1,5 @@
 ghost use Rattle.std.specs.Prelude.{◌≡◌, ℕ, IfOk, OnOk, IfErr};
-ghost use Rattle.file_shelf.specs.declared.shelves.Input.TheVariants as input;
+ghost use Rattle.shelf.specs.declared.shelves.Input.TheVariants as input;
 ghost use Rattle.input_files.specs.Table.{IsTableFile};
 ghost use Rattle.snes_program.specs.Job.{ShowsJob};
 ghost use Rattle.snes_program.specs.Kinds.{AreAccepted, IsCartIn, IsScriptIn};

@@ -7,7 +7,7 @@ ghost use Rattle.memory_player.specs.SliceLaws.{fills_none, fills_more};
 
 use crate::filling::Filling;
 use crate::inputs::End;
-use file_shelf::Failed;
+use shelf::Failed;
 use run_drive::Sink;
 use snes_defs::Side;
 

@@ -2,16 +2,31 @@ use film_avi::{Layout, file_head, samples_upto};
 use film_formats::{
     Adler, Colour, Piece, crc_of_chunk, first_apart, png_file, read_piece, wav_header,
 };
+use png_reader::{Picture, PngFault, read_png};
 use snes_defs::Region;
 use std::test::Fail;
 
-/// The PNG that zlib makes of two dots, red and dark blue, in a stored block of its own.
-static TWO_DOTS: [u8; 104] = [
-    137, 80, 78, 71, 13, 10, 26, 10, 0, 0, 0, 13, 73, 72, 68, 82, 0, 0, 0, 2, 0, 0, 0, 1, 8, 2, 0,
-    0, 0, 123, 64, 232, 221, 0, 0, 0, 2, 73, 68, 65, 84, 120, 1, 236, 26, 126, 210, 0, 0, 0, 12,
-    73, 68, 65, 84, 0, 7, 0, 248, 255, 0, 255, 0, 0, 8, 16, 24, 219, 155, 228, 155, 0, 0, 0, 9, 73,
-    68, 65, 84, 1, 0, 0, 255, 255, 6, 81, 1, 48, 239, 60, 211, 230, 0, 0, 0, 0, 73, 69, 78, 68,
-    174, 66, 96, 130,
+/// The PNG of two dots, red and dark blue, by a palette of both. Its block is worked by hand: the bits 1 1 0, the codes
+/// 00110000 00110000 00110001 0000000, and six zeros. zlib packs the row 0 0 1 into the same bytes by fixed codes.
+static TWO_DOTS: [u8; 86] = [
+    137, 80, 78, 71, 13, 10, 26, 10, 0, 0, 0, 13, 73, 72, 68, 82, 0, 0, 0, 2, 0, 0, 0, 1, 8, 3, 0,
+    0, 0, 195, 252, 143, 184, 0, 0, 0, 6, 80, 76, 84, 69, 255, 0, 0, 8, 16, 24, 22, 30, 201, 188,
+    0, 0, 0, 11, 73, 68, 65, 84, 120, 1, 99, 96, 96, 4, 0, 0, 4, 0, 2, 139, 47, 60, 19, 0, 0, 0, 0,
+    73, 69, 78, 68, 174, 66, 96, 130,
+];
+
+/// A picture of 16 by 10 in three colours of a palette of 13, 4 bits each, all five filters in turn, packed by zlib with
+/// codes of its own.
+static FILTERED: [u8; 203] = [
+    137, 80, 78, 71, 13, 10, 26, 10, 0, 0, 0, 13, 73, 72, 68, 82, 0, 0, 0, 16, 0, 0, 0, 10, 4, 3,
+    0, 0, 0, 79, 144, 195, 175, 0, 0, 0, 39, 80, 76, 84, 69, 0, 1, 2, 3, 4, 5, 6, 7, 8, 9, 10, 11,
+    12, 13, 14, 15, 16, 17, 18, 19, 20, 21, 22, 23, 24, 25, 26, 27, 28, 29, 30, 31, 32, 33, 34, 35,
+    36, 37, 38, 153, 206, 127, 30, 0, 0, 0, 95, 73, 68, 65, 84, 120, 1, 5, 193, 161, 13, 128, 48,
+    16, 64, 209, 15, 156, 233, 10, 172, 113, 162, 6, 129, 192, 224, 216, 2, 83, 113, 201, 141, 129,
+    193, 177, 8, 9, 6, 84, 215, 96, 15, 18, 210, 16, 222, 35, 199, 168, 26, 213, 171, 108, 64, 88,
+    82, 109, 128, 60, 137, 166, 5, 182, 171, 32, 82, 134, 115, 70, 10, 93, 212, 172, 238, 94, 249,
+    100, 48, 30, 212, 24, 200, 17, 250, 230, 93, 207, 239, 235, 111, 19, 12, 8, 178, 255, 92, 245,
+    25, 255, 147, 195, 56, 90, 0, 0, 0, 0, 73, 69, 78, 68, 174, 66, 96, 130,
 ];
 
 /// A WAV file of no samples.
@@ -30,6 +45,33 @@ fn sums_are_those_of_zlib(rt: HostRuntime) {
 fn a_picture_of_two_dots_is_that_of_zlib(rt: HostRuntime) -> Result<(), Fail> {
     let file = png_file(rt.alloc(), 2, 1, &[255, 0, 0, 8, 16, 24])?;
     assert!(rt; file.as_slice() == TWO_DOTS.as_slice());
+    Ok(())
+}
+
+/// The Adler-32 of a picture's colours, row after row.
+fn adler_of(picture: &Picture) -> u32 {
+    let mut sums = Adler::new();
+    for row in 0..picture.height() {
+        for column in 0..picture.width() {
+            if let Some(pixel) = picture.pixel(row, column) {
+                sums = sums.fed_all(&pixel);
+            }
+        }
+    }
+    sums.number()
+}
+
+#[test]
+fn a_picture_of_another_program_is_read(rt: HostRuntime) -> Result<(), Fail> {
+    let found = read_png(rt.alloc(), &FILTERED)
+        .ok()
+        .map(|picture| adler_of(&picture));
+    // zlib.adler32 of the colours, by the script that made the picture.
+    assert!(rt; found == Some(545_987_332));
+    let mut wrong = FILTERED;
+    wrong[120] ^= 1;
+    assert!(rt; matches!(read_png(rt.alloc(), &wrong), Err(PngFault::Crc("IDAT"))));
+    assert!(rt; matches!(read_png(rt.alloc(), &FILTERED[..202]), Err(PngFault::Cut)));
     Ok(())
 }
 

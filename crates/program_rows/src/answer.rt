@@ -1,7 +1,7 @@
-use file_shelf::Shelf;
 use job_player::Console;
 use port_wire::Gate;
 use run_io::Argv;
+use shelf::Shelf;
 use snes_program::{Status, snes};
 use std::thread::Threads;
 

@@ -1,5 +1,5 @@
 use crate::rows::Outcome;
-use file_shelf::Out;
+use shelf::Out;
 
 /// Whether an output has the same name and bytes in two outcomes.
 fn is_same_output(one: &Outcome, other: &Outcome, out: Out) -> bool {
@@ -7,9 +7,12 @@ fn is_same_output(one: &Outcome, other: &Outcome, out: Out) -> bool {
         && one.shelf.written(out) == other.shelf.written(out)
 }
 
-/// Whether video and sound have the same names and bytes in two outcomes.
+/// Whether video, sound, sums and state have the same names and bytes in two outcomes.
 pub fn is_same(one: &Outcome, other: &Outcome) -> bool {
-    is_same_output(one, other, Out::Video) && is_same_output(one, other, Out::Sound)
+    is_same_output(one, other, Out::Video)
+        && is_same_output(one, other, Out::Sound)
+        && is_same_output(one, other, Out::Sums)
+        && is_same_output(one, other, Out::State)
 }
 
 /// Whether two calls returned the same status, printed the same and left the same.
@@ -19,14 +22,17 @@ pub fn are_alike(one: &Outcome, other: &Outcome) -> bool {
         && is_same(one, other)
 }
 
-/// Whether video and sound hold a prefix of what they hold in another outcome.
-pub fn is_begun(part: &Outcome, whole: &Outcome) -> bool {
+/// Whether an output holds a prefix of what it holds in another outcome.
+fn is_begun_output(part: &Outcome, whole: &Outcome, out: Out) -> bool {
     whole
         .shelf
-        .written(Out::Video)
-        .starts_with(part.shelf.written(Out::Video))
-        && whole
-            .shelf
-            .written(Out::Sound)
-            .starts_with(part.shelf.written(Out::Sound))
+        .written(out)
+        .starts_with(part.shelf.written(out))
+}
+
+/// Whether video, sound and sums hold a prefix of what they hold in another outcome.
+pub fn is_begun(part: &Outcome, whole: &Outcome) -> bool {
+    is_begun_output(part, whole, Out::Video)
+        && is_begun_output(part, whole, Out::Sound)
+        && is_begun_output(part, whole, Out::Sums)
 }

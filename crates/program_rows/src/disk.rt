@@ -1,9 +1,10 @@
 // Runs rows over real files.
 use crate::answer::answer;
 use crate::rows::{Outcome, Rows, performed, words_of};
-use file_shelf::{FileShelf, Out};
+use file_shelf::FileShelf;
 use port_wire::OpenGate;
 use run_io::Argv;
+use shelf::Out;
 use snes_program::Status;
 use std::rt::Files;
 use std::thread::Threads;
@@ -19,14 +20,14 @@ fn lay<R: Files>(rt: &R, rows: &Rows, words: &str) -> io::Result<()> {
     Ok(())
 }
 
-/// Removes the files that the arguments name, and the outputs of a row for video and sound unless they are devices.
+/// Removes the files that the arguments name, and the outputs of a row unless they are devices.
 fn clear<R: Files>(rt: &R, rows: &Rows, words: &str, row: &Outcome) -> io::Result<()> {
     for word in words.split(' ') {
         if rows.files.find(word).is_some() {
             fs::remove_file(rt, word)?;
         }
     }
-    for out in [Out::Video, Out::Sound] {
+    for out in [Out::Video, Out::Sound, Out::Sums, Out::State] {
         let name = row.shelf.named(out);
         if !name.is_empty() && !name.starts_with("/") {
             fs::remove_file(rt, name)?;
@@ -72,7 +73,9 @@ fn compare_all<R: AllocGlobal + Files + Print>(
         return Ok(());
     }
     compare(rt, "video", Out::Video, row)?;
-    compare(rt, "sound", Out::Sound, row)
+    compare(rt, "sound", Out::Sound, row)?;
+    compare(rt, "sums", Out::Sums, row)?;
+    compare(rt, "state", Out::State, row)
 }
 
 /// Calls the program over real files, and prints its line, the exit status, and whether the outputs are those in

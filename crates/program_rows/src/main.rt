@@ -12,7 +12,7 @@
 //!   (the generator of cartridges). `put OFFSET BYTES` changes it. Counts and numbers are decimal, the rest
 //!   hexadecimal. A row's shelf holds the files that its words name; an image that was made is a file.
 //! - `room COUNT`: how many bytes a shelf keeps of each output, from here on.
-//! - `fail load N`, `create`, `put`, `video`, `sound`, `image`, `say`: in the next row the Nth call of that kind
+//! - `fail load N`, `create`, `put`, `video`, `sound`, `image`, `sums`, `say`: in the next row the Nth call of that kind
 //!   fails; `video` to `say` are puts to one output.
 //!
 //! Lines that run something:

@@ -1,8 +1,9 @@
 use crate::answer::answer;
 use crate::files::Files;
-use file_shelf::{MemShelf, Out, ShelfCall};
+use memory_shelves::{MemShelf, ShelfCall};
 use port_wire::{Gate, OpenGate};
 use run_io::Argv;
+use shelf::Out;
 use snes_program::Status;
 use std::alloc::Global;
 use std::str;
@@ -97,6 +98,8 @@ fn failure_of(text: &str) -> Option<Failure> {
         b"video" => ShelfCall::Put(Some(Out::Video)),
         b"sound" => ShelfCall::Put(Some(Out::Sound)),
         b"image" => ShelfCall::Put(Some(Out::Image)),
+        b"sums" => ShelfCall::Put(Some(Out::Sums)),
+        b"state" => ShelfCall::Put(Some(Out::State)),
         b"say" => ShelfCall::Put(Some(Out::Say)),
         _ => return None,
     };

@@ -1,7 +1,7 @@
 ghost use Rattle.std.specs.Prelude.{◌≤◌, length};
 
 use crate::rows::Outcome;
-use file_shelf::Out;
+use shelf::Out;
 use std::{io, str};
 
 /// The most runs of equal units by which an output is printed.
@@ -9,6 +9,9 @@ const MOST_RUNS: usize = 8;
 
 /// The length of the longest name that is printed; a longer one is shown by its length.
 const MOST_LETTERS: usize = 64;
+
+/// The bytes of a state that are printed in one line.
+const LINE: usize = 16;
 
 /// How much of an output is printed.
 #[derive(Clone, Copy, Debug, PartialEq, Eq)]
@@ -95,6 +98,28 @@ fn show_output<R: Print>(
     println!(rt; "")
 }
 
+/// Prints sixteen bytes of a state behind their offset.
+fn show_line<R: Print>(rt: &R, at: usize, line: &[u8]) -> io::Result<()> {
+    print!(rt; "    {at:05x} ")?;
+    for byte in line {
+        print!(rt; " {byte:02x}")?;
+    }
+    println!(rt; "")
+}
+
+/// Prints a state that was created: how many bytes it has, and each line of sixteen that has one other than 0.
+fn show_state<R: Print>(rt: &R, outcome: &Outcome) -> io::Result<()> {
+    let name = outcome.shelf.named(Out::State);
+    let bytes = outcome.shelf.written(Out::State);
+    show_output(rt, "state", name, bytes, Detail::Length)?;
+    for (number, line) in bytes.chunks(LINE).enumerate() {
+        if line.iter().any(|byte| *byte != 0) {
+            show_line(rt, number.saturating_mul(LINE), line)?;
+        }
+    }
+    Ok(())
+}
+
 /// Prints the exit status and the line of the program.
 pub fn show_answer<R: Print>(rt: &R, outcome: &Outcome) -> io::Result<()> {
     let exit = outcome.status.exit();
@@ -104,13 +129,28 @@ pub fn show_answer<R: Print>(rt: &R, outcome: &Outcome) -> io::Result<()> {
     }
 }
 
+/// Prints a text that was written, line by line.
+fn show_text<R: Print>(rt: &R, what: &str, name: &str, bytes: &[u8]) -> io::Result<()> {
+    if name.is_empty() {
+        return Ok(());
+    }
+    println!(rt; "  {what} {name}: {} bytes", bytes.len())?;
+    for line in str::from_utf8(bytes).unwrap_or("no text").lines() {
+        println!(rt; "    {line}")?;
+    }
+    Ok(())
+}
+
 /// Prints the outputs that were created.
 pub fn show_outputs<R: Print>(rt: &R, outcome: &Outcome, detail: Detail) -> io::Result<()> {
     let shelf = &outcome.shelf;
     let video = shelf.written(Out::Video);
     let sound = shelf.written(Out::Sound);
     let image = shelf.written(Out::Image);
+    let sums = shelf.written(Out::Sums);
     show_output(rt, "video", shelf.named(Out::Video), video, detail)?;
     show_output(rt, "sound", shelf.named(Out::Sound), sound, detail)?;
-    show_output(rt, "image", shelf.named(Out::Image), image, detail)
+    show_output(rt, "image", shelf.named(Out::Image), image, detail)?;
+    show_text(rt, "sums", shelf.named(Out::Sums), sums)?;
+    show_state(rt, outcome)
 }

@@ -1,8 +1,8 @@
 -- A put to one output, as a sink sees it.
 use Rattle.std.proofs.Common.{◌≢◌, ℕ, List, sym, subst, Option}
 use Rattle.snes_defs.specs.declared.ports.Side.{Side}
-use Rattle.file_shelf.specs.Told.{Holds}
-use Rattle.file_shelf.specs.Shown.{Shown, OnlyPuts}
+use Rattle.shelf.specs.Told.{Holds}
+use Rattle.shelf.specs.Shown.{Shown, OnlyPuts}
 use Rattle.run_drive.specs.Outputs.{output_of}
 use Rattle.run_drive.specs.OutputLaws.{put_fills, other_output}
 

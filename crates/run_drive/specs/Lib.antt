@@ -1,3 +1,4 @@
+pub mod Ended
 pub mod OutputLaws
 pub mod Outputs
 pub mod Played

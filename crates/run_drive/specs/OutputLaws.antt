@@ -2,8 +2,8 @@
 use Rattle.std.proofs.Common.{◌≢◌, ℕ, ◌≤◌, refl, ◌∙◌, arith}
 use Rattle.snes_defs.specs.declared.ports.Side.{Side}
 use Rattle.snes_defs.specs.declared.ports.Side.TheVariants.{Console, Sound}
-use Rattle.file_shelf.specs.Told.{HasRisen}
-use Rattle.file_shelf.specs.Shown.{Shown, OnlyPuts, OnlyRuns}
+use Rattle.shelf.specs.Told.{HasRisen}
+use Rattle.shelf.specs.Shown.{Shown, OnlyPuts, OnlyRuns}
 use Rattle.run_drive.specs.Outputs.{output_of, OnlyFills}
 
 pub only_runs_none : (a : Shown) → OnlyRuns a a

@@ -14,9 +14,11 @@ mod pours;
 mod serial_run;
 mod shelf_sink;
 mod sink;
+mod state_player;
 
 pub use player::Player;
 pub use pours::pour;
-pub use serial_run::run_serial;
+pub use serial_run::{run_serial, run_to_end};
 pub use shelf_sink::out_of;
 pub use sink::Sink;
+pub use state_player::StatePlayer;

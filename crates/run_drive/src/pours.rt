@@ -3,7 +3,7 @@ ghost use Rattle.snes_defs.specs.declared.ports.Side.{Side};
 ghost use Rattle.run_drive.specs.Run.{Adds, AddsSome};
 
 use crate::sink::Sink;
-use file_shelf::Failed;
+use shelf::Failed;
 use side_law::Machine;
 use snes_defs::Side;
 

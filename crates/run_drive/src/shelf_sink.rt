@@ -1,13 +1,13 @@
 // Any shelf as the sink of a run: the console's bytes go to video, the sound side's to sound.
 ghost use Rattle.std.specs.Prelude.{◌≡◌, ◌≢◌, ℕ, List, OnOk, OnErr};
 ghost use Rattle.snes_defs.specs.declared.ports.Side.{Side};
-ghost use Rattle.file_shelf.specs.Told.{Holds, Appends, HasRisen};
+ghost use Rattle.shelf.specs.Told.{Holds, Appends, HasRisen};
 ghost use Rattle.run_drive.specs.Run.{Adds, AddsSome};
 ghost use Rattle.run_drive.specs.Outputs.{output_of, OnlyFills};
 ghost use Rattle.run_drive.specs.OutputLaws.{fills_none, fills_then, risen_since};
 
 use crate::sink::Sink;
-use file_shelf::{Failed, Out, Shelf};
+use shelf::{Failed, Out, Shelf};
 use snes_defs::Side;
 
 /// The output that a side's bytes go to.

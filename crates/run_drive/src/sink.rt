@@ -2,7 +2,7 @@ ghost use Rattle.std.specs.Prelude.{◌≡◌, ◌≢◌, ℕ, List, ◌++◌, O
 ghost use Rattle.snes_defs.specs.declared.ports.Side.{Side};
 ghost use Rattle.run_drive.specs.Run.{Adds, AddsSome};
 
-use file_shelf::Failed;
+use shelf::Failed;
 use snes_defs::Side;
 
 /// A sink for the bytes that the two machines of a run emit.

@@ -3,7 +3,7 @@ use Rattle.std.proofs.Common.{◌≡◌, ℕ, Bool, true, false, not, ◌&&◌, 
 use Rattle.std.specs.List.{list_all}
 use Rattle.std.specs.Str.{bytes_eq}
 use Rattle.std.proofs.lemmas.Bool.{leb-true}
-use Rattle.file_shelf.specs.declared.shelves.Out.{Out}
+use Rattle.shelf.specs.declared.shelves.Out.{Out}
 use Rattle.run_io.specs.Words.{word_behind, is_value, output_name}
 use Rattle.run_io.specs.Lists.{AllOf}
 use Rattle.run_io.specs.Form.{IsName}

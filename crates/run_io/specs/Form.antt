@@ -1,22 +1,23 @@
 -- The form of a command's words behind its name: a number where it has one, and pairs of an option and its value in any
 -- order. This project's own.
-use Rattle.std.specs.Prelude.{◌≡◌, ℕ, ◌+◌, ◌/◌, ◌%◌, ◌≤◌, ◌<◌, Bool, true, false, not, ◌&&◌, nat_eq, if◌then◌else◌, List, [], ◌∷◌, length, Option, Some, None}
+use Rattle.std.specs.Prelude.{◌≡◌, ℕ, ◌+◌, ◌/◌, ◌%◌, ◌≤◌, ◌<◌, Bool, true, false, not, ◌&&◌, ◌||◌, nat_eq, if◌then◌else◌, List, [], ◌∷◌, length, Option, Some, None}
 use Rattle.std.specs.List.{list_all}
 use Rattle.std.specs.Str.{bytes_eq}
-use Rattle.file_shelf.specs.declared.shelves.Input.{Input}
-use Rattle.file_shelf.specs.declared.shelves.Out.{Out}
+use Rattle.shelf.specs.declared.shelves.Input.{Input}
+use Rattle.shelf.specs.declared.shelves.Out.{Out}
 use Rattle.run_io.specs.declared.options.Count.{Count}
 use Rattle.run_io.specs.declared.forms.Form.{Form}
 use Rattle.run_io.specs.declared.forms.Asked.{Asked}
-use Rattle.run_io.specs.Options.{count_option, digits_of, most_of}
+use Rattle.run_io.specs.Options.{is_optional, count_option, digits_of, most_of}
 use Rattle.run_io.specs.Words.{word_behind, is_value, input_name, output_name, number_in}
 use Rattle.run_io.specs.Lists.{AllOf}
 
--- whether a number comes first, the inputs in the order in which they are loaded, the number behind an option, and the
--- outputs in the order in which they are created
+-- whether a number comes first, the inputs in the order in which they are loaded, those of them that may be left out, the
+-- number behind an option, and the outputs in the order in which they are created
 pub record FormValue : Type 0 where
   pub numbered : Bool
   pub inputs : List Input
+  pub optional : List Input
   pub count : Option Count
   pub outputs : List Out
 
@@ -47,20 +48,33 @@ abbrev pub count_options : Option Count → ℕ
 count_options None = 0
 count_options (Some count) = 1
 
--- there are as many pairs as the form has options
+-- an input that may be left out is left out: nothing stands behind its option
+abbrev pub is_left_out : List (List ℕ) → List Input → Input → Bool
+is_left_out pairs optional input = is_optional optional input && nat_eq (length (input_name pairs input)) 0
+
+-- how many of these inputs are not left out
+abbrev pub count_named : List (List ℕ) → List Input → List Input → ℕ
+count_named pairs optional [] = 0
+count_named pairs optional (input ∷ inputs) =
+    if is_left_out pairs optional input then count_named pairs optional inputs else count_named pairs optional inputs + 1
+
+-- there are as many pairs as the form has options, but for the inputs that are left out
 abbrev pub has_pairs : FormValue → List (List ℕ) → Bool
-has_pairs form pairs = nat_eq (length pairs % 2) 0 && nat_eq (length pairs / 2) (length form.inputs + length form.outputs + count_options form.count)
+has_pairs form pairs =
+    nat_eq (length pairs % 2) 0
+    && nat_eq (length pairs / 2) (count_named pairs form.optional form.inputs + length form.outputs + count_options form.count)
 
 -- no two of these outputs have one name
 abbrev pub differ : List (List ℕ) → List Out → Bool
 differ pairs [] = true
 differ pairs (out ∷ outs) = list_all (λ other. not (bytes_eq (output_name pairs out) (output_name pairs other))) outs && differ pairs outs
 
--- as many pairs as the form has options, and a value behind each option of an input or output: so each stands there just once
+-- as many pairs as the form has options, and a value behind each option of an input or output, but for the inputs that are left
+-- out: so each of the others stands there just once
 abbrev pub has_values : FormValue → List (List ℕ) → Bool
 has_values form pairs =
     has_pairs form pairs
-    && list_all (λ input. is_value (input_name pairs input)) form.inputs
+    && list_all (λ input. is_left_out pairs form.optional input || is_value (input_name pairs input)) form.inputs
     && list_all (λ out. is_value (output_name pairs out)) form.outputs
     && differ pairs form.outputs
 
@@ -75,7 +89,13 @@ order_in form words =
 
 -- a form and an order of the code, by their values
 abbrev pub form_by : Form → FormValue
-form_by form = record { numbered = form.numbered; inputs = form.inputs.now; count = form.count; outputs = form.outputs.now }
+form_by form = record {
+  numbered = form.numbered;
+  inputs = form.inputs.now;
+  optional = form.optional.now;
+  count = form.count;
+  outputs = form.outputs.now;
+}
 
 abbrev pub order_by : Asked → Order
 order_by asked = record { number = asked.number; count = asked.count; pairs = asked.pairs.now }

@@ -1,4 +1,4 @@
-pub use Rattle.file_shelf.specs.Told
+pub use Rattle.shelf.specs.Told
 pub mod Form
 pub mod Line
 pub mod Lists

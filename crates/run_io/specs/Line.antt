@@ -1,11 +1,13 @@
 -- The lines for the user.
 use Rattle.std.specs.Prelude.{ℕ, ◌+◌, ◌/◌, ◌%◌, List, [], ◌∷◌, ◌++◌, codes, decimal, Option, Some, None, nat_lt, if◌then◌else◌}
+use Rattle.snes_defs.specs.declared.ports.Side.{Side}
+use Rattle.snes_defs.specs.declared.ports.Side.TheVariants.{Console, Sound}
 use Rattle.cart_map.specs.declared.refused.CartRefused.{CartRefused}
 use Rattle.cart_map.specs.declared.refused.CartRefused.TheVariants as cart
-use Rattle.file_shelf.specs.declared.shelves.Input.{Input}
-use Rattle.file_shelf.specs.declared.shelves.Input.TheVariants as input
-use Rattle.file_shelf.specs.declared.shelves.Out.{Out}
-use Rattle.file_shelf.specs.declared.shelves.Out.TheVariants as out
+use Rattle.shelf.specs.declared.shelves.Input.{Input}
+use Rattle.shelf.specs.declared.shelves.Input.TheVariants as input
+use Rattle.shelf.specs.declared.shelves.Out.{Out}
+use Rattle.shelf.specs.declared.shelves.Out.TheVariants as out
 use Rattle.run_io.specs.declared.help.TheConstants.{HELP, VERSION}
 
 -- the help and the version, which are the texts of the code
@@ -74,6 +76,24 @@ script_refused_text line = codes "script refused at line " ++ decimal line
 abbrev pub plan_refused_text : ℕ → List ℕ
 plan_refused_text line = codes "plan refused at line " ++ decimal line
 
+abbrev pub sums_refused_text : ℕ → List ℕ
+sums_refused_text line = codes "sums refused at line " ++ decimal line
+
+-- the column of a side in a file of sums
+abbrev pub column_text : Side → List ℕ
+column_text Console = codes " picture"
+column_text Sound = codes " sound"
+
+-- the first difference between a run and a file of sums: at a frame, in how many frames there are, or in the sum of all
+abbrev pub frame_differs_text : ℕ → Side → List ℕ
+frame_differs_text frame side = codes "differs: frame " ++ decimal frame ++ column_text side
+
+abbrev pub frames_differ_text : List ℕ
+frames_differ_text = codes "differs: frames"
+
+abbrev pub all_differ_text : Side → List ℕ
+all_differ_text side = codes "differs: all" ++ column_text side
+
 -- the words are in no form
 abbrev pub usage_text : List ℕ
 usage_text = codes "usage: snes run, serial, make or demo"
@@ -86,12 +106,15 @@ cannot_read_text input.Spc = codes "cannot read spc"
 cannot_read_text input.Table = codes "cannot read table"
 cannot_read_text input.Script = codes "cannot read script"
 cannot_read_text input.Plan = codes "cannot read plan"
+cannot_read_text input.Sums = codes "cannot read sums"
 
 -- an output was not written; there is no line for the output that the lines themselves go to
 abbrev pub cannot_write_text : Out → Option (List ℕ)
 cannot_write_text out.Video = Some (codes "cannot write video")
 cannot_write_text out.Sound = Some (codes "cannot write sound")
 cannot_write_text out.Image = Some (codes "cannot write image")
+cannot_write_text out.Sums = Some (codes "cannot write sums")
+cannot_write_text out.State = Some (codes "cannot write state")
 cannot_write_text out.Say = None
 
 -- there was no memory

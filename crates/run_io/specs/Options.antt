@@ -1,9 +1,11 @@
 -- The options of the command line: those of inputs, of outputs, and of numbers.
-use Rattle.std.specs.Prelude.{ℕ, List, [], codes}
-use Rattle.file_shelf.specs.declared.shelves.Input.{Input}
-use Rattle.file_shelf.specs.declared.shelves.Input.TheVariants as input
-use Rattle.file_shelf.specs.declared.shelves.Out.{Out}
-use Rattle.file_shelf.specs.declared.shelves.Out.TheVariants as out
+use Rattle.std.specs.Prelude.{ℕ, Bool, List, [], codes}
+use Rattle.std.specs.List.{list_any}
+use Rattle.std.specs.Str.{bytes_eq}
+use Rattle.shelf.specs.declared.shelves.Input.{Input}
+use Rattle.shelf.specs.declared.shelves.Input.TheVariants as input
+use Rattle.shelf.specs.declared.shelves.Out.{Out}
+use Rattle.shelf.specs.declared.shelves.Out.TheVariants as out
 use Rattle.run_io.specs.declared.options.Count.{Count}
 use Rattle.run_io.specs.declared.options.Count.TheVariants as count
 
@@ -15,12 +17,19 @@ input_option input.Spc = codes "--spc"
 input_option input.Table = codes "--table"
 input_option input.Script = codes "--script"
 input_option input.Plan = codes "--plan"
+input_option input.Sums = codes "--sums"
+
+-- an input is one of those that may be left out
+abbrev pub is_optional : List Input → Input → Bool
+is_optional optional input = list_any (λ one. bytes_eq (input_option one) (input_option input)) optional
 
 -- the option of an output; the lines have none
 abbrev pub output_option : Out → List ℕ
 output_option out.Video = codes "--video"
 output_option out.Sound = codes "--audio"
 output_option out.Image = codes "--out"
+output_option out.Sums = codes "--sums"
+output_option out.State = codes "--state"
 output_option out.Say = []
 
 -- the option of a number, the most decimal digits that it has, and its greatest value

@@ -1,8 +1,8 @@
 -- Words in pairs of an option and its value, and the numbers that words spell.
 use Rattle.std.specs.Prelude.{ℕ, Bool, not, ◌&&◌, nat_le, nat_eq, if◌then◌else◌, List, [], ◌∷◌, length, slice_index, Option, Some, None}
 use Rattle.std.specs.Str.{bytes_eq}
-use Rattle.file_shelf.specs.declared.shelves.Input.{Input}
-use Rattle.file_shelf.specs.declared.shelves.Out.{Out}
+use Rattle.shelf.specs.declared.shelves.Input.{Input}
+use Rattle.shelf.specs.declared.shelves.Out.{Out}
 use Rattle.run_io.specs.Number.{number_of}
 use Rattle.run_io.specs.Options.{input_option, output_option}
 

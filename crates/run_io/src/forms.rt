@@ -1,15 +1,15 @@
-ghost use Rattle.std.specs.Prelude.{◌≡◌, ◌≤◌, ◌+◌, ◌*◌, ℕ, Bool, true, not, List, Some, None, IfSome, MatchOption, length};
+ghost use Rattle.std.specs.Prelude.{◌≡◌, ◌≤◌, ◌+◌, ◌*◌, ◌||◌, ℕ, Bool, true, not, List, Some, None, IfSome, MatchOption, length};
 ghost use Rattle.std.specs.List.{list_all};
 ghost use Rattle.std.specs.Str.{bytes_eq};
 ghost use Rattle.run_io.specs.Options.{most_of};
 ghost use Rattle.run_io.specs.Words.{is_value, input_name, output_name};
 ghost use Rattle.run_io.specs.Lists.{AllOf};
-ghost use Rattle.run_io.specs.Form.{number_first, count_in, count_options, has_pairs, differ, has_values, order_in, form_by, order_by, IsName, Fits};
+ghost use Rattle.run_io.specs.Form.{number_first, count_in, count_options, is_left_out, count_named, has_pairs, differ, has_values, order_in, form_by, order_by, IsName, Fits};
 
-use crate::options::Count;
+use crate::options::{Count, is_optional};
 use crate::pairs::{input_name, is_value, number_in, output_name, word_behind};
 use crate::words::Word;
-use file_shelf::{Input, Out};
+use shelf::{Input, Out};
 
 /// The form of the arguments after a command's name.
 #[derive(Clone, Copy)]
@@ -18,6 +18,8 @@ pub struct Form {
     pub numbered: bool,
     /// The inputs, each with its option, in the order in which they are loaded.
     pub inputs: &'static [Input],
+    /// Those of the inputs that may be left out.
+    pub optional: &'static [Input],
     /// The number that is the value of an option, if there is one.
     pub count: Option<Count>,
     /// The outputs, each with its option, in the order in which they are created.
@@ -38,7 +40,8 @@ pub struct Asked<'a> {
 /// Reads the arguments after a command's name, if they have its form.
 ///
 /// First comes a number, if the form has one. Then come pairs of an option and its value, each option of the form once,
-/// in any order. A value has 1 to 4,096 bytes and does not begin with a dash. No two outputs have the same name.
+/// in any order. Options of inputs that are left out are missing. A value has 1 to 4,096 bytes and does not begin with a
+/// dash. No two outputs have the same name.
 #[tactic(auto, unfolding(crate::specs::Form::order_in))]
 pub fn read_form<'a>(form: &Form, words: &'a [Word]) -> Option<Asked<'a>>
     ensures order { MatchOption result (order_in (form_by form.now) words.now ≡ None) (λ asked. order_in (form_by form.now) words.now ≡ Some (order_by asked)) }
@@ -84,32 +87,55 @@ fn count_of(count: Option<Count>, pairs: &[Word]) -> Option<u32>
 }
 
 /// Whether there are as many pairs as the form has options, each input and output has a value, and no two outputs have
-/// the same name.
+/// the same name. Inputs that are left out do not count.
 fn has_values(form: &Form, pairs: &[Word]) -> bool
     ensures test { result ≡ has_values (form_by form.now) pairs.now }
     ensures names { result ≡ true → AllOf (λ out. IsName (output_name pairs.now out)) form.now.outputs.now }
 {
     has_pairs(form, pairs)
-        && are_inputs_named(pairs, form.inputs)
+        && are_inputs_named(pairs, form.optional, form.inputs)
         && are_outputs_named(pairs, form.outputs)
         && differ(pairs, form.outputs)
 }
 
-/// Whether there are as many pairs as the form has options.
+/// Whether there are as many pairs as the form has options, but for inputs that are left out.
 fn has_pairs(form: &Form, pairs: &[Word]) -> bool
     ensures { result ≡ has_pairs (form_by form.now) pairs.now }
 {
     let counts = if form.count.is_some() { 1 } else { 0 };
-    pairs.len() % 2 == 0 && pairs.len() / 2 == form.inputs.len() + form.outputs.len() + counts
+    let inputs = count_named(pairs, form.optional, form.inputs);
+    pairs.len() % 2 == 0 && pairs.len() / 2 == inputs + form.outputs.len() + counts
 }
 
-/// Whether the option of each of these inputs has a value.
-fn are_inputs_named(pairs: &[Word], inputs: &[Input]) -> bool
-    ensures { result ≡ list_all (λ input. is_value (input_name pairs.now input)) inputs.now }
+/// How many of these inputs are not left out.
+fn count_named(pairs: &[Word], optional: &[Input], inputs: &[Input]) -> usize
+    ensures count { result ≡ count_named pairs.now optional.now inputs.now }
+    ensures within { result ≤ length inputs.now }
 {
-    inputs
-        .iter()
-        .all(|input| is_value(input_name(pairs, *input)))
+    let Some((input, rest)) = inputs.split_first() else {
+        return 0;
+    };
+    let others = count_named(pairs, optional, rest);
+    if is_left_out(pairs, optional, *input) {
+        others
+    } else {
+        others + 1
+    }
+}
+
+/// Whether an input that may be left out is left out.
+fn is_left_out(pairs: &[Word], optional: &[Input], input: Input) -> bool
+    ensures { result ≡ is_left_out pairs.now optional.now input }
+{
+    is_optional(optional, input) && input_name(pairs, input).is_empty()
+}
+
+/// Whether each of these inputs is left out, or its option has a value.
+fn are_inputs_named(pairs: &[Word], optional: &[Input], inputs: &[Input]) -> bool
+    ensures { result ≡ list_all (λ input. is_left_out pairs.now optional.now input || is_value (input_name pairs.now input)) inputs.now }
+{
+    inputs.iter().all(|input| is_left_out(pairs, optional, *input)
+        || is_value(input_name(pairs, *input)))
 }
 
 /// Whether the option of each of these outputs has a value.

@@ -21,6 +21,12 @@ snes demo NUMBER --frames N\n\
 \x20           run that cartridge in memory, and print the sums of what it put out\n\
 snes rewind --cart FILE --boot FILE --table FILE --plan FILE --video FILE --audio FILE\n\
 \x20           play a plan: lines go COUNT PAD1 PAD2, keep SLOT, back SLOT (docs/use/REWIND.md)\n\
+snes sums --cart FILE [--boot FILE] [--table FILE] [--script FILE] --frames N --sums FILE\n\
+\x20           run a cartridge as serial does, and write the SHA-256 of each picture, of its samples and of all\n\
+snes check --cart FILE [--boot FILE] [--table FILE] [--script FILE] --frames N --sums FILE\n\
+\x20           run it likewise, and compare its sums with those of a file: 6 and the first difference, if there is one\n\
+snes dump --cart FILE [--boot FILE] [--table FILE] [--script FILE] --frames N --state FILE\n\
+\x20           run a cartridge, and write the registers and memories at its end (docs/use/STATE.md)\n\
 snes --help, snes -h, snes --version\n\
 \x20           print this text, or the version\n\
 ./snes --quiet ..\n\
@@ -29,10 +35,11 @@ snes --help, snes -h, snes --version\n\
 \x20 --cart    a raw LoROM or HiROM image        --boot    the sound processor's boot ROM, 64 bytes\n\
 \x20 --table   512 numbers of 16 bits            --script  lines of frames and pads; may be empty\n\
 \x20 --spc     a sound file\n\
+\x20 What stands in brackets may be left out: the free boot ROM, the free table, an empty script.\n\
 \x20 ./scene FOLDER writes two free cartridges, a boot ROM, a table and an empty script.\n\
 \n\
 Statuses: 0 done, 1 invalid arguments, 2 an input could not be read, 3 an input was refused, 4 an output could\n\
-not be written, 5 out of memory; of the script ./snes: 70 the program could not be built.\n\
+not be written, 5 out of memory, 6 the sums differ; of the script ./snes: 70 the program could not be built.\n\
 docs/use/COMMANDS.md has the formats, and the cause of each answer.\n";
 
 /// Returns the help: each command with its arguments, the options, and the exit statuses.

@@ -1,12 +1,13 @@
 ghost use Rattle.std.specs.Prelude.{◌≡◌, ◌+◌, ◌<◌, ◌≤◌, ◌++◌, length, decimal, []};
 ghost use Rattle.std.specs.Option.{option_map};
 ghost use Rattle.cart_map.specs.declared.refused.CartRefused.{CartRefused};
-ghost use Rattle.run_io.specs.Line.{line_of, hex_digit, hex_byte, frames_text, demo_text, image_text, cart_refused_text, boot_refused_text, samples_text, spc_too_long_text, spc_too_short_text, spc_no_text_text, table_refused_text, script_refused_text, plan_refused_text, usage_text, cannot_read_text, cannot_write_text, no_memory_text};
+ghost use Rattle.run_io.specs.Line.{line_of, hex_digit, hex_byte, frames_text, demo_text, image_text, cart_refused_text, boot_refused_text, samples_text, spc_too_long_text, spc_too_short_text, spc_no_text_text, table_refused_text, script_refused_text, plan_refused_text, sums_refused_text, column_text, frame_differs_text, frames_differ_text, all_differ_text, usage_text, cannot_read_text, cannot_write_text, no_memory_text};
 
 use arrayvec::ArrayString;
 use cart_map::CartRefused;
-use file_shelf::{Input, Out};
 use itoa::Buffer;
+use shelf::{Input, Out};
+use snes_defs::Side;
 use std::marker::Model;
 
 /// The most bytes that a text for the user can have.
@@ -68,6 +69,17 @@ impl Line {
         self.push_number(u64::from(frames));
         self.push(" samples ");
         self.push_number(samples);
+    }
+
+    /// Appends the column of a side in a file of sums.
+    fn push_column(&mut self, side: Side)
+        requires room { length self.old + 8 ≤ 4096 }
+        ensures appended { self.new ≡ self.old ++ column_text side }
+    {
+        match side {
+            Side::Console => self.push(" picture"),
+            Side::Sound => self.push(" sound"),
+        }
     }
 
     fn push_hex(&mut self, byte: u8)
@@ -136,7 +148,8 @@ pub fn usage_line() -> Line
     whole("usage: snes run, serial, make or demo\n")
 }
 
-/// Returns the line of a file that was not loaded: `cannot read cart`, or `boot`, `spc`, `table`, `script`, `plan`.
+/// Returns the line of a file that was not loaded: `cannot read cart`, or `boot`, `spc`, `table`, `script`, `plan`,
+/// `sums`.
 pub fn cannot_read_line(input: Input) -> Line
     ensures text { result ≡ line_of (cannot_read_text input) }
 {
@@ -147,10 +160,11 @@ pub fn cannot_read_line(input: Input) -> Line
         Input::Table => "cannot read table\n",
         Input::Script => "cannot read script\n",
         Input::Plan => "cannot read plan\n",
+        Input::Sums => "cannot read sums\n",
     })
 }
 
-/// Returns the line of an output that was not written: `cannot write video`, or `sound`, `image`. There is none for
+/// Returns the line of an output that was not written: `cannot write video`, or `sound`, `image`, `sums`, `state`. There is none for
 /// `Out::Say`, which the lines themselves go to.
 pub fn cannot_write_line(out: Out) -> Option<Line>
     ensures text { result ≡ option_map line_of (cannot_write_text out) }
@@ -159,6 +173,8 @@ pub fn cannot_write_line(out: Out) -> Option<Line>
         Out::Video => Some(whole("cannot write video\n")),
         Out::Sound => Some(whole("cannot write sound\n")),
         Out::Image => Some(whole("cannot write image\n")),
+        Out::Sums => Some(whole("cannot write sums\n")),
+        Out::State => Some(whole("cannot write state\n")),
         Out::Say => None,
     }
 }
@@ -227,6 +243,43 @@ pub fn plan_refused_line(line: u32) -> Line
     ensures text { result ≡ line_of (plan_refused_text line) }
 {
     numbered_line("plan refused at line ", u64::from(line))
+}
+
+/// Returns the line of a file that is no sums: `sums refused at line 3`, at 0 for its length and else at its first bad line.
+pub fn sums_refused_line(line: u32) -> Line
+    ensures text { result ≡ line_of (sums_refused_text line) }
+{
+    numbered_line("sums refused at line ", u64::from(line))
+}
+
+/// Returns the line of a frame that differs first: `differs: frame 120 picture`, or `sound`.
+pub fn frame_differs_line(frame: u32, side: Side) -> Line
+    ensures text { result ≡ line_of (frame_differs_text frame side) }
+{
+    let mut line = Line::new();
+    line.push("differs: frame ");
+    line.push_number(u64::from(frame));
+    line.push_column(side);
+    line.push("\n");
+    line
+}
+
+/// Returns the line of sums that have more frames than the run, or fewer: `differs: frames`.
+pub fn frames_differ_line() -> Line
+    ensures text { result ≡ line_of frames_differ_text }
+{
+    whole("differs: frames\n")
+}
+
+/// Returns the line of a sum of all frames that differs first: `differs: all picture`, or `sound`.
+pub fn all_differ_line(side: Side) -> Line
+    ensures text { result ≡ line_of (all_differ_text side) }
+{
+    let mut line = Line::new();
+    line.push("differs: all");
+    line.push_column(side);
+    line.push("\n");
+    line
 }
 
 fn coprocessor_line(chip: u8) -> Line

@@ -6,10 +6,10 @@ ghost use Rattle.run_io.specs.Form.{form_by};
 ghost use Rattle.run_io.specs.Mistakes.{is_option, is_count_option, IsAtFault, IsMistake};
 
 use crate::forms::Form;
-use crate::options::{option_of_input, option_of_output};
+use crate::options::{is_optional, option_of_input, option_of_output};
 use crate::pairs::{is_value, number_in, output_name, word_behind};
 use crate::words::Word;
-use file_shelf::Out;
+use shelf::Out;
 use std::fmt::{self, Display, Formatter};
 
 /// The kinds of mistake in the arguments of a command line.
@@ -170,10 +170,10 @@ fn stands_in(words: &[Word], word: &str) -> bool
     words.iter().any(|one| one.text() == word)
 }
 
-/// Returns the first option of the form that is missing.
+/// Returns the first option of the form that is missing and may not be left out.
 fn missing_option(form: &Form, pairs: &[Word]) -> Option<&'static str> {
     for input in form.inputs {
-        if !stands_in(pairs, option_of_input(*input)) {
+        if !is_optional(form.optional, *input) && !stands_in(pairs, option_of_input(*input)) {
             return Some(option_of_input(*input));
         }
     }

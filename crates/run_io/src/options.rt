@@ -1,7 +1,7 @@
 ghost use Rattle.std.specs.Prelude.{◌≡◌};
-ghost use Rattle.run_io.specs.Options.{input_option, output_option, count_option, digits_of, most_of};
+ghost use Rattle.run_io.specs.Options.{is_optional, input_option, output_option, count_option, digits_of, most_of};
 
-use file_shelf::{Input, Out};
+use shelf::{Input, Out};
 
 /// The kinds of number that an option takes.
 #[derive(Clone, Copy, Debug, PartialEq, Eq)]
@@ -23,7 +23,17 @@ pub(crate) fn option_of_input(input: Input) -> &'static str
         Input::Table => "--table",
         Input::Script => "--script",
         Input::Plan => "--plan",
+        Input::Sums => "--sums",
     }
+}
+
+/// Whether an input is one of those that may be left out.
+pub(crate) fn is_optional(optional: &[Input], input: Input) -> bool
+    ensures { result ≡ is_optional optional.now input }
+{
+    optional
+        .iter()
+        .any(|one| option_of_input(*one) == option_of_input(input))
 }
 
 /// The option of an output; empty for the lines, which have none.
@@ -34,6 +44,8 @@ pub(crate) fn option_of_output(out: Out) -> &'static str
         Out::Video => "--video",
         Out::Sound => "--audio",
         Out::Image => "--out",
+        Out::Sums => "--sums",
+        Out::State => "--state",
         Out::Say => "",
     }
 }

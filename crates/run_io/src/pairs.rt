@@ -1,12 +1,12 @@
 ghost use Rattle.std.specs.Prelude.{◌≡◌, ◌<◌, ◌≤◌, ◌^◌, ℕ, List, length, true, IfSome};
-ghost use Rattle.file_shelf.specs.declared.shelves.Out.{Out};
+ghost use Rattle.shelf.specs.declared.shelves.Out.{Out};
 ghost use Rattle.run_io.specs.Number.{number_of};
 ghost use Rattle.run_io.specs.Words.{word_behind, is_value, input_name, output_name, number_in};
 ghost use Rattle.run_io.specs.Form.{IsName};
 
 use crate::options::{option_of_input, option_of_output};
 use crate::words::Word;
-use file_shelf::{Input, Out};
+use shelf::{Input, Out};
 
 /// Returns the value of an option, given pairs of an option and its value; empty if the option is missing.
 pub(crate) fn word_behind<'a>(pairs: &'a [Word], option: &str) -> &'a str

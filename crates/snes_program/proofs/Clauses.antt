@@ -1,24 +1,24 @@
 -- The clauses of `snes`, each from how the call ended.
-use Rattle.std.proofs.Common.{◌≡◌, ◌≢◌, ℕ, List, [], ◌∷◌, length, Option, None, Some, IfSome, IsSomeAnd, refl, sym, ap, ◌∙◌, subst, inl, inr, ⊎_elim, arith}
+use Rattle.std.proofs.Common.{◌≡◌, ◌≢◌, ℕ, true, false, if◌then◌else◌, List, [], ◌∷◌, length, Option, None, Some, IfSome, IsSomeAnd, refl, sym, ap, ◌∙◌, subst, inl, inr, ⊎_elim, arith}
 use Rattle.std.specs.Prelude.{◌⊎◌}
 use Rattle.std.proofs.lemmas.List.{take_all}
-use Rattle.file_shelf.specs.declared.shelves.Input.{Input}
-use Rattle.file_shelf.specs.declared.shelves.Out.{Out}
-use Rattle.file_shelf.specs.declared.shelves.Out.TheVariants as out
-use Rattle.file_shelf.specs.Told.{Holds, HasRisen}
-use Rattle.file_shelf.specs.Shown.{Shown, IsKept, OnlyPuts}
+use Rattle.shelf.specs.declared.shelves.Input.{Input}
+use Rattle.shelf.specs.declared.shelves.Out.{Out}
+use Rattle.shelf.specs.declared.shelves.Out.TheVariants as out
+use Rattle.shelf.specs.Told.{Holds, HasRisen}
+use Rattle.shelf.specs.Shown.{Shown, IsKept, OnlyPuts}
 use Rattle.run_io.specs.Form.{Order}
 use Rattle.run_io.specs.Lists.{AllOf, FirstThat, IsOneOf}
 use Rattle.snes_program.specs.declared.status.Why.{Why}
 use Rattle.snes_program.specs.declared.status.Status.{Status}
-use Rattle.snes_program.specs.declared.status.Status.TheVariants.{Ok, Usage, LoadFault, Refused, WriteFault, NoMemory}
+use Rattle.snes_program.specs.declared.status.Status.TheVariants.{Ok, Usage, LoadFault, Refused, WriteFault, NoMemory, Differs}
 use Rattle.snes_program.specs.Kinds.{AreRefused, AreAccepted}
 use Rattle.snes_program.specs.Loads.{told_in, ShowsAccepted, ShowsRefused, TellsAccepted, TellsRefused, HasFailed, EndsInput, EndsInputs}
 use Rattle.snes_program.specs.Command.{Command}
 use Rattle.snes_program.specs.Commands.{Wish, Nothing, Asks, IfAsks, IsNothing}
 use Rattle.snes_program.specs.Said.{IsSaid}
 use Rattle.snes_program.specs.Status.{refusal_of}
-use Rattle.snes_program.specs.Ends.{OnlySays, IsNamed, IsMade, IsBegun, IsLeft, IsDone, IsWriteFault, IsAnswered, EndsShort, EndsCall, EndsWish}
+use Rattle.snes_program.specs.Ends.{due_of, OnlySays, IsNamed, IsMade, IsBegun, IsLeft, IsDone, IsWriteFault, IsAnswered, EndsShort, EndsCall, EndsWish}
 use Rattle.snes_program.specs.Snes.{OrNoMemory, IsEarly, IsLate, IsOver, IsDue, IsFaultBefore, AreBegun, IsClean}
 use Rattle.snes_program.proofs.KindLemmas.{one_cause}
 use Rattle.snes_program.proofs.Lists.{all_map, all_both, one_of, all_at}
@@ -101,15 +101,23 @@ module _ (command : Command) (order : Order) (before after : Shown) where
         all_at (λ o. o ≢ out.Say) (IsBegun command order before after) (λ o. o ≡ failed) (failed ≢ out.Say)
         (λ o d e. subst (λ (k : Out). k ≢ out.Say) e d) command.form.outputs others h.earlier
 
-    -- by how the call ended: its line was said whole, or in part; or an input or an output failed, or memory was wanting
-    by : (Q : Status → Type 0) → (Answered Ok → Q Ok) → (Answered (WriteFault out.Say) → HasRisen (before.write_faults out.Say) (after.write_faults out.Say) → Q (WriteFault out.Say))
+    -- by how the call ended: its line was said whole, with nothing or something that differs, or in part; or an input or an output
+    -- failed, or memory was wanting
+    by : (Q : Status → Type 0) → (Answered Ok → Q Ok) → (Answered Differs → Q Differs) → (Answered (WriteFault out.Say) → HasRisen (before.write_faults out.Say) (after.write_faults out.Say) → Q (WriteFault out.Say))
         → ((input : Input) → Short (LoadFault input) → Q (LoadFault input)) → ((cause : Why) → Short (Refused cause) → Q (Refused cause))
         → ((failed : Out) → failed ≢ out.Say → IsWriteFault command order before after failed → Q (WriteFault failed)) → (OnlySays before after → Q NoMemory)
         → (status : Status) → Answered status ⊎ Short status → Q status
-    by Q whole part load refuse write memory status h = ⊎_elim (said status) (short status) h
+    by Q whole differs part load refuse write memory status h = ⊎_elim (said status) (short status) h
       where
         said : (s : Status) → Answered s → Q s
-        said s a = ⊎_elim (λ w. subst Q (sym w.answer) (whole (subst Answered w.answer a))) (λ p. subst Q (sym p.answer) (part (subst Answered p.answer a) p.risen)) a.says
+        said s a = ⊎_elim (λ w. subst Q (sym w.answer) (due a.line (subst Answered w.answer a))) (λ p. subst Q (sym p.answer) (part (subst Answered p.answer a) p.risen)) a.says
+
+        due : (line : List ℕ) → Answered (due_of command line) → Q (due_of command line)
+        due line =
+            elim (command.differs line) as (λ d. Answered (if d then Differs else Ok) → Q (if d then Differs else Ok)) [
+              | true ↦ differs
+              | false ↦ whole
+            ]
 
         short : (s : Status) → Short s → Q s
         short (LoadFault input) k = load input k
@@ -118,10 +126,11 @@ module _ (command : Command) (order : Order) (before after : Shown) where
         short NoMemory k = memory k
         short Ok k = absurd k
         short Usage k = absurd k
+        short Differs k = absurd k
 
     pub headline : (status : Status) → Answered status ⊎ Short status → IsOver status → Answered status
     headline =
-        by (λ s. IsOver s → Answered s) (λ a late. a) (λ a risen late. a) (λ i k late. absurd (omega arith)) (λ i k late. absurd (omega arith))
+        by (λ s. IsOver s → Answered s) (λ a late. a) (λ a late. a) (λ a risen late. a) (λ i k late. absurd (omega arith)) (λ i k late. absurd (omega arith))
         (λ o differ k late. absurd (early o differ late)) (λ k late. absurd (omega arith))
       where
         early : (o : Out) → o ≢ out.Say → ¬ IsOver (WriteFault o)
@@ -129,21 +138,23 @@ module _ (command : Command) (order : Order) (before after : Shown) where
         early out.Video differ late = absurd (omega arith)
         early out.Sound differ late = absurd (omega arith)
         early out.Image differ late = absurd (omega arith)
+        early out.Sums differ late = absurd (omega arith)
+        early out.State differ late = absurd (omega arith)
 
     pub usage : (status : Status) → Answered status ⊎ Short status → status ≡ Usage → ⊥
-    usage = by (λ s. s ≡ Usage → ⊥) (λ a e. cc) (λ a risen e. cc) (λ i k e. cc) (λ i k e. cc) (λ o differ k e. cc) (λ k e. cc)
+    usage = by (λ s. s ≡ Usage → ⊥) (λ a e. cc) (λ a e. cc) (λ a risen e. cc) (λ i k e. cc) (λ i k e. cc) (λ o differ k e. cc) (λ k e. cc)
 
     abbrev Ended : Status → Type 0
     Ended status = EndsInputs order.pairs before after command.form.inputs status
 
     pub load_fault : (status : Status) → Answered status ⊎ Short status → (input : Input) → status ≡ LoadFault input → Ended (LoadFault input)
     load_fault status h input =
-        by (λ s. s ≡ LoadFault input → Ended (LoadFault input)) (λ a e. absurd cc) (λ a risen e. absurd cc)
+        by (λ s. s ≡ LoadFault input → Ended (LoadFault input)) (λ a e. absurd cc) (λ a e. absurd cc) (λ a risen e. absurd cc)
         (λ i k e. subst Ended e k.0) (λ i k e. absurd cc) (λ o differ k e. absurd cc) (λ k e. absurd cc) status h
 
     pub refused : (status : Status) → Answered status ⊎ Short status → (cause : Why) → status ≡ Refused cause → Ended (Refused cause)
     refused status h cause =
-        by (λ s. s ≡ Refused cause → Ended (Refused cause)) (λ a e. absurd cc) (λ a risen e. absurd cc)
+        by (λ s. s ≡ Refused cause → Ended (Refused cause)) (λ a e. absurd cc) (λ a e. absurd cc) (λ a risen e. absurd cc)
         (λ i k e. absurd cc) (λ i k e. subst Ended e k.0) (λ o differ k e. absurd cc) (λ k e. absurd cc) status h
 
     abbrev HasFault : Out → Type 0
@@ -151,7 +162,7 @@ module _ (command : Command) (order : Order) (before after : Shown) where
 
     pub write_fault : (status : Status) → Answered status ⊎ Short status → (failed : Out) → status ≡ WriteFault failed → HasFault failed
     write_fault status h failed =
-        by (λ s. s ≡ WriteFault failed → HasFault failed) (λ a e. absurd cc)
+        by (λ s. s ≡ WriteFault failed → HasFault failed) (λ a e. absurd cc) (λ a e. absurd cc)
         (λ a risen e. subst HasFault (let k : out.Say ≡ failed = cc in k) (risen, inr refl)) (λ i k e. absurd cc) (λ i k e. absurd cc)
         (λ o differ k e. subst HasFault (let m : o ≡ failed = cc in m) (k.risen, inl (one_of (IsBegun command order before after) o command.form.outputs k.earlier))) (λ k e. absurd cc) status h
 
@@ -160,7 +171,7 @@ module _ (command : Command) (order : Order) (before after : Shown) where
         let none : (Q : Type 0) → AllOf (ShowsAccepted (told_in before order.pairs)) command.form.inputs → Q
         = λ Q all. absurd (not_all (told_in before order.pairs) cause command.form.inputs due all) in
         by (λ s. (s ≡ Refused cause) ⊎ IsFaultBefore command order before s)
-        (λ a. none _ a.done.accepted) (λ a risen. none _ a.done.accepted)
+        (λ a. none _ a.done.accepted) (λ a. none _ a.done.accepted) (λ a risen. none _ a.done.accepted)
         (λ i k. inr (fault_due (told_in before order.pairs) cause (EndsInput order.pairs before after (LoadFault i)) i (λ x f. f.0) command.form.inputs due k.0))
         (λ i k. inl (ap Refused (one_due (told_in before order.pairs) cause i command.form.inputs due k.0)))
         (λ o differ k. none _ k.made.accepted) (λ k. inr tt) status h
@@ -170,7 +181,7 @@ module _ (command : Command) (order : Order) (before after : Shown) where
 
     pub accepted : (status : Status) → Answered status ⊎ Short status → IsLate status → Made
     accepted =
-        by (λ s. IsLate s → Made) (λ a late. of_done a) (λ a risen late. of_done a) (λ i k late. absurd (omega arith)) (λ i k late. absurd (omega arith))
+        by (λ s. IsLate s → Made) (λ a late. of_done a) (λ a late. of_done a) (λ a risen late. of_done a) (λ i k late. absurd (omega arith)) (λ i k late. absurd (omega arith))
         (λ o differ k late. k.made) (λ k late. absurd (omega arith))
       where
         of_done : {s : Status} → Answered s → Made
@@ -178,7 +189,7 @@ module _ (command : Command) (order : Order) (before after : Shown) where
 
     pub untouched : (status : Status) → Answered status ⊎ Short status → IsEarly status → OnlySays before after
     untouched =
-        by (λ s. IsEarly s → OnlySays before after) (λ a early. absurd (omega arith)) (λ a risen early. absurd (omega arith))
+        by (λ s. IsEarly s → OnlySays before after) (λ a early. absurd (omega arith)) (λ a early. absurd (omega arith)) (λ a risen early. absurd (omega arith))
         (λ i k early. k.1) (λ i k early. k.1) (λ o differ k early. absurd (late o early)) (λ k early. k)
       where
         late : (o : Out) → ¬ IsEarly (WriteFault o)
@@ -186,12 +197,14 @@ module _ (command : Command) (order : Order) (before after : Shown) where
         late out.Video early = absurd (omega arith)
         late out.Sound early = absurd (omega arith)
         late out.Image early = absurd (omega arith)
+        late out.Sums early = absurd (omega arith)
+        late out.State early = absurd (omega arith)
 
     abbrev AllLeft : Type 0
     AllLeft = AllOf (IsLeft command order before after) command.form.outputs
 
     pub left : (status : Status) → Answered status ⊎ Short status → AllLeft
-    left = by (λ s. AllLeft) (λ a. done a) (λ a risen. done a) (λ i k. over k.1) (λ i k. over k.1) (λ o differ k. k.left) over
+    left = by (λ s. AllLeft) (λ a. done a) (λ a. done a) (λ a risen. done a) (λ i k. over k.1) (λ i k. over k.1) (λ o differ k. k.left) over
       where
         done : {s : Status} → Answered s → AllLeft
         done a = all_map (IsBegun command order before after) (IsLeft command order before after) (λ o b. inr b) command.form.outputs (done_begun a.line a.done)
@@ -200,25 +213,34 @@ module _ (command : Command) (order : Order) (before after : Shown) where
         over h = all_map (λ o. o ≢ out.Say) (IsLeft command order before after) (λ o d. inl (record { written = (h o d).written; named = (h o d).named; unwritten = (h o d).unwritten })) command.form.outputs others
 
     pub begun : (status : Status) → Answered status ⊎ Short status → AreBegun command order before after status
-    begun = by (AreBegun command order before after) (λ a. done_begun a.line a.done) (λ a risen. done_begun a.line a.done) (λ i k. tt) (λ i k. tt) write (λ k. tt)
+    begun = by (AreBegun command order before after) (λ a. done_begun a.line a.done) (λ a. done_begun a.line a.done) (λ a risen. done_begun a.line a.done) (λ i k. tt) (λ i k. tt) write (λ k. tt)
       where
         write : (o : Out) → o ≢ out.Say → IsWriteFault command order before after o → AreBegun command order before after (WriteFault o)
         write out.Say differ k = absurd (differ refl)
         write out.Video differ k = k.earlier
         write out.Sound differ k = k.earlier
         write out.Image differ k = k.earlier
+        write out.Sums differ k = k.earlier
+        write out.State differ k = k.earlier
 
-    -- with all accepted and no fault counted, the answer is Ok or want of memory
-    pub complete : (status : Status) → Answered status ⊎ Short status → IsClean command order before after → OrNoMemory status Ok
-    complete status h clean =
-        by (λ s. OrNoMemory s Ok) (λ a. inl refl) (λ a risen. absurd (clean.line risen))
-        (λ i k. absurd (all_at (λ x. ¬ HasFailed order.pairs before after x) (ShowsAccepted (told_in before order.pairs)) (EndsInput order.pairs before after (LoadFault i)) ⊥
-        (λ x calm f. calm f.1) command.form.inputs clean.loads k.0))
-        (λ i k. absurd (all_at (TellsAccepted (told_in before order.pairs)) (ShowsAccepted (told_in before order.pairs)) (EndsInput order.pairs before after (Refused i)) ⊥
-        (λ x t r. shown_both (told_in before order.pairs) i x r t) command.form.inputs clean.inputs k.0))
-        (λ o differ k. absurd (all_at (λ x. ¬ HasRisen (before.write_faults x) (after.write_faults x)) (IsBegun command order before after) (λ x. x ≡ o) ⊥
-        (λ x calm e. calm (subst (λ (y : Out). HasRisen (before.write_faults y) (after.write_faults y)) (sym e) k.risen)) command.form.outputs clean.outputs k.earlier))
-        (λ k. inr refl) status h
+    -- with all accepted and no fault counted, the answer is that of a command that was done, or want of memory
+    pub complete : (status : Status) → Answered status ⊎ Short status → IsClean command order before after → OrNoMemory command status
+    complete status h clean = ⊎_elim answered (short status) h
+      where
+        answered : Answered status → OrNoMemory command status
+        answered a = ⊎_elim (λ w. inl (a.line, w.answer)) (λ p. absurd (clean.line p.risen)) a.says
+
+        short : (s : Status) → Short s → OrNoMemory command s
+        short (LoadFault i) k = absurd (all_at (λ x. ¬ HasFailed order.pairs before after x) (ShowsAccepted (told_in before order.pairs)) (EndsInput order.pairs before after (LoadFault i)) ⊥
+            (λ x calm f. calm f.1) command.form.inputs clean.loads k.0)
+        short (Refused i) k = absurd (all_at (TellsAccepted (told_in before order.pairs)) (ShowsAccepted (told_in before order.pairs)) (EndsInput order.pairs before after (Refused i)) ⊥
+            (λ x t r. shown_both (told_in before order.pairs) i x r t) command.form.inputs clean.inputs k.0)
+        short (WriteFault o) k = absurd (all_at (λ x. ¬ HasRisen (before.write_faults x) (after.write_faults x)) (IsBegun command order before after) (λ x. x ≡ o) ⊥
+            (λ x calm e. calm (subst (λ (y : Out). HasRisen (before.write_faults y) (after.write_faults y)) (sym e) k.risen)) command.form.outputs clean.outputs k.earlier)
+        short NoMemory k = inr refl
+        short Ok k = absurd k
+        short Usage k = absurd k
+        short Differs k = absurd k
 
 -- each clause of a call, whatever the words ask for
 module _ (before after : Shown) (status : Status) where

@@ -1,23 +1,23 @@
 -- How a call ends, from how its loads, creations and fills ended and what was said.
-use Rattle.std.proofs.Common.{◌≡◌, ◌≢◌, ℕ, true, List, [], take, Option, None, Some, IfSome, Result, Ok as good, Err, IfOk, IfErr, refl, sym, ap, ◌∙◌, subst, inl, inr, ⊎_elim, arith}
+use Rattle.std.proofs.Common.{◌≡◌, ◌≢◌, ℕ, true, false, if◌then◌else◌, List, [], take, Option, None, Some, IfSome, Result, Ok as good, Err, IfOk, IfErr, refl, sym, ap, ◌∙◌, subst, inl, inr, ⊎_elim, arith}
 use Rattle.std.specs.Prelude.{◌⊎◌}
-use Rattle.file_shelf.specs.declared.shelves.Input.{Input}
-use Rattle.file_shelf.specs.declared.shelves.Out.{Out}
-use Rattle.file_shelf.specs.declared.shelves.Out.TheVariants as out
-use Rattle.file_shelf.specs.Told.{Holds, Appends, AppendsSome, HasRisen}
-use Rattle.file_shelf.specs.Shown.{Shown, IsUntouched, IsPassedOver, OnlyLoads, OnlyPuts}
+use Rattle.shelf.specs.declared.shelves.Input.{Input}
+use Rattle.shelf.specs.declared.shelves.Out.{Out}
+use Rattle.shelf.specs.declared.shelves.Out.TheVariants as out
+use Rattle.shelf.specs.Told.{Holds, Appends, AppendsSome, HasRisen}
+use Rattle.shelf.specs.Shown.{Shown, IsUntouched, IsPassedOver, OnlyLoads, OnlyPuts}
 use Rattle.run_drive.specs.OutputLaws.{risen_since}
 use Rattle.run_io.specs.Words.{input_name, output_name}
 use Rattle.run_io.specs.Form.{Order, order_in}
 use Rattle.run_io.specs.Lists.{AllOf, FirstThat, IsOneOf}
 use Rattle.snes_program.specs.declared.status.Status.{Status}
-use Rattle.snes_program.specs.declared.status.Status.TheVariants.{Ok, Usage, LoadFault, Refused, WriteFault, NoMemory}
+use Rattle.snes_program.specs.declared.status.Status.TheVariants.{Ok, Usage, LoadFault, Refused, WriteFault, NoMemory, Differs}
 use Rattle.snes_program.specs.Command.{Command, HoldsWhole, HoldsFirst}
 use Rattle.snes_program.specs.Commands.{ordered, asks}
-use Rattle.snes_program.specs.Loads.{told_in, ShowsAccepted, EndsInput, EndsInputs}
+use Rattle.snes_program.specs.Loads.{free_in, free_or, told_in, ShowsAccepted, EndsInput, EndsInputs}
 use Rattle.snes_program.specs.Said.{IsSaid, Says}
 use Rattle.snes_program.specs.Status.{refusal_of}
-use Rattle.snes_program.specs.Ends.{are_apart, OnlyTouches, OnlySays, IsNamed, IsFresh, IsMade, IsDone, IsBegun, IsLeft, IsWriteFault, IsAnswered, EndsShort, OnlyCommanded, EndsCall, EndsUsage, EndsWish}
+use Rattle.snes_program.specs.Ends.{due_of, are_apart, OnlyTouches, OnlySays, IsNamed, IsFresh, IsMade, IsDone, IsBegun, IsLeft, IsWriteFault, IsAnswered, EndsShort, OnlyCommanded, EndsCall, EndsUsage, EndsWish}
 use Rattle.snes_program.proofs.Lists.{all_map, all_both, first_map, first_both, first_of, first_never, all_at}
 use Rattle.snes_program.proofs.OutputLemmas.{not_said, over_then}
 
@@ -40,6 +40,7 @@ module _ (command : Command) (order : Order) (z a : Shown) (loads : OnlyLoads z 
   loads_end NoMemory h = loads_say z a loads
   loads_end Ok h = first_never (ShowsAccepted (told_in z order.pairs)) command.form.inputs h
   loads_end Usage h = first_never (ShowsAccepted (told_in z order.pairs)) command.form.inputs h
+  loads_end Differs h = first_never (ShowsAccepted (told_in z order.pairs)) command.form.inputs h
   loads_end (WriteFault failed) h = absurd (first_never (ShowsAccepted (told_in z order.pairs)) command.form.inputs h)
 
   pub only_all : (c : Shown) → OnlyTouches command.form.outputs a c → (command.form.inputs ≡ [] → a.load_faults ≡ z.load_faults) → OnlyCommanded command z c
@@ -74,7 +75,7 @@ module _ (command : Command) (order : Order) (z a : Shown) (loads : OnlyLoads z 
 
     module _ (created : AllOf (IsFresh order b) command.form.outputs) (c : Shown) (fills : OnlyTouches command.form.outputs b c) (same : c.named ≡ b.named) where
       told_same : told_in b order.pairs ≡ told_in z order.pairs
-      told_same = ap {B = Input → Option (List ℕ)} (λ (held : List ℕ → Option (List ℕ)) (input : Input). held (input_name order.pairs input)) (opens.held ∙ loads.held)
+      told_same = ap {B = Input → Option (List ℕ)} (λ (held : List ℕ → Option (List ℕ)) (input : Input). free_or (free_in order.pairs input) (held (input_name order.pairs input))) (opens.held ∙ loads.held)
 
       still : (o : Out) → IsFresh order b o → IsNamed order c.named o
       still o h = subst (λ (n : Out → Option (List ℕ)). IsNamed order n o) (sym same) h.named
@@ -162,10 +163,11 @@ module _ (command : Command) (order : Order) (before mid after : Shown) (apart :
   short_after NoMemory h = says_after h
   short_after Ok h = h
   short_after Usage h = h
+  short_after Differs h = h
 
   -- what was said since the command was done was said since the call began
-  since : (line : List ℕ) (status : Status) → Says mid after line status → Says before after line status
-  since line status says =
+  since : (line : List ℕ) (due status : Status) → Says mid after line due status → Says before after line due status
+  since line due status says =
       ⊎_elim
       (λ h. inl (record { answer = h.answer; whole = subst (λ (w : Option (List ℕ)). Appends w (after.written out.Say) line) over.written h.whole; none_left = h.none_left }))
       (λ h. inr (record {
@@ -189,11 +191,13 @@ module _ (command : Command) (order : Order) (before mid after : Shown) (apart :
   passed out.Video none = inr (over_then before mid after out.Video (only.others out.Video none) (puts.others out.Video (λ e. cc)))
   passed out.Sound none = inr (over_then before mid after out.Sound (only.others out.Sound none) (puts.others out.Sound (λ e. cc)))
   passed out.Image none = inr (over_then before mid after out.Image (only.others out.Image none) (puts.others out.Image (λ e. cc)))
+  passed out.Sums none = inr (over_then before mid after out.Sums (only.others out.Sums none) (puts.others out.Sums (λ e. cc)))
+  passed out.State none = inr (over_then before mid after out.State (only.others out.State none) (puts.others out.State (λ e. cc)))
 
   -- the call ended as the command did
   pub call_ends : (outcome : Result (List ℕ) Status) (status : Status)
       → IfOk outcome (IsDone command order before mid) → IfErr outcome (EndsShort command order before mid)
-      → IfOk outcome (λ line. Says mid after line status) → IfErr outcome (λ due. status ≡ due)
+      → IfOk outcome (λ line. Says mid after line (due_of command line) status) → IfErr outcome (λ due. status ≡ due)
       → IfErr outcome (λ due. IfSome (refusal_of due) (IsSaid mid after))
       → EndsCall command order before after status
   call_ends outcome status done ends says is said = record {
@@ -211,17 +215,24 @@ module _ (command : Command) (order : Order) (before mid after : Shown) (apart :
   }
     where
       how : (outcome : Result (List ℕ) Status) → IfOk outcome (IsDone command order before mid) → IfErr outcome (EndsShort command order before mid)
-          → IfOk outcome (λ line. Says mid after line status) → IfErr outcome (λ due. status ≡ due)
+          → IfOk outcome (λ line. Says mid after line (due_of command line) status) → IfErr outcome (λ due. status ≡ due)
           → IsAnswered command order before after status ⊎ EndsShort command order before after status
-      how (good line) done ends says is = inl (record { line = line; done = done_after line done; says = since line status says })
+      how (good line) done ends says is = inl (record { line = line; done = done_after line done; says = since line (due_of command line) status says })
       how (Err due) done ends says is = inr (subst (λ (s : Status). EndsShort command order before after s) (sym is) (short_after due ends))
 
       -- the line of a command that was done is no refusal
-      what : (outcome : Result (List ℕ) Status) → IfOk outcome (λ line. Says mid after line status) → IfErr outcome (λ due. status ≡ due)
+      no_refusal : (line : List ℕ) → IfSome (refusal_of (due_of command line)) (IsSaid before after)
+      no_refusal line =
+          elim (command.differs line) as (λ d. IfSome (refusal_of (if d then Differs else Ok)) (IsSaid before after)) [
+            | true ↦ tt
+            | false ↦ tt
+          ]
+
+      what : (outcome : Result (List ℕ) Status) → IfOk outcome (λ line. Says mid after line (due_of command line) status) → IfErr outcome (λ due. status ≡ due)
           → IfErr outcome (λ due. IfSome (refusal_of due) (IsSaid mid after)) → IfSome (refusal_of status) (IsSaid before after)
       what (good line) says is said =
           let P : Status → Type 0 = λ s. IfSome (refusal_of s) (IsSaid before after) in
-          ⊎_elim (λ h. subst P (sym h.answer) tt) (λ h. subst P (sym h.answer) tt) says
+          ⊎_elim (λ h. subst P (sym h.answer) (no_refusal line)) (λ h. subst P (sym h.answer) tt) says
       what (Err due) says is said = subst (λ (s : Status). IfSome (refusal_of s) (IsSaid before after)) (sym is) (said_since (refusal_of due) said)
 
 -- words in no form of the command, and words in its form

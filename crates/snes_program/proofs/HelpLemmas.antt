@@ -1,7 +1,7 @@
 -- A text that is printed is what its command makes.
 use Rattle.std.proofs.Common.{◌≡◌, ℕ, List, [], Option, refl}
-use Rattle.file_shelf.specs.declared.shelves.Input.{Input}
-use Rattle.file_shelf.specs.declared.shelves.Out.{Out}
+use Rattle.shelf.specs.declared.shelves.Input.{Input}
+use Rattle.shelf.specs.declared.shelves.Out.{Out}
 use Rattle.run_io.specs.Form.{Order}
 use Rattle.snes_program.specs.Command.{Command, CanMake, HoldsWhole}
 use Rattle.snes_program.specs.Help.{text_form, MakesText}

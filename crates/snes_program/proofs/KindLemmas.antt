@@ -10,11 +10,12 @@ use Rattle.input_files.specs.Table.{IsTableFile, IsFirstLarge, IsRefusedAt}
 use Rattle.input_files.specs.Script.{script_of}
 use Rattle.input_files.specs.Plan.{plan_of}
 use Rattle.input_files.specs.declared.plan.PlanStep.{PlanStep}
-use Rattle.file_shelf.specs.declared.shelves.Input.TheVariants as input
+use Rattle.frame_sums.specs.SumsFile.{SumsIn, sums_of_file}
+use Rattle.shelf.specs.declared.shelves.Input.TheVariants as input
 use Rattle.spc_player.specs.SoundFile.{refusal_of}
 use Rattle.snes_program.specs.declared.status.Why.{Why}
 use Rattle.snes_program.specs.declared.status.Why.TheVariants as why
-use Rattle.snes_program.specs.Kinds.{input_of, AreRefused, AreAccepted, IsCartIn, IsScriptIn, IsPlanIn}
+use Rattle.snes_program.specs.Kinds.{input_of, AreRefused, AreAccepted, IsCartIn, IsScriptIn, IsPlanIn, IsSumsIn}
 use Rattle.snes_program.proofs.SpcLemmas.{one_refused}
 
 -- an answer is not both, and refuses for one cause
@@ -51,6 +52,7 @@ cart_accepted bytes cart h = record { unrefused = go }
     go (why.Table entry) is refused = cc
     go (why.Script line) is refused = cc
     go (why.Plan line) is refused = cc
+    go (why.Sums line) is refused = cc
 
 pub ruleset cart = (cart_longer, cart_accepted)
 
@@ -68,6 +70,7 @@ boot_accepted bytes size = record { unrefused = go }
     go (why.Table entry) is refused = cc
     go (why.Script line) is refused = cc
     go (why.Plan line) is refused = cc
+    go (why.Sums line) is refused = cc
 
 pub ruleset boot = (boot_longer, boot_accepted)
 
@@ -95,6 +98,7 @@ table_accepted bytes table h = record { unrefused = go }
         absurd (omega (arith, h.small entry first.within, first.large))
     go (why.Script line) is refused = cc
     go (why.Plan line) is refused = cc
+    go (why.Sums line) is refused = cc
 
 pub ruleset table = (table_longer, table_accepted)
 
@@ -133,6 +137,7 @@ script_accepted bytes script few h = record { unrefused = go }
     go (why.Table entry) is refused = cc
     go (why.Script line) is refused = not_both (script_of bytes) script line h (bad_line bytes line few refused)
     go (why.Plan line) is refused = cc
+    go (why.Sums line) is refused = cc
 
 pub ruleset script = (script_longer, script_refused, script_accepted)
 
@@ -171,6 +176,7 @@ plan_accepted bytes steps few h = record { unrefused = go }
     go (why.Spc cause) is refused = cc
     go (why.Script line) is refused = cc
     go (why.Plan line) is refused = not_both (plan_of bytes) steps line h (bad_plan_line bytes line few refused)
+    go (why.Sums line) is refused = cc
 
 pub ruleset plan = (plan_longer, plan_refused, plan_accepted)
 
@@ -182,6 +188,45 @@ one_plan_line bytes a b =
       | false ↦ λ h k. one_refusal (plan_of bytes) a b h k
     ]
 
+-- THE SUMS
+pub sums_longer : (bytes : List ℕ) → 5000000 < length bytes → AreRefused bytes (why.Sums 0)
+sums_longer bytes long =
+    let more : nat_lt 5000000 (length bytes) ≡ true = lt-ltb 5000000 (length bytes) long in
+    subst (λ b. MatchBool b (◌≡◌ {A = ℕ} 0 0) (sums_of_file bytes ≡ Err 0)) (sym more) refl
+
+-- sums of few enough bytes are refused at their first bad line
+bad_sums_line : (bytes : List ℕ) (line : ℕ) → length bytes ≤ 5000000 → AreRefused bytes (why.Sums line) → sums_of_file bytes ≡ Err line
+bad_sums_line bytes line few h =
+    let short : nat_lt 5000000 (length bytes) ≡ false = le-ltb 5000000 (length bytes) few in
+    subst (λ b. MatchBool b (line ≡ 0) (sums_of_file bytes ≡ Err line)) short h
+
+pub sums_refused : (bytes : List ℕ) (line : ℕ) → length bytes ≤ 5000000 → sums_of_file bytes ≡ Err line → AreRefused bytes (why.Sums line)
+sums_refused bytes line few h =
+    let short : nat_lt 5000000 (length bytes) ≡ false = le-ltb 5000000 (length bytes) few in
+    subst (λ b. MatchBool b (line ≡ 0) (sums_of_file bytes ≡ Err line)) (sym short) h
+
+pub sums_accepted : (bytes : List ℕ) (sums : SumsIn) → length bytes ≤ 5000000 → IsSumsIn bytes sums → AreAccepted input.Sums bytes
+sums_accepted bytes sums few h = record { unrefused = go }
+  where
+    go : (cause : Why) → input_of cause ≡ input.Sums → ¬ AreRefused bytes cause
+    go (why.Cart cause) is refused = cc
+    go why.Boot is refused = cc
+    go (why.Table entry) is refused = cc
+    go (why.Spc cause) is refused = cc
+    go (why.Script line) is refused = cc
+    go (why.Plan line) is refused = cc
+    go (why.Sums line) is refused = not_both (sums_of_file bytes) sums line h (bad_sums_line bytes line few refused)
+
+pub ruleset sums = (sums_longer, sums_refused, sums_accepted)
+
+-- sums are refused at one line
+one_sums_line : (bytes : List ℕ) (a b : ℕ) → AreRefused bytes (why.Sums a) → AreRefused bytes (why.Sums b) → a ≡ b
+one_sums_line bytes a b =
+    elim (nat_lt 5000000 (length bytes)) as (λ long. MatchBool long (a ≡ 0) (sums_of_file bytes ≡ Err a) → MatchBool long (b ≡ 0) (sums_of_file bytes ≡ Err b) → a ≡ b) [
+      | true ↦ λ h k. h ∙ sym k
+      | false ↦ λ h k. one_refusal (sums_of_file bytes) a b h k
+    ]
+
 -- the bytes of an input are refused for one cause
 pub one_cause : (bytes : List ℕ) (a b : Why) → input_of a ≡ input_of b → AreRefused bytes a → AreRefused bytes b → a ≡ b
 one_cause bytes (why.Cart a) (why.Cart b) same h k = ap why.Cart (one_refusal (verdict bytes) a b h k)
@@ -190,4 +235,5 @@ one_cause bytes (why.Spc a) (why.Spc b) same h k = ap why.Spc (one_refused (refu
 one_cause bytes (why.Table a) (why.Table b) same h k = ap why.Table (one_entry bytes a b h k)
 one_cause bytes (why.Script a) (why.Script b) same h k = ap why.Script (one_line bytes a b h k)
 one_cause bytes (why.Plan a) (why.Plan b) same h k = ap why.Plan (one_plan_line bytes a b h k)
+one_cause bytes (why.Sums a) (why.Sums b) same h k = ap why.Sums (one_sums_line bytes a b h k)
 one_cause bytes _ _ same h k = absurd cc

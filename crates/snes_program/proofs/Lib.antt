@@ -1,7 +1,9 @@
 pub mod Adding
+pub mod CheckLemmas
 pub mod Clauses
 pub mod DemoCartridge
 pub mod DemoLemmas
+pub mod DumpLemmas
 pub mod Ending
 pub mod Explaining
 pub mod HelpLemmas
@@ -15,3 +17,4 @@ pub mod Putting
 pub mod RewindLemmas
 pub mod RunLemmas
 pub mod SpcLemmas
+pub mod SumsRunLemmas

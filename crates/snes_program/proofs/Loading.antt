@@ -1,16 +1,16 @@
 -- Loads one after another.
 use Rattle.std.proofs.Common.{◌≡◌, ℕ, ◌<◌, List, ◌++◌, length, Option, IfSome, Some, None, refl, sym, ap, subst, ◌∙◌, arith}
-use Rattle.file_shelf.specs.declared.shelves.Input.{Input}
-use Rattle.file_shelf.specs.Told.{Holds}
-use Rattle.file_shelf.specs.Shown.{Shown, OnlyLoads}
+use Rattle.shelf.specs.declared.shelves.Input.{Input}
+use Rattle.shelf.specs.Told.{Holds}
+use Rattle.shelf.specs.Shown.{Shown, OnlyLoads}
 use Rattle.run_drive.specs.OutputLaws.{risen_since}
 use Rattle.run_io.specs.Lists.{AllOf}
 use Rattle.run_io.specs.Words.{input_name}
 use Rattle.snes_program.specs.declared.status.Why.{Why}
 use Rattle.snes_program.specs.declared.status.Status.{Status}
-use Rattle.snes_program.specs.declared.status.Status.TheVariants.{Ok, Usage, LoadFault, Refused, WriteFault, NoMemory}
+use Rattle.snes_program.specs.declared.status.Status.TheVariants.{Ok, Usage, LoadFault, Refused, WriteFault, NoMemory, Differs}
 use Rattle.snes_program.specs.Kinds.{input_of, AreRefused}
-use Rattle.snes_program.specs.Loads.{told_in, ShowsAccepted, EndsInput, EndsInputs}
+use Rattle.snes_program.specs.Loads.{free_in, free_or, told_in, ShowsAccepted, EndsInput, EndsInputs}
 use Rattle.snes_program.proofs.Lists.{all_then, first_front, first_behind, first_map}
 
 -- what is told to be longer is told to be refused
@@ -18,6 +18,17 @@ pub longer_is_refused : (told : Option (List ℕ)) (limit : ℕ) (cause : Why) �
     → IfSome told (λ bytes. limit < length bytes) → IfSome told (λ bytes. AreRefused bytes cause)
 longer_is_refused None limit cause longer long = tt
 longer_is_refused (Some bytes) limit cause longer long = longer bytes long
+
+-- free bytes are told, and where there are none what is held is
+pub free_told : (free held : Option (List ℕ)) (bytes : List ℕ) → free ≡ Some bytes → Holds (free_or free held) bytes
+free_told None held bytes is = absurd cc
+free_told (Some own) held bytes is = let same : own ≡ bytes = cc in same
+
+pub free_told_as : (free held : Option (List ℕ)) (bytes : List ℕ) (P : List ℕ → Type 0) → free ≡ Some bytes → P bytes → IfSome (free_or free held) P
+free_told_as free held bytes P is h = subst (λ (f : Option (List ℕ)). IfSome (free_or f held) P) (sym is) h
+
+pub held_told : (free held : Option (List ℕ)) (P : List ℕ → Type 0) → free ≡ None → IfSome held P → IfSome (free_or free held) P
+held_told free held P is h = subst (λ (f : Option (List ℕ)). IfSome (free_or f held) P) (sym is) h
 
 -- what is told is of a kind where the bytes that were loaded are
 pub loaded_is : (told : Option (List ℕ)) (bytes : List ℕ) (P : List ℕ → Type 0) → Holds told bytes → P bytes → IfSome told P
@@ -27,7 +38,7 @@ loaded_is (Some all) bytes P is h = subst P (sym is) h
 module _ (pairs : List (List ℕ)) where
   -- what is held stays over loads
   pub told_still : (a b : Shown) → OnlyLoads a b → told_in b pairs ≡ told_in a pairs
-  told_still a b only = ap {B = Input → Option (List ℕ)} (λ (held : List ℕ → Option (List ℕ)) (input : Input). held (input_name pairs input)) only.held
+  told_still a b only = ap {B = Input → Option (List ℕ)} (λ (held : List ℕ → Option (List ℕ)) (input : Input). free_or (free_in pairs input) (held (input_name pairs input))) only.held
 
   ends_since : (a b c : Shown) → OnlyLoads a b → (status : Status) (input : Input) → EndsInput pairs b c status input → EndsInput pairs a c status input
   ends_since a b c only (LoadFault failed) input h = (h.0, risen_since _ _ _ (only.load_faults (input_name pairs input)) h.1)
@@ -35,6 +46,7 @@ module _ (pairs : List (List ℕ)) where
   ends_since a b c only NoMemory input h = tt
   ends_since a b c only Ok input h = h
   ends_since a b c only Usage input h = h
+  ends_since a b c only Differs input h = h
   ends_since a b c only (WriteFault out) input h = h
 
   -- the first inputs were not taken
@@ -69,3 +81,5 @@ pub loads_none : (a : Shown) → OnlyLoads a a
 loads_none a = record { held = refl; written = refl; named = refl; unwritten = refl; write_faults = refl; load_faults = λ name. omega arith }
 
 pub ruleset told = (loaded_is)
+
+pub ruleset fetches = (longer_is_refused, free_told, free_told_as, held_told, loads_none)

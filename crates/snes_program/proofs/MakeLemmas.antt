@@ -1,10 +1,10 @@
 -- What is put to the image is what its command makes.
 use Rattle.std.proofs.Common.{◌≡◌, ℕ, List, [], ◌∷◌, length, Option, refl, sym, subst, arith}
 use Rattle.std.proofs.lemmas.List.{take_all}
-use Rattle.file_shelf.specs.declared.shelves.Input.{Input}
-use Rattle.file_shelf.specs.declared.shelves.Out.TheVariants.{Image}
-use Rattle.file_shelf.specs.Told.{Holds, Appends, AppendsSome}
-use Rattle.file_shelf.specs.Shown.{Shown}
+use Rattle.shelf.specs.declared.shelves.Input.{Input}
+use Rattle.shelf.specs.declared.shelves.Out.TheVariants.{Image}
+use Rattle.shelf.specs.Told.{Holds, Appends, AppendsSome}
+use Rattle.shelf.specs.Shown.{Shown}
 use Rattle.run_io.specs.Line.{line_of, image_text}
 use Rattle.run_io.specs.Form.{Order}
 use Rattle.run_io.specs.Lists.{AllOf}

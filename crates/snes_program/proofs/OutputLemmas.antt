@@ -2,11 +2,11 @@
 use Rattle.std.proofs.Common.{◌≡◌, ◌≢◌, ℕ, Bool, true, false, not, ◌&&◌, ◌||◌, List, [], ◌∷◌, Option, refl, sym, ◌∙◌, subst, inl, inr, ⊎_elim, arith}
 use Rattle.std.specs.Prelude.{◌⊎◌}
 use Rattle.std.specs.List.{list_any}
-use Rattle.file_shelf.specs.declared.shelves.Out.{Out}
-use Rattle.file_shelf.specs.declared.shelves.Out.TheVariants as out
-use Rattle.file_shelf.specs.Plan.{same_out}
-use Rattle.file_shelf.specs.Told.{Holds}
-use Rattle.file_shelf.specs.Shown.{Shown, IsUntouched, IsPassedOver, OnlyCreates, OnlyPuts}
+use Rattle.shelf.specs.declared.shelves.Out.{Out}
+use Rattle.shelf.specs.declared.shelves.Out.TheVariants as out
+use Rattle.shelf.specs.Outs.{same_out}
+use Rattle.shelf.specs.Told.{Holds}
+use Rattle.shelf.specs.Shown.{Shown, IsUntouched, IsPassedOver, OnlyCreates, OnlyPuts}
 use Rattle.run_io.specs.Words.{output_name}
 use Rattle.run_io.specs.Form.{Order}
 use Rattle.run_io.specs.Lists.{AllOf}
@@ -29,6 +29,8 @@ same_self : (one : Out) → same_out one one ≡ true
 same_self out.Video = refl
 same_self out.Sound = refl
 same_self out.Image = refl
+same_self out.Sums = refl
+same_self out.State = refl
 same_self out.Say = refl
 
 same_not : (one other : Out) → same_out one other ≡ false → other ≢ one

@@ -1,9 +1,9 @@
 -- What is put to the output for sound is what `play` makes.
 use Rattle.std.proofs.Common.{◌≡◌, ℕ, List, [], ◌∷◌, Option, refl, sym}
-use Rattle.file_shelf.specs.declared.shelves.Input.{Input}
-use Rattle.file_shelf.specs.declared.shelves.Out.TheVariants.{Sound}
-use Rattle.file_shelf.specs.Told.{Holds}
-use Rattle.file_shelf.specs.Shown.{Shown, OnlyPuts}
+use Rattle.shelf.specs.declared.shelves.Input.{Input}
+use Rattle.shelf.specs.declared.shelves.Out.TheVariants.{Sound}
+use Rattle.shelf.specs.Told.{Holds}
+use Rattle.shelf.specs.Shown.{Shown, OnlyPuts}
 use Rattle.run_io.specs.Line.{line_of, samples_text}
 use Rattle.run_io.specs.Form.{Order}
 use Rattle.run_io.specs.Lists.{AllOf}

@@ -1,9 +1,9 @@
 -- A put and then a flush of one output.
 use Rattle.std.proofs.Common.{◌≡◌, ℕ, List, ◌++◌, length, Option, sym, subst, arith}
 use Rattle.std.proofs.lemmas.List.{take_all}
-use Rattle.file_shelf.specs.declared.shelves.Out.{Out}
-use Rattle.file_shelf.specs.Told.{Holds, Appends, AppendsSome, HasRisen}
-use Rattle.file_shelf.specs.Shown.{Shown, OnlyPuts}
+use Rattle.shelf.specs.declared.shelves.Out.{Out}
+use Rattle.shelf.specs.Told.{Holds, Appends, AppendsSome, HasRisen}
+use Rattle.shelf.specs.Shown.{Shown, OnlyPuts}
 use Rattle.run_drive.specs.OutputLaws.{risen_since}
 use Rattle.snes_program.specs.PutLaws.{puts_then}
 

@@ -1,10 +1,10 @@
 -- What a plan leaves in video and sound is what its command makes.
 use Rattle.std.proofs.Common.{◌≡◌, ℕ, List, ◌∷◌, [], Option, refl}
 use Rattle.snes_defs.specs.declared.cart.Job.{Job}
-use Rattle.file_shelf.specs.declared.shelves.Input.{Input}
-use Rattle.file_shelf.specs.declared.shelves.Out.TheVariants.{Video, Sound}
-use Rattle.file_shelf.specs.Told.{Holds}
-use Rattle.file_shelf.specs.Shown.{Shown}
+use Rattle.shelf.specs.declared.shelves.Input.{Input}
+use Rattle.shelf.specs.declared.shelves.Out.TheVariants.{Video, Sound}
+use Rattle.shelf.specs.Told.{Holds}
+use Rattle.shelf.specs.Shown.{Shown}
 use Rattle.input_files.specs.declared.plan.PlanStep.{PlanStep}
 use Rattle.plan_drive.specs.Joins.{PlanEmits}
 use Rattle.run_drive.specs.Outputs.{output_of}

@@ -1,7 +1,7 @@
 -- A sound file that is longer than its limit is refused, and one that is read is accepted.
 use Rattle.std.proofs.Common.{◌≡◌, ℕ, ◌<◌, true, nat_lt, List, length, refl, Option, Some, None}
 use Rattle.std.proofs.lemmas.Bool.{lt-ltb}
-use Rattle.file_shelf.specs.declared.shelves.Input.TheVariants as input
+use Rattle.shelf.specs.declared.shelves.Input.TheVariants as input
 use Rattle.spc_player.specs.declared.image.SpcRefused.TheVariants.{TooLong}
 use Rattle.spc_player.specs.SoundFile.{refusal_of}
 use Rattle.snes_program.specs.declared.status.Why.{Why}
@@ -31,5 +31,6 @@ spc_accepted bytes h = record { unrefused = go }
     go (why.Table entry) is refused = cc
     go (why.Script line) is refused = cc
     go (why.Plan line) is refused = cc
+    go (why.Sums line) is refused = cc
 
 pub ruleset spc = (spc_longer, spc_accepted)

@@ -1,8 +1,8 @@
 -- What a command is, and when outputs hold what it makes.
-use Rattle.std.specs.Prelude.{ℕ, List, Option, take}
-use Rattle.file_shelf.specs.declared.shelves.Input.{Input}
-use Rattle.file_shelf.specs.declared.shelves.Out.{Out}
-use Rattle.file_shelf.specs.Told.{Holds}
+use Rattle.std.specs.Prelude.{ℕ, Bool, false, List, Option, take}
+use Rattle.shelf.specs.declared.shelves.Input.{Input}
+use Rattle.shelf.specs.declared.shelves.Out.{Out}
+use Rattle.shelf.specs.Told.{Holds}
 use Rattle.run_io.specs.Form.{FormValue, Order}
 use Rattle.run_io.specs.Lists.{AllOf}
 
@@ -11,6 +11,11 @@ use Rattle.run_io.specs.Lists.{AllOf}
 pub record Command : Type 1 where
   pub form : FormValue
   pub Makes : Order → (told : Input → Option (List ℕ)) → (contents : Out → List ℕ) → (line : List ℕ) → Type 0
+  pub differs : List ℕ → Bool
+
+-- the line of a command that compares nothing
+abbrev pub never : List ℕ → Bool
+never line = false
 
 module _ (command : Command) (order : Order) (told : Input → Option (List ℕ)) where
   -- there is something that the command makes

@@ -4,18 +4,18 @@ use Rattle.snes_defs.specs.declared.cart.Job.{Job}
 use Rattle.snes_defs.specs.declared.region.Region.TheVariants.{Ntsc}
 use Rattle.clock_ratio.specs.Stamp.{end_stamp_of, samples_before_of}
 use Rattle.demo_files.specs.Demo.{demo_boot}
-use Rattle.file_shelf.specs.declared.shelves.Input.{Input}
-use Rattle.file_shelf.specs.declared.shelves.Out.{Out}
+use Rattle.shelf.specs.declared.shelves.Input.{Input}
+use Rattle.shelf.specs.declared.shelves.Out.{Out}
 use Rattle.run_io.specs.declared.options.Count.TheVariants.{Frames}
 use Rattle.run_io.specs.Line.{line_of, demo_text}
 use Rattle.run_io.specs.Form.{FormValue, Order}
 use Rattle.snes_program.specs.Kinds.{IsCartIn}
 use Rattle.snes_program.specs.Make.{IsImage}
-use Rattle.snes_program.specs.Command.{Command}
+use Rattle.snes_program.specs.Command.{Command, never}
 
 -- the words: a number, and frames. It loads and creates nothing.
 abbrev pub demo_form : FormValue
-demo_form = record { numbered = true; inputs = []; count = Some Frames; outputs = [] }
+demo_form = record { numbered = true; inputs = []; optional = []; count = Some Frames; outputs = [] }
 
 -- the job of a demo: the cartridge that is read of the image of a number, the demo's boot ROM, a table
 -- whose entry i is 2 i, and the empty script, in Ntsc
@@ -44,4 +44,4 @@ pub record MakesDemo (emits : Job → List ℕ → List ℕ → Type 0) (order :
   pub says : line ≡ line_of (demo_text order.count (samples_before_of Ntsc (end_stamp_of Ntsc order.count)) (sum_in video) (sum_in audio))
 
 abbrev pub demo : (Job → List ℕ → List ℕ → Type 0) → Command
-demo emits = record { form = demo_form; Makes = MakesDemo emits }
+demo emits = record { form = demo_form; Makes = MakesDemo emits; differs = never }

@@ -1,17 +1,17 @@
 -- How a command has ended, by its answer, and what it leaves. Whether its outputs stand whole, or one of them was begun,
 -- is said here alone.
-use Rattle.std.specs.Prelude.{◌≡◌, ◌≢◌, ◌⊎◌, ℕ, ◌≤◌, Bool, true, not, ◌&&◌, List, [], ◌∷◌, Option, IfSome}
+use Rattle.std.specs.Prelude.{◌≡◌, ◌≢◌, ◌⊎◌, ℕ, ◌≤◌, Bool, true, not, ◌&&◌, if◌then◌else◌, List, [], ◌∷◌, Option, IfSome}
 use Rattle.std.specs.List.{list_any}
-use Rattle.file_shelf.specs.declared.shelves.Out.{Out}
-use Rattle.file_shelf.specs.declared.shelves.Out.TheVariants.{Say}
-use Rattle.file_shelf.specs.Plan.{same_out}
-use Rattle.file_shelf.specs.Told.{Holds, HasRisen}
-use Rattle.file_shelf.specs.Shown.{Shown, IsUntouched, IsPassedOver, IsCreated, IsKept, OnlyPuts}
+use Rattle.shelf.specs.declared.shelves.Out.{Out}
+use Rattle.shelf.specs.declared.shelves.Out.TheVariants.{Say}
+use Rattle.shelf.specs.Outs.{same_out}
+use Rattle.shelf.specs.Told.{Holds, HasRisen}
+use Rattle.shelf.specs.Shown.{Shown, IsUntouched, IsPassedOver, IsCreated, IsKept, OnlyPuts}
 use Rattle.run_io.specs.Words.{output_name}
 use Rattle.run_io.specs.Form.{Order}
 use Rattle.run_io.specs.Lists.{AllOf, FirstThat}
 use Rattle.snes_program.specs.declared.status.Status.{Status}
-use Rattle.snes_program.specs.declared.status.Status.TheVariants.{Usage, LoadFault, Refused, WriteFault, NoMemory}
+use Rattle.snes_program.specs.declared.status.Status.TheVariants.{Ok, Usage, LoadFault, Refused, WriteFault, NoMemory, Differs}
 use Rattle.snes_program.specs.Loads.{told_in, ShowsAccepted, EndsInputs}
 use Rattle.snes_program.specs.Command.{Command, CanMake, HoldsWhole, HoldsFirst}
 use Rattle.snes_program.specs.Commands.{Wish, Nothing, Asks}
@@ -29,6 +29,10 @@ pub record OnlyTouches (outputs : List Out) (before after : Shown) : Type 0 wher
   pub load_faults : after.load_faults ≡ before.load_faults
   pub write_faults : (any : Out) → before.write_faults any ≤ after.write_faults any
   pub others : (other : Out) → AllOf (λ out. out ≢ other) outputs → IsPassedOver before after other
+
+-- the answer of a command that was done, by its line: Ok, or that what it compared differs
+abbrev pub due_of : Command → List ℕ → Status
+due_of command line = if command.differs line then Differs else Ok
 
 -- no output but that of the lines was changed, nor was one tried
 abbrev pub OnlySays : Shown → Shown → Type 0
@@ -77,7 +81,7 @@ module _ (command : Command) (order : Order) (before : Shown) where
     pub record IsAnswered (status : Status) : Type 0 where
       pub line : List ℕ
       pub done : IsDone line
-      pub says : Says before after line status
+      pub says : Says before after line (due_of command line) status
 
     -- it was not done, and why: an input was not taken, an output was not written, or there was no memory. But for a write
     -- fault no output was tried.

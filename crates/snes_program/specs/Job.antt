@@ -2,8 +2,8 @@
 use Rattle.std.specs.Prelude.{◌≡◌, ℕ, List, Option, IfSome}
 use Rattle.snes_defs.specs.declared.cart.Job.{Job}
 use Rattle.clock_ratio.specs.Stamp.{end_stamp_of, samples_before_of}
-use Rattle.file_shelf.specs.declared.shelves.Input.{Input}
-use Rattle.file_shelf.specs.declared.shelves.Input.TheVariants.{Cart, Boot, Table, Script}
+use Rattle.shelf.specs.declared.shelves.Input.{Input}
+use Rattle.shelf.specs.declared.shelves.Input.TheVariants.{Cart, Boot, Table, Script}
 use Rattle.input_files.specs.Table.{IsTableFile}
 use Rattle.run_io.specs.Line.{line_of, frames_text}
 use Rattle.snes_program.specs.Kinds.{IsCartIn, IsScriptIn}

@@ -9,8 +9,9 @@ use Rattle.input_files.specs.Table.{IsRefusedAt}
 use Rattle.input_files.specs.Script.{script_of}
 use Rattle.input_files.specs.Plan.{plan_of}
 use Rattle.input_files.specs.declared.plan.PlanStep.{PlanStep}
-use Rattle.file_shelf.specs.declared.shelves.Input.{Input}
-use Rattle.file_shelf.specs.declared.shelves.Input.TheVariants as input
+use Rattle.frame_sums.specs.SumsFile.{SumsIn, sums_of_file}
+use Rattle.shelf.specs.declared.shelves.Input.{Input}
+use Rattle.shelf.specs.declared.shelves.Input.TheVariants as input
 use Rattle.snes_program.specs.declared.status.Why.{Why}
 use Rattle.snes_program.specs.declared.status.Why.TheVariants as why
 
@@ -22,10 +23,11 @@ input_of (why.Spc cause) = input.Spc
 input_of (why.Table entry) = input.Table
 input_of (why.Script line) = input.Script
 input_of (why.Plan line) = input.Plan
+input_of (why.Sums line) = input.Sums
 
 -- why the bytes of an input are refused: the cartridge by the first rule that it breaks, the boot ROM
 -- where it hasn't 64 bytes, the sound file by the first rule that it breaks, the table at 512 for its length or at
--- its first large entry, the script and the plan at 0 for their length or at their first bad line
+-- its first large entry, the script, the plan and the sums at 0 for their length or at their first bad line
 abbrev pub AreRefused : List ℕ → Why → Type 0
 AreRefused bytes (why.Cart cause) = verdict bytes ≡ Err cause
 AreRefused bytes why.Boot = length bytes ≢ 64
@@ -33,6 +35,7 @@ AreRefused bytes (why.Spc cause) = refusal_of bytes ≡ Some cause
 AreRefused bytes (why.Table entry) = IsRefusedAt bytes entry
 AreRefused bytes (why.Script line) = MatchBool (nat_lt 1048576 (length bytes)) (line ≡ 0) (script_of bytes ≡ Err line)
 AreRefused bytes (why.Plan line) = MatchBool (nat_lt 1048576 (length bytes)) (line ≡ 0) (plan_of bytes ≡ Err line)
+AreRefused bytes (why.Sums line) = MatchBool (nat_lt 5000000 (length bytes)) (line ≡ 0) (sums_of_file bytes ≡ Err line)
 
 -- the bytes of an input are accepted: nothing refuses them
 pub record AreAccepted (input : Input) (bytes : List ℕ) : Type 0 where
@@ -48,3 +51,6 @@ IsScriptIn bytes script = script_of bytes ≡ Ok script
 
 abbrev pub IsPlanIn : List ℕ → List PlanStep → Type 0
 IsPlanIn bytes steps = plan_of bytes ≡ Ok steps
+
+abbrev pub IsSumsIn : List ℕ → SumsIn → Type 0
+IsSumsIn bytes sums = sums_of_file bytes ≡ Ok sums

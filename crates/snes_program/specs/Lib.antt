@@ -1,6 +1,8 @@
+pub mod Check
 pub mod Command
 pub mod Commands
 pub mod Demo
+pub mod Dump
 pub mod Ends
 pub mod Help
 pub mod Job
@@ -16,3 +18,4 @@ pub mod Snes
 pub mod SoundOut
 pub mod Status
 pub mod Sums
+pub mod SumsRun

@@ -1,8 +1,11 @@
 -- How inputs are loaded and accepted, in their order.
-use Rattle.std.specs.Prelude.{◌≡◌, ℕ, List, Option, IfSome, IsSomeAnd}
-use Rattle.file_shelf.specs.declared.shelves.Input.{Input}
-use Rattle.file_shelf.specs.Told.{HasRisen}
-use Rattle.file_shelf.specs.Shown.{Shown}
+use Rattle.std.specs.Prelude.{◌≡◌, ℕ, nat_eq, if◌then◌else◌, List, [], length, Option, Some, None, IfSome, IsSomeAnd}
+use Rattle.shelf.specs.declared.shelves.Input.{Input}
+use Rattle.shelf.specs.declared.shelves.Input.TheVariants.{Boot, Table, Script}
+use Rattle.shelf.specs.Told.{HasRisen}
+use Rattle.shelf.specs.Shown.{Shown}
+use Rattle.free_files.specs.Boot.{free_boot}
+use Rattle.free_files.specs.Interpolation.{interpolation, table_bytes}
 use Rattle.run_io.specs.Words.{input_name}
 use Rattle.run_io.specs.Lists.{FirstThat}
 use Rattle.snes_program.specs.declared.status.Why.{Why}
@@ -10,9 +13,26 @@ use Rattle.snes_program.specs.declared.status.Status.{Status}
 use Rattle.snes_program.specs.declared.status.Status.TheVariants.{LoadFault, Refused, NoMemory}
 use Rattle.snes_program.specs.Kinds.{input_of, AreRefused, AreAccepted}
 
--- the bytes that are held of each input, under the name that the words give it, if the shelf tells them
+-- the bytes of an input that may be left out: the free boot ROM, the free table, an empty script
+abbrev pub free_bytes : Input → Option (List ℕ)
+free_bytes Boot = Some free_boot
+free_bytes Table = Some (table_bytes interpolation)
+free_bytes Script = Some []
+free_bytes _ = None
+
+-- those of one that the words leave out, which give it no name
+abbrev pub free_in : List (List ℕ) → Input → Option (List ℕ)
+free_in pairs input = if nat_eq (length (input_name pairs input)) 0 then free_bytes input else None
+
+-- free bytes, or those that are held
+abbrev pub free_or : Option (List ℕ) → Option (List ℕ) → Option (List ℕ)
+free_or None held = held
+free_or (Some free) held = Some free
+
+-- the bytes of each input: those that are held under the name that the words give it, if the shelf tells them, and the free
+-- ones of an input that the words leave out
 abbrev pub told_in : Shown → List (List ℕ) → Input → Option (List ℕ)
-told_in shown pairs input = shown.held (input_name pairs input)
+told_in shown pairs input = free_or (free_in pairs input) (shown.held (input_name pairs input))
 
 -- what is held of an input is accepted, as far as it is told; or is refused so
 abbrev pub ShowsAccepted : (Input → Option (List ℕ)) → Input → Type 0

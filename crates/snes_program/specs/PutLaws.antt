@@ -1,7 +1,7 @@
 -- Puts to one output one after another.
 use Rattle.std.proofs.Common.{refl, ◌∙◌, arith}
-use Rattle.file_shelf.specs.declared.shelves.Out.{Out}
-use Rattle.file_shelf.specs.Shown.{Shown, OnlyPuts}
+use Rattle.shelf.specs.declared.shelves.Out.{Out}
+use Rattle.shelf.specs.Shown.{Shown, OnlyPuts}
 
 pub puts_none : (a : Shown) (out : Out) → OnlyPuts a a out
 puts_none a out = record {

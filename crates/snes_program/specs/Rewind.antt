@@ -1,10 +1,10 @@
 -- THE COMMAND `rewind`: a cartridge, a boot ROM and a table make a console, and a plan of kept moments is played on it.
 use Rattle.std.specs.Prelude.{◌≡◌, ℕ, false, List, [], ◌∷◌, Option, None, IfSome}
 use Rattle.snes_defs.specs.declared.cart.Job.{Job}
-use Rattle.file_shelf.specs.declared.shelves.Input.{Input}
-use Rattle.file_shelf.specs.declared.shelves.Input.TheVariants.{Cart, Boot, Table, Plan}
-use Rattle.file_shelf.specs.declared.shelves.Out.{Out}
-use Rattle.file_shelf.specs.declared.shelves.Out.TheVariants.{Video, Sound}
+use Rattle.shelf.specs.declared.shelves.Input.{Input}
+use Rattle.shelf.specs.declared.shelves.Input.TheVariants.{Cart, Boot, Table, Plan}
+use Rattle.shelf.specs.declared.shelves.Out.{Out}
+use Rattle.shelf.specs.declared.shelves.Out.TheVariants.{Video, Sound}
 use Rattle.input_files.specs.Table.{IsTableFile}
 use Rattle.input_files.specs.Plan.{frames_in}
 use Rattle.input_files.specs.declared.plan.PlanStep.{PlanStep}
@@ -14,13 +14,14 @@ use Rattle.plan_drive.specs.Samples.{samples_in}
 use Rattle.run_io.specs.Form.{FormValue, Order}
 use Rattle.run_io.specs.Line.{line_of, frames_text}
 use Rattle.snes_program.specs.Kinds.{IsCartIn, IsPlanIn}
-use Rattle.snes_program.specs.Command.{Command}
+use Rattle.snes_program.specs.Command.{Command, never}
 
 -- the words: inputs and outputs
 abbrev pub rewind_form : FormValue
 rewind_form = record {
   numbered = false;
   inputs = Cart ∷ (Boot ∷ (Table ∷ (Plan ∷ [])));
+  optional = [];
   count = None;
   outputs = Video ∷ (Sound ∷ []);
 }
@@ -46,4 +47,4 @@ pub record MakesRewind (emits : Job → List ℕ → List ℕ → Type 0) (order
   pub says : line ≡ plan_line steps
 
 abbrev pub rewind : (Job → List ℕ → List ℕ → Type 0) → Command
-rewind emits = record { form = rewind_form; Makes = MakesRewind emits }
+rewind emits = record { form = rewind_form; Makes = MakesRewind emits; differs = never }

@@ -1,10 +1,10 @@
 -- What is said of an answer.
 use Rattle.std.specs.Prelude.{◌≡◌, List, ℕ, ◌⊎◌}
-use Rattle.file_shelf.specs.declared.shelves.Out.TheVariants as out
-use Rattle.file_shelf.specs.Told.{Appends, AppendsSome, HasRisen}
-use Rattle.file_shelf.specs.Shown.{Shown}
+use Rattle.shelf.specs.declared.shelves.Out.TheVariants as out
+use Rattle.shelf.specs.Told.{Appends, AppendsSome, HasRisen}
+use Rattle.shelf.specs.Shown.{Shown}
 use Rattle.snes_program.specs.declared.status.Status.{Status}
-use Rattle.snes_program.specs.declared.status.Status.TheVariants.{Ok, WriteFault}
+use Rattle.snes_program.specs.declared.status.Status.TheVariants.{WriteFault}
 
 -- the first bytes of a line were said, and where no fault of saying was counted the whole of it, of which nothing is
 -- held back
@@ -13,9 +13,9 @@ pub record IsSaid (before after : Shown) (line : List ℕ) : Type 0 where
   pub whole : ¬ HasRisen (before.write_faults out.Say) (after.write_faults out.Say) → Appends (before.written out.Say) (after.written out.Say) line
   pub none_left : ¬ HasRisen (before.write_faults out.Say) (after.write_faults out.Say) → after.unwritten out.Say ≡ 0
 
--- the line of a command that was done was said whole, and nothing of it is held back
-pub record IsSaidWhole (before after : Shown) (line : List ℕ) (status : Status) : Type 0 where
-  pub answer : status ≡ Ok
+-- the line of a command that was done was said whole, and nothing of it is held back: the answer is the one that is due
+pub record IsSaidWhole (before after : Shown) (line : List ℕ) (due status : Status) : Type 0 where
+  pub answer : status ≡ due
   pub whole : Appends (before.written out.Say) (after.written out.Say) line
   pub none_left : after.unwritten out.Say ≡ 0
 
@@ -26,5 +26,5 @@ pub record IsSaidInPart (before after : Shown) (line : List ℕ) (status : Statu
   pub risen : HasRisen (before.write_faults out.Say) (after.write_faults out.Say)
 
 -- the line of a command that was done, and the answer
-abbrev pub Says : Shown → Shown → List ℕ → Status → Type 0
-Says before after line status = IsSaidWhole before after line status ⊎ IsSaidInPart before after line status
+abbrev pub Says : Shown → Shown → List ℕ → Status → Status → Type 0
+Says before after line due status = IsSaidWhole before after line due status ⊎ IsSaidInPart before after line status

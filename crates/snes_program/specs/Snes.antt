@@ -1,20 +1,20 @@
 -- Words of the contract of `snes`, over the answer, the words and what the shelf shows before and after.
-use Rattle.std.specs.Prelude.{◌≡◌, ◌⊎◌, ℕ, ◌<◌, ◌≤◌}
-use Rattle.file_shelf.specs.declared.shelves.Out.TheVariants as out
-use Rattle.file_shelf.specs.Told.{HasRisen}
-use Rattle.file_shelf.specs.Shown.{Shown}
+use Rattle.std.specs.Prelude.{◌≡◌, ◌⊎◌, ℕ, ◌<◌, ◌≤◌, List}
+use Rattle.shelf.specs.declared.shelves.Out.TheVariants as out
+use Rattle.shelf.specs.Told.{HasRisen}
+use Rattle.shelf.specs.Shown.{Shown}
 use Rattle.run_io.specs.Form.{Order}
 use Rattle.run_io.specs.Lists.{AllOf, FirstThat}
 use Rattle.snes_program.specs.declared.status.Why.{Why}
 use Rattle.snes_program.specs.declared.status.Status.{Status}
-use Rattle.snes_program.specs.declared.status.Status.TheVariants.{Ok, Usage, LoadFault, Refused, WriteFault, NoMemory}
+use Rattle.snes_program.specs.declared.status.Status.TheVariants.{Ok, Usage, LoadFault, Refused, WriteFault, NoMemory, Differs}
 use Rattle.snes_program.specs.Loads.{told_in, TellsAccepted, TellsRefused, HasFailed}
 use Rattle.snes_program.specs.Command.{Command}
-use Rattle.snes_program.specs.Ends.{IsBegun}
+use Rattle.snes_program.specs.Ends.{due_of, IsBegun}
 
--- an answer, or want of memory in its place
-abbrev pub OrNoMemory : Status → Status → Type 0
-OrNoMemory status due = (status ≡ due) ⊎ (status ≡ NoMemory)
+-- the answer of a command that was done, by some line (Ok, if it compares nothing), or want of memory in its place
+abbrev pub OrNoMemory : Command → Status → Type 0
+OrNoMemory command status = ((line : List ℕ) × (status ≡ due_of command line)) ⊎ (status ≡ NoMemory)
 
 -- The answers in the order of the work: that on the words comes first, those on inputs and memory before the first
 -- creation; then those on outputs; those on the line at last.
@@ -26,6 +26,7 @@ stage_of NoMemory = 1
 stage_of (WriteFault out.Say) = 3
 stage_of (WriteFault failed) = 2
 stage_of Ok = 3
+stage_of Differs = 3
 
 -- the answer comes before any output is created; after all inputs were accepted; after all outputs were written
 abbrev pub IsEarly : Status → Type 0
@@ -52,6 +53,7 @@ module _ (command : Command) (order : Order) (before : Shown) where
     -- the outputs that were created before the answer came were begun: all of them, or those before the one that failed
     abbrev pub AreBegun : Status → Type 0
     AreBegun Ok = AllOf (IsBegun command order before after) command.form.outputs
+    AreBegun Differs = AllOf (IsBegun command order before after) command.form.outputs
     AreBegun (WriteFault out.Say) = AllOf (IsBegun command order before after) command.form.outputs
     AreBegun (WriteFault failed) = FirstThat (IsBegun command order before after) (λ one. one ≡ failed) command.form.outputs
     AreBegun _ = Unit {0}

@@ -1,6 +1,6 @@
 use crate::loads::{Loads, fetch};
 use crate::status::{Status, Why};
-use file_shelf::{Input, Shelf};
+use shelf::{Input, Shelf};
 use input_files::read_boot;
 use run_io::Word;
 use std::alloc::Global;
@@ -10,7 +10,7 @@ pub(crate) struct BootFile;
 
 impl Loads for BootFile {
     ghost use Rattle.std.specs.Prelude.{[], ◌∷◌, IfSome};
-    ghost use Rattle.file_shelf.specs.declared.shelves.Input.TheVariants as input;
+    ghost use Rattle.shelf.specs.declared.shelves.Input.TheVariants as input;
     ghost use Rattle.std.specs.Prelude.{◌≡◌};
 
     type Value = [u8; 64];

@@ -2,8 +2,10 @@ ghost use Rattle.run_io.specs.Form.{order_by, Fits};
 ghost use Rattle.snes_program.specs.Commands.{asks, asked_by, asked};
 ghost use Rattle.snes_program.specs.Ends.{EndsCall, EndsWish};
 
+use crate::check::Check;
 use crate::command::Performs;
 use crate::demo::Demo;
+use crate::dump::Dump;
 use crate::help::{Help, Version};
 use crate::make::Make;
 use crate::perform::perform;
@@ -12,9 +14,11 @@ use crate::rewind::Rewind;
 use crate::run::{Run, Way};
 use crate::say::{refuse, say};
 use crate::status::Status;
-use file_shelf::Shelf;
+use crate::sums_run::SumsRun;
+use shelf::Shelf;
 use plan_drive::PlanPlayer;
 use port_wire::Gate;
+use run_drive::StatePlayer;
 use run_io::{Argv, Asked, Word, read_form};
 use std::thread::Threads;
 
@@ -30,7 +34,7 @@ fn commanded<C: Performs, R: AllocGlobal + Threads, H: Shelf>(
     ensures { EndsCall C.command (order_by asked.now) (H.shown shelf.old) (H.shown shelf.new) result }
 {
     let outcome = perform(command, rt, gate, asked, shelf);
-    say(shelf, outcome)
+    say::<C, H>(shelf, outcome)
 }
 
 /// Reads the arguments after a command's name by its form, and performs the command.
@@ -52,14 +56,14 @@ fn call<C: Performs, R: AllocGlobal + Threads, H: Shelf>(
 
 /// Calls the command of this name. THE COMMANDS are listed here, and in `asked_by`.
 #[tactic(auto, unfolding(crate::specs::Commands::asked_by))]
-fn call_named<P: PlanPlayer, R: AllocGlobal + Threads, H: Shelf>(
+fn call_named<P: PlanPlayer + StatePlayer, R: AllocGlobal + Threads, H: Shelf>(
     rt: &R,
     gate: &dyn Gate,
     name: &str,
     words: &[Word],
     shelf: &mut H,
 ) -> Status
-    ensures { EndsWish (asked_by P.emits name.now words.now) (H.shown shelf.old) (H.shown shelf.new) result }
+    ensures { EndsWish (asked_by P.emits P.leaves name.now words.now) (H.shown shelf.old) (H.shown shelf.new) result }
 {
     if name == "run" {
         return call(&Run::<P>::by(Way::Turns), rt, gate, words, shelf);
@@ -82,6 +86,15 @@ fn call_named<P: PlanPlayer, R: AllocGlobal + Threads, H: Shelf>(
     if name == "rewind" {
         return call(&Rewind::<P>::new(), rt, gate, words, shelf);
     }
+    if name == "sums" {
+        return call(&SumsRun::<P>::new(), rt, gate, words, shelf);
+    }
+    if name == "check" {
+        return call(&Check::<P>::new(), rt, gate, words, shelf);
+    }
+    if name == "dump" {
+        return call(&Dump::<P>::new(), rt, gate, words, shelf);
+    }
     if name == "--help" {
         return call(&Help, rt, gate, words, shelf);
     }
@@ -96,13 +109,13 @@ fn call_named<P: PlanPlayer, R: AllocGlobal + Threads, H: Shelf>(
 
 /// Performs the command that the arguments ask for, prints how it ended, and returns the status.
 #[tactic(auto, using(crate::proofs::Ending::reads))]
-pub(crate) fn performed<P: PlanPlayer, R: AllocGlobal + Threads, H: Shelf>(
+pub(crate) fn performed<P: PlanPlayer + StatePlayer, R: AllocGlobal + Threads, H: Shelf>(
     rt: &R,
     gate: &dyn Gate,
     words: &Argv,
     shelf: &mut H,
 ) -> Status
-    ensures { EndsWish (asked P.emits words.now) (H.shown shelf.old) (H.shown shelf.new) result }
+    ensures { EndsWish (asked P.emits P.leaves words.now) (H.shown shelf.old) (H.shown shelf.new) result }
 {
     match words.all().split_first() {
         Some((name, words)) => call_named::<P, R, H>(rt, gate, name.text(), words, shelf),

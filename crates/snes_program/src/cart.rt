@@ -1,7 +1,7 @@
 use crate::loads::{Loads, fetch};
 use crate::status::{Status, Why};
 use cart_map::{CartEnd, CartRefused, accept};
-use file_shelf::{Input, Shelf};
+use shelf::{Input, Shelf};
 use run_io::Word;
 use snes_defs::Cart;
 use std::alloc::Global;
@@ -11,7 +11,7 @@ pub(crate) struct CartFile;
 
 impl Loads for CartFile {
     ghost use Rattle.std.specs.Prelude.{[], ◌∷◌, IfSome};
-    ghost use Rattle.file_shelf.specs.declared.shelves.Input.TheVariants as input;
+    ghost use Rattle.shelf.specs.declared.shelves.Input.TheVariants as input;
     ghost use Rattle.snes_program.specs.Kinds.{IsCartIn};
 
     type Value = Cart;

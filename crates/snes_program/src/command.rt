@@ -1,5 +1,5 @@
 ghost use Rattle.std.specs.Prelude.{◌≡◌, ℕ, List, [], true, OnOk, IfOk, IfErr, Option};
-ghost use Rattle.file_shelf.specs.Told.{Holds, HasRisen};
+ghost use Rattle.shelf.specs.Told.{Holds, HasRisen};
 ghost use Rattle.run_io.specs.Lists.{AllOf, IsOneOf};
 ghost use Rattle.run_io.specs.Form.{Order, form_by, order_by, Fits};
 ghost use Rattle.snes_program.specs.Loads.{told_in};
@@ -7,7 +7,7 @@ ghost use Rattle.snes_program.specs.Command.{Command, CanMake, HoldsWhole, Holds
 ghost use Rattle.snes_program.specs.Ends.{are_apart, OnlyTouches};
 
 use crate::loads::Loads;
-use file_shelf::{Out, Shelf};
+use shelf::{Out, Shelf};
 use port_wire::Gate;
 use run_io::{Asked, Form, Line};
 use snes_defs::NoMemory;
@@ -17,7 +17,7 @@ use std::thread::Threads;
 /// A command: what it does besides the arguments, loads, creations and lines that all commands share.
 pub(crate) trait Performs {
     ghost use Rattle.std.specs.Prelude.{ℕ, List, Option};
-    ghost use Rattle.file_shelf.specs.declared.shelves.Input.{Input};
+    ghost use Rattle.shelf.specs.declared.shelves.Input.{Input};
 
     /// The inputs of the command, in their order.
     type Inputs: Loads;
@@ -34,6 +34,10 @@ pub(crate) trait Performs {
     /// Returns the form of its arguments.
     fn form() -> Form
         ensures { form_by result ≡ command.form };
+
+    /// Whether the line says that what the command compares differs.
+    fn differs(line: &Line) -> bool
+        ensures { result ≡ command.differs line.now };
 
     /// Allocates everything that the command needs.
     fn ready(

@@ -5,7 +5,7 @@ use crate::command::Performs;
 use crate::sums::Sums;
 use clock_ratio::{end_stamp, samples_before};
 use demo_files::{demo_boot_rom, demo_table, image};
-use file_shelf::{Out, Shelf};
+use shelf::{Out, Shelf};
 use port_wire::Gate;
 use run_drive::Player;
 use run_io::{Asked, Count, Form, Line, demo_line};
@@ -67,9 +67,14 @@ impl<P: Player> Performs for Demo<P> {
         Form {
             numbered: true,
             inputs: &[],
+            optional: &[],
             count: Some(Count::Frames),
             outputs: &[],
         }
+    }
+
+    fn differs(_line: &Line) -> bool {
+        false
     }
 
     fn ready(&self, alloc: Global, asked: &Asked<'_>, _inputs: ()) -> Result<P, NoMemory> {

@@ -3,7 +3,7 @@ ghost use Rattle.run_io.specs.Form.{form_by};
 ghost use Rattle.snes_program.specs.Help.{text_form};
 
 use crate::command::Performs;
-use file_shelf::{Out, Shelf};
+use shelf::{Out, Shelf};
 use port_wire::Gate;
 use run_io::{Asked, Form, Line, help_line, version_line};
 use snes_defs::NoMemory;
@@ -23,6 +23,7 @@ fn no_words() -> Form
     Form {
         numbered: false,
         inputs: &[],
+        optional: &[],
         count: None,
         outputs: &[],
     }
@@ -42,6 +43,10 @@ impl Performs for Help {
 
     fn form() -> Form {
         no_words()
+    }
+
+    fn differs(_line: &Line) -> bool {
+        false
     }
 
     fn ready(&self, _alloc: Global, _asked: &Asked<'_>, _inputs: ()) -> Result<(), NoMemory> {
@@ -78,6 +83,10 @@ impl Performs for Version {
 
     fn form() -> Form {
         no_words()
+    }
+
+    fn differs(_line: &Line) -> bool {
+        false
     }
 
     fn ready(&self, _alloc: Global, _asked: &Asked<'_>, _inputs: ()) -> Result<(), NoMemory> {

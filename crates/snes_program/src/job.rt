@@ -1,5 +1,5 @@
 ghost use Rattle.std.specs.Prelude.{◌≡◌, ◌≤◌, Option, List, ℕ};
-ghost use Rattle.file_shelf.specs.declared.shelves.Input.{Input};
+ghost use Rattle.shelf.specs.declared.shelves.Input.{Input};
 ghost use Rattle.snes_program.specs.Job.{ShowsJob, run_line};
 
 use crate::boot::BootFile;

@@ -5,15 +5,18 @@
 // lines.
 //
 // What all commands share is in `call`, `perform`, `loads`, `outputs` and `say`. Each command has a file of its own
-// (`run`, `play`, `make`, `demo`, `rewind`, `help`), and its meaning is in `specs/`. Each kind of input has a file too:
-// `cart`, `boot`, `spc`, `table`, `script`, `plan`. `CONTRIBUTING.md` says how to add one.
+// (`run`, `play`, `make`, `demo`, `rewind`, `dump`, `help`), and its meaning is in `specs/`. Each kind of input has a file
+// too: `cart`, `boot`, `spc`, `table`, `script`, `plan`. `CONTRIBUTING.md` says how to add one.
 #![tactic(auto)]
 
 mod boot;
 mod call;
 mod cart;
+mod check;
 mod command;
 mod demo;
+mod dump;
+mod free;
 mod help;
 mod job;
 mod loads;
@@ -32,6 +35,8 @@ mod sound_out;
 mod spc;
 mod status;
 mod sums;
+mod sums_file;
+mod sums_run;
 mod table;
 mod top;
 

@@ -1,20 +1,22 @@
 ghost use Rattle.std.specs.Prelude.{◌≡◌, ◌≤◌, ◌<◌, ℕ, List, [], ◌++◌, length, OnOk, IfOk, IfErr, Option, IfSome};
-ghost use Rattle.file_shelf.specs.Told.{Holds};
-ghost use Rattle.file_shelf.specs.Shown.{OnlyLoads};
+ghost use Rattle.shelf.specs.Told.{Holds};
+ghost use Rattle.shelf.specs.Shown.{OnlyLoads};
 ghost use Rattle.run_io.specs.Lists.{AllOf};
 ghost use Rattle.snes_program.specs.Kinds.{input_of, AreRefused};
 ghost use Rattle.snes_program.specs.Loads.{told_in, ShowsAccepted, EndsInput, EndsInputs};
 
+use crate::free::free_of;
 use crate::status::{Status, Why};
-use file_shelf::{Input, LoadEnd, Shelf};
+use shelf::{Input, LoadEnd, Shelf};
 use run_io::{Word, input_name};
+use snes_defs::NoMemory;
 use std::alloc::Global;
 
 /// Inputs that are loaded and accepted in their order, and what is read from them. A kind of input implements it, and
 /// so does a pair of implementors, of which the first is loaded first.
 pub(crate) trait Loads {
     ghost use Rattle.std.specs.Prelude.{ℕ, List, Option};
-    ghost use Rattle.file_shelf.specs.declared.shelves.Input.{Input};
+    ghost use Rattle.shelf.specs.declared.shelves.Input.{Input};
 
     type Value: Drop;
 
@@ -24,7 +26,7 @@ pub(crate) trait Loads {
     // This is what is read of the bytes that are told of them.
     ghost reads: { (Input → Option (List ℕ)) → Self.Value → Type 0 };
 
-    /// Loads the inputs under the names that the arguments give them.
+    /// Loads the inputs under the names that the arguments give them. An input that they leave out has the free bytes.
     fn load<H: Shelf>(alloc: Global, pairs: &[Word], shelf: &mut H) -> Result<Self::Value, Status>
         ensures read { IfOk result (reads (told_in (H.shown shelf.old) pairs.now)) }
         ensures accepted { OnOk result (AllOf (ShowsAccepted (told_in (H.shown shelf.old) pairs.now)) inputs) }
@@ -66,8 +68,9 @@ impl Loads for () {
     }
 }
 
-/// Loads a whole input. If it is longer than its limit, it is refused for this cause.
-#[tactic(auto, using(crate::proofs::Loading::longer_is_refused))]
+/// Loads a whole input, or returns the free bytes of one that the arguments leave out. If it is longer than its limit,
+/// it is refused for this cause.
+#[tactic(auto, using(crate::proofs::Loading::fetches))]
 pub(crate) fn fetch<H: Shelf>(
     alloc: Global,
     shelf: &mut H,
@@ -83,6 +86,16 @@ pub(crate) fn fetch<H: Shelf>(
     ensures ends { IfErr result (λ status. EndsInput pairs.now (H.shown shelf.old) (H.shown shelf.new) status input) }
     ensures only { OnlyLoads (H.shown shelf.old) (H.shown shelf.new) }
 {
+    let free = match free_of(alloc, pairs, input) {
+        Ok(free) => free,
+        Err(NoMemory) => return Err(Status::NoMemory),
+    };
+    if let Some(bytes) = free {
+        if bytes.len() > limit {
+            return Err(Status::Refused(too_long));
+        }
+        return Ok(bytes);
+    }
     let mut bytes = Vec::new(alloc);
     match shelf.load(input_name(pairs, input), limit, &mut bytes) {
         Ok(()) => Ok(bytes),

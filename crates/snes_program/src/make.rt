@@ -1,6 +1,6 @@
 use crate::command::Performs;
 use demo_files::image;
-use file_shelf::{Failed, Out, Shelf};
+use shelf::{Failed, Out, Shelf};
 use port_wire::Gate;
 use run_io::{Asked, Form, Line, image_line};
 use snes_defs::NoMemory;
@@ -28,9 +28,14 @@ impl Performs for Make {
         Form {
             numbered: true,
             inputs: &[],
+            optional: &[],
             count: None,
             outputs: &OUTPUTS,
         }
+    }
+
+    fn differs(_line: &Line) -> bool {
+        false
     }
 
     fn ready(&self, alloc: Global, asked: &Asked<'_>, _inputs: ()) -> Result<Vec<u8>, NoMemory> {

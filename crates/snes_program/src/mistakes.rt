@@ -1,14 +1,18 @@
 ghost use Rattle.std.specs.Prelude.{MatchOption};
 ghost use Rattle.snes_program.specs.Commands.{asks, asked_by, asked, IsNothing};
 
+use crate::check::Check;
 use crate::command::Performs;
 use crate::demo::Demo;
+use crate::dump::Dump;
 use crate::help::{Help, Version};
 use crate::make::Make;
 use crate::play::Play;
 use crate::rewind::Rewind;
 use crate::run::Run;
+use crate::sums_run::SumsRun;
 use plan_drive::PlanPlayer;
+use run_drive::StatePlayer;
 use run_io::{Argv, Fault, Mistake, Word, mistake_in, read_form};
 
 /// Returns the mistake in the arguments after a command's name; none if they have its form.
@@ -25,8 +29,11 @@ fn explain_form<C: Performs>(words: &[Word]) -> Option<Mistake<'_>>
 
 /// Returns the mistake in the arguments after this name, if there is one. The commands are listed as in `call_named`.
 #[tactic(auto, unfolding(crate::specs::Commands::asked_by))]
-fn explain_named<'a, P: PlanPlayer>(name: &'a str, words: &'a [Word]) -> Option<Mistake<'a>>
-    ensures { MatchOption result (¬ IsNothing (asked_by P.emits name.now words.now)) (λ mistake. IsNothing (asked_by P.emits name.now words.now)) }
+fn explain_named<'a, P: PlanPlayer + StatePlayer>(
+    name: &'a str,
+    words: &'a [Word],
+) -> Option<Mistake<'a>>
+    ensures { MatchOption result (¬ IsNothing (asked_by P.emits P.leaves name.now words.now)) (λ mistake. IsNothing (asked_by P.emits P.leaves name.now words.now)) }
 {
     if name == "run" {
         return explain_form::<Run<P>>(words);
@@ -49,6 +56,15 @@ fn explain_named<'a, P: PlanPlayer>(name: &'a str, words: &'a [Word]) -> Option<
     if name == "rewind" {
         return explain_form::<Rewind<P>>(words);
     }
+    if name == "sums" {
+        return explain_form::<SumsRun<P>>(words);
+    }
+    if name == "check" {
+        return explain_form::<Check<P>>(words);
+    }
+    if name == "dump" {
+        return explain_form::<Dump<P>>(words);
+    }
     if name == "--help" {
         return explain_form::<Help>(words);
     }
@@ -62,8 +78,8 @@ fn explain_named<'a, P: PlanPlayer>(name: &'a str, words: &'a [Word]) -> Option<
 }
 
 /// Returns the mistake in a command line: there is one if and only if `snes` returns `Usage`.
-pub fn explain<P: PlanPlayer>(words: &Argv) -> Option<Mistake<'_>>
-    ensures { MatchOption result (¬ IsNothing (asked P.emits words.now)) (λ mistake. IsNothing (asked P.emits words.now)) }
+pub fn explain<P: PlanPlayer + StatePlayer>(words: &Argv) -> Option<Mistake<'_>>
+    ensures { MatchOption result (¬ IsNothing (asked P.emits P.leaves words.now)) (λ mistake. IsNothing (asked P.emits P.leaves words.now)) }
 {
     match words.all().split_first() {
         Some((name, words)) => explain_named::<P>(name.text(), words),

@@ -1,12 +1,12 @@
 ghost use Rattle.std.specs.Prelude.{◌≡◌, ◌⊎◌, ℕ, List, [], true, OnOk, IfErr};
-ghost use Rattle.file_shelf.specs.Told.{Holds, HasRisen};
-ghost use Rattle.file_shelf.specs.Shown.{IsCreated, IsUntouched};
+ghost use Rattle.shelf.specs.Told.{Holds, HasRisen};
+ghost use Rattle.shelf.specs.Shown.{IsCreated, IsUntouched};
 ghost use Rattle.run_io.specs.Words.{output_name};
 ghost use Rattle.run_io.specs.Form.{order_by, IsName};
 ghost use Rattle.run_io.specs.Lists.{AllOf, FirstThat, IsOneOf};
 ghost use Rattle.snes_program.specs.Ends.{are_apart, OnlyTouches, IsFresh};
 
-use file_shelf::{Failed, Out, Shelf};
+use shelf::{Failed, Out, Shelf};
 use run_io::{Asked, output_name};
 
 /// Creates outputs in their order, under the names that the arguments give them. Err names the one that was not

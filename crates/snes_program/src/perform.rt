@@ -6,7 +6,7 @@ use crate::command::Performs;
 use crate::loads::Loads;
 use crate::outputs::{create_all, flush_all};
 use crate::status::Status;
-use file_shelf::Shelf;
+use shelf::Shelf;
 use port_wire::Gate;
 use run_io::{Asked, Line};
 use std::thread::Threads;

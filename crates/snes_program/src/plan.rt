@@ -1,6 +1,6 @@
 use crate::loads::{Loads, fetch};
 use crate::status::{Status, Why};
-use file_shelf::{Input, Shelf};
+use shelf::{Input, Shelf};
 use input_files::{Plan, PlanEnd, read_plan};
 use run_io::Word;
 use std::alloc::Global;
@@ -10,7 +10,7 @@ pub(crate) struct PlanFile;
 
 impl Loads for PlanFile {
     ghost use Rattle.std.specs.Prelude.{[], ◌∷◌, IfSome};
-    ghost use Rattle.file_shelf.specs.declared.shelves.Input.TheVariants as input;
+    ghost use Rattle.shelf.specs.declared.shelves.Input.TheVariants as input;
     ghost use Rattle.snes_program.specs.Kinds.{IsPlanIn};
 
     type Value = Plan;

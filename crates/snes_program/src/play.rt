@@ -3,7 +3,7 @@ use crate::loads::Loads;
 use crate::sound_out::play_sound;
 use crate::spc::SpcFile;
 use crate::table::TableFile;
-use file_shelf::{Failed, Input, Out, Shelf};
+use shelf::{Failed, Input, Out, Shelf};
 use port_wire::Gate;
 use run_io::{Asked, Count, Form, Line, samples_line};
 use snes_defs::NoMemory;
@@ -37,9 +37,14 @@ impl Performs for Play {
         Form {
             numbered: false,
             inputs: &INPUTS,
+            optional: &[],
             count: Some(Count::Samples),
             outputs: &OUTPUTS,
         }
+    }
+
+    fn differs(_line: &Line) -> bool {
+        false
     }
 
     fn ready(

@@ -1,8 +1,8 @@
 ghost use Rattle.std.specs.Prelude.{◌≡◌, OnOk, OnErr};
-ghost use Rattle.file_shelf.specs.Shown.{OnlyPuts};
-ghost use Rattle.file_shelf.specs.Told.{Appends, AppendsSome, HasRisen};
+ghost use Rattle.shelf.specs.Shown.{OnlyPuts};
+ghost use Rattle.shelf.specs.Told.{Appends, AppendsSome, HasRisen};
 
-use file_shelf::{Failed, Out, Shelf};
+use shelf::{Failed, Out, Shelf};
 
 /// Puts bytes to an output and flushes it: at Ok, nothing of the output is held back.
 #[tactic(auto, using(crate::proofs::Putting::puts_whole))]

@@ -1,8 +1,8 @@
 ghost use Rattle.std.specs.Prelude.{◌≡◌, ℕ, List, [], Option, OnOk, IfErr};
 ghost use Rattle.snes_defs.specs.declared.cart.Job.{Job};
 ghost use Rattle.snes_defs.specs.declared.region.Region.TheVariants.{Ntsc};
-ghost use Rattle.file_shelf.specs.declared.shelves.Input.{Input};
-ghost use Rattle.file_shelf.specs.Told.{Holds, HasRisen};
+ghost use Rattle.shelf.specs.declared.shelves.Input.{Input};
+ghost use Rattle.shelf.specs.Told.{Holds, HasRisen};
 ghost use Rattle.run_drive.specs.Outputs.{OnlyFills, output_of};
 ghost use Rattle.run_drive.specs.Played.{PlayedWhole, PlayedFirst};
 ghost use Rattle.plan_drive.specs.Paths.{path_script};
@@ -15,7 +15,7 @@ use crate::command::Performs;
 use crate::loads::Loads;
 use crate::plan::PlanFile;
 use crate::table::TableFile;
-use file_shelf::{Input, Out, Shelf};
+use shelf::{Input, Out, Shelf};
 use input_files::Plan;
 use plan_drive::{Lengths, PlanPlayer, measure};
 use port_wire::Gate;
@@ -118,9 +118,14 @@ impl<P: PlanPlayer> Performs for Rewind<P> {
         Form {
             numbered: false,
             inputs: &INPUTS,
+            optional: &[],
             count: None,
             outputs: &OUTPUTS,
         }
+    }
+
+    fn differs(_line: &Line) -> bool {
+        false
     }
 
     fn ready(

@@ -1,6 +1,6 @@
 ghost use Rattle.std.specs.Prelude.{◌≡◌, List, [], OnOk, IfErr};
 ghost use Rattle.snes_defs.specs.declared.cart.Job.{Job};
-ghost use Rattle.file_shelf.specs.Told.{Holds, HasRisen};
+ghost use Rattle.shelf.specs.Told.{Holds, HasRisen};
 ghost use Rattle.run_drive.specs.Outputs.{OnlyFills, output_of};
 ghost use Rattle.run_drive.specs.Played.{PlayedWhole, PlayedFirst};
 ghost use Rattle.run_io.specs.Form.{form_by};
@@ -9,7 +9,7 @@ ghost use Rattle.snes_program.specs.Run.{run_form};
 use crate::command::Performs;
 use crate::job::{JobFiles, job_of, line_of_run};
 use crate::loads::Loads;
-use file_shelf::{Input, Out, Shelf};
+use shelf::{Input, Out, Shelf};
 use port_wire::Gate;
 use run_drive::{Player, out_of};
 use run_io::{Asked, Count, Form, Line};
@@ -99,9 +99,14 @@ impl<P: Player> Performs for Run<P> {
         Form {
             numbered: false,
             inputs: &INPUTS,
+            optional: &[],
             count: Some(Count::Frames),
             outputs: &OUTPUTS,
         }
+    }
+
+    fn differs(_line: &Line) -> bool {
+        false
     }
 
     fn ready(

@@ -1,6 +1,6 @@
 use crate::loads::{Loads, fetch};
 use crate::status::{Status, Why};
-use file_shelf::{Input, Shelf};
+use shelf::{Input, Shelf};
 use input_files::{ScriptEnd, read_script};
 use run_io::Word;
 use snes_defs::Spans;
@@ -11,7 +11,7 @@ pub(crate) struct ScriptFile;
 
 impl Loads for ScriptFile {
     ghost use Rattle.std.specs.Prelude.{[], ◌∷◌, IfSome};
-    ghost use Rattle.file_shelf.specs.declared.shelves.Input.TheVariants as input;
+    ghost use Rattle.shelf.specs.declared.shelves.Input.TheVariants as input;
     ghost use Rattle.snes_program.specs.Kinds.{IsScriptIn};
 
     type Value = Spans;

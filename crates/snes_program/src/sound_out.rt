@@ -1,13 +1,13 @@
 // The sound output of a shelf, as a sink.
 ghost use Rattle.std.specs.Prelude.{◌≡◌, ◌≢◌, ℕ, List, [], OnOk, OnErr};
 ghost use Rattle.snes_defs.specs.declared.ports.Side.{Side};
-ghost use Rattle.file_shelf.specs.Told.{Holds, HasRisen};
-ghost use Rattle.file_shelf.specs.Shown.{OnlyPuts};
+ghost use Rattle.shelf.specs.Told.{Holds, HasRisen};
+ghost use Rattle.shelf.specs.Shown.{OnlyPuts};
 ghost use Rattle.run_drive.specs.Run.{Adds, AddsSome};
 ghost use Rattle.spc_player.specs.Play.{Playing};
 ghost use Rattle.spc_player.specs.Player.{IsPlaying, TookPairs, TookSome, stamp_of, waiting_of};
 
-use file_shelf::{Failed, Out, Shelf};
+use shelf::{Failed, Out, Shelf};
 use run_drive::Sink;
 use snes_defs::Side;
 use spc_player::Player;
@@ -21,9 +21,9 @@ struct SoundOut<'a, H> {
 impl<H: Shelf> Sink for SoundOut<'_, H> {
     ghost use Rattle.std.specs.Prelude.{◌≡◌, refl};
     ghost use Rattle.std.proofs.Common.{◌∙◌};
-    ghost use Rattle.file_shelf.specs.declared.shelves.Out.TheVariants as out;
-    ghost use Rattle.file_shelf.specs.Told.{HasRisen};
-    ghost use Rattle.file_shelf.specs.Shown.{OnlyPuts};
+    ghost use Rattle.shelf.specs.declared.shelves.Out.TheVariants as out;
+    ghost use Rattle.shelf.specs.Told.{HasRisen};
+    ghost use Rattle.shelf.specs.Shown.{OnlyPuts};
     ghost use Rattle.snes_program.specs.SoundOut.{HoldsSound};
     ghost use Rattle.run_drive.specs.OutputLaws.{risen_since};
     ghost use Rattle.snes_program.specs.PutLaws.{puts_none, puts_then};

@@ -1,6 +1,6 @@
 use crate::loads::{Loads, fetch};
 use crate::status::{Status, Why};
-use file_shelf::{Input, Shelf};
+use shelf::{Input, Shelf};
 use run_io::Word;
 use spc_player::{SpcEnd, SpcImage, SpcRefused, read_spc};
 use std::alloc::Global;
@@ -10,7 +10,7 @@ pub(crate) struct SpcFile;
 
 impl Loads for SpcFile {
     ghost use Rattle.std.specs.Prelude.{◌≡◌, [], ◌∷◌, IfSome};
-    ghost use Rattle.file_shelf.specs.declared.shelves.Input.TheVariants as input;
+    ghost use Rattle.shelf.specs.declared.shelves.Input.TheVariants as input;
     ghost use Rattle.spc_player.specs.SoundFile.{image_of};
 
     type Value = SpcImage;

@@ -3,7 +3,7 @@ ghost use Rattle.snes_program.specs.Kinds.{input_of};
 ghost use Rattle.snes_program.specs.Status.{exit_of};
 
 use cart_map::CartRefused;
-use file_shelf::{Input, Out};
+use shelf::{Input, Out};
 use spc_player::SpcRefused;
 
 /// The reason why an input was not accepted.
@@ -21,6 +21,8 @@ pub enum Why {
     Script(u32),
     /// The plan has more than 1,048,576 bytes (0), or this is its first invalid line, from 1.
     Plan(u32),
+    /// The sums have more than 5,000,000 bytes (0), or this is their first invalid line, from 1.
+    Sums(u32),
 }
 
 impl Why {
@@ -35,6 +37,7 @@ impl Why {
             Why::Table(_) => Input::Table,
             Why::Script(_) => Input::Script,
             Why::Plan(_) => Input::Plan,
+            Why::Sums(_) => Input::Sums,
         }
     }
 }
@@ -54,10 +57,13 @@ pub enum Status {
     WriteFault(Out),
     /// Allocation failed.
     NoMemory,
+    /// Everything was done, and what was compared differs.
+    Differs,
 }
 
 impl Status {
-    /// Returns the exit status of the process: 0 Ok, 1 Usage, 2 LoadFault, 3 Refused, 4 WriteFault, 5 NoMemory.
+    /// Returns the exit status of the process: 0 Ok, 1 Usage, 2 LoadFault, 3 Refused, 4 WriteFault, 5 NoMemory,
+    /// 6 Differs.
     pub fn exit(&self) -> u8
         ensures { result ≡ exit_of self.now }
     {
@@ -68,6 +74,7 @@ impl Status {
             Status::Refused(_) => 3,
             Status::WriteFault(_) => 4,
             Status::NoMemory => 5,
+            Status::Differs => 6,
         }
     }
 }

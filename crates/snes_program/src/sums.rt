@@ -3,7 +3,7 @@ ghost use Rattle.snes_defs.specs.declared.ports.Side.{Side};
 ghost use Rattle.run_drive.specs.Run.{Adds, AddsSome};
 ghost use Rattle.snes_program.specs.Demo.{sum_in};
 
-use file_shelf::Failed;
+use shelf::Failed;
 use run_drive::Sink;
 use snes_defs::Side;
 

@@ -1,6 +1,6 @@
 use crate::loads::{Loads, fetch};
 use crate::status::{Status, Why};
-use file_shelf::{Input, Shelf};
+use shelf::{Input, Shelf};
 use input_files::read_table;
 use run_io::Word;
 use snes_defs::Table;
@@ -11,7 +11,7 @@ pub(crate) struct TableFile;
 
 impl Loads for TableFile {
     ghost use Rattle.std.specs.Prelude.{[], ◌∷◌, IfSome};
-    ghost use Rattle.file_shelf.specs.declared.shelves.Input.TheVariants as input;
+    ghost use Rattle.shelf.specs.declared.shelves.Input.TheVariants as input;
     ghost use Rattle.input_files.specs.Table.{IsTableFile};
 
     type Value = Table;

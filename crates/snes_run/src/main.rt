@@ -8,10 +8,11 @@
 
 mod messages;
 
+use file_shelf::FileShelf;
 use job_player::Console;
 use messages::{say_why, say_why_no_text};
 use port_wire::OpenGate;
-use run_io::{Argv, FileShelf};
+use run_io::Argv;
 use snes_defs::NoMemory;
 use snes_program::{Status, snes};
 use standard_streams::hold_standard_streams;

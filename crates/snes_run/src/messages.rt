@@ -1,6 +1,8 @@
 // The messages on standard error. Their texts are not promised, and a failed write of one is ignored.
+use file_shelf::Cause;
 use job_player::Console;
-use run_io::{Argv, Cause, Line, Mistake, Out, input_given, output_given};
+use run_io::{Argv, Line, Mistake, input_given, output_given};
+use shelf::Out;
 use snes_program::{Status, explain, refusal_line};
 use std::io;
 
@@ -16,7 +18,7 @@ fn text_of(line: &Line) -> &str {
 fn tell_mistake(rt: &HostRuntime, mistake: &Mistake<'_>) -> io::Result<()> {
     eprintln!(rt; "snes: {mistake}")?;
     eprintln!(rt;
-        "snes: the commands are run, serial, lockless, play, make, demo and rewind; snes --help says more"
+        "snes: the commands are run, serial, lockless, play, make, demo, rewind, sums, check and dump; snes --help says more"
     )
 }
 
@@ -45,7 +47,7 @@ pub fn say_why(
     cause: Option<Cause>,
 ) -> io::Result<()> {
     match status {
-        Status::Ok => Ok(()),
+        Status::Ok | Status::Differs => Ok(()),
         Status::Usage => match explain::<Console>(words) {
             Some(mistake) => tell_mistake(rt, &mistake),
             None => Ok(()),

@@ -1,11 +1,13 @@
 //! Breakpoints: the addresses, sides and kinds of the steps that are searched for.
 
+use crate::labels::Labels;
 use crate::step::{Kind, Step, Way};
 use anyhow::{Result, bail};
 use cart_map::Place;
 use console_bus::Bus;
 use snes_defs::Side;
 use std::alloc::{AllocError, Global};
+use symbol_files::Found;
 
 /// A number greater than the count of bytes or registers of any kind.
 const KIND: u64 = 1 << 32;
@@ -48,14 +50,29 @@ fn address_of(word: &str) -> Option<(u32, bool)> {
     Some((number, digits.len() > 4))
 }
 
-/// Reads an address, or the first and the last of a range.
-fn range_of(alloc: Global, word: &str) -> Option<Break> {
-    let (from, to) = match word.split_once("-") {
-        Some(ends) => ends,
-        None => (word, word),
-    };
-    let (first, in_bank) = address_of(from)?;
-    let (last, last_in_bank) = address_of(to)?;
+/// Returns the address that a label or digits name, and whether it names a bank. Digits behind a dollar sign are
+/// never a label. A label that stands for several addresses names none.
+pub fn place_of(labels: &Labels, word: &str) -> Option<(u32, bool)> {
+    match labels.find(word) {
+        Found::One(address) if address < 0x100_0000 => Some((address, true)),
+        Found::Nothing => address_of(word),
+        _ => None,
+    }
+}
+
+/// Returns the two ends of a range, or twice the same word. A label may have a `-` in its name.
+fn ends_of<'a>(labels: &Labels, word: &'a str) -> (&'a str, &'a str) {
+    match (labels.find(word), word.split_once("-")) {
+        (Found::Nothing, Some(ends)) => ends,
+        _ => (word, word),
+    }
+}
+
+/// Reads an address or a label, or the first and the last of a range.
+fn range_of(alloc: Global, labels: &Labels, word: &str) -> Option<Break> {
+    let (from, to) = ends_of(labels, word);
+    let (first, in_bank) = place_of(labels, from)?;
+    let (last, last_in_bank) = place_of(labels, to)?;
     if last < first || in_bank != last_in_bank {
         return None;
     }
@@ -83,9 +100,9 @@ fn kind_of(word: &str) -> Option<Kind> {
 }
 
 /// Reads a breakpoint: an address or a range, then a side and a kind, each at most once.
-fn break_of(alloc: Global, text: &str) -> Option<Break> {
+pub fn break_of(alloc: Global, labels: &Labels, text: &str) -> Option<Break> {
     let mut words = text.split_whitespace();
-    let mut found = range_of(alloc, words.next()?)?;
+    let mut found = range_of(alloc, labels, words.next()?)?;
     for word in words {
         match word.as_bytes() {
             b"console" if found.side.is_none() => found.side = Some(Side::Console),
@@ -106,7 +123,7 @@ fn without_comment(line: &str) -> &str {
 }
 
 /// Reads the breakpoints of a file. An invalid line is reported by its number, from 1.
-pub fn read_breaks(alloc: Global, name: &str, file: &str) -> Result<Vec<Break>> {
+pub fn read_breaks(alloc: Global, labels: &Labels, name: &str, file: &str) -> Result<Vec<Break>> {
     let mut breaks = Vec::new(alloc);
     let mut number = 0u64;
     for line in file.lines() {
@@ -115,7 +132,7 @@ pub fn read_breaks(alloc: Global, name: &str, file: &str) -> Result<Vec<Break>> 
         if text.is_empty() {
             continue;
         }
-        match break_of(alloc, text) {
+        match break_of(alloc, labels, text) {
             Some(found) => breaks.push(found)?,
             None => bail!("{name} refused: line {number} is no breakpoint (see --help)"),
         }
@@ -128,7 +145,7 @@ pub fn read_breaks(alloc: Global, name: &str, file: &str) -> Result<Vec<Break>> 
 
 /// Returns the number of what is at an address. Adjacent bytes and registers have adjacent numbers; an address with
 /// nothing at it has a number of its own.
-fn number_of(place: Place, address: u32) -> u64 {
+pub fn number_of(place: Place, address: u32) -> u64 {
     match place {
         Place::Wram(at) => u64::from(at),
         Place::Rom(at) => KIND + u64::from(at),
@@ -196,6 +213,15 @@ pub fn settle_breaks(alloc: Global, bus: &Bus, breaks: &mut [Break]) -> Result<(
 }
 
 impl Break {
+    /// Returns the same breakpoint; if it names no kind, opcodes alone hit it.
+    pub fn or_opcode(self) -> Break {
+        let mut found = self;
+        if found.kind.is_none() {
+            found.kind = Some(Kind::Opcode);
+        }
+        found
+    }
+
     /// Whether an address of this place is one of the breakpoint's.
     fn has(&self, place: Place, address: u32) -> bool {
         if self.in_bank {

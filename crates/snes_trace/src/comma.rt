@@ -1,8 +1,10 @@
 //! Lines of the trace as CSV.
 
 use crate::digits::{push_hex2, push_hex4, push_number, push_text};
+use crate::labels::Named;
 use crate::parts::{
-    kind_name, push_address, push_instruction, push_named2, push_named4, push_port, side_name,
+    kind_name, push_address, push_here, push_instruction, push_named2, push_named4, push_port,
+    side_name,
 };
 use crate::position::position_at;
 use crate::step::{Instruction, Step, Way};
@@ -11,9 +13,12 @@ use snes_defs::Region;
 use spc_tables::SpcRegs;
 use std::alloc::AllocError;
 
-/// The head of the CSV file: the names of the columns.
+/// The names of the columns, which the file begins with.
 pub const HEAD: &str =
-    "stamp,frame,line,clock,side,kind,address,byte,way,register,by,instruction,A,X,Y,S,D,DB,P,E\n";
+    "stamp,frame,line,clock,side,kind,address,byte,way,register,by,instruction,A,X,Y,S,D,DB,P,E";
+
+/// What the head has more where there are labels.
+pub const LABEL_HEAD: &str = ",label,target";
 
 /// Adds the stamp, and the frame, line and clock of the beam.
 fn push_time(out: &mut Vec<u8>, region: Region, stamp: u64) -> Result<(), AllocError> {
@@ -94,7 +99,26 @@ fn push_begun(out: &mut Vec<u8>, instruction: &Instruction) -> Result<(), AllocE
     }
 }
 
-/// Adds the line of a step.
+/// Adds the columns of labels, in quotes, since a name may have commas.
+pub fn push_labels(out: &mut Vec<u8>, named: Named<'_>) -> Result<(), AllocError> {
+    push_text(out, ",")?;
+    if let Some((label, offset)) = named.here {
+        push_text(out, "\"")?;
+        push_here(out, label, offset)?;
+        push_text(out, "\"")?;
+    }
+    push_text(out, ",")?;
+    match named.there {
+        Some(label) => {
+            push_text(out, "\"")?;
+            push_text(out, label)?;
+            push_text(out, "\"")
+        }
+        None => Ok(()),
+    }
+}
+
+/// Adds the line of a step, without its end.
 pub fn push_row(out: &mut Vec<u8>, region: Region, step: &Step) -> Result<(), AllocError> {
     push_time(out, region, step.stamp)?;
     push_text(out, side_name(step.side))?;
@@ -102,6 +126,5 @@ pub fn push_row(out: &mut Vec<u8>, region: Region, step: &Step) -> Result<(), Al
     push_text(out, kind_name(step.kind))?;
     push_text(out, ",")?;
     push_access(out, step)?;
-    push_begun(out, &step.instruction)?;
-    push_text(out, "\n")
+    push_begun(out, &step.instruction)
 }

@@ -2,8 +2,10 @@
 
 use anyhow::{Result, anyhow, bail};
 use cart_map::{CartEnd, CartRefused, accept};
-use file_shelf::{FileShelf, LoadEnd, Shelf};
+use file_shelf::FileShelf;
+use free_files::{free_boot_rom, interpolation_table};
 use input_files::{ScriptEnd, read_boot, read_script, read_table};
+use shelf::{LoadEnd, Shelf};
 use snes_defs::{Cart, Job, MOST_FRAMES, Spans, Table};
 use std::alloc::Global;
 use std::rt::Files;
@@ -17,17 +19,18 @@ const TABLE: usize = 1024;
 
 const SCRIPT: usize = 1_048_576;
 
-/// The names of the four files of a job.
+/// The names of the files of a job. All but the cartridge may be left out: then they are the free boot ROM, the free
+/// table and an empty script.
 #[derive(Clone, Copy)]
 pub struct Names<'a> {
     /// The cartridge.
     pub cart: &'a str,
     /// The boot ROM of the SPC700.
-    pub boot: &'a str,
+    pub boot: Option<&'a str>,
     /// The interpolation table of the S-DSP.
-    pub table: &'a str,
+    pub table: Option<&'a str>,
     /// The controller script.
-    pub script: &'a str,
+    pub script: Option<&'a str>,
 }
 
 /// Reads a whole file of at most `most` bytes.
@@ -57,17 +60,35 @@ fn cart_of(name: &str, bytes: Vec<u8>) -> Result<Cart> {
     }
 }
 
+/// Reads the boot ROM of a file.
+fn boot_of<R: Files + Print>(rt: &R, alloc: Global, name: Option<&str>) -> Result<[u8; 64]> {
+    let Some(name) = name else {
+        return Ok(free_boot_rom());
+    };
+    match read_boot(load(rt, alloc, name, BOOT)?.as_slice()) {
+        Some(boot) => Ok(boot),
+        None => Err(anyhow!("{name} refused: a boot ROM has 64 bytes")),
+    }
+}
+
 /// Reads the table of a file.
-fn table_of(name: &str, bytes: &[u8]) -> Result<Table> {
-    match read_table(bytes) {
+fn table_of<R: Files + Print>(rt: &R, alloc: Global, name: Option<&str>) -> Result<Table> {
+    let Some(name) = name else {
+        return Ok(interpolation_table());
+    };
+    match read_table(load(rt, alloc, name, TABLE)?.as_slice()) {
         Ok(table) => Ok(table),
         Err(entry) => Err(anyhow!("{name} refused: no table, at entry {entry}")),
     }
 }
 
 /// Reads the script of a file.
-fn script_of(alloc: Global, name: &str, bytes: &[u8]) -> Result<Spans> {
-    match read_script(alloc, bytes) {
+fn script_of<R: Files + Print>(rt: &R, alloc: Global, name: Option<&str>) -> Result<Spans> {
+    let (name, bytes) = match name {
+        Some(name) => (name, load(rt, alloc, name, SCRIPT)?),
+        None => ("", Vec::new(alloc)),
+    };
+    match read_script(alloc, bytes.as_slice()) {
         Ok(script) => Ok(script),
         Err(ScriptEnd::Line(line)) => Err(anyhow!("{name} refused: no script, at line {line}")),
         Err(ScriptEnd::NoMemory) => Err(anyhow!("no memory")),
@@ -77,14 +98,9 @@ fn script_of(alloc: Global, name: &str, bytes: &[u8]) -> Result<Spans> {
 /// Reads the job of the files of these names, with as many frames as a job can have.
 pub fn job_of<R: Files + Print>(rt: &R, alloc: Global, names: Names<'_>) -> Result<Job> {
     let cart = cart_of(names.cart, load(rt, alloc, names.cart, CART)?)?;
-    let boot = load(rt, alloc, names.boot, BOOT)?;
-    let Some(boot) = read_boot(boot.as_slice()) else {
-        bail!("{} refused: a boot ROM has 64 bytes", names.boot);
-    };
-    let table = load(rt, alloc, names.table, TABLE)?;
-    let table = table_of(names.table, table.as_slice())?;
-    let script = load(rt, alloc, names.script, SCRIPT)?;
-    let script = script_of(alloc, names.script, script.as_slice())?;
+    let boot = boot_of(rt, alloc, names.boot)?;
+    let table = table_of(rt, alloc, names.table)?;
+    let script = script_of(rt, alloc, names.script)?;
     let region = script.region();
     Ok(Job {
         cart,

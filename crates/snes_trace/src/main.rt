@@ -5,15 +5,20 @@
 //! what `snes serial` does. `docs/use/TRACE.md` describes a line. If a processor has stopped for good, or the sound
 //! side waits in its boot ROM, a message on standard error says so at the end.
 //!
-//! The status is 0 if the trace was written, and 1 if there are breakpoints and none was hit. It is 2 if something
-//! could not be read or written or was refused, or if the command line is invalid.
+//! With `--coverage` it tells no step, but which bytes of the cartridge's ROM the run used (`rom_coverage`).
+//!
+//! The status is 0 if the trace was written. It is 1 if what was to end it was not reached, or if there are breakpoints
+//! and none was hit. It is 2 if something could not be read or written or was refused, or if the command line is
+//! invalid.
 #![tactic(auto)]
 
 mod breaks;
 mod comma;
+mod cover;
 mod digits;
 mod ends;
 mod inputs;
+mod labels;
 mod looks;
 mod mnemonics;
 mod operands;
@@ -23,24 +28,31 @@ mod position;
 mod spc_mnemonics;
 mod spc_operands;
 mod step;
+mod targets;
 mod text;
 mod trace;
+mod until;
 mod words;
 
 use anyhow::{Context, Result, bail};
 use clap::ArgMatches;
 use clock_ratio::end_stamp_in;
 use companion_words::{Companion, DONE, NO, Program, run};
+use cover::{Asked, Form, asked_of, bank_of, write_file};
 use ends::tell_ends;
 use inputs::{Names, job_of};
+use labels::Labels;
 use pair::Pair;
+use rom_coverage::{Coverage, push_table};
 use snes_defs::{Job, MOST_FRAMES, Region, Side};
 use std::alloc::Global;
 use std::fs;
-use std::io::{self, BufWriter};
+use std::io::{self, BufWriter, Write};
 use std::process::ExitCode;
 use std::rt::Files;
-use trace::{Wanted, write_trace};
+use symbol_files::{SourceLines, Symbols};
+use trace::{Told, Wanted, write_trace};
+use until::until_of;
 
 /// Returns the stamp at which a frame begins.
 fn frame_stamp(region: Region, frame: u64) -> Result<u64> {
@@ -97,30 +109,120 @@ fn side_of(words: &ArgMatches<'_>) -> Option<Side> {
 fn breaks_of<R: Files + AllocGlobal>(
     rt: &R,
     alloc: Global,
+    labels: &Labels,
     words: &ArgMatches<'_>,
 ) -> Result<Vec<breaks::Break>> {
     match words.get_str("break") {
         Some(name) => {
             let file = fs::read_to_string(rt, name).context(format_args!("cannot read {name}"))?;
-            breaks::read_breaks(alloc, name, file.as_str())
+            breaks::read_breaks(alloc, labels, name, file.as_str())
         }
         None => Ok(Vec::new(alloc)),
+    }
+}
+
+/// Reads the text of the symbol file that is named, if one is.
+fn symbol_text<R: Files + AllocGlobal>(rt: &R, words: &ArgMatches<'_>) -> Result<Option<String>> {
+    match words.get_str("symbols") {
+        Some(name) => {
+            let text = fs::read_to_string(rt, name).context(format_args!("cannot read {name}"))?;
+            Ok(Some(text))
+        }
+        None => Ok(None),
+    }
+}
+
+/// Reads the labels of a symbol file, if there is one.
+fn labels_of(alloc: Global, words: &ArgMatches<'_>, text: Option<&str>) -> Result<Labels> {
+    let Some(text) = text else {
+        return Ok(Labels::new(alloc, None));
+    };
+    match Symbols::read(alloc, text) {
+        Ok(symbols) => Ok(Labels::new(alloc, Some(symbols))),
+        Err(refused) => {
+            let name = words.get_str("symbols").unwrap_or("");
+            bail!("{name} refused: {refused}")
+        }
+    }
+}
+
+/// Reads the lines of source, if a record of them is asked for.
+fn source_of(
+    alloc: Global,
+    asked: Option<Asked<'_>>,
+    text: Option<&str>,
+) -> Result<Option<SourceLines>> {
+    match (asked, text) {
+        (Some(asked), Some(text)) if asked.form == Form::Record => {
+            match SourceLines::read(alloc, text) {
+                Ok(source) => Ok(Some(source)),
+                Err(refused) => bail!("{}: no lines of source: {refused}", asked.name),
+            }
+        }
+        (Some(asked), None) if asked.form == Form::Record => {
+            bail!("{}: needs a debug file of ld65 as --symbols", asked.name)
+        }
+        _ => Ok(None),
     }
 }
 
 /// Reads the job of the files that are named.
 fn job_in<R: Files + Print>(rt: &R, alloc: Global, words: &ArgMatches<'_>) -> Result<Job> {
     let cart = words.get_str("cart").unwrap_or("");
-    let boot = words.get_str("boot").unwrap_or("");
-    let table = words.get_str("table").unwrap_or("");
-    let script = words.get_str("script").unwrap_or("");
     let names = Names {
         cart,
-        boot,
-        table,
-        script,
+        boot: words.get_str("boot"),
+        table: words.get_str("table"),
+        script: words.get_str("script"),
     };
     job_of(rt, alloc, names)
+}
+
+/// Returns what the arguments ask for.
+fn wanted_in<R: Files + AllocGlobal>(
+    rt: &R,
+    words: &ArgMatches<'_>,
+    (from, to): (u64, u64),
+    region: Region,
+    labels: &Labels,
+    covers: bool,
+) -> Result<Wanted> {
+    let alloc = rt.alloc();
+    Ok(Wanted {
+        from,
+        to,
+        side: side_of(words),
+        instructions: words.get_flag("instructions"),
+        breaks: breaks_of(rt, alloc, labels, words)?,
+        then: words.get_one::<u64>("then").unwrap_or(0),
+        lines: words.get_one::<u64>("lines").unwrap_or(u64::MAX),
+        is_csv: words.get_flag("csv"),
+        tells_steps: !covers || words.get_flag("steps"),
+        notes: covers,
+        until: until_of(alloc, region, labels, words.get_str("until"))?,
+    })
+}
+
+/// Traces a job, and writes the table of coverage where it is asked for.
+fn tell_job<R: Print>(
+    rt: &R,
+    alloc: Global,
+    job: &Job,
+    pair: &mut Pair,
+    wanted: &Wanted,
+    labels: &Labels,
+    coverage: &mut Coverage,
+) -> Result<Told> {
+    let mut out = BufWriter::new(alloc, io::writer(rt))?;
+    let told = write_trace(alloc, pair, wanted, labels, coverage, &mut out)?;
+    if wanted.notes {
+        let mut table = Vec::new(alloc);
+        push_table(&mut table, coverage, bank_of(&job.cart), wanted.is_csv)?;
+        out.write_all(table.as_slice())
+            .context("cannot write the table")?;
+        out.flush().context("cannot write the table")?;
+    }
+    Ok(told)
 }
 
 /// Traces the job that the arguments name, and returns the status.
@@ -130,24 +232,30 @@ fn write_job<R: Files + Print + Eprint + AllocGlobal>(
 ) -> Result<u8> {
     let alloc = rt.alloc();
     let stamps = stamps_of(words)?;
-    let job = job_in(rt, alloc, words)?;
-    let (from, to) = range_of(job.region, stamps, words)?;
-    let mut wanted = Wanted {
-        from,
-        to,
-        side: side_of(words),
-        instructions: words.get_flag("instructions"),
-        breaks: breaks_of(rt, alloc, words)?,
-        then: words.get_one::<u64>("then").unwrap_or(0),
-        lines: words.get_one::<u64>("lines").unwrap_or(u64::MAX),
-        is_csv: words.get_flag("csv"),
+    let asked = match words.get_str("coverage") {
+        Some(name) => Some(asked_of(name)?),
+        None => None,
     };
+    let text = symbol_text(rt, words)?;
+    let text = match &text {
+        Some(text) => Some(text.as_str()),
+        None => None,
+    };
+    let mut labels = labels_of(alloc, words, text)?;
+    let source = source_of(alloc, asked, text)?;
+    let job = job_in(rt, alloc, words)?;
+    let range = range_of(job.region, stamps, words)?;
+    let mut wanted = wanted_in(rt, words, range, job.region, &labels, asked.is_some())?;
     let Ok(mut pair) = Pair::new(alloc, &job) else {
         bail!("no memory");
     };
-    pair.settle(alloc, wanted.breaks.as_mut_slice())?;
-    let mut out = BufWriter::new(alloc, io::writer(rt))?;
-    let told = write_trace(alloc, &mut pair, &wanted, &mut out)?;
+    pair.settle(alloc, &mut labels, &mut wanted)?;
+    let rom = job.cart.rom.get();
+    let mut coverage = Coverage::new(alloc, if wanted.notes { rom.len() } else { 0 })?;
+    let told = tell_job(rt, alloc, &job, &mut pair, &wanted, &labels, &mut coverage)?;
+    if let Some(asked) = asked {
+        write_file(rt, alloc, asked, &coverage, rom, source.as_ref())?;
+    }
     // A failed write of the message changes no status.
     let _ = tell_ends(rt, &pair);
     Ok(if told.is_hit { DONE } else { NO })

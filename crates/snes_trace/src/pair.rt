@@ -1,8 +1,11 @@
 //! The two machines of a job, and each of their steps as it is taken.
 
-use crate::breaks::{Break, settle_breaks};
+use crate::breaks::settle_breaks;
+use crate::labels::Labels;
 use crate::looks::{complete, look_at_console, look_at_sound, tell_dma};
 use crate::step::Step;
+use crate::trace::Wanted;
+use anyhow::Result;
 use audio_side::AudioSide;
 use clock_ratio::console_first;
 use console_machine::ConsoleSide;
@@ -10,7 +13,7 @@ use dma_hdma::Dma;
 use serial_console::Serial;
 use side_law::Machine;
 use snes_defs::{Job, NoMemory, Region};
-use std::alloc::{AllocError, Global};
+use std::alloc::Global;
 
 /// The last stamp at which a step may begin.
 const LAST: u64 = 1 << 62;
@@ -62,10 +65,12 @@ impl Pair {
         self.region
     }
 
-    /// Finds out what is at the addresses of each breakpoint.
-    pub fn settle(&mut self, alloc: Global, breaks: &mut [Break]) -> Result<(), AllocError> {
+    /// Finds out what is at the addresses of labels and of breakpoints.
+    pub fn settle(&self, alloc: Global, labels: &mut Labels, wanted: &mut Wanted) -> Result<()> {
         let (console, _) = self.serial.machines();
-        settle_breaks(alloc, console.bus(), breaks)
+        labels.settle(console.bus())?;
+        settle_breaks(alloc, console.bus(), wanted.breaks.as_mut_slice())?;
+        wanted.until.settle(alloc, self)
     }
 
     /// Returns both machines, read-only.

@@ -87,6 +87,20 @@ pub fn push_instruction(out: &mut Vec<u8>, instruction: &Instruction) -> Result<
     }
 }
 
+/// Adds a label and how many bytes lie behind it, if there are any: `label+1C`.
+pub fn push_here(out: &mut Vec<u8>, label: &str, offset: u64) -> Result<(), AllocError> {
+    push_text(out, label)?;
+    if offset == 0 {
+        return Ok(());
+    }
+    push_text(out, "+")?;
+    if offset < 256 {
+        push_hex2(out, offset as u8)
+    } else {
+        push_hex4(out, (offset % 65_536) as u16)
+    }
+}
+
 /// Adds a name and a word.
 pub fn push_named4(out: &mut Vec<u8>, name: &str, word: u16) -> Result<(), AllocError> {
     push_text(out, name)?;

@@ -1,8 +1,10 @@
 //! Lines of the trace as text, in columns.
 
 use crate::digits::{push_hex2, push_number, push_spaces, push_text};
+use crate::labels::Named;
 use crate::parts::{
-    kind_name, push_address, push_instruction, push_named2, push_named4, push_port, side_name,
+    kind_name, push_address, push_here, push_instruction, push_named2, push_named4, push_port,
+    side_name,
 };
 use crate::position::position_at;
 use crate::step::{Instruction, Step, Way};
@@ -130,7 +132,22 @@ fn push_rest(out: &mut Vec<u8>, step: &Step) -> Result<(), AllocError> {
     push_begun(out, &step.instruction)
 }
 
-/// Adds the line of a step.
+/// Adds the labels of a step behind its line.
+pub fn push_names(out: &mut Vec<u8>, named: Named<'_>) -> Result<(), AllocError> {
+    if let Some((label, offset)) = named.here {
+        push_text(out, "  ")?;
+        push_here(out, label, offset)?;
+    }
+    match named.there {
+        Some(label) => {
+            push_text(out, "  -> ")?;
+            push_text(out, label)
+        }
+        None => Ok(()),
+    }
+}
+
+/// Adds the line of a step, without its end.
 pub fn push_line(out: &mut Vec<u8>, region: Region, step: &Step) -> Result<(), AllocError> {
     push_time(out, region, step.stamp)?;
     push_text(out, " ")?;
@@ -138,9 +155,8 @@ pub fn push_line(out: &mut Vec<u8>, region: Region, step: &Step) -> Result<(), A
     if step.address.is_some() {
         push_word(out, kind_name(step.kind), KIND)?;
         push_access(out, step)?;
-        push_rest(out, step)?;
+        push_rest(out, step)
     } else {
-        push_text(out, kind_name(step.kind))?;
+        push_text(out, kind_name(step.kind))
     }
-    push_text(out, "\n")
 }

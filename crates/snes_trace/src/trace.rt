@@ -1,11 +1,15 @@
 //! The trace: which steps are written, and how.
 
 use crate::breaks::{Break, hits};
-use crate::comma::{HEAD, push_row};
+use crate::comma::{HEAD, LABEL_HEAD, push_labels, push_row};
+use crate::cover::note;
+use crate::labels::Labels;
 use crate::pair::Pair;
 use crate::step::{Kind, Step};
-use crate::text::push_line;
+use crate::text::{push_line, push_names};
+use crate::until::Until;
 use anyhow::{Context, Result, bail};
+use rom_coverage::Coverage;
 use snes_defs::{Region, Side};
 use std::alloc::Global;
 use std::io::{self, Write};
@@ -29,6 +33,12 @@ pub struct Wanted {
     pub lines: u64,
     /// Whether lines are CSV.
     pub is_csv: bool,
+    /// Whether steps are written at all.
+    pub tells_steps: bool,
+    /// Whether what steps do to the cartridge's ROM is noted.
+    pub notes: bool,
+    /// What ends the trace before its range ends.
+    pub until: Until,
 }
 
 /// How a trace ended.
@@ -36,7 +46,8 @@ pub struct Wanted {
 pub struct Told {
     /// The number of lines that were written, without a head.
     pub lines: u64,
-    /// Whether a breakpoint was hit, or there is none, or the reader closed the pipe.
+    /// Whether what ends the trace was reached. If nothing is to end it: whether a breakpoint was hit, or there is
+    /// none. Also if the reader closed the pipe.
     pub is_hit: bool,
 }
 
@@ -50,11 +61,14 @@ struct Telling<'a> {
 }
 
 impl Telling<'_> {
+    /// Whether a step is at a stamp that is wanted.
+    fn is_in_time(&self, step: &Step) -> bool {
+        step.stamp >= self.wanted.from && step.stamp < self.wanted.to
+    }
+
     /// Whether a step is of a side and at a stamp that are wanted.
     fn is_in_range(&self, step: &Step) -> bool {
-        step.stamp >= self.wanted.from
-            && step.stamp < self.wanted.to
-            && !self.wanted.side.is_some_and(|side| side != step.side)
+        self.is_in_time(step) && !self.wanted.side.is_some_and(|side| side != step.side)
     }
 
     /// Whether a step is of a kind that is wanted.
@@ -64,19 +78,39 @@ impl Telling<'_> {
 
     /// Whether a step is written.
     fn tells(&mut self, step: &Step) -> bool {
-        if !self.is_in_range(step) {
+        if !self.wanted.tells_steps || !self.is_in_range(step) {
             return false;
         }
         if self.wanted.breaks.is_empty() {
             return self.is_of_kind(step);
         }
         if hits(self.wanted.breaks.as_slice(), step) {
-            self.told.is_hit = true;
+            if !self.wanted.until.is_given() {
+                self.told.is_hit = true;
+            }
             self.left = self.wanted.then;
             return true;
         }
         if self.left > 0 && self.is_of_kind(step) {
             self.left -= 1;
+            return true;
+        }
+        false
+    }
+
+    /// Whether the trace ends before its next step.
+    fn ends(&mut self, pair: &Pair) -> bool {
+        if self.wanted.until.is_begun(pair) {
+            self.told.is_hit = true;
+            return true;
+        }
+        pair.is_past(self.wanted.to) || self.told.lines >= self.wanted.lines
+    }
+
+    /// Whether the trace ends with a step that was taken.
+    fn ends_with(&mut self, pair: &Pair, step: &Step) -> bool {
+        if self.is_in_time(step) && self.wanted.until.is_reached(pair, step) {
+            self.told.is_hit = true;
             return true;
         }
         false
@@ -87,17 +121,34 @@ impl Telling<'_> {
 fn write_step<W: Write>(
     out: &mut W,
     line: &mut Vec<u8>,
-    region: Region,
+    pair: &Pair,
+    labels: &Labels,
     step: &Step,
     is_csv: bool,
 ) -> io::Result<()> {
     line.clear();
+    let (console, _) = pair.machines();
+    let named = labels.names_of(console.bus(), step);
     if is_csv {
-        push_row(line, region, step)?;
+        push_row(line, pair.region(), step)?;
+        if labels.is_given() {
+            push_labels(line, named)?;
+        }
     } else {
-        push_line(line, region, step)?;
+        push_line(line, pair.region(), step)?;
+        push_names(line, named)?;
     }
+    line.push(b'\n')?;
     out.write_all(line.as_slice())
+}
+
+/// Writes the head of CSV.
+fn write_head<W: Write>(out: &mut W, labels: &Labels) -> io::Result<()> {
+    out.write_all(HEAD.as_bytes())?;
+    if labels.is_given() {
+        out.write_all(LABEL_HEAD.as_bytes())?;
+    }
+    out.write_all(b"\n")
 }
 
 /// Returns how a trace ended whose write failed. If the reader closed the pipe, as `head` does, it ended well.
@@ -111,40 +162,47 @@ fn ended(error: io::Error, lines: u64) -> Result<Told> {
     Err(error).context("cannot write the trace")
 }
 
-/// Takes the steps up to the end of what is wanted, and writes those that are wanted.
+/// Takes the steps up to the end of what is wanted, writes those that are wanted, and notes what they do to ROM.
 pub fn write_trace<W: Write>(
     alloc: Global,
     pair: &mut Pair,
     wanted: &Wanted,
+    labels: &Labels,
+    coverage: &mut Coverage,
     out: &mut W,
 ) -> Result<Told> {
-    let region = pair.region();
     let mut line = Vec::with_capacity(alloc, 256)?;
     let mut telling = Telling {
         wanted,
         left: 0,
         told: Told {
             lines: 0,
-            is_hit: wanted.breaks.is_empty(),
+            is_hit: wanted.breaks.is_empty() && !wanted.until.is_given(),
         },
     };
-    if wanted.is_csv {
-        if let Err(error) = out.write_all(HEAD.as_bytes()) {
+    if wanted.is_csv && wanted.tells_steps {
+        if let Err(error) = write_head(out, labels) {
             return ended(error, 0);
         }
     }
     for _ in 0..u64::MAX {
-        if pair.is_past(wanted.to) || telling.told.lines >= wanted.lines {
+        if telling.ends(pair) {
             break;
         }
         let Some(step) = pair.next() else {
             bail!("the machines cannot go on");
         };
         if telling.tells(&step) {
-            if let Err(error) = write_step(out, &mut line, region, &step, wanted.is_csv) {
+            if let Err(error) = write_step(out, &mut line, pair, labels, &step, wanted.is_csv) {
                 return ended(error, telling.told.lines);
             }
             telling.told.lines = telling.told.lines.saturating_add(1);
+        }
+        if wanted.notes && telling.is_in_time(&step) {
+            note(coverage, &step);
+        }
+        if telling.ends_with(pair, &step) {
+            break;
         }
     }
     match out.flush() {

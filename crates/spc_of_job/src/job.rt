@@ -3,8 +3,8 @@ ghost use Rattle.std.specs.Prelude.{◌≤◌, IfOk, IfSome};
 
 use crate::cause::{Cause, Fault};
 use cart_map::{CartEnd, accept};
-use file_shelf::{LoadEnd, Shelf};
 use input_files::{ScriptEnd, read_boot, read_script, read_table};
+use shelf::{LoadEnd, Shelf};
 use snes_defs::{Job, MOST_FRAMES};
 use std::alloc::Global;
 

@@ -24,8 +24,9 @@ mod taken;
 
 use beside::{alike, listen, play};
 use cause::{Cause, Fault};
-use file_shelf::{FileShelf, Out, Shelf};
+use file_shelf::FileShelf;
 use job::job_of;
+use shelf::{Out, Shelf};
 use snes_defs::Table;
 use standard_streams::hold_standard_streams;
 use std::alloc::Global;

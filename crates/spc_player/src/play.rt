@@ -5,7 +5,7 @@ ghost use Rattle.spc_player.specs.Play.{Playing};
 ghost use Rattle.spc_player.specs.Player.{HasGoneOn, IsPlaying, TookPairs, TookSome, stamp_of, waiting_of};
 
 use crate::player::Player;
-use file_shelf::Failed;
+use shelf::Failed;
 use run_drive::{Sink, pour};
 use side_law::Machine;
 use snes_defs::Side;

@@ -1,4 +1,4 @@
-use file_shelf::Failed;
+use shelf::Failed;
 use run_drive::Sink;
 use snes_defs::Side;
 

@@ -4,7 +4,7 @@ ghost use Rattle.std.specs.Prelude.{◌≡◌, ◌^◌, ◌≤◌, [], length};
 use crate::pairs::{rows, samples};
 use case_text::{hashed, no_hash};
 use clock_ratio::end_stamp;
-use file_shelf::Failed;
+use shelf::Failed;
 use run_drive::{Sink, pour, run_serial};
 use serial_console::Serial;
 use side_law::Machine;

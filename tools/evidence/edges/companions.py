@@ -1,7 +1,7 @@
 """What the programs beside `snes` say, and their statuses."""
 import os
 
-from lab import case, read, same, write
+from lab import FRAMES, case, read, same, write
 
 
 def job(room):
@@ -120,3 +120,25 @@ def look(room):
     room.run([program, "sums", "video", "audio"], tail=">/dev/full").came(2, b"", b"look: ")
     room.run([program, "png", "missing", "0", "out"]).came(2, b"", b"missing")
     assert not os.path.exists(room.path("out")), "a picture of nothing"
+
+
+@case("companions: look overwrites nothing that it reads")
+def look_inputs(room):
+    program = room.bench.programs["look"]
+    room.run(room.words("serial")).came(0)
+    room.run([program, "png", "video", "0", "golden"]).came(0)
+    for name in ("video", "audio", "golden"):
+        os.symlink(name, room.path(f"{name}.soft"))
+        os.link(room.path(name), room.path(f"{name}.hard"))
+    before = [read(room.path(name)) for name in ("video", "audio", "golden")]
+    # The second film differs, so that a picture would be written.
+    write(room.path("other"), before[0][:-1] + bytes([before[0][-1] ^ 1]))
+    for words, inputs in ((["png", "video", "0"], ["video"]), (["sheet", "video"], ["video"]), (["wav", "audio"], ["audio"]),
+                          (["cut", "video", "1", "1"], ["video"]), (["cut", "--audio", "audio", "1", "1"], ["audio"]),
+                          (["avi", "video", "audio"], ["video", "audio"]), (["diff", "video", "other", "--png"], ["video", "other"]),
+                          (["diff", "--frame", str(FRAMES - 1), "video", "golden", "--png"], ["video", "golden"])):
+        for name in inputs:
+            for out in (name, f"./{name}", *(f"{name}.{kind}" for kind in ("soft", "hard") if name != "other")):
+                room.run([program, *words, out]).came(2, b"", b"nothing is written")
+    room.run(["bash", "-c", '"$@" <video', "bash", program, "png", "-", "0", "video"]).came(2, b"", b"nothing is written")
+    same("the inputs", [read(room.path(name)) for name in ("video", "audio", "golden")], before)

@@ -191,7 +191,7 @@ def limit(room):
     with Terminal(stage, [shutil.which("bash"), "-c", 'ulimit -f 1000; exec "$@"', "bash", *words]) as terminal:
         same("status on a terminal", terminal.status(), 4)
     room.run(room.words("serial")).came(0)
-    room.run([f"{stage.top}/look", "png", "video", "3", "out"], shell="ulimit -f 100;", env=env).came(2, b"", b"cannot write")
+    room.run([f"{stage.top}/look", "cut", "video", "0", "3", "out"], shell="ulimit -f 100;", env=env).came(2, b"", b"cannot write")
     room.run([f"{stage.top}/scene", "out.d"], shell="ulimit -f 10;", env=env).came(2, b"", b"cannot write out.d/scene.sfc")
     trace = [f"{stage.top}/trace", *(it for name in ("cart", "boot", "table", "script") for it in (f"--{name}", room.bench.inputs[name]))]
     room.run(trace, shell="ulimit -f 100;", tail=">trace", env=env).came(2, None, b"cannot write the trace")

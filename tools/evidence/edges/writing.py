@@ -86,17 +86,17 @@ def companions_on_device(room):
     film = room.path("film")
     room.run(room.words("serial", {"video": film})).came(0)
     os.mkdir(room.path("1"))
-    whole = room.path("whole.png")
-    room.run([programs["look"], "png", film, "3", whole]).came(0)
+    whole = room.path("whole")
+    room.run([programs["look"], "cut", film, "0", "3", whole]).came(0)
     for words, status, said, right in (
-            ([programs["look"], "png", film, "3", "device/file"], 2, b"cannot write", read(whole)),
+            ([programs["look"], "cut", film, "0", "3", "device/file"], 2, b"cannot write", read(whole)),
             (["sh", "-c", 'exec "$@" >device/file', "sh", programs["trace"],
               *(word for name in ("cart", "boot", "table", "script") for word in (f"--{name}", inputs[name]))],
              2, b"cannot write the trace", None)):
         end, kept = on_small_device(room, words, 4)
         end.came(status, None, said)
         if right is not None:
-            assert right.startswith(read(kept)), "the picture is no prefix"
+            assert right.startswith(read(kept)), "the frames are no prefix"
         shutil.rmtree(room.path("device"))
     end, _ = on_small_device(room, [programs["scene"], "device"], 4)
     end.came(4, b"", b"cannot write device/scene.sfc")

@@ -1,5 +1,5 @@
-use file_shelf::Failed;
 use run_drive::Sink;
+use shelf::Failed;
 use snes_defs::Side;
 
 /// A sink that takes every byte and keeps none. Its clauses say nothing about them.

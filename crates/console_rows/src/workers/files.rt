@@ -1,6 +1,6 @@
 ghost use Rattle.std.specs.Prelude.{◌<◌};
 
-use file_shelf::SureShelf;
+use memory_shelves::SureShelf;
 use std::alloc::Global;
 
 /// The size of a cartridge's file, and the offsets of its map mode and its RESET vector.

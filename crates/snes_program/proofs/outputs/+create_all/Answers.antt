@@ -1,7 +1,7 @@
 use Rattle.std.proofs.Common.{rules, ◌≡◌, ◌∷◌, true, sym, subst, inr, List}
 use Rattle.std.specs.Prelude.{◌⊎◌, OnOk, IfErr}
-use Rattle.file_shelf.specs.declared.shelves.Out.{Out}
-use Rattle.file_shelf.specs.Shown.{IsUntouched}
+use Rattle.shelf.specs.declared.shelves.Out.{Out}
+use Rattle.shelf.specs.Shown.{IsUntouched}
 use Rattle.run_io.specs.Form.{order_by}
 use Rattle.run_io.specs.Lists.{AllOf, FirstThat}
 use Rattle.snes_program.specs.Ends.{are_apart, IsFresh}

@@ -1,6 +1,6 @@
 use Rattle.std.proofs.Common.{rules, ◌≡◌, ◌∷◌, true, sym, subst, List}
 use Rattle.std.specs.Prelude.{OnOk}
-use Rattle.file_shelf.specs.declared.shelves.Out.{Out}
+use Rattle.shelf.specs.declared.shelves.Out.{Out}
 use Rattle.run_io.specs.Lists.{AllOf}
 use Rattle.snes_program.specs.Ends.{are_apart}
 use Rattle.snes_program.proofs.Lists.{on_ok}

@@ -1,9 +1,9 @@
 use Rattle.std.proofs.Common.{rules, ◌≡◌, ℕ, List, [], Option, sym, ap, ◌∙◌, subst}
 use Rattle.std.specs.Prelude.{◌⊎◌}
-use Rattle.file_shelf.specs.declared.shelves.Input.{Input}
-use Rattle.file_shelf.specs.declared.shelves.Out.{Out}
-use Rattle.file_shelf.specs.Told.{Holds}
-use Rattle.file_shelf.specs.Shown.{IsUntouched}
+use Rattle.shelf.specs.declared.shelves.Input.{Input}
+use Rattle.shelf.specs.declared.shelves.Out.{Out}
+use Rattle.shelf.specs.Told.{Holds}
+use Rattle.shelf.specs.Shown.{IsUntouched}
 use Rattle.run_io.specs.Form.{FormValue, order_by}
 use Rattle.run_drive.specs.OutputLaws.{risen_since}
 use Rattle.run_io.specs.Lists.{AllOf, FirstThat, IsOneOf}

@@ -1,6 +1,6 @@
 use Rattle.std.proofs.Common.{List, ℕ, subst}
-use Rattle.file_shelf.specs.declared.shelves.Out.TheVariants.{Image}
-use Rattle.file_shelf.specs.Told.{Appends, AppendsSome}
+use Rattle.shelf.specs.declared.shelves.Out.TheVariants.{Image}
+use Rattle.shelf.specs.Told.{Appends, AppendsSome}
 use Rattle.run_io.specs.Form.{order_by}
 use Rattle.snes_program.specs.Loads.{told_in}
 use Rattle.snes_program.proofs.MakeLemmas.{make_whole, make_first, make_all}

@@ -1,5 +1,5 @@
 use Rattle.std.proofs.Common.{◌≡◌, ℕ, List, Some, Err, refl, inl, subst, rules}
-use Rattle.file_shelf.specs.declared.shelves.Input.TheVariants as input
+use Rattle.shelf.specs.declared.shelves.Input.TheVariants as input
 use Rattle.spc_player.specs.declared.image.SpcEnd.TheVariants.{Refused}
 use Rattle.spc_player.specs.SoundFile.{refusal_of}
 use Rattle.snes_program.specs.Loads.{told_in}

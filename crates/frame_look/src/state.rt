@@ -1,0 +1,371 @@
+//! A state that `snes dump` wrote: its parts, and how it is read and shown (`docs/use/STATE.md`).
+
+use crate::films;
+use anyhow::{Context, Result, bail};
+use clap::ArgMatches;
+use film_formats::{Piece, read_piece};
+use std::fmt;
+use std::rt::Files;
+
+/// The text that a state begins with.
+const TEXT: &[u8; 8] = b"SNESDUMP";
+
+/// The version of the format that is read here.
+const VERSION: u32 = 1;
+
+/// The bytes of a state without the cartridge's RAM.
+const FIXED: usize = 0x5_0000;
+
+/// More bytes than a state has: the cartridge has at most 128 KiB of RAM.
+const MOST: usize = FIXED + 0x4_0000;
+
+/// The bytes of a line.
+const LINE: usize = 16;
+
+/// A number of the header or a register: its name, its offset and its bytes.
+#[derive(Clone, Copy)]
+pub struct Field {
+    pub name: &'static str,
+    pub at: usize,
+    pub size: usize,
+}
+
+/// A table of fields: of each its name, offset and bytes.
+macro_rules! fields {
+    ($($name:literal $at:literal $size:literal,)*) => {
+        [$(Field {
+            name: $name,
+            at: $at,
+            size: $size,
+        },)*]
+    };
+}
+
+/// The fields in their order.
+pub static FIELDS: [Field; 25] = fields![
+    "version" 0x08 1,
+    "region" 0x09 1,
+    "frames" 0x0C 4,
+    "cartridge RAM" 0x10 4,
+    "A" 0x20 2,
+    "X" 0x22 2,
+    "Y" 0x24 2,
+    "S" 0x26 2,
+    "D" 0x28 2,
+    "PC" 0x2A 2,
+    "DBR" 0x2C 1,
+    "PBR" 0x2D 1,
+    "P" 0x2E 1,
+    "E" 0x2F 1,
+    "SPC700 A" 0x30 1,
+    "SPC700 X" 0x31 1,
+    "SPC700 Y" 0x32 1,
+    "SPC700 SP" 0x33 1,
+    "SPC700 PC" 0x34 2,
+    "SPC700 PSW" 0x36 1,
+    "ports F4 to F7" 0x38 4,
+    "ports 2140 to 2143" 0x3C 4,
+    "zeros 0A" 0x0A 2,
+    "zeros 14" 0x14 4,
+    "zero 37" 0x37 1,
+];
+
+/// A memory: its name, its offset and its bytes.
+#[derive(Clone, Copy)]
+pub struct Memory {
+    pub name: &'static str,
+    pub at: usize,
+    pub size: usize,
+}
+
+/// The memories of a fixed size in their order; `sram`, that of the cartridge, comes last.
+static MEMORIES: [Memory; 6] = [
+    Memory {
+        name: "dsp",
+        at: 0x80,
+        size: 128,
+    },
+    Memory {
+        name: "cgram",
+        at: 0x200,
+        size: 512,
+    },
+    Memory {
+        name: "oam",
+        at: 0x400,
+        size: 544,
+    },
+    Memory {
+        name: "wram",
+        at: 0x1_0000,
+        size: 131_072,
+    },
+    Memory {
+        name: "vram",
+        at: 0x3_0000,
+        size: 65_536,
+    },
+    Memory {
+        name: "aram",
+        at: 0x4_0000,
+        size: 65_536,
+    },
+];
+
+/// A state that was read whole.
+#[derive(Drop)]
+pub struct State {
+    bytes: Vec<u8>,
+    ram: usize,
+}
+
+impl State {
+    /// Reads the state of a file.
+    pub fn read<R: Files + AllocGlobal>(rt: &R, name: &str) -> Result<State> {
+        let mut bytes = vec![in rt.alloc(); 0u8; MOST]?;
+        let mut file = films::open(rt, name)?;
+        let count = match read_piece(&mut file, bytes.as_mut_slice()).context(format_args!(
+            "cannot read {name}"
+        ))? {
+            Piece::Whole => MOST,
+            Piece::End => 0,
+            Piece::Cut(count) => count,
+        };
+        let mut state = State { bytes, ram: 0 };
+        if !state.has_text() {
+            bail!("{name} is not a state: it does not begin with SNESDUMP");
+        }
+        let version = state.number(0x08, 1);
+        if version != VERSION {
+            bail!("{name} has the format {version}, and this program reads the format {VERSION}");
+        }
+        state.ram = state.number(0x10, 4) as usize;
+        let size = FIXED.saturating_add(state.ram);
+        if count != size {
+            bail!("{name} has {count} bytes, and its header says {size}");
+        }
+        Ok(state)
+    }
+
+    /// Whether it begins with its text.
+    fn has_text(&self) -> bool {
+        for (at, byte) in TEXT.iter().enumerate() {
+            if self.byte(at) != *byte {
+                return false;
+            }
+        }
+        true
+    }
+
+    /// The byte at an offset, 0 behind the last.
+    pub fn byte(&self, at: usize) -> u8 {
+        match self.bytes.as_slice().get(at) {
+            Some(byte) => *byte,
+            None => 0,
+        }
+    }
+
+    /// The number of some bytes, low byte first.
+    pub fn number(&self, at: usize, size: usize) -> u32 {
+        let mut number = 0u32;
+        for n in 0..size {
+            number = (number >> 8) | (u32::from(self.byte(at.saturating_add(n))) << 24);
+        }
+        for _ in size..4 {
+            number >>= 8;
+        }
+        number
+    }
+
+    /// The memory of a number in their order, nothing behind the last.
+    pub fn memory(&self, number: usize) -> Option<Memory> {
+        if number == MEMORIES.len() {
+            return Some(Memory {
+                name: "sram",
+                at: FIXED,
+                size: self.ram,
+            });
+        }
+        MEMORIES.as_slice().get(number).copied()
+    }
+
+    /// How many memories there are.
+    pub fn memories() -> usize {
+        MEMORIES.len() + 1
+    }
+}
+
+/// Up to sixteen bytes of a memory from an address on.
+#[derive(Clone, Copy)]
+struct HexLine<'a> {
+    state: &'a State,
+    memory: Memory,
+    from: usize,
+    count: usize,
+}
+
+impl fmt::Display for HexLine<'_> {
+    fn fmt<W: fmt::Write>(&self, f: &mut fmt::Formatter<W>) -> fmt::Result {
+        write!(f, "{:<5} {:05x} ", self.memory.name, self.from)?;
+        for n in 0..self.count {
+            let at = self.memory.at.saturating_add(self.from).saturating_add(n);
+            write!(f, " {:02x}", self.state.byte(at))?;
+        }
+        Ok(())
+    }
+}
+
+/// Some bytes of a state.
+#[derive(Clone, Copy)]
+struct Bytes<'a> {
+    state: &'a State,
+    at: usize,
+    count: usize,
+}
+
+impl fmt::Display for Bytes<'_> {
+    fn fmt<W: fmt::Write>(&self, f: &mut fmt::Formatter<W>) -> fmt::Result {
+        for n in 0..self.count {
+            write!(f, " {:02x}", self.state.byte(self.at.saturating_add(n)))?;
+        }
+        Ok(())
+    }
+}
+
+/// The name of a region's number.
+fn region_name(number: u32) -> &'static str {
+    if number == 0 { "ntsc" } else { "pal" }
+}
+
+/// Prints the header and the registers.
+fn say_registers<R: Print>(rt: &R, s: &State) -> Result<()> {
+    println!(rt;
+        "{} frames, {}, cartridge RAM {} bytes",
+        s.number(0x0C, 4),
+        region_name(s.number(0x09, 1)),
+        s.number(0x10, 4)
+    )?;
+    println!(rt;
+        "65C816 A {:04x} X {:04x} Y {:04x} S {:04x} D {:04x} PC {:02x}:{:04x} DBR {:02x} P {:02x} E {}",
+        s.number(0x20, 2),
+        s.number(0x22, 2),
+        s.number(0x24, 2),
+        s.number(0x26, 2),
+        s.number(0x28, 2),
+        s.number(0x2D, 1),
+        s.number(0x2A, 2),
+        s.number(0x2C, 1),
+        s.number(0x2E, 1),
+        s.number(0x2F, 1)
+    )?;
+    println!(rt;
+        "SPC700 A {:02x} X {:02x} Y {:02x} SP {:02x} PC {:04x} PSW {:02x}",
+        s.number(0x30, 1),
+        s.number(0x31, 1),
+        s.number(0x32, 1),
+        s.number(0x33, 1),
+        s.number(0x34, 2),
+        s.number(0x36, 1)
+    )?;
+    let read = |at| Bytes {
+        state: s,
+        at,
+        count: 4,
+    };
+    println!(rt; "ports  F4{}  2140{}", read(0x38), read(0x3C))?;
+    Ok(())
+}
+
+/// Whether all bytes of a line are 0.
+fn is_blank(state: &State, memory: &Memory, from: usize, count: usize) -> bool {
+    for n in 0..count {
+        let at = memory.at.saturating_add(from).saturating_add(n);
+        if state.byte(at) != 0 {
+            return false;
+        }
+    }
+    true
+}
+
+/// Prints some bytes of a memory, line by line; lines of zeros only where they are asked for.
+fn say_lines<R: Print>(
+    rt: &R,
+    state: &State,
+    memory: Memory,
+    from: usize,
+    count: usize,
+    blank: bool,
+) -> Result<()> {
+    let end = from.saturating_add(count).min(memory.size);
+    for line in 0..usize::MAX / LINE {
+        let from = from.saturating_add(line.saturating_mul(LINE));
+        if from >= end {
+            break;
+        }
+        let count = (end - from).min(LINE);
+        if blank || !is_blank(state, &memory, from, count) {
+            let shown = HexLine {
+                state,
+                memory,
+                from,
+                count,
+            };
+            println!(rt; "{shown}")?;
+        }
+    }
+    Ok(())
+}
+
+/// A number as it is given: decimal, or hexadecimal behind 0x.
+fn number_in(text: &str) -> Option<usize> {
+    let number = match text.strip_prefix("0x") {
+        Some(digits) => u32::from_str_radix(digits, 16).ok()?,
+        None => text.parse::<u32>().ok()?,
+    };
+    Some(number as usize)
+}
+
+/// The number behind an option, or another one where it is not there.
+fn number_of(words: &ArgMatches<'_>, option: &str, other: usize) -> Result<usize> {
+    match words.get_str(option) {
+        None => Ok(other),
+        Some(text) => match number_in(text) {
+            Some(number) => Ok(number),
+            None => bail!("--{option} wants a number, decimal or from 0x on, and not {text}"),
+        },
+    }
+}
+
+/// The memory of a name.
+fn memory_of(state: &State, name: &str) -> Result<Memory> {
+    for number in 0..State::memories() {
+        if let Some(memory) = state.memory(number)
+            && memory.name == name
+        {
+            return Ok(memory);
+        }
+    }
+    bail!("there is no memory {name}: dsp, cgram, oam, wram, vram, aram and sram are some")
+}
+
+/// `look state FILE`.
+pub fn say_state<R: Files + Print + AllocGlobal>(rt: &R, words: &ArgMatches<'_>) -> Result<u8> {
+    let state = State::read(rt, words.get_str("FILE").unwrap_or("-"))?;
+    if let Some(name) = words.get_str("memory") {
+        let memory = memory_of(&state, name)?;
+        let from = number_of(words, "from", 0)?;
+        let count = number_of(words, "count", memory.size)?;
+        if from >= memory.size {
+            bail!("{name} has {} bytes, and none at {from}", memory.size);
+        }
+        say_lines(rt, &state, memory, from, count, true)?;
+        return Ok(0);
+    }
+    say_registers(rt, &state)?;
+    for number in 0..State::memories() {
+        if let Some(memory) = state.memory(number) {
+            say_lines(rt, &state, memory, 0, memory.size, false)?;
+        }
+    }
+    Ok(0)
+}

@@ -1,0 +1,5 @@
+pub mod CompareLemmas
+pub mod CutLemmas
+pub mod DigestLemmas
+pub mod PieceLemmas
+pub mod TextLemmas

@@ -1,0 +1,5 @@
+pub mod Compare
+pub mod Digests
+pub mod Pieces
+pub mod SumsFile
+pub mod Text

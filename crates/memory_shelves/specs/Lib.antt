@@ -1,0 +1,4 @@
+pub mod Memory
+pub mod Plan
+pub mod Shelves
+pub mod Stored

@@ -1,0 +1,4 @@
+pub mod Counts
+pub mod Outs
+pub mod Shown
+pub mod Told
