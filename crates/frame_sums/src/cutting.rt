@@ -38,7 +38,7 @@ impl Cuts {
                 return;
             }
             let count = self.left.min(rest.len() as u64) as usize;
-            let (first, more) = rest.split_at(count);
+            let (first, more) = split(rest, count);
             self.take_part(first);
             rest = more;
         }
@@ -106,4 +106,14 @@ impl Cuts {
         }
         rows
     }
+}
+
+/// The first bytes, so many, and the others.
+fn split(bytes: &[u8], count: usize) -> (&[u8], &[u8])
+    requires { count ≤ length bytes.now }
+    ensures whole { result.0.now ++ result.1.now ≡ bytes.now }
+    ensures front { length result.0.now ≡ count }
+    ensures back { length result.1.now + count ≡ length bytes.now }
+{
+    bytes.split_at(count)
 }

@@ -30,6 +30,10 @@ free_told_as free held bytes P is h = subst (λ (f : Option (List ℕ)). IfSome 
 pub held_told : (free held : Option (List ℕ)) (P : List ℕ → Type 0) → free ≡ None → IfSome held P → IfSome (free_or free held) P
 held_told free held P is h = subst (λ (f : Option (List ℕ)). IfSome (free_or f held) P) (sym is) h
 
+pub longer_told : (free held : Option (List ℕ)) (limit : ℕ) (cause : Why) → free ≡ None → ((bytes : List ℕ) → limit < length bytes → AreRefused bytes cause)
+    → IfSome held (λ bytes. limit < length bytes) → IfSome (free_or free held) (λ bytes. AreRefused bytes cause)
+longer_told free held limit cause is longer long = held_told free held (λ bytes. AreRefused bytes cause) is (longer_is_refused held limit cause longer long)
+
 -- what is told is of a kind where the bytes that were loaded are
 pub loaded_is : (told : Option (List ℕ)) (bytes : List ℕ) (P : List ℕ → Type 0) → Holds told bytes → P bytes → IfSome told P
 loaded_is None bytes P is h = tt
@@ -82,4 +86,6 @@ loads_none a = record { held = refl; written = refl; named = refl; unwritten = r
 
 pub ruleset told = (loaded_is)
 
-pub ruleset fetches = (longer_is_refused, free_told, free_told_as, held_told, loads_none)
+pub ruleset fetches = (free_told, free_told_as, loads_none)
+
+pub ruleset fetches_held = (held_told, longer_told)

@@ -1,9 +1,15 @@
+<<<<<<< ours
 ghost use Rattle.std.specs.Prelude.{◌≡◌, ◌≤◌, ◌<◌, ℕ, List, [], ◌++◌, length, OnOk, IfOk, IfErr, Option, IfSome};
 ghost use Rattle.shelf.specs.Told.{Holds};
 ghost use Rattle.shelf.specs.Shown.{OnlyLoads};
+=======
+ghost use Rattle.std.specs.Prelude.{◌≡◌, ◌≤◌, ◌<◌, ℕ, List, [], ◌++◌, length, OnOk, IfOk, IfErr, Option, None, IfSome};
+ghost use Rattle.file_shelf.specs.Told.{Holds};
+ghost use Rattle.file_shelf.specs.Shown.{OnlyLoads};
+>>>>>>> theirs
 ghost use Rattle.run_io.specs.Lists.{AllOf};
 ghost use Rattle.snes_program.specs.Kinds.{input_of, AreRefused};
-ghost use Rattle.snes_program.specs.Loads.{told_in, ShowsAccepted, EndsInput, EndsInputs};
+ghost use Rattle.snes_program.specs.Loads.{free_in, told_in, ShowsAccepted, EndsInput, EndsInputs};
 
 use crate::free::free_of;
 use crate::status::{Status, Why};
@@ -86,16 +92,37 @@ pub(crate) fn fetch<H: Shelf>(
     ensures ends { IfErr result (λ status. EndsInput pairs.now (H.shown shelf.old) (H.shown shelf.new) status input) }
     ensures only { OnlyLoads (H.shown shelf.old) (H.shown shelf.new) }
 {
-    let free = match free_of(alloc, pairs, input) {
-        Ok(free) => free,
-        Err(NoMemory) => return Err(Status::NoMemory),
-    };
-    if let Some(bytes) = free {
-        if bytes.len() > limit {
-            return Err(Status::Refused(too_long));
+    match free_of(alloc, pairs, input) {
+        Ok(None) => fetch_held(alloc, shelf, pairs, input, limit, too_long),
+        Ok(Some(bytes)) => {
+            if bytes.len() > limit {
+                Err(Status::Refused(too_long))
+            } else {
+                Ok(bytes)
+            }
         }
-        return Ok(bytes);
+        Err(NoMemory) => Err(Status::NoMemory),
     }
+}
+
+/// Loads a whole input that has no free bytes, or whose name the arguments give.
+#[tactic(auto, using(crate::proofs::Loading::fetches_held))]
+fn fetch_held<H: Shelf>(
+    alloc: Global,
+    shelf: &mut H,
+    pairs: &[Word],
+    input: Input,
+    limit: usize,
+    too_long: Why,
+) -> Result<Vec<u8>, Status>
+    requires held { free_in pairs.now input ≡ None }
+    requires of { input_of too_long ≡ input }
+    requires longer { (bytes : List ℕ) → limit < length bytes → AreRefused bytes too_long }
+    ensures whole { IfOk result (λ bytes. Holds (told_in (H.shown shelf.old) pairs.now input) bytes.items) }
+    ensures within { IfOk result (λ bytes. length bytes.items ≤ limit) }
+    ensures ends { IfErr result (λ status. EndsInput pairs.now (H.shown shelf.old) (H.shown shelf.new) status input) }
+    ensures only { OnlyLoads (H.shown shelf.old) (H.shown shelf.new) }
+{
     let mut bytes = Vec::new(alloc);
     match shelf.load(input_name(pairs, input), limit, &mut bytes) {
         Ok(()) => Ok(bytes),

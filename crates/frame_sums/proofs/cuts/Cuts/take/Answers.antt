@@ -1,4 +1,4 @@
-use Rattle.std.proofs.Common.{◌≡◌, List, ℕ, [], ◌∷◌, ◌++◌, length, refl, sym, ap, ◌∙◌, subst, append_assoc, append-nil, take-append-drop, arith}
+use Rattle.std.proofs.Common.{◌≡◌, List, ℕ, [], ◌∷◌, ◌++◌, length, refl, sym, ap, ◌∙◌, subst, append_assoc, append-nil, arith}
 use Rattle.frame_sums.specs.Digests.{AreCut}
 use Rattle.frame_sums.proofs.CutLemmas.{cut_behind, none_left}
 use Rattle.frame_sums.proofs.cuts.Cuts.take.Goals as goal
@@ -14,18 +14,16 @@ cutting-preserved c = record {
   of = c.take_part.ensures.of ∙ c.cutting.invariant.of;
   taken = λ had h.
       let t = c.cutting.invariant.taken had h in
-      let first = c.split_at.result.0.now in
-      let rest = c.split_at.result.1.now in
-      let whole : first ++ rest ≡ c.cutting.rest.now
-      = ap (λ l. l ++ rest) c.split_at.ensures.front ∙ ap (λ l. _ ++ l) c.split_at.ensures.back ∙ take-append-drop _ c.cutting.rest.now in (
+      let first = c.split.result.0.now in
+      let rest = c.split.result.1.now in (
         t.0 ++ first,
-        append_assoc t.0 first rest ∙ ap (λ l. t.0 ++ l) whole ∙ t.1,
+        append_assoc t.0 first rest ∙ ap (λ l. t.0 ++ l) c.split.ensures.whole ∙ t.1,
         subst (AreCut c.take_part.new.self) (append_assoc had t.0 first) (c.take_part.ensures.taken (had ++ t.0) t.2),
       );
 }
 
-pub returns-then-len-eq0-clause-taken : goal.returns-then-len-eq0-clause-taken
-returns-then-len-eq0-clause-taken c = λ had h.
+pub returns-then-rest-eq0-clause-taken : goal.returns-then-rest-eq0-clause-taken
+returns-then-rest-eq0-clause-taken c = λ had h.
     let t = c.cutting.invariant.taken had h in
     let none : length c.cutting.rest.now ≡ 0 = omega arith in
     let all : t.0 ≡ c.args.bytes.now = sym (append-nil t.0) ∙ ap (λ l. t.0 ++ l) (sym (none_left c.cutting.rest.now none)) ∙ t.1 in
