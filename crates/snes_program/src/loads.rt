@@ -1,12 +1,6 @@
-<<<<<<< ours
-ghost use Rattle.std.specs.Prelude.{◌≡◌, ◌≤◌, ◌<◌, ℕ, List, [], ◌++◌, length, OnOk, IfOk, IfErr, Option, IfSome};
+ghost use Rattle.std.specs.Prelude.{◌≡◌, ◌≤◌, ◌<◌, ℕ, List, [], ◌++◌, length, OnOk, IfOk, IfErr, Option, None, IfSome};
 ghost use Rattle.shelf.specs.Told.{Holds};
 ghost use Rattle.shelf.specs.Shown.{OnlyLoads};
-=======
-ghost use Rattle.std.specs.Prelude.{◌≡◌, ◌≤◌, ◌<◌, ℕ, List, [], ◌++◌, length, OnOk, IfOk, IfErr, Option, None, IfSome};
-ghost use Rattle.file_shelf.specs.Told.{Holds};
-ghost use Rattle.file_shelf.specs.Shown.{OnlyLoads};
->>>>>>> theirs
 ghost use Rattle.run_io.specs.Lists.{AllOf};
 ghost use Rattle.snes_program.specs.Kinds.{input_of, AreRefused};
 ghost use Rattle.snes_program.specs.Loads.{free_in, told_in, ShowsAccepted, EndsInput, EndsInputs};
