@@ -224,13 +224,22 @@ fn read_checks(alloc: Global, fields: &Fields<'_>, case: &mut Case) -> Result<()
     Ok(())
 }
 
+/// The name of a case, which takes one line.
+fn name_in(alloc: Global, fields: &Fields<'_>) -> Result<String> {
+    let name = needed(fields, "name", fields.text(alloc, "name")?)?;
+    if name.is_empty() || name.as_str().contains(char::is_control) {
+        bail!("{}: name is no text of one line", fields.path());
+    }
+    Ok(name)
+}
+
 /// Reads a case.
 fn case_in(alloc: Global, path: &str, table: &Table) -> Result<Case> {
     let fields = Fields::new(path, table, &CASE)?;
     let refused = fields.text(alloc, "refused")?;
     let frames = frames_in(&fields, refused.is_some())?;
     let mut case = Case {
-        name: needed(&fields, "name", fields.text(alloc, "name")?)?,
+        name: name_in(alloc, &fields)?,
         cart: needed(&fields, "cart", fields.text(alloc, "cart")?)?,
         boot: fields.text(alloc, "boot")?,
         table: fields.text(alloc, "table")?,

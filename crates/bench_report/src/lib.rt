@@ -4,12 +4,14 @@
 //! sound to play. Text of the bench file is escaped in XML and HTML, and takes one line in TAP.
 #![tactic(auto)]
 
+mod counts;
 mod escape;
 mod page;
 mod report;
 mod verdict;
 
+pub use counts::{Counts, counts_of};
 pub use escape::push_escaped;
 pub use page::Page;
-pub use report::{Counts, junit_text, print_case, print_counts};
+pub use report::{junit_text, print_case, print_counts};
 pub use verdict::{End, Shot, Verdict};

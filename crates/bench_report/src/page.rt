@@ -22,7 +22,7 @@ pub struct Page<'a> {
     alloc: Global,
     folder: &'a str,
     text: String,
-    number: u32,
+    number: usize,
 }
 
 /// Writes a whole file.
@@ -131,7 +131,7 @@ impl<'a> Page<'a> {
     /// Adds a case, if something is wrong with it.
     pub fn add<R: Files>(&mut self, rt: &R, case: &Case, verdict: &Verdict) -> Result<()> {
         self.number = self.number.saturating_add(1);
-        if verdict.end == End::Passed {
+        if verdict.end() == End::Passed {
             return Ok(());
         }
         self.text.push_str("<h2>")?;

@@ -1,49 +1,11 @@
 //! The report of all cases: lines for people, TAP, or JUnit's XML.
 
+use crate::counts::Counts;
 use crate::escape::push_escaped;
 use crate::verdict::{End, Verdict};
 use anyhow::{Context, Result};
 use bench_cases::Case;
 use std::alloc::{AllocError, Global};
-
-/// How many cases ended how.
-#[derive(Clone, Copy)]
-pub struct Counts {
-    /// Those that are as expected.
-    pub passed: u32,
-    /// Those that are not.
-    pub failed: u32,
-    /// Those that could not be run.
-    pub faults: u32,
-}
-
-impl Counts {
-    /// No case yet.
-    pub fn new() -> Counts {
-        Counts {
-            passed: 0,
-            failed: 0,
-            faults: 0,
-        }
-    }
-
-    /// Counts a case.
-    pub fn add(&mut self, end: End) {
-        let count = match end {
-            End::Passed => &mut self.passed,
-            End::Failed => &mut self.failed,
-            End::Fault => &mut self.faults,
-        };
-        *count = count.saturating_add(1);
-    }
-
-    /// How many cases there are.
-    pub fn all(&self) -> u32 {
-        self.passed
-            .saturating_add(self.failed)
-            .saturating_add(self.faults)
-    }
-}
 
 /// The word with which the line of a case begins.
 fn word_of(end: End, is_tap: bool) -> &'static str {
@@ -59,7 +21,7 @@ fn word_of(end: End, is_tap: bool) -> &'static str {
 fn print_line<R: Print>(rt: &R, before: &str, text: &str) -> Result<()> {
     let mut between = before;
     for part in text.lines() {
-        print!(rt; "{between}{part}")?;
+        print!(rt; "{between}{part}").context("cannot write standard output")?;
         between = " ";
     }
     println!(rt; "").context("cannot write standard output")?;
@@ -70,11 +32,11 @@ fn print_line<R: Print>(rt: &R, before: &str, text: &str) -> Result<()> {
 pub fn print_case<R: Print + AllocGlobal>(
     rt: &R,
     is_tap: bool,
-    number: u32,
+    number: usize,
     case: &Case,
     verdict: &Verdict,
 ) -> Result<()> {
-    let word = word_of(verdict.end, is_tap);
+    let word = word_of(verdict.end(), is_tap);
     let before = if is_tap {
         format!(in rt.alloc(); "{word} {number} - ")?
     } else {
@@ -85,19 +47,22 @@ pub fn print_case<R: Print + AllocGlobal>(
     for line in verdict.lines.as_slice() {
         print_line(rt, before, line.as_str())?;
     }
+    for line in verdict.notes.as_slice() {
+        print_line(rt, before, line.as_str())?;
+    }
     Ok(())
 }
 
-/// Prints the counts.
-pub fn print_counts<R: Print>(rt: &R, counts: &Counts) -> Result<()> {
+/// Prints the counts of so many cases.
+pub fn print_counts<R: Print>(rt: &R, all: usize, counts: &Counts) -> Result<()> {
     let Counts {
         passed,
         failed,
         faults,
     } = *counts;
-    let all = counts.all();
+    let cases = if all == 1 { "case" } else { "cases" };
     println!(rt;
-        "{all} cases: {passed} as expected, {failed} failed, {faults} could not be run"
+        "{all} {cases}: {passed} as expected, {failed} failed, {faults} could not be run"
     ).context("cannot write standard output")?;
     Ok(())
 }
@@ -111,7 +76,7 @@ fn push_case(
 ) -> Result<(), AllocError> {
     text.push_str("  <testcase classname=\"bench\" name=\"")?;
     push_escaped(text, case.name.as_str())?;
-    let element = match verdict.end {
+    let element = match verdict.end() {
         End::Passed => return text.push_str("\"/>\n"),
         End::Failed => "failure",
         End::Fault => "error",
@@ -143,7 +108,7 @@ pub fn junit_text(
         "<?xml version=\"1.0\" encoding=\"UTF-8\"?>\n<testsuite name=\"",
     )?;
     push_escaped(&mut text, name)?;
-    let (all, failed, faults) = (counts.all(), counts.failed, counts.faults);
+    let (all, failed, faults) = (verdicts.len(), counts.failed, counts.faults);
     let head = format!(in alloc;
         "\" tests=\"{all}\" failures=\"{failed}\" errors=\"{faults}\">\n"
     )?;

@@ -38,7 +38,7 @@ pub fn name_in(alloc: Global, folder: &str, name: &str) -> Result<String, AllocE
 }
 
 /// Reads a whole file of at most `most` bytes.
-fn load<R: Files + Print>(rt: &R, alloc: Global, name: &str, most: usize) -> Result<Vec<u8>> {
+pub fn load<R: Files + Print>(rt: &R, alloc: Global, name: &str, most: usize) -> Result<Vec<u8>> {
     let mut shelf = FileShelf::new(rt);
     let mut bytes = Vec::new(alloc);
     match shelf.load(name, most, &mut bytes) {

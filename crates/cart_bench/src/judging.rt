@@ -1,31 +1,16 @@
-//! Runs a case, and finds what is not as expected.
+//! Judges a run frame by frame, and finds what is not as expected.
 
-use crate::inputs::{Input, input_of, name_in};
-use crate::labels::{number_of, symbols_of};
-use crate::played::{Awaited, Played};
-use crate::remembered::compare_memory;
-use anyhow::{Context, Result, bail};
-use bench_cases::{Case, FrameCheck, RunSums, Sum, Sums, read_sums};
-use bench_report::{End, Shot, Verdict};
-use film_formats::{FRAME_BYTES, Piece, read_piece};
+ghost use Rattle.std.specs.Prelude.{◌≡◌};
+ghost use Rattle.sha2.specs.Sha256.{sha256};
+
+use crate::places::compare_memory;
+use crate::played::{Awaited, Emitted, Played};
+use anyhow::Result;
+use bench_cases::{Case, FrameCheck, Sum, is_heard_as, is_silent, is_sum_met};
+use bench_report::{Shot, Verdict};
+use frame_sums::{SumPair, SumsFile};
 use sha2::{Digest, Sha256};
-use snes_defs::Job;
 use std::alloc::Global;
-use std::fs;
-use std::io::Read;
-use std::rt::Files;
-use symbol_files::Symbols;
-
-/// How a case is judged.
-#[derive(Clone, Copy)]
-pub struct Wanted<'a> {
-    /// The folder of the bench file: empty, or with a slash at its end.
-    pub folder: &'a str,
-    /// Whether pictures and samples are kept for a page.
-    pub keeps: bool,
-    /// Whether golden sums are made, and not compared.
-    pub updates: bool,
-}
 
 /// How many frames differ from golden ones, and the first.
 #[derive(Clone, Copy)]
@@ -51,15 +36,16 @@ impl Differing {
 
 /// A case while it is judged.
 #[derive(Drop)]
-struct Judging<'a> {
+pub struct Judging<'a> {
     alloc: Global,
     case: &'a Case,
+    /// Whether pictures and samples are kept for a page.
     keeps: bool,
-    golden: Option<RunSums>,
+    golden: Option<SumsFile>,
     /// Where each memory check looks.
     places: Vec<u32>,
     verdict: Verdict,
-    frames: Vec<Sums>,
+    /// All pictures and all samples so far, if there are golden sums.
     pictures: Sha256,
     sounds: Sha256,
     /// The first frame in which something is heard.
@@ -67,16 +53,6 @@ struct Judging<'a> {
     other_pictures: Differing,
     other_sounds: Differing,
     other_film: Differing,
-}
-
-/// Whether a sample is other than 0.
-fn is_heard(samples: &[u8]) -> bool {
-    for byte in samples {
-        if *byte != 0 {
-            return true;
-        }
-    }
-    false
 }
 
 /// The text, or the empty one.
@@ -87,13 +63,45 @@ fn text_or_empty(text: &Option<String>) -> &str {
     }
 }
 
+/// The sums of a frame.
+fn sums_of(emitted: &Emitted) -> SumPair
+    ensures picture { result.picture ≡ sha256 emitted.now.picture.items }
+    ensures sound { result.sound ≡ sha256 emitted.now.sound.items }
+{
+    SumPair {
+        picture: Sha256::digest(emitted.picture.as_slice()),
+        sound: Sha256::digest(emitted.sound.as_slice()),
+    }
+}
+
+/// The golden sums of a frame, if there are some.
+fn golden_pair(golden: &Option<SumsFile>, frame: u32) -> Option<SumPair> {
+    match golden {
+        Some(sums) if (frame as usize) < sums.frames() => Some(sums.pair(frame as usize)),
+        _ => None,
+    }
+}
+
+/// What a sum is, and what is expected.
+fn other_sum(
+    alloc: Global,
+    frame: u32,
+    what: &str,
+    sum: &[u8; 32],
+    expected: &Option<Sum>,
+) -> Result<String> {
+    let sum = Sum { bytes: *sum };
+    let expected = expected.unwrap_or(sum);
+    Ok(format!(in alloc; "frame {frame}: the {what} has the sum {sum}, not {expected}")?)
+}
+
 impl<'a> Judging<'a> {
     /// Returns a case before its run.
-    fn new(
+    pub fn new(
         alloc: Global,
         case: &'a Case,
         keeps: bool,
-        golden: Option<RunSums>,
+        golden: Option<SumsFile>,
         places: Vec<u32>,
     ) -> Judging<'a> {
         Judging {
@@ -103,7 +111,6 @@ impl<'a> Judging<'a> {
             golden,
             places,
             verdict: Verdict::new(alloc),
-            frames: Vec::new(alloc),
             pictures: Sha256::new(),
             sounds: Sha256::new(),
             heard: None,
@@ -131,109 +138,104 @@ impl<'a> Judging<'a> {
     }
 
     /// Compares the sums of a frame with the golden ones. Returns whether they are the same.
-    fn compare_golden(&mut self, frame: u32, sums: &Sums) -> bool {
-        let Some(golden) = &self.golden else {
+    fn compare_golden(&mut self, frame: u32, sums: &SumPair) -> bool {
+        let Some(expected) = golden_pair(&self.golden, frame) else {
             return true;
         };
-        let Some(expected) = golden.frames.get(frame as usize) else {
-            return true;
-        };
-        let is_same = expected.picture == sums.picture;
-        let sounds_same = expected.sound.is_none() || expected.sound == sums.sound;
-        if !is_same {
+        let pictures_same = expected.picture == sums.picture;
+        let sounds_same = expected.sound == sums.sound;
+        if !pictures_same {
             self.other_pictures.note(frame);
         }
         if !sounds_same {
             self.other_sounds.note(frame);
         }
-        is_same && sounds_same
+        pictures_same && sounds_same
     }
 
-    /// Compares a frame with one that is expected. Returns whether they are the same.
-    fn compare_frame(&mut self, check: &FrameCheck, sums: &Sums) -> Result<bool> {
-        let alloc = self.alloc;
-        let frame = check.at;
+    /// Compares a frame with what is expected of it. Returns whether it is so.
+    fn compare_frame(&mut self, check: &FrameCheck, sums: &SumPair) -> Result<bool> {
+        let (alloc, frame) = (self.alloc, check.at);
+        let picture_met = is_sum_met(&check.picture, &sums.picture);
+        let sound_met = is_sum_met(&check.sound, &sums.sound);
+        if !picture_met {
+            let line = other_sum(alloc, frame, "picture", &sums.picture, &check.picture)?;
+            self.verdict.fail(line)?;
+        }
+        if !sound_met {
+            let line = other_sum(alloc, frame, "sound", &sums.sound, &check.sound)?;
+            self.verdict.fail(line)?;
+        }
+        Ok(picture_met && sound_met)
+    }
+
+    /// Makes the checks of sums of a frame. Returns whether all is as expected.
+    fn check_sums(&mut self, frame: u32, emitted: &Emitted) -> Result<bool> {
+        let case = self.case;
+        let mut sums = None;
         let mut is_same = true;
-        if let Some(expected) = check.picture {
-            let picture = sums.picture;
-            if expected != picture {
-                is_same = false;
-                self.verdict.fail(format!(in alloc;
-                    "frame {frame}: the picture has the sum {picture}, not {expected}"
-                )?)?;
-            }
+        if self.golden.is_some() {
+            self.pictures.update(emitted.picture.as_slice());
+            self.sounds.update(emitted.sound.as_slice());
+            let pair = sums_of(emitted);
+            is_same = self.compare_golden(frame, &pair);
+            sums = Some(pair);
         }
-        if let (Some(expected), Some(sound)) = (check.sound, sums.sound) {
-            if expected != sound {
-                is_same = false;
-                self.verdict.fail(format!(in alloc;
-                    "frame {frame}: the sound has the sum {sound}, not {expected}"
-                )?)?;
-            }
-        }
-        Ok(is_same)
-    }
-
-    /// Makes a memory check, by its number, if it is of this frame. Returns whether all is as expected.
-    fn check_memory(&mut self, number: usize, frame: u32, played: &Played) -> Result<bool> {
-        let case = self.case;
-        let (Some(check), Some(place)) = (case.memory_checks.get(number), self.places.get(number))
-        else {
-            return Ok(true);
-        };
-        if check.at != frame {
-            return Ok(true);
-        }
-        match compare_memory(self.alloc, played, check, *place)? {
-            Some(line) => {
-                self.verdict.fail(line)?;
-                Ok(false)
-            }
-            None => Ok(true),
-        }
-    }
-
-    /// Makes the checks of a frame that has run. Returns whether all is as expected.
-    fn make_checks(&mut self, frame: u32, played: &Played, sums: &Sums) -> Result<bool> {
-        let mut is_same = self.compare_golden(frame, sums);
-        let case = self.case;
         for check in case.frame_checks.as_slice() {
-            if check.at == frame && !self.compare_frame(check, sums)? {
-                is_same = false;
-            }
-        }
-        for number in 0..case.memory_checks.len() {
-            if !self.check_memory(number, frame, played)? {
-                is_same = false;
+            if check.at == frame {
+                let pair = match sums {
+                    Some(pair) => pair,
+                    None => sums_of(emitted),
+                };
+                sums = Some(pair);
+                is_same = self.compare_frame(check, &pair)? && is_same;
             }
         }
         Ok(is_same)
+    }
+
+    /// Makes the checks of memories of a frame. Returns whether all is as expected.
+    fn check_memories(&mut self, frame: u32, played: &Played) -> Result<bool> {
+        let case = self.case;
+        let mut is_same = true;
+        let checks = case.memory_checks.as_slice();
+        for number in 0..checks.len().min(self.places.len()) {
+            let (check, place) = (&checks[number], self.places[number]);
+            if check.at == frame {
+                if let Some(line) = compare_memory(self.alloc, played, check, place)? {
+                    self.verdict.fail(line)?;
+                    is_same = false;
+                }
+            }
+        }
+        Ok(is_same)
+    }
+
+    /// Notes whether something is heard in a frame, and keeps its samples.
+    fn hear(&mut self, frame: u32, samples: &[u8]) -> Result<()> {
+        if self.keeps {
+            self.verdict.sound.extend_from_slice(samples)?;
+        }
+        if self.heard.is_none() && !is_silent(samples) {
+            self.heard = Some(frame);
+        }
+        Ok(())
     }
 
     /// Judges a frame that has run. `film` is the golden picture, if there is a golden film.
-    fn judge_frame(&mut self, frame: u32, played: &Played, film: Option<&[u8]>) -> Result<()> {
+    pub fn judge_frame(&mut self, frame: u32, played: &Played, film: Option<&[u8]>) -> Result<()> {
         let emitted = played.emitted();
-        let sums = Sums {
-            picture: Sum::of(emitted.picture.as_slice()),
-            sound: Some(Sum::of(emitted.sound.as_slice())),
+        self.hear(frame, emitted.sound.as_slice())?;
+        let sums_met = self.check_sums(frame, emitted)?;
+        let memories_met = self.check_memories(frame, played)?;
+        let film_met = match film {
+            Some(golden) => golden == emitted.picture.as_slice(),
+            None => true,
         };
-        self.frames.push(sums)?;
-        self.pictures.update(emitted.picture.as_slice());
-        self.sounds.update(emitted.sound.as_slice());
-        if self.keeps {
-            self.verdict
-                .sound
-                .extend_from_slice(emitted.sound.as_slice())?;
-        }
-        if self.heard.is_none() && is_heard(emitted.sound.as_slice()) {
-            self.heard = Some(frame);
-        }
-        let mut is_same = self.make_checks(frame, played, &sums)?;
-        if film.is_some_and(|golden| golden != emitted.picture.as_slice()) {
+        if !film_met {
             self.other_film.note(frame);
-            is_same = false;
         }
-        if !is_same {
+        if !(sums_met && memories_met && film_met) {
             self.keep_shot(frame, emitted.picture.as_slice(), film)?;
         }
         Ok(())
@@ -252,217 +254,68 @@ impl<'a> Judging<'a> {
         Ok(())
     }
 
-    /// Says whether an awaited instruction began in time.
-    fn judge_reach(&mut self, within: u32, awaited: &Awaited) -> Result<()> {
-        let alloc = self.alloc;
-        let address = awaited.address;
-        match awaited.reached {
-            Some(frame) if frame < within => {}
-            Some(frame) => self.verdict.fail(format!(in alloc;
-                "the first instruction at {address:06X} begins in frame {frame}, not within {within} frames"
-            )?)?,
-            None => self.verdict.fail(format!(in alloc;
-                "no instruction at {address:06X} begins in the run"
-            )?)?,
+    /// Compares the number of frames and the sums of the whole run with the golden ones.
+    fn judge_whole(&mut self, name: &str) -> Result<()> {
+        let (alloc, frames) = (self.alloc, self.case.frames);
+        let Some(golden) = &self.golden else {
+            return Ok(());
+        };
+        let (count, all) = (golden.frames(), golden.all());
+        if count != frames as usize {
+            let line = format!(in alloc; "{frames} frames were run, and {name} has {count}")?;
+            return Ok(self.verdict.fail(line)?);
+        }
+        let frames_same = self.other_pictures.count == 0 && self.other_sounds.count == 0;
+        let is_same = all.picture == self.pictures.finalize_reset()
+            && all.sound == self.sounds.finalize_reset();
+        if frames_same && !is_same {
+            let line = format!(in alloc; "the sums of the whole run are other than in {name}")?;
+            self.verdict.fail(line)?;
         }
         Ok(())
     }
 
-    /// Compares what is known only at the end of the run.
-    fn judge_end(&mut self, awaited: &[Awaited]) -> Result<()> {
+    /// Says whether what is heard is as expected.
+    fn judge_sound(&mut self) -> Result<()> {
         let alloc = self.alloc;
+        if is_heard_as(self.case.is_heard, self.heard) {
+            return Ok(());
+        }
+        let line = match self.heard {
+            Some(frame) => format!(in alloc; "something is heard, first in frame {frame}")?,
+            None => String::from_str(alloc, "nothing is heard")?,
+        };
+        Ok(self.verdict.fail(line)?)
+    }
+
+    /// Says whether the awaited instructions began in time.
+    fn judge_reaches(&mut self, awaited: &[Awaited]) -> Result<()> {
+        let (alloc, case) = (self.alloc, self.case);
+        for (reach, one) in case.reaches.as_slice().iter().zip(awaited.iter()) {
+            let (address, within) = (one.address, reach.within);
+            if !reach.is_met(one.reached) {
+                self.verdict.fail(match one.reached {
+                    Some(frame) => format!(in alloc;
+                        "the first instruction at {address:06X} begins in frame {frame}, not within {within} frames"
+                    )?,
+                    None => format!(in alloc; "no instruction at {address:06X} begins in the run")?,
+                })?;
+            }
+        }
+        Ok(())
+    }
+
+    /// Returns the verdict after the run.
+    pub fn end(mut self, awaited: &[Awaited]) -> Result<Verdict> {
         let case = self.case;
         let sums = text_or_empty(&case.sums);
         let film = text_or_empty(&case.film);
         self.tell_differing("pictures", sums, self.other_pictures)?;
         self.tell_differing("sounds", sums, self.other_sounds)?;
+        self.judge_whole(sums)?;
         self.tell_differing("pictures", film, self.other_film)?;
-        if let Some(golden) = &self.golden {
-            let (count, frames) = (golden.frames.len(), case.frames);
-            if count != frames as usize {
-                let line = format!(in alloc; "{frames} frames were run, and {sums} has {count}")?;
-                self.verdict.fail(line)?;
-            }
-        }
-        match (case.is_heard, self.heard) {
-            (Some(true), None) => {
-                self.verdict
-                    .fail(String::from_str(alloc, "nothing is heard")?)?;
-            }
-            (Some(false), Some(frame)) => {
-                self.verdict.fail(format!(in alloc;
-                    "something is heard, first in frame {frame}"
-                )?)?;
-            }
-            _ => {}
-        }
-        for (reach, one) in case.reaches.as_slice().iter().zip(awaited.iter()) {
-            self.judge_reach(reach.within, one)?;
-        }
-        Ok(())
-    }
-
-    /// Returns the verdict, with the sums of the whole run.
-    fn end(self) -> Verdict {
-        let Judging {
-            alloc: _,
-            case: _,
-            keeps: _,
-            golden: _,
-            places: _,
-            mut verdict,
-            frames,
-            pictures,
-            sounds,
-            heard: _,
-            other_pictures: _,
-            other_sounds: _,
-            other_film: _,
-        } = self;
-        let all = Sums {
-            picture: Sum {
-                bytes: pictures.finalize(),
-            },
-            sound: Some(Sum {
-                bytes: sounds.finalize(),
-            }),
-        };
-        verdict.sums = Some(RunSums { frames, all });
-        verdict
-    }
-}
-
-/// Reads the golden sums of a case, if there are some.
-fn golden_of<R: Files + AllocGlobal>(
-    rt: &R,
-    wanted: &Wanted<'_>,
-    case: &Case,
-) -> Result<Option<RunSums>> {
-    let alloc = rt.alloc();
-    let Some(name) = &case.sums else {
-        return Ok(None);
-    };
-    if wanted.updates {
-        return Ok(None);
-    }
-    let path = name_in(alloc, wanted.folder, name.as_str())?;
-    let text = fs::read_to_string(rt, path.as_str()).context(format_args!("cannot read {path}"))?;
-    Ok(Some(read_sums(alloc, path.as_str(), text.as_str())?))
-}
-
-/// Reads the next picture of a golden film.
-fn read_golden<F: Read>(file: &mut F, name: &str, frame: u32, picture: &mut [u8]) -> Result<()> {
-    if picture.is_empty() {
-        return Ok(());
-    }
-    match read_piece(file, picture).context(format_args!("cannot read {name}"))? {
-        Piece::Whole => Ok(()),
-        _ => bail!("{name} refused: it has no whole frame {frame}"),
-    }
-}
-
-/// Where each memory check of a case looks.
-fn places_of(alloc: Global, case: &Case, symbols: Option<&Symbols>) -> Result<Vec<u32>> {
-    let mut places = Vec::new(alloc);
-    for check in case.memory_checks.as_slice() {
-        places.push(number_of(symbols, &check.place)?)?;
-    }
-    Ok(places)
-}
-
-/// The addresses that a case waits for.
-fn awaited_of(alloc: Global, case: &Case, symbols: Option<&Symbols>) -> Result<Vec<Awaited>> {
-    let mut awaited = Vec::new(alloc);
-    for reach in case.reaches.as_slice() {
-        awaited.push(Awaited {
-            address: number_of(symbols, &reach.address)?,
-            reached: None,
-        })?;
-    }
-    Ok(awaited)
-}
-
-/// Runs a job, and judges it.
-fn judge_job<R: Files + AllocGlobal>(
-    rt: &R,
-    wanted: &Wanted<'_>,
-    case: &Case,
-    job: &Job,
-) -> Result<Verdict> {
-    let alloc = rt.alloc();
-    let mut film = match &case.film {
-        Some(name) => {
-            let path = name_in(alloc, wanted.folder, name.as_str())?;
-            Some(fs::open(rt, path.as_str()).context(format_args!("cannot read {path}"))?)
-        }
-        None => None,
-    };
-    let symbols = symbols_of(rt, wanted.folder, case)?;
-    let places = places_of(alloc, case, symbols.as_ref())?;
-    let mut awaited = awaited_of(alloc, case, symbols.as_ref())?;
-    let mut picture = vec![in alloc; 0u8; FRAME_BYTES]?;
-    let golden = golden_of(rt, wanted, case)?;
-    let mut judging = Judging::new(alloc, case, wanted.keeps, golden, places);
-    let mut played = Played::new(alloc, job)?;
-    for frame in 0..case.frames {
-        played.next_frame(awaited.as_mut_slice())?;
-        let golden = match &mut film {
-            Some(file) => {
-                read_golden(file, "the golden film", frame, picture.as_mut_slice())?;
-                Some(picture.as_slice())
-            }
-            None => None,
-        };
-        judging.judge_frame(frame, &played, golden)?;
-    }
-    judging.judge_end(awaited.as_slice())?;
-    Ok(judging.end())
-}
-
-/// Compares why a cartridge is refused with what is expected.
-fn judge_refusal(alloc: Global, case: &Case, cause: &str) -> Result<Verdict> {
-    let mut verdict = Verdict::new(alloc);
-    match &case.refused {
-        Some(expected) if expected.as_str() == cause => {}
-        Some(_) => verdict.fail(format!(in alloc; "the cartridge is refused: {cause}")?)?,
-        None => bail!("{} refused: {cause}", case.cart.as_str()),
-    }
-    Ok(verdict)
-}
-
-/// Runs a case, and judges it. What can't be read is an error.
-fn try_case<R: Files + Print + AllocGlobal>(
-    rt: &R,
-    wanted: &Wanted<'_>,
-    case: &Case,
-) -> Result<Verdict> {
-    let alloc = rt.alloc();
-    match input_of(rt, alloc, wanted.folder, case)? {
-        Input::Refused(cause) => judge_refusal(alloc, case, cause.as_str()),
-        Input::Runs(job) => {
-            if case.refused.is_some() {
-                let mut verdict = Verdict::new(alloc);
-                verdict.fail(String::from_str(alloc, "the cartridge is accepted")?)?;
-                return Ok(verdict);
-            }
-            judge_job(rt, wanted, case, &job)
-        }
-    }
-}
-
-/// Runs a case, and returns the verdict on it.
-pub fn judge_case<R: Files + Print + AllocGlobal>(
-    rt: &R,
-    wanted: &Wanted<'_>,
-    case: &Case,
-) -> Result<Verdict> {
-    match try_case(rt, wanted, case) {
-        Ok(verdict) => Ok(verdict),
-        Err(error) => {
-            let mut verdict = Verdict::new(rt.alloc());
-            verdict.end = End::Fault;
-            verdict.lines.push(format!(in rt.alloc(); "{error:#}")?)?;
-            Ok(verdict)
-        }
+        self.judge_sound()?;
+        self.judge_reaches(awaited)?;
+        Ok(self.verdict)
     }
 }

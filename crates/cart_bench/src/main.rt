@@ -3,25 +3,28 @@
 //! `bench --help` lists its arguments, and `docs/use/BENCH.md` has the form of the file. The runs are those of the
 //! serial console (`serial_console`), with the two machines of `snes`, stopped at the end of each frame.
 //!
-//! The status is 0 if each case is as expected, and 1 if one is not. It is 2 if a file could not be read or written,
-//! or if the command line is invalid.
+//! The status is 0 if each case is as expected, and 1 if one is not. It is 2 if a case could not be run, if a file
+//! could not be read or written, or if the command line is invalid.
 #![tactic(auto)]
 
+ghost use Rattle.std.specs.Prelude.{◌≡◌, nat_eq, if◌then◌else◌};
+
+mod cases;
+mod golden;
 mod inputs;
 mod judging;
 mod labels;
 mod memories;
+mod places;
 mod played;
-mod remembered;
 mod words;
 
 use anyhow::{Context, Result, bail};
-use bench_cases::{Case, read_cases, sums_text};
-use bench_report::{Counts, End, Page, Verdict, junit_text, print_case, print_counts};
+use bench_cases::{Case, read_cases};
+use bench_report::{Counts, Page, Verdict, counts_of, junit_text, print_case, print_counts};
+use cases::{Wanted, judge_case};
 use clap::ArgMatches;
 use companion_words::{Companion, DONE, FAULT, NO, Program, run};
-use inputs::name_in;
-use judging::{Wanted, judge_case};
 use std::fs;
 use std::io::IsTerminal;
 use std::process::ExitCode;
@@ -35,25 +38,8 @@ fn folder_of<'a>(name: &'a str) -> &'a str {
     }
 }
 
-/// Writes the golden sums of a case, if it names a file for them.
-fn write_sums<R: Files + AllocGlobal>(
-    rt: &R,
-    folder: &str,
-    case: &Case,
-    verdict: &mut Verdict,
-) -> Result<()> {
-    let alloc = rt.alloc();
-    if let (Some(name), Some(sums)) = (&case.sums, &verdict.sums) {
-        let path = name_in(alloc, folder, name.as_str())?;
-        let text = sums_text(alloc, sums)?;
-        fs::write(rt, path.as_str(), text.as_bytes()).context(format_args!("cannot write {path}"))?;
-        verdict.lines.push(format!(in alloc; "wrote {path}")?)?;
-    }
-    Ok(())
-}
-
 /// Shows which case runs, on a line that is written over.
-fn show_progress<R: Eprint>(rt: &R, number: u32, count: usize, name: &str) {
+fn show_progress<R: Eprint>(rt: &R, number: usize, count: usize, name: &str) {
     let _ = eprint!(rt; "\r\x1b[K{number} of {count}: {name}");
 }
 
@@ -90,57 +76,68 @@ struct How {
     shows: bool,
 }
 
-/// Runs the cases, and prints what is known of each.
+/// Runs the cases, prints what is known of each, and adds it to the page, if there is one.
 fn run_cases<R: Files + Print + Eprint + AllocGlobal>(
     rt: &R,
     wanted: &Wanted<'_>,
     how: How,
     cases: &[&Case],
+    page: &mut Option<Page<'_>>,
 ) -> Result<Vec<Verdict>> {
     let mut verdicts = Vec::new(rt.alloc());
-    let mut number = 0u32;
+    let mut number = 0usize;
     for case in cases {
         number = number.saturating_add(1);
         if how.shows {
             show_progress(rt, number, cases.len(), case.name.as_str());
         }
-        let mut verdict = judge_case(rt, wanted, *case)?;
-        if wanted.updates {
-            write_sums(rt, wanted.folder, *case, &mut verdict)?;
-        }
+        let judged = judge_case(rt, wanted, *case);
         if how.shows {
             hide_progress(rt);
         }
+        let mut verdict = judged?;
         print_case(rt, how.is_tap, number, *case, &verdict)?;
+        if let Some(page) = page {
+            page.add(rt, *case, &verdict)?;
+        }
+        verdict.forget();
         verdicts.push(verdict)?;
     }
     Ok(verdicts)
 }
 
-/// Writes the files that the command line names.
-fn write_files<R: Files + AllocGlobal>(
+/// The exit status: that of a fault if a case could not be run, else that of a no if one failed.
+fn status_of(counts: &Counts) -> u8
+    ensures { result ≡ (if nat_eq counts.now.faults 0 then (if nat_eq counts.now.failed 0 then 0 else 1) else 2) }
+{
+    if counts.faults > 0 {
+        FAULT
+    } else if counts.failed > 0 {
+        NO
+    } else {
+        DONE
+    }
+}
+
+/// How the cases of a file ended.
+fn counts_in<R: AllocGlobal>(rt: &R, verdicts: &[Verdict]) -> Result<Counts> {
+    let mut ends = Vec::new(rt.alloc());
+    for verdict in verdicts {
+        ends.push(verdict.end())?;
+    }
+    Ok(counts_of(ends.as_slice()))
+}
+
+/// The page that the command line asks for, if it does.
+fn page_of<'a, R: Files + AllocGlobal>(
     rt: &R,
-    words: &ArgMatches<'_>,
+    folder: Option<&'a str>,
     name: &str,
-    counts: &Counts,
-    cases: &[&Case],
-    verdicts: &[Verdict],
-) -> Result<()> {
-    let alloc = rt.alloc();
-    if let Some(out) = words.get_str("junit") {
-        let text = junit_text(alloc, name, counts, cases, verdicts)?;
-        fs::write(rt, out, text.as_bytes()).context(format_args!("cannot write {out}"))?;
+) -> Result<Option<Page<'a>>> {
+    match folder {
+        Some(folder) => Ok(Some(Page::new(rt, folder, name)?)),
+        None => Ok(None),
     }
-    if let Some(folder) = words.get_str("out") {
-        let mut page = Page::new(rt, folder, name)?;
-        for (case, verdict) in cases.iter().zip(verdicts.iter()) {
-            page.add(rt, *case, verdict)?;
-        }
-        let (all, passed) = (counts.all(), counts.passed);
-        let line = format!(in alloc; "{passed} of {all} cases are as expected.")?;
-        page.write(rt, line.as_str())?;
-    }
-    Ok(())
 }
 
 /// Runs the file that the words name, and returns the status.
@@ -155,37 +152,32 @@ fn run_file<R: Files + Print + Eprint + AllocGlobal>(
     let all = read_cases(alloc, name, text.as_str())?;
     let cases = chosen(rt, words, all.as_slice())?;
     let is_tap = words.get_flag("tap");
+    let out = words.get_str("out");
     let wanted = Wanted {
         folder: folder_of(name),
-        keeps: words.get_str("out").is_some(),
+        keeps: out.is_some(),
         updates: words.get_flag("update"),
     };
+    let mut page = page_of(rt, out, name)?;
     if is_tap {
         println!(rt; "TAP version 13\n1..{}", cases.len())?;
     }
-    let verdicts = run_cases(rt, &wanted, How { is_tap, shows }, cases.as_slice())?;
-    let mut counts = Counts::new();
-    for verdict in verdicts.as_slice() {
-        counts.add(verdict.end);
-    }
+    let how = How { is_tap, shows };
+    let verdicts = run_cases(rt, &wanted, how, cases.as_slice(), &mut page)?;
+    let counts = counts_in(rt, verdicts.as_slice())?;
     if !is_tap {
-        print_counts(rt, &counts)?;
+        print_counts(rt, cases.len(), &counts)?;
     }
-    write_files(
-        rt,
-        words,
-        name,
-        &counts,
-        cases.as_slice(),
-        verdicts.as_slice(),
-    )?;
-    Ok(if counts.faults > 0 {
-        FAULT
-    } else if counts.failed > 0 {
-        NO
-    } else {
-        DONE
-    })
+    if let Some(out) = words.get_str("junit") {
+        let text = junit_text(alloc, name, &counts, cases.as_slice(), verdicts.as_slice())?;
+        fs::write(rt, out, text.as_bytes()).context(format_args!("cannot write {out}"))?;
+    }
+    if let Some(page) = page {
+        let (count, passed) = (cases.len(), counts.passed);
+        let line = format!(in alloc; "{passed} of {count} cases are as expected.")?;
+        page.write(rt, line.as_str())?;
+    }
+    Ok(status_of(&counts))
 }
 
 /// This program, as a companion of `snes`.
