@@ -224,10 +224,20 @@ fn read_checks(alloc: Global, fields: &Fields<'_>, case: &mut Case) -> Result<()
     Ok(())
 }
 
+/// Whether a text has a character, and no control character.
+fn is_line(text: &str) -> bool {
+    for character in text.chars() {
+        if character.is_control() {
+            return false;
+        }
+    }
+    !text.is_empty()
+}
+
 /// The name of a case, which takes one line.
 fn name_in(alloc: Global, fields: &Fields<'_>) -> Result<String> {
     let name = needed(fields, "name", fields.text(alloc, "name")?)?;
-    if name.is_empty() || name.as_str().contains(char::is_control) {
+    if !is_line(name.as_str()) {
         bail!("{}: name is no text of one line", fields.path());
     }
     Ok(name)

@@ -12,7 +12,8 @@ use film_formats::{FRAME_BYTES, Piece, read_piece};
 use frame_sums::SumsFile;
 use snes_defs::Job;
 use std::alloc::Global;
-use std::fs::{self, File};
+use std::fs;
+use std::io::Read;
 use std::rt::Files;
 use symbol_files::Symbols;
 
@@ -37,13 +38,13 @@ fn sums_path(alloc: Global, wanted: &Wanted<'_>, case: &Case) -> Result<Option<S
 
 /// A golden film, and its current picture.
 #[derive(Drop)]
-struct Film {
+struct Film<F: Read + Drop> {
     name: String,
-    file: File,
+    file: F,
     picture: Vec<u8>,
 }
 
-impl Film {
+impl<F: Read + Drop> Film<F> {
     /// Reads the picture of the next frame.
     fn next(&mut self, frame: u32) -> Result<()> {
         let name = self.name.as_str();
@@ -64,7 +65,7 @@ fn film_of<R: Files + AllocGlobal>(
     rt: &R,
     wanted: &Wanted<'_>,
     case: &Case,
-) -> Result<Option<Film>> {
+) -> Result<Option<Film<R::File>>> {
     let alloc = rt.alloc();
     let Some(name) = &case.film else {
         return Ok(None);
@@ -101,10 +102,10 @@ fn awaited_of(alloc: Global, case: &Case, symbols: Option<&Symbols>) -> Result<V
 
 /// What a case is compared with, and what it makes.
 #[derive(Drop)]
-struct Needs {
+struct Needs<F: Read + Drop> {
     golden: Option<SumsFile>,
     recorder: Option<Recorder>,
-    film: Option<Film>,
+    film: Option<Film<F>>,
     places: Vec<u32>,
     awaited: Vec<Awaited>,
 }
@@ -115,7 +116,7 @@ fn needs_of<R: Files + Print + AllocGlobal>(
     wanted: &Wanted<'_>,
     case: &Case,
     job: &Job,
-) -> Result<Needs> {
+) -> Result<Needs<R::File>> {
     let alloc = rt.alloc();
     let symbols = symbols_of(rt, wanted.folder, case)?;
     let mut golden = None;

@@ -91,8 +91,12 @@ fn other_sum(
     expected: &Option<Sum>,
 ) -> Result<String> {
     let sum = Sum { bytes: *sum };
-    let expected = expected.unwrap_or(sum);
-    Ok(format!(in alloc; "frame {frame}: the {what} has the sum {sum}, not {expected}")?)
+    match expected {
+        Some(expected) => Ok(
+            format!(in alloc; "frame {frame}: the {what} has the sum {sum}, not {expected}")?,
+        ),
+        None => Ok(format!(in alloc; "frame {frame}: the {what} has the sum {sum}")?),
+    }
 }
 
 impl<'a> Judging<'a> {
