@@ -8,6 +8,7 @@ use crate::played::{Awaited, Played};
 use anyhow::{Context, Result, bail};
 use bench_cases::Case;
 use bench_report::Verdict;
+use file_shelf::FileShelf;
 use film_formats::{FRAME_BYTES, Piece, read_piece};
 use frame_sums::SumsFile;
 use snes_defs::Job;
@@ -113,12 +114,13 @@ struct Needs<F: Read + Drop> {
 /// Reads what a case is compared with.
 fn needs_of<R: Files + Print + AllocGlobal>(
     rt: &R,
+    shelf: &mut FileShelf<'_, R>,
     wanted: &Wanted<'_>,
     case: &Case,
     job: &Job,
 ) -> Result<Needs<R::File>> {
     let alloc = rt.alloc();
-    let symbols = symbols_of(rt, wanted.folder, case)?;
+    let symbols = symbols_of(shelf, alloc, wanted.folder, case)?;
     let mut golden = None;
     let mut recorder = None;
     if let Some(path) = sums_path(alloc, wanted, case)? {
@@ -128,7 +130,7 @@ fn needs_of<R: Files + Print + AllocGlobal>(
                 Err(_) => bail!("no memory"),
             }
         } else {
-            golden = Some(golden_of(rt, alloc, path.as_str())?);
+            golden = Some(golden_of(shelf, alloc, path.as_str())?);
         }
     }
     Ok(Needs {
@@ -143,6 +145,7 @@ fn needs_of<R: Files + Print + AllocGlobal>(
 /// Runs a job, and judges it.
 fn judge_job<R: Files + Print + AllocGlobal>(
     rt: &R,
+    shelf: &mut FileShelf<'_, R>,
     wanted: &Wanted<'_>,
     case: &Case,
     job: &Job,
@@ -154,7 +157,7 @@ fn judge_job<R: Files + Print + AllocGlobal>(
         mut film,
         places,
         mut awaited,
-    } = needs_of(rt, wanted, case, job)?;
+    } = needs_of(rt, shelf, wanted, case, job)?;
     let mut judging = Judging::new(alloc, case, wanted.keeps, golden, places);
     let mut played = Played::new(alloc, job)?;
     for frame in 0..case.frames {
@@ -173,7 +176,7 @@ fn judge_job<R: Files + Print + AllocGlobal>(
     }
     let mut verdict = judging.end(awaited.as_slice())?;
     if let (Some(sums), Some(path)) = (recorder, sums_path(alloc, wanted, case)?) {
-        sums.write(rt, path.as_str())?;
+        sums.write(shelf, path.as_str())?;
         verdict.notes.push(format!(in alloc; "wrote {path}")?)?;
     }
     Ok(verdict)
@@ -197,7 +200,8 @@ fn try_case<R: Files + Print + AllocGlobal>(
     case: &Case,
 ) -> Result<Verdict> {
     let alloc = rt.alloc();
-    match input_of(rt, alloc, wanted.folder, case)? {
+    let mut shelf = FileShelf::new(rt);
+    match input_of(&mut shelf, alloc, wanted.folder, case)? {
         Input::Refused(cause) => judge_refusal(alloc, case, cause.as_str()),
         Input::Runs(job) => {
             if case.refused.is_some() {
@@ -205,7 +209,7 @@ fn try_case<R: Files + Print + AllocGlobal>(
                 verdict.fail(String::from_str(alloc, "the cartridge is accepted")?)?;
                 return Ok(verdict);
             }
-            judge_job(rt, wanted, case, &job)
+            judge_job(rt, &mut shelf, wanted, case, &job)
         }
     }
 }

@@ -3,7 +3,7 @@
 ghost use Rattle.std.specs.Prelude.{◌≡◌, Ok, IfOk};
 ghost use Rattle.frame_sums.specs.SumsFile.{sums_of_file};
 
-use crate::inputs::load;
+use crate::inputs::{fault_of, load};
 use anyhow::{Result, bail};
 use bench_cases::read_golden;
 use file_shelf::FileShelf;
@@ -18,8 +18,12 @@ use std::rt::Files;
 const SUMS: usize = 5_000_000;
 
 /// Reads the golden sums of a file.
-pub fn golden_of<R: Files + Print>(rt: &R, alloc: Global, path: &str) -> Result<SumsFile> {
-    let bytes = load(rt, alloc, path, SUMS)?;
+pub fn golden_of<R: Files + Print>(
+    shelf: &mut FileShelf<'_, R>,
+    alloc: Global,
+    path: &str,
+) -> Result<SumsFile> {
+    let bytes = load(shelf, alloc, path, SUMS)?;
     read_golden(alloc, path, bytes.as_slice())
 }
 
@@ -45,19 +49,19 @@ impl Recorder {
         let _ = self.sums.take(Side::Sound, sound);
     }
 
-    /// Writes the sums of the whole run to a file, in the form that `snes sums` writes.
-    pub fn write<R: Files + Print>(self, rt: &R, path: &str) -> Result<()> {
+    /// Writes the sums of the whole run to a file, in the form that `snes sums` writes. A file that the case reads is
+    /// refused.
+    pub fn write<R: Files + Print>(self, shelf: &mut FileShelf<'_, R>, path: &str) -> Result<()> {
         let Recorder { sums } = self;
         if path.is_empty() || path.len() > 4096 {
             bail!("cannot write {path}");
         }
-        let mut shelf = FileShelf::new(rt);
         if shelf.create(Out::Sums, path).is_err() {
-            bail!("cannot write {path}");
+            return Err(fault_of(shelf, "write", path));
         }
         let (video, audio) = sums.finish();
-        if put_sums(&mut shelf, &video, &audio).is_err() || shelf.flush(Out::Sums).is_err() {
-            bail!("cannot write {path}");
+        if put_sums(shelf, &video, &audio).is_err() || shelf.flush(Out::Sums).is_err() {
+            return Err(fault_of(shelf, "write", path));
         }
         Ok(())
     }

@@ -1,6 +1,6 @@
 //! Reads the files of a case, as `snes` takes them.
 
-use anyhow::{Result, anyhow, bail};
+use anyhow::{Error, Result, anyhow, bail};
 use bench_cases::Case;
 use cart_map::{CartEnd, CartRefused, accept};
 use file_shelf::FileShelf;
@@ -37,13 +37,25 @@ pub fn name_in(alloc: Global, folder: &str, name: &str) -> Result<String, AllocE
     format!(in alloc; "{folder}{name}")
 }
 
+/// What is said if a file can't be read or written, and why.
+pub fn fault_of<R: Files + Print>(shelf: &FileShelf<'_, R>, what: &str, name: &str) -> Error {
+    match shelf.first_fault() {
+        Some(cause) => anyhow!("cannot {what} {name}: {cause}"),
+        None => anyhow!("cannot {what} {name}"),
+    }
+}
+
 /// Reads a whole file of at most `most` bytes.
-pub fn load<R: Files + Print>(rt: &R, alloc: Global, name: &str, most: usize) -> Result<Vec<u8>> {
-    let mut shelf = FileShelf::new(rt);
+pub fn load<R: Files + Print>(
+    shelf: &mut FileShelf<'_, R>,
+    alloc: Global,
+    name: &str,
+    most: usize,
+) -> Result<Vec<u8>> {
     let mut bytes = Vec::new(alloc);
     match shelf.load(name, most, &mut bytes) {
         Ok(()) => Ok(bytes),
-        Err(LoadEnd::Failed) => Err(anyhow!("cannot read {name}")),
+        Err(LoadEnd::Failed) => Err(fault_of(shelf, "read", name)),
         Err(LoadEnd::TooLong) => Err(anyhow!("{name} refused: more than {most} bytes")),
         Err(LoadEnd::NoMemory) => Err(anyhow!("no memory")),
     }
@@ -61,12 +73,17 @@ fn words_of(alloc: Global, cause: CartRefused) -> Result<String, AllocError> {
 }
 
 /// Reads the boot ROM of a case.
-fn boot_of<R: Files + Print>(rt: &R, alloc: Global, folder: &str, case: &Case) -> Result<[u8; 64]> {
+fn boot_of<R: Files + Print>(
+    shelf: &mut FileShelf<'_, R>,
+    alloc: Global,
+    folder: &str,
+    case: &Case,
+) -> Result<[u8; 64]> {
     let Some(name) = &case.boot else {
         return Ok(free_boot_rom());
     };
     let name = name_in(alloc, folder, name.as_str())?;
-    let bytes = load(rt, alloc, name.as_str(), BOOT)?;
+    let bytes = load(shelf, alloc, name.as_str(), BOOT)?;
     match read_boot(bytes.as_slice()) {
         Some(boot) => Ok(boot),
         None => Err(anyhow!("{name} refused: a boot ROM has 64 bytes")),
@@ -74,12 +91,17 @@ fn boot_of<R: Files + Print>(rt: &R, alloc: Global, folder: &str, case: &Case) -
 }
 
 /// Reads the table of a case.
-fn table_of<R: Files + Print>(rt: &R, alloc: Global, folder: &str, case: &Case) -> Result<Table> {
+fn table_of<R: Files + Print>(
+    shelf: &mut FileShelf<'_, R>,
+    alloc: Global,
+    folder: &str,
+    case: &Case,
+) -> Result<Table> {
     let Some(name) = &case.table else {
         return Ok(interpolation_table());
     };
     let name = name_in(alloc, folder, name.as_str())?;
-    let bytes = load(rt, alloc, name.as_str(), TABLE)?;
+    let bytes = load(shelf, alloc, name.as_str(), TABLE)?;
     match read_table(bytes.as_slice()) {
         Ok(table) => Ok(table),
         Err(entry) => Err(anyhow!("{name} refused: no table, at entry {entry}")),
@@ -92,12 +114,17 @@ fn empty_script(alloc: Global, region: Region) -> Spans {
 }
 
 /// Reads the script of a case. Its region is the case's, if the case names one.
-fn script_of<R: Files + Print>(rt: &R, alloc: Global, folder: &str, case: &Case) -> Result<Spans> {
+fn script_of<R: Files + Print>(
+    shelf: &mut FileShelf<'_, R>,
+    alloc: Global,
+    folder: &str,
+    case: &Case,
+) -> Result<Spans> {
     let Some(name) = &case.script else {
         return Ok(empty_script(alloc, case.region.unwrap_or(Region::Ntsc)));
     };
     let name = name_in(alloc, folder, name.as_str())?;
-    let bytes = load(rt, alloc, name.as_str(), SCRIPT)?;
+    let bytes = load(shelf, alloc, name.as_str(), SCRIPT)?;
     let script = match read_script(alloc, bytes.as_slice()) {
         Ok(script) => script,
         Err(ScriptEnd::Line(line)) => bail!("{name} refused: no script, at line {line}"),
@@ -111,15 +138,15 @@ fn script_of<R: Files + Print>(rt: &R, alloc: Global, folder: &str, case: &Case)
 
 /// The job of a cartridge.
 fn job_of<R: Files + Print>(
-    rt: &R,
+    shelf: &mut FileShelf<'_, R>,
     alloc: Global,
     folder: &str,
     case: &Case,
     cart: Cart,
 ) -> Result<Job> {
-    let boot = boot_of(rt, alloc, folder, case)?;
-    let table = table_of(rt, alloc, folder, case)?;
-    let script = script_of(rt, alloc, folder, case)?;
+    let boot = boot_of(shelf, alloc, folder, case)?;
+    let table = table_of(shelf, alloc, folder, case)?;
+    let script = script_of(shelf, alloc, folder, case)?;
     let region = script.region();
     Ok(Job {
         cart,
@@ -133,15 +160,15 @@ fn job_of<R: Files + Print>(
 
 /// Reads what a case runs.
 pub fn input_of<R: Files + Print>(
-    rt: &R,
+    shelf: &mut FileShelf<'_, R>,
     alloc: Global,
     folder: &str,
     case: &Case,
 ) -> Result<Input> {
     let name = name_in(alloc, folder, case.cart.as_str())?;
-    let bytes = load(rt, alloc, name.as_str(), CART)?;
+    let bytes = load(shelf, alloc, name.as_str(), CART)?;
     match accept(bytes) {
-        Ok(cart) => Ok(Input::Runs(job_of(rt, alloc, folder, case, cart)?)),
+        Ok(cart) => Ok(Input::Runs(job_of(shelf, alloc, folder, case, cart)?)),
         Err(CartEnd::NoMemory) => bail!("no memory"),
         Err(CartEnd::Refused(cause)) => Ok(Input::Refused(words_of(alloc, cause)?)),
     }

@@ -1,25 +1,33 @@
 //! The addresses of labels, by the symbol file of a case.
 
-use crate::inputs::name_in;
-use anyhow::{Context, Result, anyhow};
+use crate::inputs::{load, name_in};
+use anyhow::{Result, anyhow};
 use bench_cases::{Address, Case};
-use std::fs;
+use file_shelf::FileShelf;
+use std::alloc::Global;
 use std::rt::Files;
+use std::str;
 use symbol_files::Symbols;
 
+/// The most bytes of a symbol file.
+const SYMBOLS: usize = 67_108_864;
+
 /// Reads the symbol file of a case, if it names one.
-pub fn symbols_of<R: Files + AllocGlobal>(
-    rt: &R,
+pub fn symbols_of<R: Files + Print>(
+    shelf: &mut FileShelf<'_, R>,
+    alloc: Global,
     folder: &str,
     case: &Case,
 ) -> Result<Option<Symbols>> {
-    let alloc = rt.alloc();
     let Some(name) = &case.symbols else {
         return Ok(None);
     };
     let path = name_in(alloc, folder, name.as_str())?;
-    let text = fs::read_to_string(rt, path.as_str()).context(format_args!("cannot read {path}"))?;
-    match Symbols::read(alloc, text.as_str()) {
+    let bytes = load(shelf, alloc, path.as_str(), SYMBOLS)?;
+    let Ok(text) = str::from_utf8(bytes.as_slice()) else {
+        return Err(anyhow!("{path} refused: it is no text"));
+    };
+    match Symbols::read(alloc, text) {
         Ok(symbols) => Ok(Some(symbols)),
         Err(error) => Err(anyhow!("{path} refused: {error}")),
     }
