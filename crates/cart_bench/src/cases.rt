@@ -52,9 +52,9 @@ impl<F: Read + Drop> Film<F> {
         if self.picture.is_empty() {
             return Ok(());
         }
-        match read_piece(&mut self.file, self.picture.as_mut_slice())
-            .context(format_args!("cannot read {name}"))?
-        {
+        match read_piece(&mut self.file, self.picture.as_mut_slice()).context(format_args!(
+            "cannot read {name}"
+        ))? {
             Piece::Whole => Ok(()),
             _ => bail!("{name} refused: it has no whole frame {frame}"),
         }
@@ -222,9 +222,6 @@ pub fn judge_case<R: Files + Print + AllocGlobal>(
 ) -> Result<Verdict> {
     match try_case(rt, wanted, case) {
         Ok(verdict) => Ok(verdict),
-        Err(error) => Ok(Verdict::fault(
-            rt.alloc(),
-            format!(in rt.alloc(); "{error:#}")?,
-        )?),
+        Err(error) => Ok(Verdict::fault(rt.alloc(), format!(in rt.alloc(); "{error:#}")?)?),
     }
 }

@@ -92,9 +92,9 @@ fn other_sum(
 ) -> Result<String> {
     let sum = Sum { bytes: *sum };
     match expected {
-        Some(expected) => Ok(
-            format!(in alloc; "frame {frame}: the {what} has the sum {sum}, not {expected}")?,
-        ),
+        Some(expected) => Ok(format!(in alloc;
+            "frame {frame}: the {what} has the sum {sum}, not {expected}"
+        )?),
         None => Ok(format!(in alloc; "frame {frame}: the {what} has the sum {sum}")?),
     }
 }
