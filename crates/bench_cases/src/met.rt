@@ -1,6 +1,7 @@
 //! Whether what came is as a bench file expects it.
 
-ghost use Rattle.std.specs.Prelude.{◌≡◌, ◌+◌, ◌*◌, ◌↔◌, All, IsTrue};
+ghost use Rattle.std.specs.Prelude.{◌≡◌, ◌+◌, ◌*◌, ◌↔◌, ◌==◌, IsTrue};
+ghost use Rattle.std.specs.List.{list_all};
 ghost use Rattle.bench_cases.specs.Expected.{size_of, IsWithin, AreMet, IsSumMet, IsInTime, IsHeardAs};
 
 use crate::plan::{Expected, Reach};
@@ -81,14 +82,9 @@ pub fn is_heard_as(expected: Option<bool>, heard: Option<u32>) -> bool
     }
 }
 
-/// Whether each of these samples is 0.
+/// Whether each byte of these samples is 0.
 pub fn is_silent(samples: &[u8]) -> bool
-    ensures { IsTrue result ↔ All (λ byte. byte ≡ 0) samples.now }
+    ensures { result ≡ list_all (λ byte. byte == 0) samples.now }
 {
-    for byte in samples {
-        if *byte != 0 {
-            return false;
-        }
-    }
-    true
+    samples.iter().all(|byte| *byte == 0)
 }
