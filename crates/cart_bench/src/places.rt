@@ -89,7 +89,7 @@ fn other_bytes(
     let all = expected.len();
     let place = place_text(alloc, check, first)?;
     format!(in alloc;
-        "of the {all} bytes from {} on {count} are not as expected: the first is byte {offset}, {byte:02X} and not {wanted:02X}",
+        "{count} of the {all} bytes at {} differ: the first is byte {offset}, {byte:02X}, expected {wanted:02X}",
         place.as_str()
     )
 }
