@@ -3,5 +3,6 @@ pub mod MatchLemmas
 pub mod MixedLemmas
 pub mod PaletteLemmas
 pub mod PictureLemmas
+pub mod PngLemmas
 pub mod ReadLemmas
 pub mod RowLemmas
