@@ -1,0 +1,208 @@
+//! Runs the cases of a bench file, and says which is not as expected: for the CI of who writes a cartridge.
+//!
+//! `bench --help` lists its arguments, and `docs/use/BENCH.md` has the form of the file. The runs are those of the
+//! serial console (`serial_console`), with the two machines of `snes`, stopped at the end of each frame.
+//!
+//! The status is 0 if each case is as expected, and 1 if one is not. It is 2 if a case could not be run, if a file
+//! could not be read or written, or if the command line is invalid.
+#![tactic(auto)]
+
+ghost use Rattle.std.specs.Prelude.{◌≡◌, nat_eq, if◌then◌else◌};
+
+mod cases;
+mod golden;
+mod inputs;
+mod judging;
+mod labels;
+mod memories;
+mod places;
+mod played;
+mod words;
+
+use anyhow::{Context, Result, bail};
+use bench_cases::{Case, read_cases};
+use bench_report::{Counts, Page, Verdict, counts_of, junit_text, print_case, print_counts};
+use cases::{Wanted, judge_case};
+use clap::ArgMatches;
+use companion_words::{Companion, DONE, FAULT, NO, Program, run};
+use std::fs;
+use std::io::IsTerminal;
+use std::process::ExitCode;
+use std::rt::Files;
+
+/// The folder of a file: empty, or with a slash at its end.
+fn folder_of<'a>(name: &'a str) -> &'a str {
+    match name.rfind('/') {
+        Some(slash) => name.get(..slash.saturating_add(1)).unwrap_or(""),
+        None => "",
+    }
+}
+
+/// Shows which case runs, on a line that is written over.
+fn show_progress<R: Eprint>(rt: &R, number: usize, count: usize, name: &str) {
+    let _ = eprint!(rt; "\r\x1b[K{number} of {count}: {name}");
+}
+
+/// Clears what `show_progress` showed.
+fn hide_progress<R: Eprint>(rt: &R) {
+    let _ = eprint!(rt; "\r\x1b[K");
+}
+
+/// The cases that are run: all, or that of the name that is given.
+fn chosen<'a, R: AllocGlobal>(
+    rt: &R,
+    words: &ArgMatches<'_>,
+    cases: &'a [Case],
+) -> Result<Vec<&'a Case>> {
+    let mut list = Vec::new(rt.alloc());
+    for case in cases {
+        match words.get_str("case") {
+            Some(name) if name != case.name.as_str() => {}
+            _ => list.push(case)?,
+        }
+    }
+    if list.is_empty() {
+        bail!("no case has the name that --case gives");
+    }
+    Ok(list)
+}
+
+/// How the report is printed.
+#[derive(Clone, Copy)]
+struct How {
+    /// Whether it is TAP.
+    is_tap: bool,
+    /// Whether standard error shows which case runs.
+    shows: bool,
+}
+
+/// Runs the cases, prints what is known of each, and adds it to the page, if there is one.
+fn run_cases<R: Files + Print + Eprint + AllocGlobal>(
+    rt: &R,
+    wanted: &Wanted<'_>,
+    how: How,
+    cases: &[&Case],
+    page: &mut Option<Page<'_>>,
+) -> Result<Vec<Verdict>> {
+    let mut verdicts = Vec::new(rt.alloc());
+    let mut number = 0usize;
+    for case in cases {
+        number = number.saturating_add(1);
+        if how.shows {
+            show_progress(rt, number, cases.len(), case.name.as_str());
+        }
+        let judged = judge_case(rt, wanted, *case);
+        if how.shows {
+            hide_progress(rt);
+        }
+        let mut verdict = judged?;
+        print_case(rt, how.is_tap, number, *case, &verdict)?;
+        if let Some(page) = page {
+            page.add(rt, *case, &verdict)?;
+        }
+        verdict.forget();
+        verdicts.push(verdict)?;
+    }
+    Ok(verdicts)
+}
+
+/// The exit status: that of a fault if a case could not be run, else that of a no if one failed.
+fn status_of(counts: &Counts) -> u8
+    ensures { result ≡ (if nat_eq counts.now.faults 0 then (if nat_eq counts.now.failed 0 then 0 else 1) else 2) }
+{
+    if counts.faults > 0 {
+        FAULT
+    } else if counts.failed > 0 {
+        NO
+    } else {
+        DONE
+    }
+}
+
+/// How the cases of a file ended.
+fn counts_in<R: AllocGlobal>(rt: &R, verdicts: &[Verdict]) -> Result<Counts> {
+    let mut ends = Vec::new(rt.alloc());
+    for verdict in verdicts {
+        ends.push(verdict.end())?;
+    }
+    Ok(counts_of(ends.as_slice()))
+}
+
+/// The page that the command line asks for, if it does.
+fn page_of<'a, R: Files + AllocGlobal>(
+    rt: &R,
+    folder: Option<&'a str>,
+    name: &str,
+) -> Result<Option<Page<'a>>> {
+    match folder {
+        Some(folder) => Ok(Some(Page::new(rt, folder, name)?)),
+        None => Ok(None),
+    }
+}
+
+/// Runs the file that the words name, and returns the status.
+fn run_file<R: Files + Print + Eprint + AllocGlobal>(
+    rt: &R,
+    words: &ArgMatches<'_>,
+    shows: bool,
+) -> Result<u8> {
+    let alloc = rt.alloc();
+    let name = words.get_str("FILE").unwrap_or("");
+    let text = fs::read_to_string(rt, name).context(format_args!("cannot read {name}"))?;
+    let all = read_cases(alloc, name, text.as_str())?;
+    let cases = chosen(rt, words, all.as_slice())?;
+    let is_tap = words.get_flag("tap");
+    let out = words.get_str("out");
+    let wanted = Wanted {
+        folder: folder_of(name),
+        keeps: out.is_some(),
+        updates: words.get_flag("update"),
+    };
+    let mut page = page_of(rt, out, name)?;
+    if is_tap {
+        println!(rt; "TAP version 13\n1..{}", cases.len())?;
+    }
+    let how = How { is_tap, shows };
+    let verdicts = run_cases(rt, &wanted, how, cases.as_slice(), &mut page)?;
+    let counts = counts_in(rt, verdicts.as_slice())?;
+    if !is_tap {
+        print_counts(rt, cases.len(), &counts)?;
+    }
+    if let Some(out) = words.get_str("junit") {
+        let text = junit_text(alloc, name, &counts, cases.as_slice(), verdicts.as_slice())?;
+        fs::write(rt, out, text.as_bytes()).context(format_args!("cannot write {out}"))?;
+    }
+    if let Some(page) = page {
+        let (count, passed) = (cases.len(), counts.passed);
+        let line = format!(in alloc; "{passed} of {count} cases are as expected.")?;
+        page.write(rt, line.as_str())?;
+    }
+    Ok(status_of(&counts))
+}
+
+/// This program, as a companion of `snes`.
+#[derive(Drop)]
+struct Bench {
+    /// Whether standard error is a terminal.
+    has_terminal: bool,
+}
+
+impl Companion for Bench {
+    fn program(&self) -> Program {
+        words::program()
+    }
+
+    fn obey<R: Files + Print + Eprint + AllocGlobal>(
+        &self,
+        rt: &R,
+        _command: &str,
+        words: &ArgMatches<'_>,
+    ) -> Result<u8> {
+        run_file(rt, words, self.has_terminal)
+    }
+}
+
+fn main(rt: HostRuntime) -> ExitCode {
+    let has_terminal = rt.stderr().is_terminal();
+    run(&rt, &Bench { has_terminal })
+}
