@@ -43,7 +43,7 @@ pub enum Expected {
 }
 
 /// What is expected of a frame.
-#[derive(Clone, Copy)]
+#[derive(Drop)]
 pub struct FrameCheck {
     /// The frame.
     pub at: u32,
@@ -51,6 +51,8 @@ pub struct FrameCheck {
     pub picture: Option<Sum>,
     /// The sum of its samples.
     pub sound: Option<Sum>,
+    /// The PNG file of its picture.
+    pub png: Option<String>,
 }
 
 /// What is expected of bytes at the end of a frame.

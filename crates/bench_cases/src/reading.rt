@@ -64,14 +64,20 @@ fn sum_in(alloc: Global, fields: &Fields<'_>, key: &str) -> Result<Option<Sum>> 
 
 /// Reads what is expected of a frame.
 fn frame_check(alloc: Global, path: &str, table: &Table, frames: u32) -> Result<FrameCheck> {
-    let fields = Fields::new(path, table, &["at", "picture", "sound"])?;
+    let fields = Fields::new(path, table, &["at", "picture", "sound", "png"])?;
     let at = frame_in(&fields, frames)?;
     let picture = sum_in(alloc, &fields, "picture")?;
     let sound = sum_in(alloc, &fields, "sound")?;
-    if picture.is_none() && sound.is_none() {
-        bail!("{path}: neither picture nor sound is expected");
+    let png = fields.text(alloc, "png")?;
+    if picture.is_none() && sound.is_none() && png.is_none() {
+        bail!("{path}: none of picture, sound and png is expected");
     }
-    Ok(FrameCheck { at, picture, sound })
+    Ok(FrameCheck {
+        at,
+        picture,
+        sound,
+        png,
+    })
 }
 
 /// The address of a label, if one is named.

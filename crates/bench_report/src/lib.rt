@@ -14,4 +14,4 @@ pub use counts::{Counts, counts_of};
 pub use escape::push_escaped;
 pub use page::Page;
 pub use report::{junit_text, print_case, print_counts};
-pub use verdict::{End, Shot, Verdict};
+pub use verdict::{End, Golden, Shot, Verdict};

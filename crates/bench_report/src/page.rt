@@ -1,7 +1,7 @@
 //! The page of what failed: pictures side by side, and the sound to play.
 
 use crate::escape::push_escaped;
-use crate::verdict::{End, Shot, Verdict};
+use crate::verdict::{End, Golden, Shot, Verdict};
 use anyhow::{Context, Result, bail};
 use bench_cases::Case;
 use film_formats::{FRAME_BYTES, frame_png, marked_png, wav_header};
@@ -81,37 +81,51 @@ impl<'a> Page<'a> {
         format!(in self.alloc; "{folder}/case{number}-{name}")
     }
 
-    /// Adds a picture, and writes its file.
-    fn add_picture<R: Files>(
-        &mut self,
-        rt: &R,
-        name: &str,
-        caption: &str,
-        png: &[u8],
-    ) -> Result<()> {
-        let path = self.path(name)?;
+    /// Adds a picture of a frame, and writes its file. `what` is which of the frame's pictures it is, one word.
+    fn add_picture<R: Files>(&mut self, rt: &R, frame: u32, what: &str, png: &[u8]) -> Result<()> {
+        let (alloc, number) = (self.alloc, self.number);
+        let name = format!(in alloc; "frame{frame}-{what}.png")?;
+        let path = self.path(name.as_str())?;
         write_file(rt, path.as_str(), png)?;
-        let number = self.number;
-        let figure = format!(in self.alloc;
-            "<figure><img src=\"case{number}-{name}\" alt=\"{caption}\"><figcaption>{caption}</figcaption></figure>\n"
+        let name = name.as_str();
+        let caption = match what {
+            "came" => "as it came",
+            "difference" => "the difference, red",
+            _ => what,
+        };
+        let figure = format!(in alloc;
+            "<figure><img src=\"case{number}-{name}\" alt=\"frame {frame}, {caption}\"><figcaption>frame {frame}, {caption}</figcaption></figure>\n"
         )?;
         self.text.push_str(figure.as_str())?;
         Ok(())
     }
 
+    /// Adds a golden picture, and where the picture that came differs from it.
+    fn add_golden<R: Files>(&mut self, rt: &R, shot: &Shot, golden: &Golden) -> Result<()> {
+        let alloc = self.alloc;
+        let came = shot.came.as_slice();
+        let difference = match golden {
+            Golden::Frame(bytes) => {
+                let png = png_of(alloc, bytes.as_slice())?;
+                self.add_picture(rt, shot.frame, "expected", png.as_slice())?;
+                difference_of(alloc, came, bytes.as_slice())?
+            }
+            Golden::Png(file, turned) => {
+                self.add_picture(rt, shot.frame, "expected", file.as_slice())?;
+                difference_of(alloc, came, turned.as_slice())?
+            }
+        };
+        self.add_picture(rt, shot.frame, "difference", difference.as_slice())
+    }
+
     /// Adds the pictures of a frame.
     fn add_shot<R: Files>(&mut self, rt: &R, shot: &Shot) -> Result<()> {
-        let alloc = self.alloc;
-        let frame = shot.frame;
-        let caption = format!(in alloc; "frame {frame}, as it came")?;
-        let png = png_of(alloc, shot.came.as_slice())?;
-        self.add_picture(rt, "came.png", caption.as_str(), png.as_slice())?;
-        if let Some(expected) = &shot.expected {
-            let png = png_of(alloc, expected.as_slice())?;
-            self.add_picture(rt, "expected.png", "expected", png.as_slice())?;
-            let png = difference_of(alloc, shot.came.as_slice(), expected.as_slice())?;
-            self.add_picture(rt, "difference.png", "the difference, red", png.as_slice())?;
+        let png = png_of(self.alloc, shot.came.as_slice())?;
+        self.add_picture(rt, shot.frame, "came", png.as_slice())?;
+        if let Some(golden) = &shot.expected {
+            self.add_golden(rt, shot, golden)?;
         }
+        self.text.push_str("<br>\n")?;
         Ok(())
     }
 
@@ -143,7 +157,7 @@ impl<'a> Page<'a> {
             self.text.push_str("</li>\n")?;
         }
         self.text.push_str("</ul>\n")?;
-        if let Some(shot) = &verdict.shot {
+        for shot in verdict.shots.as_slice() {
             self.add_shot(rt, shot)?;
         }
         if !verdict.sound.is_empty() {

@@ -2,15 +2,24 @@
 
 use std::alloc::{AllocError, Global};
 
-/// The picture of the first frame at which something failed.
+/// The golden picture of a frame.
+#[derive(Drop)]
+pub enum Golden {
+    /// The frame of a golden film.
+    Frame(Vec<u8>),
+    /// The bytes of a PNG file, and the frame as it came with a bit turned in each half-pixel that differs.
+    Png(Vec<u8>, Vec<u8>),
+}
+
+/// The picture of a frame at which something failed.
 #[derive(Drop)]
 pub struct Shot {
     /// The frame.
     pub frame: u32,
     /// Its picture.
     pub came: Vec<u8>,
-    /// The golden picture, if there is a golden film.
-    pub expected: Option<Vec<u8>>,
+    /// The golden picture, if there is one.
+    pub expected: Option<Golden>,
 }
 
 /// How a case ended.
@@ -33,8 +42,9 @@ pub struct Verdict {
     pub lines: Vec<String>,
     /// What else was done, a line each.
     pub notes: Vec<String>,
-    /// The picture at the first failure, if it is kept.
-    pub shot: Option<Shot>,
+    /// The pictures that are kept: that of the first frame at which something failed, and those of frames whose golden PNG
+    /// differs.
+    pub shots: Vec<Shot>,
     /// The samples of the run, if they are kept.
     pub sound: Vec<u8>,
 }
@@ -52,7 +62,7 @@ impl Verdict {
             is_fault: false,
             lines: Vec::new(alloc),
             notes: Vec::new(alloc),
-            shot: None,
+            shots: Vec::new(alloc),
             sound: Vec::new(alloc),
         }
     }
@@ -86,11 +96,11 @@ impl Verdict {
         }
     }
 
-    /// Drops the picture and the sound.
+    /// Drops the pictures and the sound.
     pub fn forget(&mut self)
         ensures { end_of self.new ≡ end_of self.old }
     {
-        self.shot = None;
+        self.shots.clear();
         self.sound.clear();
     }
 }

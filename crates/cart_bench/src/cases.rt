@@ -4,6 +4,7 @@ use crate::golden::{Recorder, golden_of};
 use crate::inputs::{Input, input_of, name_in};
 use crate::judging::Judging;
 use crate::labels::{number_of, symbols_of};
+use crate::pictures::{GoldenPng, pngs_of};
 use crate::played::{Awaited, Played};
 use anyhow::{Context, Result, bail};
 use bench_cases::Case;
@@ -12,7 +13,7 @@ use file_shelf::FileShelf;
 use film_formats::{FRAME_BYTES, Piece, read_piece};
 use frame_sums::SumsFile;
 use snes_defs::Job;
-use std::alloc::Global;
+use std::alloc::{AllocError, Global};
 use std::fs;
 use std::io::Read;
 use std::rt::Files;
@@ -107,6 +108,7 @@ struct Needs<F: Read + Drop> {
     golden: Option<SumsFile>,
     recorder: Option<Recorder>,
     film: Option<Film<F>>,
+    pngs: Vec<GoldenPng>,
     places: Vec<u32>,
     awaited: Vec<Awaited>,
 }
@@ -137,6 +139,7 @@ fn needs_of<R: Files + Print + AllocGlobal>(
         golden,
         recorder,
         film: film_of(rt, wanted, case)?,
+        pngs: pngs_of(shelf, alloc, wanted.folder, case)?,
         places: places_of(alloc, case, symbols.as_ref())?,
         awaited: awaited_of(alloc, case, symbols.as_ref())?,
     })
@@ -155,10 +158,11 @@ fn judge_job<R: Files + Print + AllocGlobal>(
         golden,
         mut recorder,
         mut film,
+        pngs,
         places,
         mut awaited,
     } = needs_of(rt, shelf, wanted, case, job)?;
-    let mut judging = Judging::new(alloc, case, wanted.keeps, golden, places);
+    let mut judging = Judging::new(alloc, case, wanted.keeps, golden, pngs.as_slice(), places);
     let mut played = Played::new(alloc, job)?;
     for frame in 0..case.frames {
         played.next_frame(awaited.as_mut_slice())?;
@@ -219,9 +223,9 @@ pub fn judge_case<R: Files + Print + AllocGlobal>(
     rt: &R,
     wanted: &Wanted<'_>,
     case: &Case,
-) -> Result<Verdict> {
+) -> Result<Verdict, AllocError> {
     match try_case(rt, wanted, case) {
         Ok(verdict) => Ok(verdict),
-        Err(error) => Ok(Verdict::fault(rt.alloc(), format!(in rt.alloc(); "{error:#}")?)?),
+        Err(error) => Verdict::fault(rt.alloc(), format!(in rt.alloc(); "{error:#}")?),
     }
 }

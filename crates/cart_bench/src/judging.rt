@@ -3,11 +3,12 @@
 ghost use Rattle.std.specs.Prelude.{◌≡◌};
 ghost use Rattle.sha2.specs.Sha256.{sha256};
 
+use crate::pictures::GoldenPng;
 use crate::places::compare_memory;
 use crate::played::{Awaited, Emitted, Played};
 use anyhow::Result;
 use bench_cases::{Case, FrameCheck, Sum, is_heard_as, is_silent, is_sum_met};
-use bench_report::{Shot, Verdict};
+use bench_report::{Golden, Shot, Verdict};
 use frame_sums::{SumPair, SumsFile};
 use sha2::{Digest, Sha256};
 use std::alloc::Global;
@@ -42,6 +43,7 @@ pub struct Judging<'a> {
     /// Whether pictures and samples are kept for a page.
     keeps: bool,
     golden: Option<SumsFile>,
+    pngs: &'a [GoldenPng],
     /// Where each memory check looks.
     places: Vec<u32>,
     verdict: Verdict,
@@ -106,6 +108,7 @@ impl<'a> Judging<'a> {
         case: &'a Case,
         keeps: bool,
         golden: Option<SumsFile>,
+        pngs: &'a [GoldenPng],
         places: Vec<u32>,
     ) -> Judging<'a> {
         Judging {
@@ -113,6 +116,7 @@ impl<'a> Judging<'a> {
             case,
             keeps,
             golden,
+            pngs,
             places,
             verdict: Verdict::new(alloc),
             pictures: Sha256::new(),
@@ -124,20 +128,53 @@ impl<'a> Judging<'a> {
         }
     }
 
-    /// Keeps the picture of a frame at which something failed, if it is the first.
-    fn keep_shot(&mut self, frame: u32, picture: &[u8], expected: Option<&[u8]>) -> Result<()> {
-        if !self.keeps || self.verdict.shot.is_some() {
-            return Ok(());
-        }
-        let expected = match expected {
-            Some(bytes) => Some(Vec::from_slice(self.alloc, bytes)?),
+    /// Keeps the picture of a frame at which something failed. `film` is the golden picture, if there is a golden film.
+    fn keep_shot(&mut self, frame: u32, picture: &[u8], film: Option<&[u8]>) -> Result<()> {
+        let expected = match film {
+            Some(bytes) => Some(Golden::Frame(Vec::from_slice(self.alloc, bytes)?)),
             None => None,
         };
-        self.verdict.shot = Some(Shot {
+        self.verdict.shots.push(Shot {
             frame,
             came: Vec::from_slice(self.alloc, picture)?,
             expected,
-        });
+        })?;
+        Ok(())
+    }
+
+    /// Keeps the picture of a frame whose golden PNG differs. `turned` has a bit turned wherever it does.
+    fn keep_png(
+        &mut self,
+        frame: u32,
+        picture: &[u8],
+        png: &GoldenPng,
+        turned: &[u8],
+    ) -> Result<()> {
+        let file = Vec::from_slice(self.alloc, png.file.as_slice())?;
+        let turned = Vec::from_slice(self.alloc, turned)?;
+        self.verdict.shots.push(Shot {
+            frame,
+            came: Vec::from_slice(self.alloc, picture)?,
+            expected: Some(Golden::Png(file, turned)),
+        })?;
+        Ok(())
+    }
+
+    /// Compares the picture of a frame with its golden PNGs.
+    fn check_pngs(&mut self, frame: u32, picture: &[u8]) -> Result<()> {
+        let (alloc, pngs) = (self.alloc, self.pngs);
+        for png in pngs {
+            if png.at == frame {
+                let found = png.compare(alloc, picture)?;
+                if let Some(place) = found.place {
+                    self.verdict
+                        .fail(png.line_of(alloc, found.differing, place)?)?;
+                    if self.keeps {
+                        self.keep_png(frame, picture, png, found.turned())?;
+                    }
+                }
+            }
+        }
         Ok(())
     }
 
@@ -232,15 +269,18 @@ impl<'a> Judging<'a> {
         self.hear(frame, emitted.sound.as_slice())?;
         let sums_met = self.check_sums(frame, emitted)?;
         let memories_met = self.check_memories(frame, played)?;
+        let picture = emitted.picture.as_slice();
+        self.check_pngs(frame, picture)?;
         let film_met = match film {
-            Some(golden) => golden == emitted.picture.as_slice(),
+            Some(golden) => golden == picture,
             None => true,
         };
         if !film_met {
             self.other_film.note(frame);
         }
-        if !(sums_met && memories_met && film_met) {
-            self.keep_shot(frame, emitted.picture.as_slice(), film)?;
+        let is_met = sums_met && memories_met && film_met;
+        if self.keeps && !is_met && self.verdict.shots.is_empty() {
+            self.keep_shot(frame, picture, film)?;
         }
         Ok(())
     }

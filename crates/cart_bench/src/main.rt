@@ -15,6 +15,7 @@ mod inputs;
 mod judging;
 mod labels;
 mod memories;
+mod pictures;
 mod places;
 mod played;
 mod words;
