@@ -12,6 +12,7 @@ ghost use Rattle.std.specs.Prelude.{◌≡◌, nat_eq, if◌then◌else◌};
 mod cases;
 mod golden;
 mod inputs;
+mod jobs;
 mod judging;
 mod labels;
 mod memories;
@@ -23,13 +24,15 @@ mod words;
 use anyhow::{Context, Result, bail};
 use bench_cases::{Case, read_cases};
 use bench_report::{Counts, Page, Verdict, counts_of, junit_text, print_case, print_counts};
-use cases::{Wanted, judge_case};
+use cases::Wanted;
 use clap::ArgMatches;
 use companion_words::{Companion, DONE, FAULT, NO, Program, run};
+use jobs::{Crew, judge_wave};
 use std::fs;
 use std::io::IsTerminal;
 use std::process::ExitCode;
 use std::rt::Files;
+use std::thread::Threads;
 
 /// The folder of a file: empty, or with a slash at its end.
 fn folder_of<'a>(name: &'a str) -> &'a str {
@@ -37,16 +40,6 @@ fn folder_of<'a>(name: &'a str) -> &'a str {
         Some(slash) => name.get(..slash.saturating_add(1)).unwrap_or(""),
         None => "",
     }
-}
-
-/// Shows which case runs, on a line that is written over.
-fn show_progress<R: Eprint>(rt: &R, number: usize, count: usize, name: &str) {
-    let _ = eprint!(rt; "\r\x1b[K{number} of {count}: {name}");
-}
-
-/// Clears what `show_progress` showed.
-fn hide_progress<R: Eprint>(rt: &R) {
-    let _ = eprint!(rt; "\r\x1b[K");
 }
 
 /// The cases that are run: all, or that of the name that is given.
@@ -68,41 +61,29 @@ fn chosen<'a, R: AllocGlobal>(
     Ok(list)
 }
 
-/// How the report is printed.
-#[derive(Clone, Copy)]
-struct How {
-    /// Whether it is TAP.
-    is_tap: bool,
-    /// Whether standard error shows which case runs.
-    shows: bool,
-}
-
 /// Runs the cases, prints what is known of each, and adds it to the page, if there is one.
-fn run_cases<R: Files + Print + Eprint + AllocGlobal>(
+fn run_cases<R: Files + Print + Eprint + AllocGlobal + Threads + Sync>(
     rt: &R,
     wanted: &Wanted<'_>,
-    how: How,
+    crew: Crew,
+    is_tap: bool,
     cases: &[&Case],
     page: &mut Option<Page<'_>>,
 ) -> Result<Vec<Verdict>> {
     let mut verdicts = Vec::new(rt.alloc());
     let mut number = 0usize;
-    for case in cases {
-        number = number.saturating_add(1);
-        if how.shows {
-            show_progress(rt, number, cases.len(), case.name.as_str());
+    for wave in cases.chunks(crew.wave()) {
+        let judged = judge_wave(rt, wanted, crew, number, wave)?;
+        for (case, verdict) in wave.iter().zip(judged) {
+            let mut verdict = verdict;
+            number = number.saturating_add(1);
+            print_case(rt, is_tap, number, *case, &verdict)?;
+            if let Some(page) = page {
+                page.add(rt, *case, &verdict)?;
+            }
+            verdict.forget();
+            verdicts.push(verdict)?;
         }
-        let judged = judge_case(rt, wanted, *case);
-        if how.shows {
-            hide_progress(rt);
-        }
-        let mut verdict = judged?;
-        print_case(rt, how.is_tap, number, *case, &verdict)?;
-        if let Some(page) = page {
-            page.add(rt, *case, &verdict)?;
-        }
-        verdict.forget();
-        verdicts.push(verdict)?;
     }
     Ok(verdicts)
 }
@@ -142,7 +123,7 @@ fn page_of<'a, R: Files + AllocGlobal>(
 }
 
 /// Runs the file that the words name, and returns the status.
-fn run_file<R: Files + Print + Eprint + AllocGlobal>(
+fn run_file<R: Files + Print + Eprint + AllocGlobal + Threads + Sync>(
     rt: &R,
     words: &ArgMatches<'_>,
     shows: bool,
@@ -163,8 +144,9 @@ fn run_file<R: Files + Print + Eprint + AllocGlobal>(
     if is_tap {
         println!(rt; "TAP version 13\n1..{}", cases.len())?;
     }
-    let how = How { is_tap, shows };
-    let verdicts = run_cases(rt, &wanted, how, cases.as_slice(), &mut page)?;
+    let jobs = words.get_one::<u32>("jobs").unwrap_or(1);
+    let crew = Crew::new(jobs, shows, cases.len());
+    let verdicts = run_cases(rt, &wanted, crew, is_tap, cases.as_slice(), &mut page)?;
     let counts = counts_in(rt, verdicts.as_slice())?;
     if !is_tap {
         print_counts(rt, cases.len(), &counts)?;
@@ -181,29 +163,34 @@ fn run_file<R: Files + Print + Eprint + AllocGlobal>(
     Ok(status_of(&counts))
 }
 
-/// This program, as a companion of `snes`.
+/// This program, as a companion of `snes`. It runs its cases by a handle of its own, which makes threads.
 #[derive(Drop)]
-struct Bench {
+struct Bench<'a, H> {
+    rt: &'a H,
     /// Whether standard error is a terminal.
     has_terminal: bool,
 }
 
-impl Companion for Bench {
+impl<H: Files + Print + Eprint + AllocGlobal + Threads + Sync> Companion for Bench<'_, H> {
     fn program(&self) -> Program {
         words::program()
     }
 
     fn obey<R: Files + Print + Eprint + AllocGlobal>(
         &self,
-        rt: &R,
+        _rt: &R,
         _command: &str,
         words: &ArgMatches<'_>,
     ) -> Result<u8> {
-        run_file(rt, words, self.has_terminal)
+        run_file(self.rt, words, self.has_terminal)
     }
 }
 
 fn main(rt: HostRuntime) -> ExitCode {
     let has_terminal = rt.stderr().is_terminal();
-    run(&rt, &Bench { has_terminal })
+    let bench = Bench {
+        rt: &rt,
+        has_terminal,
+    };
+    run(&rt, &bench)
 }
