@@ -1,4 +1,4 @@
-//! The command lines of the companions of `snes`: `look`, `trace` and `scene`.
+//! The command lines of the companions of `snes`: `look`, `trace`, `scene` and `bench`.
 //!
 //! A companion is a table of words, and what it does with them. This crate hands the table to `clap`, reads the command
 //! line, does what it asks for, and gives one of three exit statuses, which mean the same in every companion:
