@@ -1,6 +1,6 @@
 //! How many cases ended how.
 
-ghost use Rattle.std.specs.Prelude.{◌≡◌};
+ghost use Rattle.std.specs.Prelude.{◌≡◌, count_by};
 ghost use Rattle.bench_report.specs.Ends.{is_passed, is_failed, is_fault, counts_of};
 
 use crate::verdict::End;
@@ -49,13 +49,34 @@ fn is_fault(end: End) -> bool
     }
 }
 
+/// How many cases are as expected.
+fn passed_in(ends: &[End]) -> usize
+    ensures { result ≡ count_by is_passed ends.now }
+{
+    ends.iter().filter(|end| is_passed(**end)).count()
+}
+
+/// In how many cases something is not as expected.
+fn failed_in(ends: &[End]) -> usize
+    ensures { result ≡ count_by is_failed ends.now }
+{
+    ends.iter().filter(|end| is_failed(**end)).count()
+}
+
+/// How many cases could not be run.
+fn faults_in(ends: &[End]) -> usize
+    ensures { result ≡ count_by is_fault ends.now }
+{
+    ends.iter().filter(|end| is_fault(**end)).count()
+}
+
 /// Counts the cases.
 pub fn counts_of(ends: &[End]) -> Counts
     ensures { result ≡ counts_of ends.now }
 {
     Counts {
-        passed: ends.iter().filter(|end| is_passed(**end)).count(),
-        failed: ends.iter().filter(|end| is_failed(**end)).count(),
-        faults: ends.iter().filter(|end| is_fault(**end)).count(),
+        passed: passed_in(ends),
+        failed: failed_in(ends),
+        faults: faults_in(ends),
     }
 }

@@ -17,14 +17,21 @@ fn word_of(end: End, is_tap: bool) -> &'static str {
     }
 }
 
+/// What messages say if a print fails.
+const FAULT: &str = "cannot write standard output";
+
 /// Prints a text on one line: each line end in it becomes a space.
 fn print_line<R: Print>(rt: &R, before: &str, text: &str) -> Result<()> {
-    let mut between = before;
+    print!(rt; "{before}").context(FAULT)?;
+    let mut is_first = true;
     for part in text.lines() {
-        print!(rt; "{between}{part}").context("cannot write standard output")?;
-        between = " ";
+        if !is_first {
+            print!(rt; " ").context(FAULT)?;
+        }
+        is_first = false;
+        print!(rt; "{part}").context(FAULT)?;
     }
-    println!(rt; "").context("cannot write standard output")?;
+    println!(rt; "").context(FAULT)?;
     Ok(())
 }
 
@@ -63,7 +70,7 @@ pub fn print_counts<R: Print>(rt: &R, all: usize, counts: &Counts) -> Result<()>
     let cases = if all == 1 { "case" } else { "cases" };
     println!(rt;
         "{all} {cases}: {passed} as expected, {failed} failed, {faults} could not be run"
-    ).context("cannot write standard output")?;
+    ).context(FAULT)?;
     Ok(())
 }
 

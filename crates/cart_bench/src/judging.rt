@@ -7,7 +7,7 @@ use crate::pictures::GoldenPng;
 use crate::places::compare_memory;
 use crate::played::{Awaited, Emitted, Played};
 use anyhow::Result;
-use bench_cases::{Case, FrameCheck, Sum, is_heard_as, is_silent, is_sum_met};
+use bench_cases::{Case, FrameCheck, MemoryCheck, Sum, is_heard_as, is_silent, is_sum_met};
 use bench_report::{Golden, Shot, Verdict};
 use frame_sums::{SumPair, SumsFile};
 use sha2::{Digest, Sha256};
@@ -235,17 +235,26 @@ impl<'a> Judging<'a> {
         Ok(is_same)
     }
 
+    /// Makes a check of a memory. Returns whether it is as expected.
+    fn check_memory(&mut self, played: &Played, check: &MemoryCheck, place: u32) -> Result<bool> {
+        match compare_memory(self.alloc, played, check, place)? {
+            Some(line) => {
+                self.verdict.fail(line)?;
+                Ok(false)
+            }
+            None => Ok(true),
+        }
+    }
+
     /// Makes the checks of memories of a frame. Returns whether all is as expected.
     fn check_memories(&mut self, frame: u32, played: &Played) -> Result<bool> {
         let case = self.case;
         let mut is_same = true;
-        let checks = case.memory_checks.as_slice();
-        for number in 0..checks.len().min(self.places.len()) {
-            let (check, place) = (&checks[number], self.places[number]);
-            if check.at == frame {
-                if let Some(line) = compare_memory(self.alloc, played, check, place)? {
-                    self.verdict.fail(line)?;
-                    is_same = false;
+        for (number, check) in case.memory_checks.as_slice().iter().enumerate() {
+            let place = self.places.as_slice().get(number).copied();
+            if let Some(place) = place {
+                if check.at == frame {
+                    is_same = self.check_memory(played, check, place)? && is_same;
                 }
             }
         }

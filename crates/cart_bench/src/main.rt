@@ -26,13 +26,14 @@ use bench_cases::{Case, read_cases};
 use bench_report::{Counts, Page, Verdict, counts_of, junit_text, print_case, print_counts};
 use cases::Wanted;
 use clap::ArgMatches;
-use companion_words::{Companion, DONE, FAULT, NO, Program, run};
+use companion_words::{DONE, FAULT, NO, Program, answer, command, exit_of};
 use jobs::{Crew, judge_wave};
-use std::fs;
+use standard_streams::hold_standard_streams;
 use std::io::IsTerminal;
 use std::process::ExitCode;
-use std::rt::Files;
+use std::rt::{Env, Files};
 use std::thread::Threads;
+use std::{env, fs};
 
 /// The folder of a file: empty, or with a slash at its end.
 fn folder_of<'a>(name: &'a str) -> &'a str {
@@ -163,34 +164,23 @@ fn run_file<R: Files + Print + Eprint + AllocGlobal + Threads + Sync>(
     Ok(status_of(&counts))
 }
 
-/// This program, as a companion of `snes`. It runs its cases by a handle of its own, which makes threads.
-#[derive(Drop)]
-struct Bench<'a, H> {
-    rt: &'a H,
-    /// Whether standard error is a terminal.
-    has_terminal: bool,
-}
-
-impl<H: Files + Print + Eprint + AllocGlobal + Threads + Sync> Companion for Bench<'_, H> {
-    fn program(&self) -> Program {
-        words::program()
-    }
-
-    fn obey<R: Files + Print + Eprint + AllocGlobal>(
-        &self,
-        _rt: &R,
-        _command: &str,
-        words: &ArgMatches<'_>,
-    ) -> Result<u8> {
-        run_file(self.rt, words, self.has_terminal)
+/// Reads the command line, and does what it asks for.
+fn obey<R: Files + Print + Eprint + AllocGlobal + Env + Threads + Sync>(
+    rt: &R,
+    program: &Program,
+    shows: bool,
+) -> Result<u8> {
+    let alloc = rt.alloc();
+    let given: Vec<String> = env::args(rt)?.collect(alloc)?;
+    match command(alloc, program)?.try_get_matches_from(given.as_slice()) {
+        Ok(words) => run_file(rt, &words, shows),
+        Err(error) => answer(rt, &error),
     }
 }
 
 fn main(rt: HostRuntime) -> ExitCode {
     let has_terminal = rt.stderr().is_terminal();
-    let bench = Bench {
-        rt: &rt,
-        has_terminal,
-    };
-    run(&rt, &bench)
+    let _streams = hold_standard_streams(&rt);
+    let program = words::program();
+    exit_of(&rt, &program, obey(&rt, &program, has_terminal))
 }
