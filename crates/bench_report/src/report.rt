@@ -107,7 +107,7 @@ pub fn junit_text(
     alloc: Global,
     name: &str,
     counts: &Counts,
-    cases: &[&Case],
+    cases: &[Case],
     verdicts: &[Verdict],
 ) -> Result<String, AllocError> {
     let mut text = String::from_str(
@@ -121,7 +121,7 @@ pub fn junit_text(
     )?;
     text.push_str(head.as_str())?;
     for (case, verdict) in cases.iter().zip(verdicts.iter()) {
-        push_case(alloc, &mut text, *case, verdict)?;
+        push_case(alloc, &mut text, case, verdict)?;
     }
     text.push_str("</testsuite>\n")?;
     Ok(text)

@@ -1,4 +1,7 @@
-//! Runs a case, and returns the verdict on it.
+//! Reads a case, runs it, and returns the verdict on it.
+//!
+//! What a run needs is read first (`ready_case`), so that a worker that runs it (`judge_task`) touches no file. A run that reads a
+//! golden film or makes golden sums is made at once.
 
 use crate::golden::{Recorder, golden_of};
 use crate::inputs::{Input, input_of, name_in};
@@ -102,68 +105,103 @@ fn awaited_of(alloc: Global, case: &Case, symbols: Option<&Symbols>) -> Result<V
     Ok(awaited)
 }
 
-/// What a case is compared with, and what it makes.
+/// What the run of a case needs: it is read, and no file is touched any more.
 #[derive(Drop)]
-struct Needs<F: Read + Drop> {
+pub struct Task {
+    job: Job,
     golden: Option<SumsFile>,
-    recorder: Option<Recorder>,
-    film: Option<Film<F>>,
     pngs: Vec<GoldenPng>,
     places: Vec<u32>,
     awaited: Vec<Awaited>,
 }
 
-/// Reads what a case is compared with.
-fn needs_of<R: Files + Print + AllocGlobal>(
-    rt: &R,
+/// A case that has been read.
+#[derive(Drop)]
+pub enum Ready {
+    /// It is to be run.
+    Runs(Task),
+    /// It has ended, or there is nothing to run.
+    Ended(Verdict),
+}
+
+/// Reads what the run of a case needs.
+fn task_of<R: Files + Print>(
     shelf: &mut FileShelf<'_, R>,
+    alloc: Global,
     wanted: &Wanted<'_>,
     case: &Case,
-    job: &Job,
-) -> Result<Needs<R::File>> {
-    let alloc = rt.alloc();
+    job: Job,
+) -> Result<Task> {
     let symbols = symbols_of(shelf, alloc, wanted.folder, case)?;
     let mut golden = None;
-    let mut recorder = None;
-    if let Some(path) = sums_path(alloc, wanted, case)? {
-        if wanted.updates {
-            match Recorder::new(alloc, job.region, case.frames) {
-                Ok(new) => recorder = Some(new),
-                Err(_) => bail!("no memory"),
-            }
-        } else {
+    if !wanted.updates {
+        if let Some(path) = sums_path(alloc, wanted, case)? {
             golden = Some(golden_of(shelf, alloc, path.as_str())?);
         }
     }
-    Ok(Needs {
+    Ok(Task {
+        job,
         golden,
-        recorder,
-        film: film_of(rt, wanted, case)?,
         pngs: pngs_of(shelf, alloc, wanted.folder, case)?,
         places: places_of(alloc, case, symbols.as_ref())?,
         awaited: awaited_of(alloc, case, symbols.as_ref())?,
     })
 }
 
-/// Runs a job, and judges it.
-fn judge_job<R: Files + Print + AllocGlobal>(
+/// Runs a case, and judges it.
+fn run_task(alloc: Global, keeps: bool, case: &Case, task: Task) -> Result<Verdict> {
+    let Task {
+        job,
+        golden,
+        pngs,
+        places,
+        mut awaited,
+    } = task;
+    let mut judging = Judging::new(alloc, case, keeps, golden, pngs.as_slice(), places);
+    let mut played = Played::new(alloc, &job)?;
+    for frame in 0..case.frames {
+        played.next_frame(awaited.as_mut_slice())?;
+        judging.judge_frame(frame, &played, None)?;
+    }
+    judging.end(awaited.as_slice())
+}
+
+/// What makes the golden sums of a case, if they are made.
+fn recorder_of(
+    alloc: Global,
+    wanted: &Wanted<'_>,
+    case: &Case,
+    job: &Job,
+) -> Result<Option<Recorder>> {
+    if !wanted.updates || case.sums.is_none() {
+        return Ok(None);
+    }
+    match Recorder::new(alloc, job.region, case.frames) {
+        Ok(recorder) => Ok(Some(recorder)),
+        Err(_) => bail!("no memory"),
+    }
+}
+
+/// Runs a case beside its golden film, or to make its golden sums, and judges it.
+fn run_with_files<R: Files + Print + AllocGlobal>(
     rt: &R,
     shelf: &mut FileShelf<'_, R>,
     wanted: &Wanted<'_>,
     case: &Case,
-    job: &Job,
+    task: Task,
 ) -> Result<Verdict> {
     let alloc = rt.alloc();
-    let Needs {
+    let Task {
+        job,
         golden,
-        mut recorder,
-        mut film,
         pngs,
         places,
         mut awaited,
-    } = needs_of(rt, shelf, wanted, case, job)?;
+    } = task;
+    let mut film = film_of(rt, wanted, case)?;
+    let mut recorder = recorder_of(alloc, wanted, case, &job)?;
     let mut judging = Judging::new(alloc, case, wanted.keeps, golden, pngs.as_slice(), places);
-    let mut played = Played::new(alloc, job)?;
+    let mut played = Played::new(alloc, &job)?;
     for frame in 0..case.frames {
         played.next_frame(awaited.as_mut_slice())?;
         if let Some(sums) = &mut recorder {
@@ -197,35 +235,62 @@ fn judge_refusal(alloc: Global, case: &Case, cause: &str) -> Result<Verdict> {
     Ok(verdict)
 }
 
-/// Runs a case, and judges it. What can't be read is an error.
-fn try_case<R: Files + Print + AllocGlobal>(
+/// The verdict on a case whose cartridge is accepted against what is expected.
+fn accepted(alloc: Global) -> Result<Verdict> {
+    let mut verdict = Verdict::new(alloc);
+    verdict.fail(String::from_str(alloc, "the cartridge is accepted")?)?;
+    Ok(verdict)
+}
+
+/// Reads a case. What can't be read is an error.
+fn try_ready<R: Files + Print + AllocGlobal>(
     rt: &R,
     wanted: &Wanted<'_>,
     case: &Case,
-) -> Result<Verdict> {
+) -> Result<Ready> {
     let alloc = rt.alloc();
     let mut shelf = FileShelf::new(rt);
-    match input_of(&mut shelf, alloc, wanted.folder, case)? {
-        Input::Refused(cause) => judge_refusal(alloc, case, cause.as_str()),
-        Input::Runs(job) => {
-            if case.refused.is_some() {
-                let mut verdict = Verdict::new(alloc);
-                verdict.fail(String::from_str(alloc, "the cartridge is accepted")?)?;
-                return Ok(verdict);
-            }
-            judge_job(rt, &mut shelf, wanted, case, &job)
+    let job = match input_of(&mut shelf, alloc, wanted.folder, case)? {
+        Input::Refused(cause) => {
+            return Ok(Ready::Ended(judge_refusal(alloc, case, cause.as_str())?));
+        }
+        Input::Runs(job) => job,
+    };
+    if case.refused.is_some() {
+        return Ok(Ready::Ended(accepted(alloc)?));
+    }
+    let task = task_of(&mut shelf, alloc, wanted, case, job)?;
+    if case.film.is_some() || (wanted.updates && case.sums.is_some()) {
+        let verdict = run_with_files(rt, &mut shelf, wanted, case, task)?;
+        return Ok(Ready::Ended(verdict));
+    }
+    Ok(Ready::Runs(task))
+}
+
+/// Reads a case. If it can't be read, its verdict says so.
+pub fn ready_case<R: Files + Print + AllocGlobal>(
+    rt: &R,
+    wanted: &Wanted<'_>,
+    case: &Case,
+) -> Result<Ready, AllocError> {
+    match try_ready(rt, wanted, case) {
+        Ok(ready) => Ok(ready),
+        Err(error) => {
+            let reason = format!(in rt.alloc(); "{error:#}")?;
+            Ok(Ready::Ended(Verdict::fault(rt.alloc(), reason)?))
         }
     }
 }
 
-/// Runs a case, and returns the verdict on it.
-pub fn judge_case<R: Files + Print + AllocGlobal>(
-    rt: &R,
-    wanted: &Wanted<'_>,
+/// Runs a case that has been read, and returns the verdict on it.
+pub fn judge_task(
+    alloc: Global,
+    keeps: bool,
     case: &Case,
+    task: Task,
 ) -> Result<Verdict, AllocError> {
-    match try_case(rt, wanted, case) {
+    match run_task(alloc, keeps, case, task) {
         Ok(verdict) => Ok(verdict),
-        Err(error) => Verdict::fault(rt.alloc(), format!(in rt.alloc(); "{error:#}")?),
+        Err(error) => Verdict::fault(alloc, format!(in alloc; "{error:#}")?),
     }
 }

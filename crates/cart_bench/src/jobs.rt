@@ -1,25 +1,23 @@
 //! Runs cases, several at once, and returns what is known of each in the order of the file.
 //!
-//! A worker takes the next case that none has begun. It has files and machines of its own, and shares with the others
-//! the number of that case alone. Nothing is printed of a case until all of its wave have ended.
+//! The main thread reads the files of the cases, and deals what each run needs to the workers in turn. A worker has machines of
+//! its own. It reads and writes no file, and shares nothing with another.
 
 ghost use Rattle.std.specs.Prelude.{◌<◌};
 
-use crate::cases::{Wanted, judge_case};
+use crate::cases::{Ready, Task, Wanted, judge_task, ready_case};
 use anyhow::Result;
 use bench_cases::Case;
 use bench_report::{End, Verdict};
-use std::alloc::AllocError;
+use std::alloc::{AllocError, Global};
 use std::rt::Files;
-use std::sync::atomic::{AtomicU64, Ordering};
 use std::thread;
 use std::thread::Threads;
 
 /// The most workers.
 const MOST_WORKERS: u32 = 64;
 
-/// The cases of a wave for each worker, if there are several: a report comes after each wave, and a worker may take
-/// fewer of them than another.
+/// The cases of a wave for each worker, if there are several: a report comes after each wave.
 const WAVE: usize = 8;
 
 /// Who runs the cases.
@@ -27,10 +25,17 @@ const WAVE: usize = 8;
 pub struct Crew {
     /// How many cases run at once: 1 or more.
     workers: usize,
-    /// Whether standard error shows which case is begun.
+    /// Whether standard error shows which cases run.
     shows: bool,
     /// How many cases there are in all.
     all: usize,
+}
+
+/// What the run of a case needs, and the place of the case in the wave.
+#[derive(Drop)]
+struct Dealt {
+    place: usize,
+    task: Task,
 }
 
 /// A verdict, and the place of its case in the wave.
@@ -38,16 +43,6 @@ pub struct Crew {
 struct Judged {
     place: usize,
     verdict: Verdict,
-}
-
-/// Shows which case is begun, on a line that is written over.
-fn show_progress<R: Eprint>(rt: &R, number: usize, count: usize, name: &str) {
-    let _ = eprint!(rt; "\r\x1b[K{number} of {count}: {name}");
-}
-
-/// Clears what `show_progress` showed.
-fn hide_progress<R: Eprint>(rt: &R) {
-    let _ = eprint!(rt; "\r\x1b[K");
 }
 
 impl Crew {
@@ -70,60 +65,79 @@ impl Crew {
             1
         }
     }
+
+    /// Shows which cases run, on a line that is written over. `before` is how many have ended.
+    fn show<R: Eprint>(&self, rt: &R, before: usize, wave: &[Case]) {
+        if !self.shows {
+            return;
+        }
+        let all = self.all;
+        let first = before.saturating_add(1);
+        let last = before.saturating_add(wave.len());
+        let _ = match wave {
+            [case] => eprint!(rt; "\r\x1b[K{first} of {all}: {}", case.name.as_str()),
+            _ => eprint!(rt; "\r\x1b[K{first} to {last} of {all}"),
+        };
+    }
+
+    /// Clears what `show` showed.
+    fn hide<R: Eprint>(&self, rt: &R) {
+        if self.shows {
+            let _ = eprint!(rt; "\r\x1b[K");
+        }
+    }
 }
 
-/// Judges each case of a wave that no other worker has begun. `before` is how many cases are before the wave.
-fn work<R: Files + Print + Eprint + AllocGlobal>(
-    rt: &R,
-    wanted: &Wanted<'_>,
-    crew: Crew,
-    before: usize,
-    wave: &[&Case],
-    next: &AtomicU64,
+/// Runs the cases that are dealt to a worker.
+fn work(
+    alloc: Global,
+    keeps: bool,
+    wave: &[Case],
+    hand: Vec<Dealt>,
 ) -> Result<Vec<Judged>, AllocError> {
-    let mut done = Vec::new(rt.alloc());
-    for _ in 0..wave.len() {
-        let place = next.fetch_add(1, Ordering::SeqCst) as usize;
-        let Some(case) = wave.get(place) else {
-            break;
-        };
-        if crew.shows {
-            let number = before.saturating_add(place).saturating_add(1);
-            show_progress(rt, number, crew.all, case.name.as_str());
+    let mut done = Vec::new(alloc);
+    for dealt in hand {
+        let Dealt { place, task } = dealt;
+        if let Some(case) = wave.get(place) {
+            let mut verdict = judge_task(alloc, keeps, case, task)?;
+            if verdict.end() == End::Passed {
+                verdict.forget();
+            }
+            done.push(Judged { place, verdict })?;
         }
-        let mut verdict = judge_case(rt, wanted, *case)?;
-        if verdict.end() == End::Passed {
-            verdict.forget();
-        }
-        done.push(Judged { place, verdict })?;
     }
     Ok(done)
 }
 
-/// Judges the cases of a wave. The verdicts are in the order of the cases.
-pub fn judge_wave<R: Files + Print + Eprint + AllocGlobal + Threads + Sync>(
-    rt: &R,
-    wanted: &Wanted<'_>,
-    crew: Crew,
-    before: usize,
-    wave: &[&Case],
-) -> Result<Vec<Verdict>> {
-    let alloc = rt.alloc();
-    let next = AtomicU64::new(0);
-    let workers = crew.workers.min(wave.len());
-    let lists = thread::map_indices(
-        rt,
-        alloc,
-        workers,
-        &|_| { work(rt, wanted, crew, before, wave, &next) },
-    )?;
-    if crew.shows {
-        hide_progress(rt);
+/// So many hands, in which nothing is yet.
+fn empty_hands(alloc: Global, count: usize) -> Result<Vec<Vec<Dealt>>, AllocError> {
+    let mut hands = Vec::new(alloc);
+    for _ in 0..count {
+        hands.push(Vec::new(alloc))?;
     }
-    let mut found = Vec::new(alloc);
-    for _ in wave {
-        found.push(None)?;
+    Ok(hands)
+}
+
+/// The verdicts, in the order of the cases. A case without one can't have been run.
+fn in_order(alloc: Global, found: Vec<Option<Verdict>>) -> Result<Vec<Verdict>, AllocError> {
+    let mut verdicts = Vec::new(alloc);
+    for slot in found {
+        match slot {
+            Some(verdict) => verdicts.push(verdict)?,
+            None => {
+                let reason = String::from_str(alloc, "no worker has run it")?;
+                verdicts.push(Verdict::fault(alloc, reason)?)?;
+            }
+        }
     }
+    Ok(verdicts)
+}
+
+/// Puts the verdicts of the workers to the places of their cases.
+fn put_in(
+    found: &mut Vec<Option<Verdict>>,
+    lists: Vec<Result<Vec<Judged>, AllocError>>,
+) -> Result<(), AllocError> {
     for list in lists {
         for judged in list? {
             let Judged { place, verdict } = judged;
@@ -132,15 +146,35 @@ pub fn judge_wave<R: Files + Print + Eprint + AllocGlobal + Threads + Sync>(
             }
         }
     }
-    let mut verdicts = Vec::new(alloc);
-    for slot in found {
-        match slot {
-            Some(verdict) => verdicts.push(verdict)?,
-            None => {
-                let reason = String::from_str(alloc, "no worker has judged it")?;
-                verdicts.push(Verdict::fault(alloc, reason)?)?;
+    Ok(())
+}
+
+/// Judges the cases of a wave. The verdicts are in the order of the cases. `before` is how many cases are before the wave.
+pub fn judge_wave<R: Files + Print + Eprint + AllocGlobal + Threads + Sync>(
+    rt: &R,
+    wanted: &Wanted<'_>,
+    crew: Crew,
+    before: usize,
+    wave: &[Case],
+) -> Result<Vec<Verdict>> {
+    let (alloc, keeps) = (rt.alloc(), wanted.keeps);
+    crew.show(rt, before, wave);
+    let workers = crew.workers.min(wave.len()).max(1);
+    let mut hands = empty_hands(alloc, workers)?;
+    let mut found = Vec::new(alloc);
+    for (place, case) in wave.iter().enumerate() {
+        match ready_case(rt, wanted, case)? {
+            Ready::Ended(verdict) => found.push(Some(verdict))?,
+            Ready::Runs(task) => {
+                found.push(None)?;
+                if let Some(hand) = hands.get_mut(place % workers) {
+                    hand.push(Dealt { place, task })?;
+                }
             }
         }
     }
-    Ok(verdicts)
+    let lists = thread::map_vec(rt, hands, &|hand| work(alloc, keeps, wave, hand))?;
+    crew.hide(rt);
+    put_in(&mut found, lists)?;
+    Ok(in_order(alloc, found)?)
 }

@@ -29,6 +29,7 @@ use clap::ArgMatches;
 use companion_words::{DONE, FAULT, NO, Program, answer, command, exit_of};
 use jobs::{Crew, judge_wave};
 use standard_streams::hold_standard_streams;
+use std::alloc::Global;
 use std::io::IsTerminal;
 use std::process::ExitCode;
 use std::rt::{Env, Files};
@@ -44,16 +45,14 @@ fn folder_of<'a>(name: &'a str) -> &'a str {
 }
 
 /// The cases that are run: all, or that of the name that is given.
-fn chosen<'a, R: AllocGlobal>(
-    rt: &R,
-    words: &ArgMatches<'_>,
-    cases: &'a [Case],
-) -> Result<Vec<&'a Case>> {
-    let mut list = Vec::new(rt.alloc());
-    for case in cases {
-        match words.get_str("case") {
-            Some(name) if name != case.name.as_str() => {}
-            _ => list.push(case)?,
+fn chosen(alloc: Global, name: Option<&str>, all: Vec<Case>) -> Result<Vec<Case>> {
+    let Some(name) = name else {
+        return Ok(all);
+    };
+    let mut list = Vec::new(alloc);
+    for case in all {
+        if case.name.as_str() == name {
+            list.push(case)?;
         }
     }
     if list.is_empty() {
@@ -68,7 +67,7 @@ fn run_cases<R: Files + Print + Eprint + AllocGlobal + Threads + Sync>(
     wanted: &Wanted<'_>,
     crew: Crew,
     is_tap: bool,
-    cases: &[&Case],
+    cases: &[Case],
     page: &mut Option<Page<'_>>,
 ) -> Result<Vec<Verdict>> {
     let mut verdicts = Vec::new(rt.alloc());
@@ -78,9 +77,9 @@ fn run_cases<R: Files + Print + Eprint + AllocGlobal + Threads + Sync>(
         for (case, verdict) in wave.iter().zip(judged) {
             let mut verdict = verdict;
             number = number.saturating_add(1);
-            print_case(rt, is_tap, number, *case, &verdict)?;
+            print_case(rt, is_tap, number, case, &verdict)?;
             if let Some(page) = page {
-                page.add(rt, *case, &verdict)?;
+                page.add(rt, case, &verdict)?;
             }
             verdict.forget();
             verdicts.push(verdict)?;
@@ -133,7 +132,7 @@ fn run_file<R: Files + Print + Eprint + AllocGlobal + Threads + Sync>(
     let name = words.get_str("FILE").unwrap_or("");
     let text = fs::read_to_string(rt, name).context(format_args!("cannot read {name}"))?;
     let all = read_cases(alloc, name, text.as_str())?;
-    let cases = chosen(rt, words, all.as_slice())?;
+    let cases = chosen(alloc, words.get_str("case"), all)?;
     let is_tap = words.get_flag("tap");
     let out = words.get_str("out");
     let wanted = Wanted {
