@@ -262,6 +262,19 @@ def plain_page(name, what, program, version, date):
     return page + list(ending([("snes", 1), ("snes", 5)])), whole
 
 
+def bench_page(program, version, date):
+    """The page of bench: as a plain one, with the form of a file of cases, as its page of the repository has it."""
+    page, whole = plain_page("snes-bench", "cases of cartridges, and what each is expected to do", program, version, date)
+    sections = dict(re.findall(r"^## (.+)\n((?:(?!## ).*\n?)*)", text_of("docs/use/BENCH.md"), re.M))
+    told = "".join(f"## {name}\n{sections[name]}" for name in ("A first case", "The file"))
+    for name in ("bench", "look", "trace", "snes"):
+        told = told.replace(f"./{name}", "snes" if name == "snes" else f"snes-{name}")
+    at = page.index(".SH EXIT STATUS")
+    page = [line.replace("docs/use/BENCH.md has its form", "THE FILE says in which form") for line in page[:at]] + list(page_of(told)) + page[at:]
+    # A paragraph begins with its section anyway.
+    return [line for number, line in enumerate(page) if line != ".PP" or not page[number - 1].startswith(".S")], whole
+
+
 def formats_page(version, date):
     def sections_of(name):
         return re.findall(r"^## (.+)\n((?:(?!## ).*\n?)*)", text_of(name), re.M)
@@ -301,7 +314,7 @@ def bash_values(commands):
         for option, value, meaning in it.options:
             if value:
                 few = re.search(r"\[possible values: ([^\]]+)\]", meaning)
-                kinds[option] = few[1].replace(",", "") if few else None if value in ("FILE", "OUT") else ""
+                kinds[option] = few[1].replace(",", "") if few else None if value in ("FILE", "OUT", "FOLDER") else ""
     for option, words in sorted(kinds.items()):
         if words is None:
             yield f'    {option}) compopt -o default 2>/dev/null; return ;;\n'
@@ -328,7 +341,7 @@ def quoted(text):
 def zsh_options(it):
     for option, value, meaning in it.options:
         few = re.search(r"\[possible values: ([^\]]+)\]", meaning)
-        kind = "" if not value else ":value:(" + few[1].replace(",", "") + ")" if few else f":{value.lower()}:" + ("_files" if value in ("FILE", "OUT") else " ")
+        kind = "" if not value else ":value:(" + few[1].replace(",", "") + ")" if few else f":{value.lower()}:" + ("_files" if value in ("FILE", "OUT", "FOLDER") else " ")
         yield f"'{option}[{quoted(meaning or option[2:])}]{kind}'"
 
 
@@ -359,7 +372,7 @@ def main():
     look_text, look_commands = look_page(look, version, date)
     trace_text, trace_whole = trace_page(trace, version, date)
     scene_text, scene_whole = plain_page("snes-scene", "free cartridges and the files that a run of snes needs", scene, version, date)
-    bench_text, bench_whole = plain_page("snes-bench", "cases of cartridges, and what each is expected to do", bench, version, date)
+    bench_text, bench_whole = bench_page(bench, version, date)
     write(out, "man/man1/snes.1", snes_page(version, date))
     write(out, "man/man1/snes-look.1", look_text)
     write(out, "man/man1/snes-trace.1", trace_text)

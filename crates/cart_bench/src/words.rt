@@ -6,10 +6,10 @@ use companion_words::{Kind, Program, Word, words};
 static WORDS: [Word; 7] = words![
     "" Kind::Placed, "FILE" "" "" "the cases: a TOML file (docs/use/BENCH.md has its form)";
     "" Kind::Text, "case" "NAME" "" "runs only the case of this name";
-    "" Kind::Positive, "jobs" "N" "1" "runs so many cases at once, 64 at most; what is printed is the same";
+    "" Kind::Positive, "jobs" "N" "1" "runs N cases at once, 64 at most; what is printed is the same";
     "" Kind::Flag, "tap" "" "" "prints TAP in place of lines for people";
     "" Kind::Text, "junit" "OUT" "" "writes the results as JUnit's XML too";
-    "" Kind::Text, "out" "FOLDER" "" "writes index.html there, which shows what failed: pictures, and the sound to play; it is made";
+    "" Kind::Text, "out" "FOLDER" "" "makes FOLDER, and in it index.html, which shows what failed: pictures, and the sound to play";
     "" Kind::Flag, "update" "" "" "writes the golden sums of each case in place of comparing them";
 ];
 
