@@ -23,7 +23,10 @@ pub fn golden_of<R: Files + Print>(
     alloc: Global,
     path: &str,
 ) -> Result<SumsFile> {
-    let bytes = load(shelf, alloc, path, SUMS)?;
+    let bytes = match load(shelf, alloc, path, SUMS) {
+        Ok(bytes) => bytes,
+        Err(error) => bail!("{error:#} (--update writes golden sums)"),
+    };
     read_golden(alloc, path, bytes.as_slice())
 }
 
