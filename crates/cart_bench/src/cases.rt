@@ -1,7 +1,7 @@
 //! Reads a case, runs it, and returns the verdict on it.
 //!
-//! What a run needs is read first (`ready_case`), so that a worker that runs it (`judge_task`) touches no file. A run that reads a
-//! golden film or makes golden sums is made at once.
+//! What a run needs is read first (`ready_case`), so that a worker that runs it (`judge_task`) touches no file. A run that
+//! reads a golden film or makes golden sums is made at once.
 
 use crate::golden::{Recorder, golden_of};
 use crate::inputs::{Input, input_of, name_in};

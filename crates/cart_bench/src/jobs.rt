@@ -1,7 +1,7 @@
 //! Runs cases, several at once, and returns what is known of each in the order of the file.
 //!
-//! The main thread reads the files of the cases, and deals what each run needs to the workers in turn. A worker has machines of
-//! its own. It reads and writes no file, and shares nothing with another.
+//! The main thread reads the files of the cases, and deals what each run needs to the workers in turn. A worker has
+//! machines of its own. It reads and writes no file, and shares nothing with another.
 
 ghost use Rattle.std.specs.Prelude.{◌<◌};
 
@@ -149,7 +149,7 @@ fn put_in(
     Ok(())
 }
 
-/// Judges the cases of a wave. The verdicts are in the order of the cases. `before` is how many cases are before the wave.
+/// Judges the cases of a wave. The verdicts are in the order of the cases. `before` is how many cases are before it.
 pub fn judge_wave<R: Files + Print + Eprint + AllocGlobal + Threads + Sync>(
     rt: &R,
     wanted: &Wanted<'_>,
