@@ -6,7 +6,7 @@
 # OUT gets snes_VERSION_amd64.deb and snes_VERSION_amd64.tar.gz. The programs are those that CI has built, crates/NAME/out/NAME, each
 # of the sources as they are now; else the status is 1 and nothing is made. (CI keeps no checksums: of its programs it is seen only that no
 # source is newer. tools/release.sh runs CI itself.) With --from they are FOLDER/snes_run, frame_look,
-# snes_trace and scene_cart, and FOLDER/libsnes_library.a if it is there. Nobody knows then what they were built from: VERSION ends
+# snes_trace, scene_cart and cart_bench, and FOLDER/libsnes_library.a if it is there. Nobody knows then what they were built from: VERSION ends
 # with ~unproved, and PROVED and --version say that a proof is not shown.
 #
 # The library is part of it if crates/snes_library/out/libsnes_library.a is there (`rt lib` in that crate's folder, which
@@ -42,15 +42,15 @@ export SOURCE_DATE_EPOCH=${SOURCE_DATE_EPOCH:-$(git log -1 --format=%ct 2>/dev/n
 maintainer=${MAINTAINER:-$(git log -1 --format='%an <%ae>' 2>/dev/null)}
 
 # Crates and names of what is installed.
-declare -A crates=([snes]=snes_run [snes-look]=frame_look [snes-trace]=snes_trace [snes-scene]=scene_cart)
-names=(snes snes-look snes-scene snes-trace)
+declare -A crates=([snes]=snes_run [snes-look]=frame_look [snes-trace]=snes_trace [snes-scene]=scene_cart [snes-bench]=cart_bench)
+names=(snes snes-look snes-scene snes-trace snes-bench)
 proof=
 for name in "${names[@]}"; do
   crate=${crates[$name]}
   if [ -n "$folder" ]; then
     [ -x "$folder/$crate" ] || give_up "there is no program $folder/$crate"
   else
-    is_built "$crate" || give_up "crates/$crate/out/$crate is not built, or of other sources: run .ci/run, or ./snes, ./look, ./trace and ./scene"
+    is_built "$crate" || give_up "crates/$crate/out/$crate is not built, or of other sources: run .ci/run, or ./snes, ./look, ./trace, ./scene and ./bench"
     proof+="$name: crate $crate, of $(tools/lines_below.sh "$crate" | wc -l) crates whose sources have the sum $(sum_of_sources "$top" "$(tools/lines_below.sh "$crate")")"$'\n'
   fi
 done
@@ -80,7 +80,7 @@ for name in "${names[@]:1}"; do ln -s snes "$usr/bin/$name"; done
 install -m 644 tools/with_progress.sh "$usr/lib/snes"
 printf 'snes %s\ncommit %s\n%s\n' "$version" "$commit" "$shown" >"$usr/lib/snes/about"
 
-programs=("$(program_of snes-look)" "$(program_of snes-trace)" "$(program_of snes-scene)")
+programs=("$(program_of snes-look)" "$(program_of snes-trace)" "$(program_of snes-scene)" "$(program_of snes-bench)")
 tools/package/texts.py "$usr/share" "${programs[@]}" "$version" "$(date -d "@$SOURCE_DATE_EPOCH" +%F)" ||
   give_up 'the man pages were not made'
 
@@ -175,7 +175,8 @@ Description: Super Nintendo emulator without a window, for checks and archives
  video and raw audio, byte for byte the same on every run. $told
  .
  With it come snes-look (pictures, sounds, sums), snes-trace (each step of a
- run) and snes-scene (free cartridges and the files that a run needs).
+ run), snes-bench (cases for CI) and snes-scene (free cartridges and the files
+ that a run needs).
 TEXT
 (cd "$tree" && find usr -type f -print0 | sort -z | xargs -0 md5sum) >"$tree/DEBIAN/md5sums"
 find "$tree" -type d -exec chmod 755 {} +

@@ -89,7 +89,7 @@ check 'trace: instructions of a frame' "$(run "snes-trace $files --frame 1 --ins
 # What the wrapper adds.
 dpkg -x "$package" "$work/tree" || exit 2
 version=$(sed -n '1s/^snes //p' "$work/tree/usr/lib/snes/about")
-for name in snes snes-look snes-trace snes-scene; do
+for name in snes snes-look snes-trace snes-scene snes-bench; do
   check "$name --version" "$(run $name --version)" "$name $version
 $(sed 1d "$work/tree/usr/lib/snes/about")"
 done
@@ -102,7 +102,7 @@ pages() {
   done
 }
 check 'the man pages: no warning' "$(pages)" ''
-check 'the man pages: five' "$(ls "$work"/tree/usr/share/man/man*/*.gz | wc -l)" 5
+check 'the man pages: six' "$(ls "$work"/tree/usr/share/man/man*/*.gz | wc -l)" 6
 check 'help: the text of the sources' "$(run snes --help)" "$("$top/snes" --help)"
 # Runs words in the root with a terminal as standard error, and prints what came there. A run that says how far it is ends then.
 on_terminal() {

@@ -1,10 +1,10 @@
 #!/usr/bin/env python3
 """Writes the man pages and the completions of an installed snes, of the texts by which its programs help.
 
-    tools/package/texts.py OUT LOOK TRACE SCENE VERSION DATE
+    tools/package/texts.py OUT LOOK TRACE SCENE BENCH VERSION DATE
 
-OUT is a folder, as `usr/share` of a package. LOOK, TRACE and SCENE are the programs frame_look, snes_trace and scene_cart, whose
---help is read. The help of snes is in crates/run_io/src/help.rt, the formats are in docs/use/COMMANDS.md.
+OUT is a folder, as `usr/share` of a package. LOOK, TRACE, SCENE and BENCH are the programs frame_look, snes_trace, scene_cart and
+cart_bench, whose --help is read. The help of snes is in crates/run_io/src/help.rt, the formats are in docs/use/COMMANDS.md.
 So an option that a program has is in its page and in its completions, and none is that it has not. DATE is 2026-11-29, for one.
 """
 import os
@@ -207,7 +207,7 @@ def snes_page(version, date):
             meaning = "the program was not found"
         page += [".TP", f"\\fB{number}\\fR", escaped(meaning) + "."]
     page += [".SH FILES", ".TP", "\\fI/usr/share/doc/snes/PROVED\\fR", "By which commit and toolchain the programs were made, whether they were proved, and the checksum of each file."]
-    return page + list(ending([("snes-look", 1), ("snes-scene", 1), ("snes-trace", 1), ("snes", 5)]))
+    return page + list(ending([("snes-bench", 1), ("snes-look", 1), ("snes-scene", 1), ("snes-trace", 1), ("snes", 5)]))
 
 
 def sentence(text):
@@ -262,6 +262,19 @@ def plain_page(name, what, program, version, date):
     return page + list(ending([("snes", 1), ("snes", 5)])), whole
 
 
+def bench_page(program, version, date):
+    """The page of bench: as a plain one, with the form of a file of cases, as its page of the repository has it."""
+    page, whole = plain_page("snes-bench", "cases of cartridges, and what each is expected to do", program, version, date)
+    sections = dict(re.findall(r"^## (.+)\n((?:(?!## ).*\n?)*)", text_of("docs/use/BENCH.md"), re.M))
+    told = "".join(f"## {name}\n{sections[name]}" for name in ("A first case", "The file"))
+    for name in ("bench", "look", "trace", "snes"):
+        told = told.replace(f"./{name}", "snes" if name == "snes" else f"snes-{name}")
+    at = page.index(".SH EXIT STATUS")
+    page = [line.replace("docs/use/BENCH.md has its form", "THE FILE says in which form") for line in page[:at]] + list(page_of(told)) + page[at:]
+    # A paragraph begins with its section anyway.
+    return [line for number, line in enumerate(page) if line != ".PP" or not page[number - 1].startswith(".S")], whole
+
+
 def formats_page(version, date):
     def sections_of(name):
         return re.findall(r"^## (.+)\n((?:(?!## ).*\n?)*)", text_of(name), re.M)
@@ -301,7 +314,7 @@ def bash_values(commands):
         for option, value, meaning in it.options:
             if value:
                 few = re.search(r"\[possible values: ([^\]]+)\]", meaning)
-                kinds[option] = few[1].replace(",", "") if few else None if value in ("FILE", "OUT") else ""
+                kinds[option] = few[1].replace(",", "") if few else None if value in ("FILE", "OUT", "FOLDER") else ""
     for option, words in sorted(kinds.items()):
         if words is None:
             yield f'    {option}) compopt -o default 2>/dev/null; return ;;\n'
@@ -328,7 +341,7 @@ def quoted(text):
 def zsh_options(it):
     for option, value, meaning in it.options:
         few = re.search(r"\[possible values: ([^\]]+)\]", meaning)
-        kind = "" if not value else ":value:(" + few[1].replace(",", "") + ")" if few else f":{value.lower()}:" + ("_files" if value in ("FILE", "OUT") else " ")
+        kind = "" if not value else ":value:(" + few[1].replace(",", "") + ")" if few else f":{value.lower()}:" + ("_files" if value in ("FILE", "OUT", "FOLDER") else " ")
         yield f"'{option}[{quoted(meaning or option[2:])}]{kind}'"
 
 
@@ -352,23 +365,26 @@ def write(out, name, lines):
 
 
 def main():
-    if len(sys.argv) != 7:
+    if len(sys.argv) != 8:
         sys.exit(__doc__)
-    out, look, trace, scene, version, date = sys.argv[1:]
+    out, look, trace, scene, bench, version, date = sys.argv[1:]
     commands, _, _ = snes_help()
     look_text, look_commands = look_page(look, version, date)
     trace_text, trace_whole = trace_page(trace, version, date)
     scene_text, scene_whole = plain_page("snes-scene", "free cartridges and the files that a run of snes needs", scene, version, date)
+    bench_text, bench_whole = bench_page(bench, version, date)
     write(out, "man/man1/snes.1", snes_page(version, date))
     write(out, "man/man1/snes-look.1", look_text)
     write(out, "man/man1/snes-trace.1", trace_text)
     write(out, "man/man1/snes-scene.1", scene_text)
+    write(out, "man/man1/snes-bench.1", bench_text)
     write(out, "man/man5/snes.5", formats_page(version, date))
     programs = {
         "snes": (commands, ["--help", "--version", "--quiet"]),
         "snes-look": ([it for it, _ in look_commands], ["--help", "--version"]),
         "snes-trace": ([trace_whole], ["--version"]),
         "snes-scene": ([scene_whole], ["--version"]),
+        "snes-bench": ([bench_whole], ["--version"]),
     }
     for name, (known, first) in programs.items():
         write(out, f"bash-completion/completions/{name}", bash(name, known, first))
