@@ -85,6 +85,22 @@ P
 check 'the PNG, read by another program' "$(sed -n 1p "$work/read")" 'picture 512 478 of colours'
 check 'the WAV, read by another program' "$(sed -n 2p "$work/read")" 'sound 32000 2 31947 True'
 check 'trace: instructions of a frame' "$(run "snes-trace $files --frame 1 --instructions --lines 500 | wc -l")" 500
+run "snes-look sums serial.video serial.audio >sums.csv"
+cat >"$root/tmp/try/bench.toml" <<'T'
+[[case]]
+name = "scene"
+cart = "s/scene.sfc"
+boot = "s/boot.bin"
+table = "s/table.bin"
+script = "s/script.txt"
+frames = 60
+sums = "sums.csv"
+[[case.frame]]
+at = 59
+png = "frame.png"
+T
+check 'bench: a case' "$(run snes-bench bench.toml)" 'ok scene
+1 case: 1 as expected, 0 failed, 0 could not be run'
 
 # What the wrapper adds.
 dpkg -x "$package" "$work/tree" || exit 2

@@ -363,10 +363,12 @@ impl<'a> Judging<'a> {
         let case = self.case;
         let sums = text_or_empty(&case.sums);
         let film = text_or_empty(&case.film);
-        self.tell_differing("pictures", sums, self.other_pictures)?;
-        self.tell_differing("sounds", sums, self.other_sounds)?;
+        let (pictures, sounds) = (self.other_pictures, self.other_sounds);
+        let film_pictures = self.other_film;
+        self.tell_differing("pictures", sums, pictures)?;
+        self.tell_differing("sounds", sums, sounds)?;
         self.judge_whole(sums)?;
-        self.tell_differing("pictures", film, self.other_film)?;
+        self.tell_differing("pictures", film, film_pictures)?;
         self.judge_sound()?;
         self.judge_reaches(awaited)?;
         Ok(self.verdict)
