@@ -39,7 +39,7 @@ module _ (body : List ℕ) (printed : All IsPrinted body) where
   -- no carriage return is before the line feed
   no_return : no_cr body ≡ body
   no_return =
-      cond-false _ _ _ (false_from_ne_true _ (λ both.
+      cond-false _ _ _ (false_from_ne_true (nat_lt 0 (length body) && (slice_index body (length body - 1) == 13)) (λ both.
       let parts = and_parts (nat_lt 0 (length body)) (slice_index body (length body - 1) == 13) both in
       let some : 0 < length body = ltb-true 0 (length body) parts.0 in
       let is : slice_index body (length body - 1) ≡ 13 = eqb-true (slice_index body (length body - 1)) 13 parts.1 in

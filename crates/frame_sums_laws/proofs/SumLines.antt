@@ -113,5 +113,7 @@ digit_first (d ∷ digits) rest some are =
 pub frame_not_all : (frame : ℕ) → frame < 2 ^ 64 → (picture sound : List ℕ) → pair_behind (codes "all") (body_of (decimal frame) picture sound) ≡ None
 frame_not_all frame small picture sound =
     let digits = decimal_digits frame small in
-    pair_is (codes "all") (body_of (decimal frame) picture sound)
-    ∙ read_other _ _ _ (digit_first (decimal frame) (behind_of picture sound) digits.0 digits.1)
+    let line = body_of (decimal frame) picture sound in
+    pair_is (codes "all") line
+    ∙ read_other (nat_eq (length line) 133) (bytes_eq (take 3 line) (codes "all")) (drop 3 line)
+    (digit_first (decimal frame) (behind_of picture sound) digits.0 digits.1)

@@ -1,6 +1,5 @@
 -- The text of the sums of a run, read back line by line.
 use Rattle.std.proofs.Common.{◌≡◌, ℕ, zero, suc, ◌+◌, ◌^◌, ◌<◌, ◌≤◌, min, false, nat_eq, nat_le, List, [], ◌∷◌, ◌++◌, length, map, decimal, codes, Option, Some, None, Result, Ok, refl, ap, sym, ◌∙◌, append_assoc, arith}
-use Rattle.std.specs.Prelude.{if◌then◌else◌}
 use Rattle.std.proofs.lemmas.Bool.{cond-true, cond-false, ne_eqb, le-leb}
 use Rattle.std.proofs.lemmas.List.FromFn.{length-map-range_with_len, map-range_with_len_more}
 use Rattle.sha2.specs.Sha256.{sha256}
@@ -40,8 +39,8 @@ module _ (region : Region) (video audio : List ℕ) where
   abbrev Body : ℕ → List ℕ
   Body frame = body_of (decimal frame) (Picture frame) (Samples frame)
 
-  abbrev All : List ℕ
-  All = body_of (codes "all") (sha256 video) (sha256 audio)
+  abbrev Last : List ℕ
+  Last = body_of (codes "all") (sha256 video) (sha256 audio)
 
   -- what was read after the lines of so many frames
   abbrev So_far : ℕ → SumsRead
@@ -83,15 +82,15 @@ module _ (region : Region) (video audio : List ℕ) where
       ∙ ap (λ n. sums_on (bare_lines rest) n (So_far (suc frame))) number
 
   -- the last line
-  last_bare : bare_lines (line_text (codes "all") (sha256 video) (sha256 audio)) ≡ All ∷ []
+  last_bare : bare_lines (line_text (codes "all") (sha256 video) (sha256 audio)) ≡ Last ∷ []
   last_bare =
       ap (λ l. bare_lines l) (line_is_body (codes "all") (sha256 video) (sha256 audio))
-      ∙ bare_last All (body_printed (codes "all") (sha256 video) (sha256 audio) (printed_by_test (codes "all") refl))
+      ∙ bare_last Last (body_printed (codes "all") (sha256 video) (sha256 audio) (printed_by_test (codes "all") refl))
 
-  last_read : (frames number : ℕ) → 2 ≤ number → after_sums_line number (So_far frames) All ≡ Some (record (So_far frames) { all = Some (run_all video audio) })
+  last_read : (frames number : ℕ) → 2 ≤ number → after_sums_line number (So_far frames) Last ≡ Some (record (So_far frames) { all = Some (run_all video audio) })
   last_read frames number later =
-      later_line number (So_far frames) All later
-      ∙ ap (λ all. after_all (So_far frames) all (pair_behind (decimal (length (run_pairs region video audio frames))) All)) (sums_back (codes "all") video audio)
+      later_line number (So_far frames) Last later
+      ∙ ap (λ all. after_all (So_far frames) all (pair_behind (decimal (length (run_pairs region video audio frames))) Last)) (sums_back (codes "all") video audio)
 
   -- the whole text
   pub text_back : (frames : ℕ) → frames ≤ 36000 → sums_of_file (sums_text region frames video audio) ≡ Ok (run_sums region frames video audio)
