@@ -1,12 +1,12 @@
 -- A file without a difference from a run has the sums of that run, and no other file has.
-use Rattle.std.proofs.Common.{◌≡◌, ℕ, ◌+◌, ◌<◌, ◌≤◌, List, [], length, Option, Some, None, refl, ap, sym, ◌∙◌, arith}
+use Rattle.std.proofs.Common.{◌≡◌, ℕ, List, [], Option, Some, None, refl, ap, ◌∙◌, arith}
 use Rattle.std.proofs.lemmas.List.FromFn.{length-map-range_with_len, get_or-map-range_with_len, fill_by_all}
 use Rattle.snes_defs.specs.declared.region.Region.{Region}
 use Rattle.frame_sums.specs.declared.compare.Difference.{Difference}
 use Rattle.frame_sums.specs.declared.compare.Difference.TheVariants as differs
 use Rattle.frame_sums.specs.declared.file.SumPair.{SumPair}
 use Rattle.frame_sums.specs.SumsFile.{SumsIn}
-use Rattle.frame_sums.specs.Compare.{run_pair, run_all, pair_at, IsFound}
+use Rattle.frame_sums.specs.Compare.{run_pair, run_all, IsFound}
 use Rattle.frame_sums_laws.specs.RunSums.{run_pairs, run_sums}
 
 -- where no difference is found, none can be found
@@ -31,6 +31,11 @@ module _ (region : Region) (frames : ℕ) (video audio : List ℕ) where
     },
     refl,
   )
+
+  -- and nothing else can be found
+  pub only_none : (found : Option Difference) → IsFound (run_sums region frames video audio) frames Pair (run_all video audio) found → found ≡ None
+  only_none None is = refl
+  only_none (Some difference) is = absurd (no_other (run_sums region frames video audio) frames Pair (run_all video audio) difference none_found is)
 
   abbrev sums_by : List SumPair → SumPair → SumsIn
   sums_by pairs all = record { frames = pairs; all = all }

@@ -1,5 +1,5 @@
 -- Bytes that a line may have: none of them is a line feed or a carriage return. Digits, names and sums have no others.
-use Rattle.std.proofs.Common.{ℕ, zero, suc, ◌+◌, ◌/◌, ◌%◌, ◌^◌, ◌<◌, ◌≤◌, ◌≡◌, Bool, true, ◌&&◌, nat_lt, nat_le, List, slice_index, [], ◌∷◌, ◌++◌, length, decimal, All, mod-lt, arith}
+use Rattle.std.proofs.Common.{ℕ, zero, suc, ◌+◌, ◌/◌, ◌%◌, ◌^◌, ◌<◌, ◌≤◌, ◌≡◌, Bool, true, ◌&&◌, nat_lt, nat_le, List, slice_index, [], ◌∷◌, length, decimal, All, mod-lt, arith}
 use Rattle.std.specs.Int.{bytes_high_first, byte_at}
 use Rattle.std.proofs.lemmas.Bool.{and_parts, leb-true, cond_both}
 use Rattle.std.proofs.lemmas.Fmt.{decimal_by_steps}
@@ -35,8 +35,7 @@ decimal_digits n small =
     decimal_by_steps
     (λ k ds. (0 < length ds) × All IsDigit ds)
     (λ k one. (omega arith, All-cons IsDigit (48 + k) [] (omega arith, omega (arith, one)) (All-nil IsDigit)))
-    (λ k ds many had.
-    (
+    (λ k ds many had. (
       omega (arith, length_push ds (48 + k % 10)),
       All-push IsDigit ds (48 + k % 10) had.1 (omega arith, omega arith),
     ))

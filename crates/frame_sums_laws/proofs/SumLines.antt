@@ -1,8 +1,8 @@
 -- A line of two sums, read back: behind its own name are the two sums, and it is not read as the line of all frames.
-use Rattle.std.proofs.Common.{◌≡◌, ℕ, ◌+◌, ◌*◌, ◌-◌, ◌^◌, ◌<◌, ◌≤◌, Bool, true, false, ◌&&◌, nat_eq, List, [], ◌∷◌, ◌++◌, length, take, drop, slice_index, slice_range, decimal, codes, All, Option, Some, None, refl, ap, sym, ◌∙◌, length-append, append_assoc, take_at, drop_at, arith}
+use Rattle.std.proofs.Common.{◌≡◌, ℕ, ◌+◌, ◌^◌, ◌<◌, Bool, true, false, ◌&&◌, nat_eq, List, [], ◌∷◌, ◌++◌, length, take, drop, slice_index, slice_range, decimal, codes, All, Option, Some, None, refl, ap, sym, ◌∙◌, length-append, append_assoc, take_at, drop_at, arith}
 use Rattle.std.specs.Prelude.{if◌then◌else◌}
 use Rattle.std.specs.Str.{bytes_eq}
-use Rattle.std.proofs.lemmas.Bool.{cond-true, cond-false, and_from, and_left, and_right, eq-eqb, ne_eqb}
+use Rattle.std.proofs.lemmas.Bool.{cond-true, cond-false, and_left, and_right, eq-eqb, ne_eqb}
 use Rattle.std.proofs.lemmas.List.{get_or_at}
 use Rattle.std.proofs.lemmas.List.Elements.{All-append, All-cons, All-head}
 use Rattle.std.proofs.lemmas.Slice.Eq.{bytes_eq-Decides}

@@ -1,13 +1,12 @@
 -- The text of the sums of a run, read back line by line.
-use Rattle.std.proofs.Common.{◌≡◌, ℕ, zero, suc, ◌+◌, ◌^◌, ◌<◌, ◌≤◌, min, false, nat_eq, nat_le, List, [], ◌∷◌, ◌++◌, length, map, decimal, codes, Option, Some, None, Result, Ok, refl, ap, sym, ◌∙◌, append_assoc, arith}
+use Rattle.std.proofs.Common.{◌≡◌, ℕ, zero, suc, ◌+◌, ◌<◌, ◌≤◌, min, List, [], ◌∷◌, ◌++◌, length, decimal, codes, Some, None, Ok, refl, ap, sym, ◌∙◌, append_assoc, arith}
 use Rattle.std.proofs.lemmas.Bool.{cond-true, cond-false, ne_eqb, le-leb}
 use Rattle.std.proofs.lemmas.List.FromFn.{length-map-range_with_len, map-range_with_len_more}
 use Rattle.sha2.specs.Sha256.{sha256}
 use Rattle.snes_defs.specs.declared.region.Region.{Region}
 use Rattle.snes_defs.specs.declared.ports.Side.TheVariants.{Console, Sound}
-use Rattle.frame_sums.specs.declared.file.SumPair.{SumPair}
 use Rattle.frame_sums.specs.Pieces.{piece_of}
-use Rattle.frame_sums.specs.Text.{head_text, line_text, frames_text, sums_text}
+use Rattle.frame_sums.specs.Text.{line_text, frames_text, sums_text}
 use Rattle.frame_sums.specs.SumsFile.{SumsRead, no_sums, pair_behind, after_all, after_sums, after_sums_line, sums_going_on, sums_on, sums_of_file}
 use Rattle.frame_sums.specs.Compare.{run_pair, run_all}
 use Rattle.frame_sums.proofs.TextLemmas.{frames_none, frames_next}

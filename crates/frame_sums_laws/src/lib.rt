@@ -6,7 +6,9 @@
 #![tactic(auto)]
 
 mod certified;
+mod joined;
 mod written;
 
 pub use certified::{a_certified_recording_has_these_sums, a_run_is_certified_by_its_own_sums};
+pub use joined::sums_then_check_finds_no_difference;
 pub use written::what_sums_writes_is_read;
