@@ -9,7 +9,7 @@ ghost use Rattle.frame_sums.specs.Compare.{run_pair, run_all, IsFound};
 /// writes of its video and audio: whatever is read of that text, and whatever is found, it is no difference.
 #[tactic(none)]
 pub fn sums_then_check_finds_no_difference()
-    ensures { (region : Region) (frames : ℕ) (video audio : List ℕ) (file : SumsIn) (found : Option Difference) → frames ≤ 36000
-        → sums_of_file (sums_text region frames video audio) ≡ Ok file
+    ensures { (region : Region) (frames : ℕ) (video audio : List ℕ) (file : SumsIn) (found : Option Difference)
+        → frames ≤ 36000 → sums_of_file (sums_text region frames video audio) ≡ Ok file
         → IsFound file frames (run_pair region video audio) (run_all video audio) found → found ≡ None }
 {}

@@ -1,8 +1,8 @@
 //! What `snes check` finds in a file that `snes sums` wrote.
 //!
-//! Builds on `frame_sums`, and has no code. Each law is the contract of a function that does nothing. It joins three
-//! definitions of `frame_sums`: the text of the sums, the reader of such a text, and the comparison of a file with a run.
-//! `specs/RunSums.antt` says which sums a file of a run has.
+//! Builds on `frame_sums`, and has no code. Each law is the contract of a function that does nothing. The laws join
+//! three definitions of `frame_sums`: the text of the sums, the reader of such a text, and the comparison of a file with
+//! a run. `specs/RunSums.antt` says which sums a file of a run has.
 #![tactic(auto)]
 
 mod certified;
