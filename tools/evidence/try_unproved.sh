@@ -107,6 +107,11 @@ alike 'trace' trace snes_trace "${files[@]}" --script s/script.txt --frame 2
 check 'trace: has lines' "$([ "$(wc -l <unproved/line)" -gt 1000 ] && echo many)" many
 
 check 'version: of the wrapper' "$("$top/snes" --unproved --version 2>/dev/null | head -n 1)" "$(proved snes_run --version) (not proved)"
+version=$(proved snes_run --version)
+for tool in snes look trace scene; do
+  check "version: $tool --unproved" "$("$top/$tool" --unproved --version 2>/dev/null | sed -n '1p;3p' | tr '\n' ',')" "${version/snes/$tool} (not proved),$note,"
+  check "version: $tool" "$("$top/$tool" --version | sed -n '1p;2s/ .*//p' | tr '\n' ',')" "${version/snes/$tool},commit,"
+done
 check 'version: of the program itself' "$("$top/unproved/snes-unproved" --version)" "$(proved snes_run --version) (not proved)"
 check 'help: says that it is not proved' "$("$top/snes" --unproved --help 2>&1 >/dev/null)" "snes: $note"
 list_built >built_after
