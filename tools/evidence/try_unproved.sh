@@ -5,8 +5,8 @@
 #     tools/evidence/try_unproved.sh [FOLDER]
 #
 # FOLDER has the proved programs snes_run, frame_look, snes_trace and scene_cart; without it they are those in crates/NAME/out. The
-# programs without a proof are built first if they are not there: 131 seconds of a processor for snes, 33 for scene, 135 each for
-# look and trace; by the clock two to three times that on a busy machine. It says each check; its status is 1 if one failed.
+# programs without a proof are built first if they are not there, and it says how long each took: a minute or two on an idle
+# machine. It says each check; its status is 1 if one failed.
 #
 # This shows for a few frames that a first look sees what the proved program shows. It is no proof of anything.
 top=$(cd "$(dirname "$(readlink -f "${BASH_SOURCE[0]}")")/../.." && pwd) || exit 2
