@@ -5,8 +5,8 @@
 #     tools/evidence/try_unproved.sh [FOLDER]
 #
 # FOLDER has the proved programs snes_run, frame_look, snes_trace, scene_cart and cart_bench; without it they are those in crates/NAME/out. The
-# programs without a proof are built first if they are not there: 131 seconds of a processor for snes, 33 for scene, 135 each for
-# look and trace; by the clock two to three times that on a busy machine. It says each check; its status is 1 if one failed.
+# programs without a proof are built first if they are not there, and it says how long each took: a minute or two on an idle
+# machine. It says each check; its status is 1 if one failed.
 #
 # This shows for a few frames that a first look sees what the proved program shows. It is no proof of anything.
 top=$(cd "$(dirname "$(readlink -f "${BASH_SOURCE[0]}")")/../.." && pwd) || exit 2
@@ -110,6 +110,11 @@ alike 'bench' bench cart_bench cases.toml --update --junit results.xml
 check 'bench: sums' "$(wc -l <unproved/sums.csv)" 4
 
 check 'version: of the wrapper' "$("$top/snes" --unproved --version 2>/dev/null | head -n 1)" "$(proved snes_run --version) (not proved)"
+version=$(proved snes_run --version)
+for tool in snes look trace scene bench; do
+  check "version: $tool --unproved" "$("$top/$tool" --unproved --version 2>/dev/null | sed -n '1p;3p' | tr '\n' ',')" "${version/snes/$tool} (not proved),$note,"
+  check "version: $tool" "$("$top/$tool" --version | sed -n '1p;2s/ .*//p' | tr '\n' ',')" "${version/snes/$tool},commit,"
+done
 check 'version: of the program itself' "$("$top/unproved/snes-unproved" --version)" "$(proved snes_run --version) (not proved)"
 check 'help: says that it is not proved' "$("$top/snes" --unproved --help 2>&1 >/dev/null)" "snes: $note"
 list_built >built_after

@@ -171,6 +171,10 @@ def option_tag(option, value):
     return f"\\fB{escaped(option)}\\fR" + (f" \\fI{value}\\fR" if value else "")
 
 
+def version_option():
+    return [".TP", option_tag("--version", None), "Alone: prints the version, the commit, and whether the program was proved."]
+
+
 def head(name, section, date, version, what):
     title = "User Commands" if section == 1 else "File Formats"
     return [f'.TH {name.upper()} {section} {date} "snes {version}" "{title}"', ".SH NAME", f"{escaped(name)} \\- {what}"]
@@ -201,6 +205,7 @@ def snes_page(version, date):
     for option, meaning in described.items():
         page += [".TP", option_tag(option, "FILE"), escaped(meaning) + "."]
     page += [".TP", option_tag("--quiet", None), "In front of all other words: nothing is said of how far a run is."]
+    page += version_option()
     page += [".SH EXIT STATUS"]
     for number, meaning in statuses:
         if number == "70":
@@ -231,7 +236,7 @@ def look_page(program, version, date):
         for option, value, meaning in one.options:
             if option != "--help":
                 body += [".TP", option_tag(option, value), escaped(sentence(meaning))]
-    page += [".SH DESCRIPTION", escaped(sentence(whole.what)), ".SH COMMANDS", *body]
+    page += [".SH DESCRIPTION", escaped(sentence(whole.what)), ".SH COMMANDS", *body, ".SH OPTIONS", *version_option()]
     return page + list(ending([("snes", 1), ("snes", 5)])), commands
 
 
@@ -241,6 +246,7 @@ def trace_page(program, version, date):
     page += [".SH DESCRIPTION", escaped(sentence(whole.what)), ".SH OPTIONS"]
     for option, value, meaning in whole.options:
         page += [".TP", option_tag(option, value), escaped(sentence(meaning))]
+    page += version_option()
     heads = {"A file of breakpoints": ".SH BREAKPOINTS", "--symbols": ".SH SYMBOLS", "--until": ".SH END", "--coverage": ".SH COVERAGE", "Statuses: ": ".SH EXIT STATUS"}
     for paragraph in after.split("\n\n"):
         page += [next((head for begin, head in heads.items() if paragraph.startswith(begin)), ".PP")]
@@ -258,6 +264,7 @@ def plain_page(name, what, program, version, date):
     page += [".SH OPTIONS"]
     for option, value, meaning in whole.options:
         page += [".TP", option_tag(option, value), escaped(sentence(meaning))]
+    page += version_option()
     page += [".SH EXIT STATUS", escaped(sentence(" ".join(after.removeprefix("Statuses: ").split())))]
     return page + list(ending([("snes", 1), ("snes", 5)])), whole
 

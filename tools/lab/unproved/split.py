@@ -4,10 +4,10 @@
     tools/lab/unproved/split.py MODULE.ll OUT PARTS
 
 MODULE.ll is what as_built.py wrote. The parts are OUT.0.ll and so on, PARTS of them; there are fewer files if there is too little to
-cut. Each function is compiled in one part, and declared in the others that call it. A part has copies of the functions of
-other parts that it inlines: of all that are inlined always, and of those with at most SMALL (25) instructions, which the
-compiler may inline. So a call from one part to a larger function of another is never inlined. That makes the program slower than of
-one module, by what TIMES says in CONTRIBUTING, and leaves alone what it does.
+cut. Each function that the program reaches is compiled in one part, and declared in the others that call it. A part has copies
+of the functions of other parts that it inlines: of all that are inlined always, and of those with at most SMALL (25) lines, which
+the compiler may inline. So a call from one part to a larger function of another is never inlined. That makes the program
+somewhat slower than one of a single module, and leaves alone what it does.
 """
 import os
 import re
@@ -15,6 +15,10 @@ import sys
 
 SMALL = int(os.environ.get("SMALL", "25"))
 NAME = re.compile(r'@(?:"((?:[^"])*)"|([\w.$]+))')
+
+
+def names_in(line):
+    return {it[1] or it[2] for it in NAME.finditer(line)}
 
 
 class Function:
@@ -27,7 +31,7 @@ class Function:
         number = re.search(r" #(\d+) \{$", lines[0])
         self.is_always = bool(number) and number[1] in always
         self.is_small = len(lines) <= SMALL and not (number and number[1] in never)
-        self.named = {it[1] or it[2] for line in lines for it in NAME.finditer(line)} - {self.name}
+        self.named = {it for line in lines for it in names_in(line)} - {self.name}
         self.is_local = lines[0].startswith("define internal ")
 
     def head(self, linkage):
@@ -62,6 +66,18 @@ def read(path):
     return other, values, functions
 
 
+def reached(values, functions):
+    """The functions that the program reaches: from those that are no function's own, as main."""
+    seen, waiting = set(), [name for name, one in functions.items() if not one.is_local]
+    while waiting:
+        name = waiting.pop()
+        if name in seen:
+            continue
+        seen.add(name)
+        waiting += functions[name].named if name in functions else names_in(values[name])
+    return {name: one for name, one in functions.items() if name in seen}
+
+
 def weights(functions):
     """The lines of each function with those of what is always inlined into it."""
     whole = {}
@@ -78,8 +94,11 @@ def weights(functions):
 
 
 def chunks(functions, parts):
-    """The functions of each part, by name: neighbours in the order of their names, which share much, and alike in weight."""
-    heavy = weights(functions)
+    """The functions of each part, by name: neighbours in the order of their names, which share much, and alike in weight.
+
+    The weight is a function's own lines and a tenth of those with what is inlined into it: nearer to the compiler's time than
+    either alone, since most of what is inlined folds away."""
+    heavy = {name: len(functions[name].lines) + lines // 10 for name, lines in weights(functions).items()}
     own = sorted(name for name, one in functions.items() if not one.is_always)
     total, done, cut = sum(heavy[it] for it in own), 0, [[] for _ in range(parts)]
     for name in own:
@@ -95,7 +114,7 @@ def needed(own, functions, values):
     while waiting:
         name = waiting.pop()
         one = functions.get(name)
-        names = one.named if one else {it[1] or it[2] for it in NAME.finditer(values[name])} - {name}
+        names = one.named if one else names_in(values[name]) - {name}
         for it in sorted(names):
             if it in mine or it in copies or it in mentioned:
                 continue
@@ -134,8 +153,7 @@ def value_line(line, number):
     return f"{changes[1]} = hidden global {changes[2]}" if number == 0 else f"{changes[1]} = external hidden global {type_of(changes[2])}"
 
 
-def written(number, own, other, values, functions):
-    copies, mentioned = needed(own, functions, values)
+def written(number, own, other, values, functions, shared, copies, mentioned):
     if number == 0:
         mentioned |= {it: True for it, line in values.items() if " = private global " in line}
     yield from other[:3]
@@ -146,7 +164,7 @@ def written(number, own, other, values, functions):
         if name in functions:
             yield declared(functions[name])
     for name in own:
-        yield functions[name].head("define hidden ")
+        yield functions[name].head("define hidden " if name in shared else "define internal ")
         yield from functions[name].lines[1:]
     for name in copies:
         one = functions[name]
@@ -161,9 +179,13 @@ def main():
     module, out, parts = sys.argv[1], sys.argv[2], int(sys.argv[3])
     sys.setrecursionlimit(100000)
     other, values, functions = read(module)
-    for number, own in enumerate(chunks(functions, parts)):
+    functions = reached(values, functions)
+    cut = chunks(functions, parts)
+    rest = [needed(own, functions, values) for own in cut]
+    shared = {name for _, mentioned in rest for name in mentioned} | {name for copies, _ in rest for name in copies}
+    for number, own in enumerate(cut):
         with open(f"{out}.{number}.ll", "w", encoding="utf-8") as text:
-            text.write("\n".join(written(number, own, other, values, functions)) + "\n")
+            text.write("\n".join(written(number, own, other, values, functions, shared, *rest[number])) + "\n")
 
 
 if __name__ == "__main__":
