@@ -17,8 +17,12 @@ SMALL = int(os.environ.get("SMALL", "25"))
 NAME = re.compile(r'@(?:"((?:[^"])*)"|([\w.$]+))')
 
 
+TEXT = re.compile(r'c"[^"]*"')
+
+
 def names_in(line):
-    return {it[1] or it[2] for it in NAME.finditer(line)}
+    """The names in a line. What stands in a text, which may have an @ too, is none."""
+    return {it[1] or it[2] for it in NAME.finditer(TEXT.sub("", line))}
 
 
 class Function:
