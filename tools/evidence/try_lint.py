@@ -4,13 +4,16 @@
     tools/evidence/try_lint.py [--lint PROGRAM] [--only RULE]
 
 The cartridges are made here, instruction by instruction. Of each, the findings are compared with what is expected: each rule, the label of
-the instruction that caused it, and how often. So a finding too many counts as a failure, too. The JSON is read for that; SARIF, TAP and the
-text for people are compared for one cartridge, and SARIF's shape by the names that its standard requires. The last line is `N tried, M failed`,
-and the status is 1 if M is not 0.
+the instruction that caused it, and how often. So a finding too many counts as a failure, too. The other formats, --allow, --allowed and
+--fail-on are tried with one cartridge. Of SARIF the parts that are written are checked against what its standard requires of them.
+If ca65 is there (Debian: apt-get install cc65), lint/faults.s is assembled, and each of its five faults has to be found on its line, and
+nothing else. The last line is `N tried, M failed`, and the status is 1 if M is not 0.
 """
 import argparse
 import json
 import os
+import re
+import shutil
 import subprocess
 import sys
 import tempfile
@@ -589,6 +592,94 @@ def differs(lint, folder, code, wanted):
     return "" if ran.returncode == (1 if warns else 0) else f"status {ran.returncode}"
 
 
+def call(lint, folder, *words):
+    ran = subprocess.run([lint, *words], cwd=folder, capture_output=True, timeout=300, check=False)
+    return ran.returncode, ran.stdout.decode(), ran.stderr.decode()
+
+
+def wrong_in_sarif(text):
+    """What SARIF 2.1.0 requires of the parts that are written, and they lack; empty for nothing."""
+    log = json.loads(text)
+    if log["version"] != "2.1.0" or not log["$schema"].endswith("sarif-2.1.0.json") or len(log["runs"]) != 1:
+        return "version, schema or runs"
+    run = log["runs"][0]
+    rules = [rule["id"] for rule in run["tool"]["driver"]["rules"]]
+    if run["tool"]["driver"]["name"] != "lint" or len(rules) != len(set(rules)):
+        return "the driver"
+    for result in run["results"]:
+        place = result["locations"][0]["physicalLocation"]
+        region = place.get("region", {"startLine": 1})
+        right = (
+            result["ruleId"] in rules
+            and result["level"] in ("note", "warning")
+            and result["message"]["text"]
+            and result["occurrenceCount"] >= 1
+            and re.fullmatch(r"(?:[A-Za-z0-9/._~-]|%[0-9A-F]{2})+", place["artifactLocation"]["uri"])
+            and (region.get("startLine", 0) >= 1 or region.get("byteOffset", -1) >= 0)
+            and result["locations"][0]["logicalLocations"][0]["fullyQualifiedName"]
+        )
+        if not right:
+            return f"a result: {result}"
+    return ""
+
+
+def words_and_formats(lint, folder):
+    """The other words, with a cartridge that executes COP, BRK (a note and a warning) and has a name with a space."""
+    with open(os.path.join(folder, "a b.sfc"), "wb") as file:
+        file.write(cartridge(begin().label("cop")(0x02, 0x00).label("brk")(0x00, 0x00).end()))
+    with open(os.path.join(folder, "labels"), "w", encoding="utf-8") as file:
+        file.write("al 008000 .start\nal 00FF00 .handler\n")
+    allowed = os.path.join(folder, "allowed")
+    cart = ["a b.sfc", "--frames", "2"]
+
+    def status_of(*words):
+        return call(lint, folder, *cart, *words)[0]
+
+    def with_allowed(text):
+        with open(allowed, "w", encoding="utf-8") as file:
+            file.write(text)
+        return status_of("--symbols", "labels", "--allowed", "allowed")
+
+    sarif = call(lint, folder, *cart, "--format", "sarif")
+    tap = call(lint, folder, *cart, "--format", "tap")[1]
+    people = call(lint, folder, *cart, "--symbols", "labels")[1]
+    yield "sarif", wrong_in_sarif(sarif[1]) if sarif[0] == 1 else "status"
+    yield "sarif's names", "" if '"a%20b.sfc"' in sarif[1] else sarif[1]
+    yield "tap", "" if re.search(r"^not ok \d+ - brk\n# 00", tap, re.M) and re.search(r"^ok \d+ - cop\n# 00", tap, re.M) else tap
+    yield "tap's plan", "" if re.match(r"TAP version 14\n1\.\.(\d+)\n", tap) and tap.count("ok ") == int(tap.split("1..")[1].split("\n")[0]) else tap
+    yield "people", "" if re.search(r"^a b.sfc: warning: BRK .* \[brk\]\n    008012 start\+12: once, in frame 0, line \d+, dot \d+$", people, re.M) else people
+    yield "people's last line", "" if people.endswith("a b.sfc: 1 warning, 1 note, in 2 frames\n") else people
+    yield "the same twice", "" if people == call(lint, folder, *cart, "--symbols", "labels")[1] else "differs"
+    yield "fail-on never", "" if status_of("--fail-on", "never") == 0 else "status"
+    yield "allow", "" if status_of("--allow", "brk") == 0 else "status"
+    yield "fail-on note", "" if status_of("--allow", "brk", "--fail-on", "note") == 1 else "status"
+    yield "allow two", "" if status_of("--allow", "brk,cop", "--fail-on", "note") == 0 else "status"
+    yield "no rule", "" if status_of("--allow", "brk,nothing") == 2 else "status"
+    yield "allowed by address", "" if with_allowed("# none\nbrk 008012 # here\n") == 0 else "status"
+    yield "allowed elsewhere", "" if with_allowed("brk 008014\n") == 1 else "status"
+    yield "allowed by label", "" if with_allowed("brk start\n") == 0 else "status"
+    yield "allowed by another label", "" if with_allowed("brk handler\n") == 1 else "status"
+    yield "no allowed line", "" if with_allowed("brk start more\n") == 2 else "status"
+    yield "no frames", "" if status_of("--frames", "0") == 2 else "status"
+    yield "no file", "" if call(lint, folder, "none.sfc")[0] == 2 else "status"
+
+
+def planted(lint, folder):
+    """Each fault of faults.s on its line, and nothing else."""
+    source = os.path.join(HERE, "lint", "faults.s")
+    shutil.copy(source, folder)
+    config = os.path.join(HERE, "lint", "faults.cfg")
+    subprocess.run(["ca65", "-g", "--cpu", "65816", "faults.s", "-o", "faults.o"], cwd=folder, check=True)
+    subprocess.run(["ld65", "-C", config, "faults.o", "-o", "faults.sfc", "--dbgfile", "faults.dbg"], cwd=folder, check=True)
+    with open(source, encoding="utf-8") as file:
+        lines = {int(at[1]): number for number, line in enumerate(file, 1) if (at := re.search(r"; fault (\d)", line))}
+    rules = ["wram-before-write", "product-early", "vram-outside-blank", "write-to-nothing", "pads-while-busy"]
+    wanted = {(rule, "faults.s", lines[number]) for number, rule in enumerate(rules, 1)} | {("checksum", None, None)}
+    status, text, said = call(lint, folder, "faults.sfc", "--symbols", "faults.dbg", "--frames", "30", "--format", "json")
+    got = {(one["rule"], one.get("file"), one.get("line")) for one in json.loads(text or '{"findings": []}')["findings"]}
+    return "" if status == 1 and got == wanted else f"status {status}, {said}, {sorted(got ^ wanted, key=str)}"
+
+
 def main():
     words = argparse.ArgumentParser(description=__doc__, formatter_class=argparse.RawDescriptionHelpFormatter)
     words.add_argument("--lint", default=os.path.join(TOP, "crates/cart_lint/out/cart_lint"))
@@ -605,6 +696,15 @@ def main():
                 if wrong:
                     failed += 1
                     print(f"{rule}: {name}: {wrong}")
+        if given.only is None:
+            more = list(words_and_formats(given.lint, folder))
+            if shutil.which("ca65"):
+                more.append(("five planted faults", planted(given.lint, folder)))
+            tried += len(more)
+            for name, wrong in more:
+                if wrong:
+                    failed += 1
+                    print(f"{name}: {wrong}")
     print(f"{tried} tried, {failed} failed")
     return 1 if failed else 0
 
