@@ -1,5 +1,7 @@
 //! The rules of the cartridge's file.
 
+ghost use Rattle.std.specs.Prelude.{◌≤◌};
+
 use crate::watch::at_of;
 use cart_map::place;
 use lint_rules::{
@@ -49,7 +51,9 @@ fn tell(
 }
 
 /// Returns the place of the header in the ROM.
-fn header_of(cart: &Cart) -> usize {
+fn header_of(cart: &Cart) -> usize
+    ensures { result ≤ 65472 }
+{
     match cart.map {
         MapKind::LoRom => 0x7fc0,
         MapKind::HiRom => 0xffc0,
@@ -82,8 +86,9 @@ fn sum(bytes: &[u8]) -> u64 {
 fn power_below(bytes: usize) -> usize {
     let mut power = 32_768usize;
     for _ in 0..7 {
-        if power * 2 <= bytes {
-            power *= 2;
+        let twice = power.saturating_mul(2);
+        if twice <= bytes {
+            power = twice;
         }
     }
     power
@@ -97,13 +102,14 @@ fn mirrored_sum(rom: &[u8]) -> Option<u64> {
         return None;
     }
     let (first, rest) = rom.split_at(power);
-    if rest.is_empty() {
+    let more = rest.len();
+    if more == 0 {
         return Some(sum(first));
     }
-    if power % rest.len() != 0 {
+    if power % more != 0 {
         return None;
     }
-    let times = (power / rest.len()) as u64;
+    let times = (power / more) as u64;
     Some(sum(first).saturating_add(sum(rest).saturating_mul(times)))
 }
 

@@ -97,10 +97,14 @@ fn fails(words: &ArgMatches<'_>, report: &Report<'_>) -> bool {
 /// Runs a job frame by frame, and tells how far it is if this is asked for.
 fn run_job<R: Eprint>(rt: &R, pair: &mut Pair, job: &Job, frames: u32, tells: bool) -> Result<()> {
     for frame in 0..frames {
-        pair.run_to(end_stamp_in(job.region, frame + 1))?;
+        let next = frame + 1;
+        if next > MOST_FRAMES {
+            break;
+        }
+        pair.run_to(end_stamp_in(job.region, next))?;
         if tells && frame % STRIDE == STRIDE - 1 {
             // A failed write of the progress changes nothing.
-            let _ = eprint!(rt; "\rlint: {frame} of {frames} frames");
+            let _ = eprint!(rt; "\rlint: {next} of {frames} frames");
         }
     }
     if tells {

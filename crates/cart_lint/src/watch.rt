@@ -104,7 +104,7 @@ pub fn check_vector(
     by: u32,
     now: &Now,
 ) -> Result<(), AllocError> {
-    let target = u32::from(bus.take(vector)) + 256 * u32::from(bus.take(vector + 1));
+    let target = u32::from(bus.take(vector)) + 256 * u32::from(bus.take(vector.wrapping_add(1)));
     let rule = interrupt_rule(at_of(bus.place(target)));
     tell(findings, rule, by, vector, now)
 }

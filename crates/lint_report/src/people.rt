@@ -41,6 +41,30 @@ fn detail(alloc: Global, finding: &Finding) -> Result<String, AllocError> {
     }
 }
 
+/// Adds the first line of a finding: where it is, what a console does, and the rule.
+fn push_message(
+    alloc: Global,
+    out: &mut Vec<u8>,
+    cart: &str,
+    told: &Told<'_>,
+) -> Result<(), AllocError> {
+    let rule = told.finding.rule;
+    let (severity, name) = (severity_name(rule.severity()), rule.name());
+    let head = head(alloc, cart, told)?;
+    let sentence = sentence(alloc, told)?;
+    let line = format!(in alloc; "{head}: {severity}: {sentence} [{name}]\n")?;
+    push(out, line.as_str())
+}
+
+/// Adds the second line of a finding: the instruction, what it accessed, and when.
+fn push_times(alloc: Global, out: &mut Vec<u8>, told: &Told<'_>) -> Result<(), AllocError> {
+    let place = place_text(alloc, told)?;
+    let detail = detail(alloc, &told.finding)?;
+    let times = times(alloc, &told.finding)?;
+    let line = format!(in alloc; "    {place}{detail}: {times}\n")?;
+    push(out, line.as_str())
+}
+
 /// Adds the lines of a finding.
 fn push_told(
     alloc: Global,
@@ -48,20 +72,12 @@ fn push_told(
     cart: &str,
     told: &Told<'_>,
 ) -> Result<(), AllocError> {
-    let head = head(alloc, cart, told)?;
-    let severity = severity_name(told.finding.rule.severity());
-    let sentence = sentence(alloc, told)?;
-    let name = told.finding.rule.name();
-    let first = format!(in alloc; "{head}: {severity}: {sentence} [{name}]\n")?;
-    push(out, first.as_str())?;
+    push_message(alloc, out, cart, told)?;
     if told.finding.cause.unit == Unit::File {
-        return Ok(());
+        Ok(())
+    } else {
+        push_times(alloc, out, told)
     }
-    let place = place_text(alloc, told)?;
-    let detail = detail(alloc, &told.finding)?;
-    let times = times(alloc, &told.finding)?;
-    let second = format!(in alloc; "    {place}{detail}: {times}\n")?;
-    push(out, second.as_str())
 }
 
 /// Returns a number and a noun, in the plural if need be.
@@ -73,22 +89,33 @@ fn counted(alloc: Global, count: u64, noun: &str) -> Result<String, AllocError> 
     }
 }
 
+/// Adds the last lines: how many findings there are.
+fn push_counts(alloc: Global, out: &mut Vec<u8>, report: &Report<'_>) -> Result<(), AllocError> {
+    let cart = report.cart;
+    let warnings = counted(alloc, report.count(Severity::Warning), "warning")?;
+    let notes = counted(alloc, report.count(Severity::Note), "note")?;
+    let frames = counted(alloc, report.frames, "frame")?;
+    let line = format!(in alloc; "{cart}: {warnings}, {notes}, in {frames}\n")?;
+    push(out, line.as_str())
+}
+
+/// Adds how often rules were broken at places that are not told, if they were.
+fn push_more(alloc: Global, out: &mut Vec<u8>, report: &Report<'_>) -> Result<(), AllocError> {
+    let (cart, more) = (report.cart, report.more);
+    if more == 0 {
+        return Ok(());
+    }
+    let line = format!(in alloc; "{cart}: {more} times more, at further places\n")?;
+    push(out, line.as_str())
+}
+
 /// Returns the text of a report.
 pub(crate) fn text_of(alloc: Global, report: &Report<'_>) -> Result<Vec<u8>, AllocError> {
     let mut out = Vec::new(alloc);
     for told in report.told {
         push_told(alloc, &mut out, report.cart, told)?;
     }
-    let warnings = counted(alloc, report.count(Severity::Warning), "warning")?;
-    let notes = counted(alloc, report.count(Severity::Note), "note")?;
-    let frames = counted(alloc, report.frames, "frame")?;
-    let cart = report.cart;
-    let last = format!(in alloc; "{cart}: {warnings}, {notes}, in {frames}\n")?;
-    push(&mut out, last.as_str())?;
-    let more = report.more;
-    if more > 0 {
-        let text = format!(in alloc; "{cart}: {more} times more, at further places\n")?;
-        push(&mut out, text.as_str())?;
-    }
+    push_counts(alloc, &mut out, report)?;
+    push_more(alloc, &mut out, report)?;
     Ok(out)
 }

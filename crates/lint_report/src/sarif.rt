@@ -1,6 +1,6 @@
 //! A report as a log of SARIF 2.1.0, which tools for code review show beside the lines of a change.
 
-use crate::json::set;
+use crate::json::{set, written};
 use crate::told::{Report, Told, place_text, sentence, severity_name};
 use crate::uri::uri_of;
 use lint_rules::{RULES, Rule, Unit};
@@ -30,24 +30,42 @@ fn rules(alloc: Global) -> Result<Value, AllocError> {
     Ok(Value::Array(list))
 }
 
+/// Returns the object of a line of source.
+fn line_of(alloc: Global, file: &str, line: u32) -> Result<Value, AllocError> {
+    let uri = uri_of(alloc, file)?;
+    json!(in alloc; {
+        "artifactLocation": {"uri": &uri},
+        "region": {"startLine": line}
+    })
+}
+
+/// Returns the object of a byte of the cartridge's file.
+fn byte_of(alloc: Global, cart: &str, offset: u32) -> Result<Value, AllocError> {
+    let uri = uri_of(alloc, cart)?;
+    json!(in alloc; {
+        "artifactLocation": {"uri": &uri},
+        "region": {"byteOffset": offset, "byteLength": 1}
+    })
+}
+
+/// Returns the object of the cartridge's file.
+fn whole(alloc: Global, cart: &str) -> Result<Value, AllocError> {
+    let uri = uri_of(alloc, cart)?;
+    json!(in alloc; {"artifactLocation": {"uri": &uri}})
+}
+
 /// Returns the object of a place in a file: the line of source, the byte of the cartridge, or the cartridge as a whole.
 fn physical(alloc: Global, cart: &str, told: &Told<'_>) -> Result<Value, AllocError> {
-    if let Some((file, line)) = told.source {
-        let uri = uri_of(alloc, file)?;
-        return json!(in alloc; {
-            "artifactLocation": {"uri": &uri},
-            "region": {"startLine": line}
-        });
-    }
-    let uri = uri_of(alloc, cart)?;
-    if told.finding.cause.unit == Unit::File {
-        let first = told.finding.cause.address;
-        json!(in alloc; {
-            "artifactLocation": {"uri": &uri},
-            "region": {"byteOffset": first, "byteLength": 1}
-        })
-    } else {
-        json!(in alloc; {"artifactLocation": {"uri": &uri}})
+    let cause = told.finding.cause;
+    match told.source {
+        Some((file, line)) => line_of(alloc, file, line),
+        None => {
+            if cause.unit == Unit::File {
+                byte_of(alloc, cart, cause.address)
+            } else {
+                whole(alloc, cart)
+            }
+        }
     }
 }
 
@@ -60,49 +78,60 @@ fn location(alloc: Global, cart: &str, told: &Told<'_>) -> Result<Value, AllocEr
     Ok(object)
 }
 
-/// Returns the object of a finding.
-fn result(alloc: Global, cart: &str, told: &Told<'_>) -> Result<Value, AllocError> {
+/// Returns an array of one value.
+fn one(alloc: Global, value: Value) -> Result<Value, AllocError> {
+    let mut list = Vec::new(alloc);
+    push(&mut list, value)?;
+    Ok(Value::Array(list))
+}
+
+/// Returns the object of a finding without its place.
+fn plain(alloc: Global, told: &Told<'_>) -> Result<Value, AllocError> {
     let text = sentence(alloc, told)?;
     let rule = told.finding.rule.name();
     let level = severity_name(told.finding.rule.severity());
     let count = told.finding.count;
-    let mut object = json!(in alloc; {
+    json!(in alloc; {
         "ruleId": rule,
         "level": level,
         "message": {"text": &text},
         "occurrenceCount": count
-    })?;
-    let mut places = Vec::new(alloc);
-    push(&mut places, location(alloc, cart, told)?)?;
-    set(alloc, &mut object, "locations", Value::Array(places))?;
+    })
+}
+
+/// Returns the object of a finding.
+fn result(alloc: Global, cart: &str, told: &Told<'_>) -> Result<Value, AllocError> {
+    let mut object = plain(alloc, told)?;
+    let places = one(alloc, location(alloc, cart, told)?)?;
+    set(alloc, &mut object, "locations", places)?;
     Ok(object)
 }
 
-/// Returns the object of a run.
-fn run(alloc: Global, report: &Report<'_>) -> Result<Value, AllocError> {
+/// Returns the array of the findings.
+fn results(alloc: Global, report: &Report<'_>) -> Result<Value, AllocError> {
     let mut results = Vec::new(alloc);
     for told in report.told {
         push(&mut results, result(alloc, report.cart, told)?)?;
     }
-    let mut driver = json!(in alloc; {"name": "lint"})?;
-    set(alloc, &mut driver, "rules", rules(alloc)?)?;
-    let mut tool = json!(in alloc; {})?;
-    set(alloc, &mut tool, "driver", driver)?;
-    let mut object = json!(in alloc; {})?;
-    set(alloc, &mut object, "tool", tool)?;
-    set(alloc, &mut object, "results", Value::Array(results))?;
-    Ok(object)
+    Ok(Value::Array(results))
+}
+
+/// Returns the object of the program and its rules.
+fn tool(alloc: Global) -> Result<Value, AllocError> {
+    let rules = rules(alloc)?;
+    json!(in alloc; {"driver": {"name": "lint", "rules": rules}})
+}
+
+/// Returns the object of a run.
+fn run(alloc: Global, report: &Report<'_>) -> Result<Value, AllocError> {
+    let tool = tool(alloc)?;
+    let results = results(alloc, report)?;
+    json!(in alloc; {"tool": tool, "results": results})
 }
 
 /// Returns the text of a report.
 pub(crate) fn text_of(alloc: Global, report: &Report<'_>) -> Result<Vec<u8>, AllocError> {
-    let mut runs = Vec::new(alloc);
-    push(&mut runs, run(alloc, report)?)?;
-    let mut log = json!(in alloc; {"version": "2.1.0"})?;
-    let schema = Value::try_from_str(alloc, SCHEMA)?;
-    set(alloc, &mut log, "$schema", schema)?;
-    set(alloc, &mut log, "runs", Value::Array(runs))?;
-    let mut text = log.to_vec_pretty(alloc)?;
-    text.push(b'\n')?;
-    Ok(text)
+    let run = run(alloc, report)?;
+    let log = json!(in alloc; {"$schema": SCHEMA, "version": "2.1.0", "runs": [run]})?;
+    written(alloc, &log)
 }
