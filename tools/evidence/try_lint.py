@@ -121,13 +121,15 @@ def begin():
     return Code()(0x78, 0x18, 0xFB, 0xC2, 0x18, 0xE2, 0x20, 0xA2, word(0x1FFF), 0x9A).store(0x2100, 0x80)
 
 
-def cartridge(code, nmi=0xFF00, checksum=None, size=5, reset=0x8000, map_byte=0x20, front=0):
+def cartridge(code, nmi=0xFF00, brk=0xFF00, checksum=None, size=5, reset=0x8000, map_byte=0x20, front=0):
     rom = bytearray(code.image().ljust(SIZE, b"\0"))
-    rom[0x7F00] = 0x40
+    rom[0x7F00:0x7F03] = b"\x40\x80\xFE"  # RTI; and from FF01 on an endless loop
     rom[0x7FC0:0x7FD5] = b"LINT".ljust(21)
     rom[0x7FD5], rom[0x7FD7] = map_byte, size
-    for vector in (0x7FE4, 0x7FE6, 0x7FEE, 0x7FFE):
+    for vector in (0x7FE4, 0x7FEE):
         rom[vector:vector + 2] = word(0xFF00)
+    for vector in (0x7FE6, 0x7FFE):
+        rom[vector:vector + 2] = word(brk)
     rom[0x7FEA:0x7FEC] = word(nmi)
     rom[0x7FFC:0x7FFE] = word(reset)
     rom[0x7FDC:0x7FE0] = b"\xFF\xFF\0\0"
@@ -318,12 +320,12 @@ def hdma_table(code):
 
 @case("dma-on-hdma-channel", found("dma-on-hdma-channel", "dma"))
 def dma_on_the_channel_of_hdma():
-    return begin().store(0x420C, 1).dma(0, 0x18, 0x8000, 0, 4).end()
+    return begin().vblank().store(0x420C, 1).dma(0, 0x18, 0x8000, 0, 4).store(0x420C, 0).end()
 
 
 @case("dma-on-hdma-channel", {})
 def dma_on_another_channel():
-    return hdma_table(begin()).store(0x420C, 2).dma(0, 0x18, 0x8000, 0, 4).end()
+    return hdma_table(begin()).vblank().store(0x420C, 2).dma(0, 0x18, 0x8000, 0, 4).end()
 
 
 @case("hdma-on-in-picture", found("hdma-on-in-picture"))
@@ -369,7 +371,7 @@ def write_to_work_ram_in_its_bank():
 
 @case("runs-outside-memory", {("runs-outside-memory", 0x2134): 2, ("brk", 0x2134): 1})
 def runs_in_registers():
-    return begin()(0x4C, word(0x2134))
+    return begin()(0x4C, word(0x2134)).in_file(brk=0xFF01)
 
 
 @case("runs-outside-memory", {})
@@ -433,9 +435,9 @@ def no_header():
     return begin().end().in_file(map_byte=0)
 
 
-@case("reset-vector", {("reset-vector", None): 1, ("wram-before-write", 0): None, ("brk", 0): None})
+@case("reset-vector", {("reset-vector", None): 1, ("wram-before-write", 0): 2, ("brk", 0): 1})
 def reset_to_work_ram():
-    return begin().end().in_file(reset=0)
+    return begin().end().in_file(reset=0, brk=0xFF01)
 
 
 @case("checksum", {})

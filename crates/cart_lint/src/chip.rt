@@ -43,8 +43,7 @@ impl Watch {
     /// Takes note of a read of 4212.
     fn poll(&mut self, access: &ChipAccess, now: &Now) -> Option<Rule> {
         self.polled = Some(now.moment());
-        self.polls.add(access.by, now.clocks(), access.byte);
-        if self.polls.waits_for_busy() {
+        if self.polls.add(access.by, now.clocks(), access.byte) {
             Some(Rule::WaitForBusy)
         } else {
             None

@@ -77,19 +77,22 @@ impl Polls {
         }
     }
 
-    /// Adds a read. Another instruction's, or one that comes late, is the first of another loop.
-    pub fn add(&mut self, by: u32, clock: u64, byte: u8) {
-        if by != self.by || clock.saturating_sub(self.last) > SOON {
-            *self = Polls::begin(by, clock, byte);
-        } else {
-            self.last = clock;
-            self.set |= byte;
-            self.clear |= 255 - byte;
-        }
+    /// Whether bits 7 and 6 have both been set and clear.
+    fn has_seen_all(&self) -> bool {
+        self.set / 64 == 3 && self.clear / 64 == 3
     }
 
-    /// Whether the loop waits for bit 0: bits 7 and 6 have both been set and clear, and it goes on.
-    pub fn waits_for_busy(&self) -> bool {
-        self.set / 64 == 3 && self.clear / 64 == 3
+    /// Adds a read, and returns whether the loop waits for bit 0: it goes on, though bits 7 and 6 have both been set and clear.
+    /// Another instruction's read, or one that comes late, is the first of another loop.
+    pub fn add(&mut self, by: u32, clock: u64, byte: u8) -> bool {
+        if by != self.by || clock.saturating_sub(self.last) > SOON {
+            *self = Polls::begin(by, clock, byte);
+            return false;
+        }
+        let waits = self.has_seen_all();
+        self.last = clock;
+        self.set |= byte;
+        self.clear |= 255 - byte;
+        waits
     }
 }

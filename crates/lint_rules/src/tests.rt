@@ -53,12 +53,10 @@ fn a_finding_counts_again(rt: HostRuntime) -> Result<(), std::alloc::AllocError>
 #[test]
 fn a_loop_waits_for_the_busy_bit() {
     let mut polls = Polls::begin(0x8000, 0, 0x02);
-    polls.add(0x8000, 50, 0x42);
-    assert!(!polls.waits_for_busy());
-    polls.add(0x8000, 100, 0xc2);
-    assert!(polls.waits_for_busy());
-    polls.add(0x8003, 150, 0x02);
-    assert!(!polls.waits_for_busy());
-    polls.add(0x8003, 351, 0xc2);
-    assert!(!polls.waits_for_busy());
+    assert!(!polls.add(0x8000, 50, 0x42));
+    assert!(!polls.add(0x8000, 100, 0xc2));
+    assert!(polls.add(0x8000, 300, 0x02));
+    assert!(!polls.add(0x8003, 350, 0x02));
+    assert!(!polls.add(0x8003, 551, 0xc2));
+    assert!(!polls.add(0x8003, 600, 0xc2));
 }
