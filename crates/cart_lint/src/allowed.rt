@@ -109,7 +109,9 @@ impl Allowed {
             }
             match entry_of(alloc, text)? {
                 Some(entry) => self.entries.push(entry)?,
-                None => bail!("{name} refused: line {number} is not a rule, and a place (see --help)"),
+                None => bail!(
+                    "{name} refused: line {number} is not a rule, and a place (see --help)"
+                ),
             }
         }
         Ok(())

@@ -3,8 +3,8 @@
 use crate::watch::{Now, Watch, check_vector, tell};
 use console_bus::Bus;
 use lint_rules::{
-    Asked, Findings, Moment, Rule, arithmetic_rule, channel_rule, enable_rule, latch_rule, pad_rule,
-    timer_rule,
+    Asked, Findings, Moment, Rule, arithmetic_rule, channel_rule, enable_rule, latch_rule,
+    pad_rule, timer_rule,
 };
 use std::alloc::AllocError;
 

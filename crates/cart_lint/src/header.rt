@@ -121,13 +121,19 @@ pub fn checksum_of(cart: &Cart) -> Option<u16> {
     for at in 0..4 {
         stated = stated.saturating_add(u64::from(byte(rom, header + COMPLEMENT + at)));
     }
-    let whole = mirrored_sum(rom)?.saturating_add(510).saturating_sub(stated);
+    let whole = mirrored_sum(rom)?
+        .saturating_add(510)
+        .saturating_sub(stated);
     Some((whole % 65_536) as u16)
 }
 
 /// Checks the file of a cartridge that has a header.
 pub fn check_file(findings: &mut Findings, size: usize, cart: &Cart) -> Result<(), AllocError> {
-    let front = if size % 1024 == FRONT as usize { FRONT } else { 0 };
+    let front = if size % 1024 == FRONT as usize {
+        FRONT
+    } else {
+        0
+    };
     if front > 0 {
         tell(findings, Some(Rule::CopierHeader), 0, 0)?;
     }

@@ -22,6 +22,7 @@ mod words;
 
 use allowed::Allowed;
 use anyhow::{Context, Result, bail};
+use cart_map::{Place, place};
 use clap::ArgMatches;
 use clock_ratio::end_stamp_in;
 use companion_words::{Companion, DONE, NO, Program, run};
@@ -31,7 +32,6 @@ use lint_report::{Format, Report, Told, text_of};
 use lint_rules::{Finding, Findings, Rule, Severity, Unit, complement_of};
 use names::Sources;
 use pair::Pair;
-use cart_map::{Place, place};
 use snes_defs::{Cart, Job, MOST_FRAMES};
 use std::alloc::Global;
 use std::fs;
@@ -132,7 +132,11 @@ fn told_of<'a>(
     };
     Told {
         finding: *finding,
-        label: if is_code { sources.label(address) } else { None },
+        label: if is_code {
+            sources.label(address)
+        } else {
+            None
+        },
         source: match offset {
             Some(offset) => sources.source(offset),
             None => None,
@@ -145,7 +149,8 @@ fn told_of<'a>(
 fn advice_on(rule: Rule, checksum: &str) -> &str {
     match rule {
         Rule::Checksum => checksum,
-        Rule::NoHeader => "add one at FFC0 of bank 00, with a map byte at FFD5 (20 LoROM, 21 HiROM)",
+        Rule::NoHeader =>
+            "add one at FFC0 of bank 00, with a map byte at FFD5 (20 LoROM, 21 HiROM)",
         _ => "",
     }
 }
@@ -159,7 +164,9 @@ fn checksum_text(alloc: Global, cart: Option<&Cart>) -> Result<String> {
     match right {
         Some(sum) => {
             let complement = complement_of(sum);
-            Ok(format!(in alloc; "the right complement is {complement:04X}, the checksum {sum:04X}")?)
+            Ok(format!(in alloc;
+                "the right complement is {complement:04X}, the checksum {sum:04X}"
+            )?)
         }
         None => Ok(String::new(alloc)),
     }
@@ -174,7 +181,8 @@ fn print_report<R: Print>(
 ) -> Result<u8> {
     let text = text_of(alloc, format_of(words), report)?;
     let mut out = io::writer(rt);
-    out.write_all(text.as_slice()).context("cannot write the report")?;
+    out.write_all(text.as_slice())
+        .context("cannot write the report")?;
     out.flush().context("cannot write the report")?;
     Ok(if fails(words, report) { NO } else { DONE })
 }
@@ -190,7 +198,11 @@ struct Run {
 }
 
 /// Checks the file, and runs its job.
-fn run_opened<R: Eprint + AllocGlobal>(rt: &R, words: &ArgMatches<'_>, opened: Opened) -> Result<Run> {
+fn run_opened<R: Eprint + AllocGlobal>(
+    rt: &R,
+    words: &ArgMatches<'_>,
+    opened: Opened,
+) -> Result<Run> {
     let alloc = rt.alloc();
     let mut findings = Findings::new(alloc);
     let Opened { size, job } = opened;
@@ -237,7 +249,13 @@ fn lint<R: Files + Print + Eprint + AllocGlobal>(rt: &R, words: &ArgMatches<'_>)
     let advice = checksum_text(alloc, run.cart.as_ref())?;
     let mut told = Vec::new(alloc);
     for finding in run.findings.list() {
-        let one = told_of(&sources, run.cart.as_ref(), finding, run.front, advice.as_str());
+        let one = told_of(
+            &sources,
+            run.cart.as_ref(),
+            finding,
+            run.front,
+            advice.as_str(),
+        );
         if !allowed.holds(finding, one.label) {
             told.push(one)?;
         }

@@ -2,9 +2,7 @@
 
 use crate::watch::Now;
 use audio_side::AudioSide;
-use lint_rules::{
-    Cause, Finding, Findings, Rule, Unit, key_off_rule, key_on_rule, selector_rule,
-};
+use lint_rules::{Cause, Finding, Findings, Rule, Unit, key_off_rule, key_on_rule, selector_rule};
 use spc_tables::SpcAccess;
 use std::alloc::AllocError;
 

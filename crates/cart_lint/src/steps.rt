@@ -80,9 +80,7 @@ impl Watch {
         match seen.place {
             Place::Wram(at) => self.read_wram(findings, at, seen.by(), now),
             Place::BBus(register) => self.read_b(findings, register, seen.by(), now),
-            Place::Cpu(register) => {
-                self.read_chip(findings, &chip_access(seen, register), now)
-            }
+            Place::Cpu(register) => { self.read_chip(findings, &chip_access(seen, register), now) }
             place => {
                 let rule = address_rule(Access::Read, at_of(place));
                 tell(findings, rule, seen.by(), seen.address, now)

@@ -244,8 +244,20 @@ impl Watch {
         }
         let moment = now.moment();
         let detail = 0x2100 + u32::from(register);
-        tell(findings, picture_rule(register, true, &moment), by, detail, now)?;
-        tell(findings, register_rule(now.mode7, register, &moment), by, detail, now)
+        tell(
+            findings,
+            picture_rule(register, true, &moment),
+            by,
+            detail,
+            now,
+        )?;
+        tell(
+            findings,
+            register_rule(now.mode7, register, &moment),
+            by,
+            detail,
+            now,
+        )
     }
 
     /// Sees a read of a register of the B bus, as an offset from 2100.

@@ -219,10 +219,7 @@ fn described(rule: Rule) -> Description {
             "write-to-nothing",
             "a write where nothing lies does nothing",
         ),
-        Rule::WriteToRom => warning(
-            "write-to-rom",
-            "a write to ROM does nothing",
-        ),
+        Rule::WriteToRom => warning("write-to-rom", "a write to ROM does nothing"),
         Rule::RunsOutsideMemory => warning(
             "runs-outside-memory",
             "an instruction is fetched outside ROM and RAM",
@@ -235,14 +232,8 @@ fn described(rule: Rule) -> Description {
             "brk",
             "BRK is executed: often the sign of a jump to the wrong place",
         ),
-        Rule::Cop => note(
-            "cop",
-            "COP is executed",
-        ),
-        Rule::Wdm => note(
-            "wdm",
-            "WDM is executed: a console does nothing",
-        ),
+        Rule::Cop => note("cop", "COP is executed"),
+        Rule::Wdm => note("wdm", "WDM is executed: a console does nothing"),
         Rule::Stp => warning(
             "stp",
             "STP is executed: the processor stops until it is reset",
@@ -255,18 +246,12 @@ fn described(rule: Rule) -> Description {
             "copier-header",
             "the file begins with 512 bytes of a copier, which no console sees",
         ),
-        Rule::Checksum => warning(
-            "checksum",
-            "the header's checksum or complement is wrong",
-        ),
+        Rule::Checksum => warning("checksum", "the header's checksum or complement is wrong"),
         Rule::SizeByte => warning(
             "size-byte",
             "the header's size byte does not fit the size of the file",
         ),
-        Rule::ResetVector => warning(
-            "reset-vector",
-            "the RESET vector does not lead to ROM",
-        ),
+        Rule::ResetVector => warning("reset-vector", "the RESET vector does not lead to ROM"),
         Rule::InterruptVector => warning(
             "interrupt-vector",
             "an interrupt is enabled whose vector does not lead to memory",
