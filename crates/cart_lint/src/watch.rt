@@ -1,5 +1,8 @@
 //! What the rules have to know of the console side's past, and each of its steps as they see it.
 
+ghost use Rattle.std.specs.Prelude.{◌≡◌};
+ghost use Rattle.cart_lint.specs.Times.{clocks_before, frame_at, line_at, clock_at};
+
 use cart_map::Place;
 use clock_ratio::{CONSOLE_RATE, PAL_CONSOLE_RATE};
 use console_bus::Bus;
@@ -39,7 +42,9 @@ pub struct Now {
 
 impl Now {
     /// Returns the master clocks since the start of the run.
-    pub fn clocks(&self) -> u64 {
+    pub fn clocks(&self) -> u64
+        ensures { result ≡ clocks_before self.now.region self.now.stamp }
+    {
         match self.region {
             Region::Ntsc => self.stamp / CONSOLE_RATE,
             Region::Pal => self.stamp / PAL_CONSOLE_RATE,
@@ -47,19 +52,29 @@ impl Now {
     }
 
     /// Returns the moment.
-    pub fn moment(&self) -> Moment {
+    pub fn moment(&self) -> Moment
+        ensures frame { result.frame ≡ frame_at self.now.region self.now.stamp }
+        ensures line { result.line ≡ line_at self.now.region self.now.stamp }
+        ensures clock { result.clock ≡ clock_at self.now.region self.now.stamp }
+        ensures blank { (result.overscan ≡ self.now.overscan) × (result.forced ≡ self.now.forced) }
+    {
         let clocks = self.clocks();
         let lines = clocks / LINE;
-        let (frame, line) = match self.region {
-            Region::Ntsc => (lines / LINES, lines % LINES),
-            Region::Pal => (lines / PAL_LINES, lines % PAL_LINES),
-        };
-        Moment {
-            frame,
-            line,
-            clock: clocks % LINE,
-            overscan: self.overscan,
-            forced: self.forced,
+        match self.region {
+            Region::Ntsc => Moment {
+                frame: lines / LINES,
+                line: lines % LINES,
+                clock: clocks % LINE,
+                overscan: self.overscan,
+                forced: self.forced,
+            },
+            Region::Pal => Moment {
+                frame: lines / PAL_LINES,
+                line: lines % PAL_LINES,
+                clock: clocks % LINE,
+                overscan: self.overscan,
+                forced: self.forced,
+            },
         }
     }
 }

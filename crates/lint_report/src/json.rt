@@ -41,12 +41,7 @@ fn plain(alloc: Global, finding: &Finding, text: &str) -> Result<Value, AllocErr
 }
 
 /// Adds a text to an object.
-fn set_text(
-    alloc: Global,
-    object: &mut Value,
-    name: &str,
-    text: &str,
-) -> Result<(), AllocError> {
+fn set_text(alloc: Global, object: &mut Value, name: &str, text: &str) -> Result<(), AllocError> {
     let text = Value::try_from_str(alloc, text)?;
     set(alloc, object, name, text)
 }

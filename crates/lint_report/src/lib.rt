@@ -11,9 +11,8 @@ mod tap;
 mod told;
 mod uri;
 
-pub use told::{Format, Report, Told};
-
 use std::alloc::{AllocError, Global};
+pub use told::{Format, Report, Told};
 
 /// Returns the text of a report in a format.
 pub fn text_of(alloc: Global, format: Format, report: &Report<'_>) -> Result<Vec<u8>, AllocError> {

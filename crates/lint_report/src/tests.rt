@@ -48,7 +48,8 @@ fn people_get_lines(rt: HostRuntime) -> Result<(), AllocError> {
         more: 0,
     };
     let text = text_of(rt.alloc(), Format::People, &report)?;
-    let wanted = "a b.s:12: warning: BRK is executed: often the sign of a jump to the wrong place [brk]
+    let wanted =
+        "a b.s:12: warning: BRK is executed: often the sign of a jump to the wrong place [brk]
     008010 main+04: once, in frame 3, line 10, dot 50
 game.sfc: warning: the header's checksum or complement is wrong: 1234 and EDCB are right [checksum]
 game.sfc: 2 warnings, 0 notes, in 60 frames
@@ -82,7 +83,10 @@ fn machines_get_the_same(rt: HostRuntime) -> Result<(), AllocError> {
     assert!(has(sarif.as_slice(), "\"uri\": \"a%20b.s\""));
     assert!(has(sarif.as_slice(), "\"byteOffset\": 32732"));
     let tap = text_of(alloc, Format::Tap, &report)?;
-    assert!(has(tap.as_slice(), "not ok 20 - brk\n# a b.s:12: 008010 main+04"));
+    assert!(has(
+        tap.as_slice(),
+        "not ok 20 - brk\n# a b.s:12: 008010 main+04"
+    ));
     assert!(has(tap.as_slice(), "\nok 21 - cop\n"));
     Ok(())
 }
