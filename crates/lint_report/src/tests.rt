@@ -54,7 +54,7 @@ fn people_get_lines(rt: HostRuntime) -> Result<(), AllocError> {
 game.sfc: warning: the header's checksum or complement is wrong: 1234 and EDCB are right [checksum]
 game.sfc: 2 warnings, 0 notes, in 60 frames
 ";
-    assert_eq!(text.as_slice(), wanted.as_bytes());
+    assert_eq!(rt; text.as_slice(), wanted.as_bytes());
     Ok(())
 }
 
@@ -77,16 +77,16 @@ fn machines_get_the_same(rt: HostRuntime) -> Result<(), AllocError> {
         more: 0,
     };
     let json = text_of(alloc, Format::Json, &report)?;
-    assert!(has(json.as_slice(), "\"address\": \"008010\""));
-    assert!(has(json.as_slice(), "\"line\": 12"));
+    assert!(rt; has(json.as_slice(), "\"address\": \"008010\""));
+    assert!(rt; has(json.as_slice(), "\"line\": 12"));
     let sarif = text_of(alloc, Format::Sarif, &report)?;
-    assert!(has(sarif.as_slice(), "\"uri\": \"a%20b.s\""));
-    assert!(has(sarif.as_slice(), "\"byteOffset\": 32732"));
+    assert!(rt; has(sarif.as_slice(), "\"uri\": \"a%20b.s\""));
+    assert!(rt; has(sarif.as_slice(), "\"byteOffset\": 32732"));
     let tap = text_of(alloc, Format::Tap, &report)?;
-    assert!(has(
+    assert!(rt; has(
         tap.as_slice(),
         "not ok 20 - brk\n# a b.s:12: 008010 main+04"
     ));
-    assert!(has(tap.as_slice(), "\nok 21 - cop\n"));
+    assert!(rt; has(tap.as_slice(), "\nok 21 - cop\n"));
     Ok(())
 }
