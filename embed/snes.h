@@ -1,6 +1,7 @@
 /* The console as a library: one call, proved; see docs/use/EMBEDDING.md for what is proved, and what a caller has to keep.
  *
- * Link libsnes_library.a with heap.c, which stands beside this header. */
+ * In the repository, link libsnes_library.a with heap.c, which stands beside this header. Of the installed package, both are
+ * in libbogtrun-snes: pkg-config --cflags --libs bogtrun-snes. */
 #ifndef SNES_H
 #define SNES_H
 

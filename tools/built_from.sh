@@ -8,6 +8,35 @@ give_up() {
   exit 70
 }
 
+# The version that the sources have, as 1.1.
+version_of_tree() { sed -n 's/^const VERSION: &str = "snes \([0-9.]*\)\\n";$/\1/p' "$top/crates/run_io/src/help.rt"; }
+
+# The commit of the sources, and whether they differ from it. An unpacked archive has none.
+commit_of_tree() {
+  local commit=
+  [ ! -e "$top/.git" ] || commit=$(git -C "$top" rev-parse HEAD 2>/dev/null)
+  [ -z "$commit" ] || [ -z "$(git -C "$top" status --porcelain --untracked-files=no 2>/dev/null)" ] || commit="$commit, with changes"
+  echo "${commit:-not known}"
+}
+
+# What --version of a tool says behind its first line: the commit, whether the program is proved, and the toolchain on the path.
+tell_sources() {
+  echo "commit $(commit_of_tree)"
+  echo "$1"
+  { command -v rt >/dev/null && rt version; } || echo 'rt is not on the path'
+}
+
+# Whether the program of a crate is proved, as --version says it. It builds nothing.
+proof_of() {
+  if is_built "$1"; then
+    echo 'proved: built by CI of the sources as they are'
+  elif [ -x "$top/crates/$1/out/$1" ]; then
+    echo 'proved, but of other sources: the next call proves and builds it again'
+  else
+    echo 'not built: the first call proves and builds it'
+  fi
+}
+
 # The folders of the crates of such lines of crates.txt, from the top of the repository.
 folders_of() { sed 's/[ :].*//; s,^,crates/,'; }
 

@@ -6,11 +6,11 @@
 # OUT gets snes_VERSION_amd64.deb and snes_VERSION_amd64.tar.gz. The programs are those that CI has built, crates/NAME/out/NAME, each
 # of the sources as they are now; else the status is 1 and nothing is made. (CI keeps no checksums: of its programs it is seen only that no
 # source is newer. tools/release.sh runs CI itself.) With --from they are FOLDER/snes_run, frame_look,
-# snes_trace and scene_cart, and FOLDER/libsnes_library.a if it is there. Nobody knows then what they were built from: VERSION ends
+# snes_trace, scene_cart and cart_bench, and FOLDER/libsnes_library.a if it is there. Nobody knows then what they were built from: VERSION ends
 # with ~unproved, and PROVED and --version say that a proof is not shown.
 #
 # The library is part of it if crates/snes_library/out/libsnes_library.a is there (`rt lib` in that crate's folder, which
-# takes long), and is left out with a message if not. The package depends on the C library alone, at least of the version that
+# takes long), and is left out with a message if not. Installed, its files have names of this project (DECISIONS, "The package"). The package depends on the C library alone, at least of the version that
 # the programs ask for. Man pages and completions are made by tools/package/texts.py of the programs' own help.
 #
 # Two calls with the same programs and the same SOURCE_DATE_EPOCH (the time of the commit, if it is not set) make the same bytes.
@@ -33,28 +33,31 @@ mkdir -p "$1" && out=$(readlink -f "$1") || exit 2
 cd "$top" || exit 2
 umask 022
 export LC_ALL=C TZ=UTC
-version=$(sed -n 's/^const VERSION: &str = "snes \([0-9.]*\)\\n";$/\1/p' crates/run_io/src/help.rt)
+version=$(version_of_tree)
 [ -n "$version" ] || give_up 'no version in crates/run_io/src/help.rt'
 full=$version
-commit=$(git rev-parse HEAD 2>/dev/null) || commit='not known'
-[ -z "$(git status --porcelain --untracked-files=no 2>/dev/null)" ] || commit="$commit, with changes"
+commit=$(commit_of_tree)
 export SOURCE_DATE_EPOCH=${SOURCE_DATE_EPOCH:-$(git log -1 --format=%ct 2>/dev/null || echo 0)}
 maintainer=${MAINTAINER:-$(git log -1 --format='%an <%ae>' 2>/dev/null)}
 
 # Crates and names of what is installed.
-declare -A crates=([snes]=snes_run [snes-look]=frame_look [snes-trace]=snes_trace [snes-scene]=scene_cart)
-names=(snes snes-look snes-scene snes-trace)
+declare -A crates=([snes]=snes_run [snes-look]=frame_look [snes-trace]=snes_trace [snes-scene]=scene_cart [snes-bench]=cart_bench)
+names=(snes snes-look snes-scene snes-trace snes-bench)
 proof=
 for name in "${names[@]}"; do
   crate=${crates[$name]}
   if [ -n "$folder" ]; then
     [ -x "$folder/$crate" ] || give_up "there is no program $folder/$crate"
   else
-    is_built "$crate" || give_up "crates/$crate/out/$crate is not built, or of other sources: run .ci/run, or ./snes, ./look, ./trace and ./scene"
+    is_built "$crate" || give_up "crates/$crate/out/$crate is not built, or of other sources: run .ci/run, or ./snes, ./look, ./trace, ./scene and ./bench"
     proof+="$name: crate $crate, of $(tools/lines_below.sh "$crate" | wc -l) crates whose sources have the sum $(sum_of_sources "$top" "$(tools/lines_below.sh "$crate")")"$'\n'
   fi
 done
 library=${folder:-$top/crates/snes_library/out}/libsnes_library.a
+if [ -z "$folder" ] && [ -f "$library" ]; then
+  [ -z "$(find_sources "$(tools/lines_below.sh snes_library)" -newer "$library" -print -quit)" ] ||
+    give_up "$library is of other sources: run rt lib in crates/snes_library, or remove it"
+fi
 if [ -n "$folder" ]; then
   full=$version~unproved
   shown='not shown to be proved: the programs were taken from a folder'
@@ -80,7 +83,7 @@ for name in "${names[@]:1}"; do ln -s snes "$usr/bin/$name"; done
 install -m 644 tools/with_progress.sh "$usr/lib/snes"
 printf 'snes %s\ncommit %s\n%s\n' "$version" "$commit" "$shown" >"$usr/lib/snes/about"
 
-programs=("$(program_of snes-look)" "$(program_of snes-trace)" "$(program_of snes-scene)")
+programs=("$(program_of snes-look)" "$(program_of snes-trace)" "$(program_of snes-scene)" "$(program_of snes-bench)")
 tools/package/texts.py "$usr/share" "${programs[@]}" "$version" "$(date -d "@$SOURCE_DATE_EPOCH" +%F)" ||
   give_up 'the man pages were not made'
 
@@ -90,34 +93,36 @@ mkdir -p "$usr/share/lintian/overrides"
   echo 'snes: unstripped-binary-or-object [usr/lib/snes/snes*]'
 } >"$usr/share/lintian/overrides/snes"
 
-# The library with the three calls by which it allocates, static and shared.
+# The library with the three calls by which it allocates, static and shared. The shared object shows one name, snes_play.
 triplet=x86_64-linux-gnu
 needs=("$usr"/lib/snes/snes*)
 if [ -f "$library" ]; then
   place=$usr/lib/$triplet
-  mkdir -p "$usr/include" "$place/pkgconfig" "$doc/examples"
-  cc -O2 -fPIC -ffile-prefix-map="$top"=. -c embed/heap.c -o "$work/heap.o" && cp "$library" "$work/libsnes.a" &&
-    ar rD "$work/libsnes.a" "$work/heap.o" && ranlib -D "$work/libsnes.a" &&
-    cc -shared -o "$work/libsnes.so.1" -Wl,-soname,libsnes.so.1,--build-id=none,-z,relro,-z,now \
-      -Wl,--whole-archive "$work/libsnes.a" -Wl,--no-whole-archive || give_up 'the library was not linked'
-  install -m 644 "$work/libsnes.a" "$work/libsnes.so.1" "$place"
-  strip --strip-unneeded -D "$place/libsnes.so.1"
-  ln -s libsnes.so.1 "$place/libsnes.so"
-  install -m 644 embed/snes.h "$usr/include"
+  lib=libbogtrun-snes
+  mkdir -p "$usr/include/bogtrun" "$place/pkgconfig" "$doc/examples"
+  echo '{ global: snes_play; local: *; };' >"$work/names"
+  cc -O2 -fPIC -ffile-prefix-map="$top"=. -c embed/heap.c -o "$work/heap.o" && cp "$library" "$work/$lib.a" &&
+    ar rD "$work/$lib.a" "$work/heap.o" && ranlib -D "$work/$lib.a" &&
+    cc -shared -o "$work/$lib.so.1" -Wl,-soname,"$lib.so.1",--build-id=none,-z,relro,-z,now,--gc-sections \
+      -Wl,--version-script="$work/names" -Wl,--whole-archive "$work/$lib.a" -Wl,--no-whole-archive || give_up 'the library was not linked'
+  install -m 644 "$work/$lib.a" "$work/$lib.so.1" "$place"
+  strip --strip-unneeded -D "$place/$lib.so.1"
+  ln -s "$lib.so.1" "$place/$lib.so"
+  install -m 644 embed/snes.h "$usr/include/bogtrun"
   install -m 644 embed/frame.c embed/play.py "$doc/examples"
-  cat >"$place/pkgconfig/snes.pc" <<TEXT
+  cat >"$place/pkgconfig/bogtrun-snes.pc" <<TEXT
 prefix=\${pcfiledir}/../../..
 includedir=\${prefix}/include
 libdir=\${prefix}/lib/$triplet
 
-Name: snes
+Name: bogtrun-snes
 Description: Super Nintendo emulator whose output is proved, as one call
 Version: $version
-Cflags: -I\${includedir}
-Libs: -L\${libdir} -lsnes
+Cflags: -I\${includedir}/bogtrun
+Libs: -L\${libdir} -lbogtrun-snes
 TEXT
-  needs+=("$place/libsnes.so.1")
-  echo "libsnes 1 snes (>= $full)" >"$tree/DEBIAN/shlibs"
+  needs+=("$place/$lib.so.1")
+  echo "$lib 1 snes (>= $full)" >"$tree/DEBIAN/shlibs"
   echo 'activate-noawait ldconfig' >"$tree/DEBIAN/triggers"
   cat >>"$usr/share/lintian/overrides/snes" <<'TEXT'
 # Program and library are one package, since both come from one tree and one proof.
@@ -175,7 +180,8 @@ Description: Super Nintendo emulator without a window, for checks and archives
  video and raw audio, byte for byte the same on every run. $told
  .
  With it come snes-look (pictures, sounds, sums), snes-trace (each step of a
- run) and snes-scene (free cartridges and the files that a run needs).
+ run), snes-bench (cases for CI) and snes-scene (free cartridges and the files
+ that a run needs).
 TEXT
 (cd "$tree" && find usr -type f -print0 | sort -z | xargs -0 md5sum) >"$tree/DEBIAN/md5sums"
 find "$tree" -type d -exec chmod 755 {} +

@@ -4,7 +4,8 @@
 #   tools/run_built.sh TOOL CRATE [WORD..]
 #
 # TOOL is the name under which messages are printed, CRATE the crate of the program, the words are the program's.
-# File names are those of the folder in which it is called. `./snes`, `./scene`, `./look` and `./trace` are calls of it.
+# File names are those of the folder in which it is called. `./snes`, `./scene`, `./look`, `./trace`, `./lint` and
+# `./bench` are calls of it.
 #
 # The program is built where it is missing or was built from other sources. What it was built from is kept beside it,
 # in crates/CRATE/out/CRATE.sums: the checksum of the sources of the crates that it stands on, and that of the program.
@@ -18,6 +19,8 @@
 # each program anew. Of several calls at once one builds, and the others wait for it. However a call ends that builds,
 # the gate that it began is ended and the copy is gone; the next call begins anew, with the proofs that are kept.
 #
+# --version alone builds and runs nothing: it prints the version, the commit, whether the program is proved, and the toolchain.
+#
 # Where there is no program to run, the status is 70, which no program here has. With ONLY_BUILD set it is not run. A
 # write beyond a limit of file sizes is a fault that the program tells, and does not end it by a signal.
 top=$(cd "$(dirname "$(readlink -f "${BASH_SOURCE[0]}")")/.." && pwd) || exit 70
@@ -29,6 +32,12 @@ program=$out/$crate
 log=$out/build.log
 
 source "$top/tools/built_from.sh" || exit 70
+
+if [ "$#,${1-}" = 1,--version ]; then
+  echo "$tool $(version_of_tree)"
+  tell_sources "$(proof_of "$crate")"
+  exit 0
+fi
 
 # The crates whose programs are built now: this one, and of the console's and the scene's the other, where it is not built
 # either; the scene's is small, and wanted right after the first build.

@@ -4,12 +4,13 @@
 #   tools/run_unproved.sh TOOL CRATE [WORD..]
 #
 # TOOL is the name for messages, CRATE the crate of the program, the words are the program's. File names are those of the
-# folder in which it is called. `./snes --unproved`, and so `./look`, `./trace` and `./scene`, are calls of it.
+# folder in which it is called. `./snes --unproved`, and so `./look`, `./trace`, `./lint`, `./scene`
+# and `./bench`, are calls of it.
 #
 # The program is built of the same sources, without checks, by tools/lab/unproved/build.sh, which says how. Nobody has proved it: the
 # toolchain's prover does not run. So it can't be taken for the proved one. It is unproved/TOOL-unproved, in a folder that git
 # ignores. Each call says on standard error that it is not proved. `snes-unproved --version` says so itself: the copy of the
-# sources that is compiled has that text. Nothing is read from or written to crates/*/out.
+# sources that is compiled has that text. --version of each script says it without building anything. Nothing is read from or written to crates/*/out.
 #
 # It is built again if its sources or the scripts that build it have changed; their checksum is kept beside it, in
 # unproved/TOOL-unproved.sums. With ONLY_BUILD set it is not run. Where there is no program to run, the status is 70.
@@ -24,7 +25,7 @@ source "$top/tools/built_from.sh" || exit 70
 
 # The checksum of the sources and of what builds them.
 sum_of_all() {
-  { sum_of_sources "$1" "$lines" && sha256sum <"$1/tools/lab/unproved/build.sh" && cat "$1"/tools/lab/unproved/{as_built.py,compile.sh}; } | sum
+  { sum_of_sources "$1" "$lines" && sha256sum <"$1/tools/lab/unproved/build.sh" && cat "$1"/tools/lab/unproved/{as_built.py,split.py,compile.sh}; } | sum
 }
 
 # Whether the program is there and was built from the sources as they are.
@@ -47,7 +48,7 @@ build() {
   mkdir "$work/built"
   # The word is what the program under construction is called with: it does next to nothing.
   set -m
-  (cd "$work" && exec tools/lab/unproved/build.sh built/program "$crate" --version) </dev/null >"$log" 2>&1 9>&- &
+  (cd "$work" && PARTS=$(nproc) exec tools/lab/unproved/build.sh built/program "$crate" --version) </dev/null >"$log" 2>&1 9>&- &
   building=$!
   set +m
   wait "$building"
@@ -64,6 +65,13 @@ clean_up() {
   building='' work=''
 }
 
+note='not proved: built without checking'
+if [ "$#,${1-}" = 1,--version ]; then
+  say "$note"
+  echo "$tool $(version_of_tree) (not proved)"
+  tell_sources "$note"
+  exit 0
+fi
 lines=$("$top/tools/lines_below.sh" "$crate")
 if ! is_there; then
   command -v rt >/dev/null || give_up "rt, the command of the Rattle toolchain, is not on the path (README.md, 'Quick start')"
@@ -77,7 +85,7 @@ if ! is_there; then
   clean_up
   trap - EXIT INT TERM HUP
 fi
-say "not proved: built without checking"
+say "$note"
 [ -z "${ONLY_BUILD-}" ] || exit 0
 trap '' XFSZ
 exec "$program" "$@"

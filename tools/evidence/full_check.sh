@@ -12,6 +12,7 @@
 #     device       full devices and names that can't be made, by the built program
 #     ends         what ./trace says of machines that go nowhere (try_trace_ends.sh), its labels, ends and coverage
 #                  (try_trace_words.sh), and the lines of source that it counts, if ca65 is there (compare_lines.py)
+#     bench        the cases of ./bench, wrong files of cases, its reports and the CI pieces of its page (try_bench.sh)
 #     states       what snes dump writes of cartridges at random (try_states.py)
 #     edges        the cases of try_edges.py by the built programs; 10,000 hostile inputs and command lines (try_hostile.py);
 #                  each fault of tools/evidence/edges is told (try_edge_faults.sh)
@@ -28,7 +29,7 @@
 # of the libraries that the prover takes; two kits that differ by name alone count as one, and the line names the one that was used.
 # The output of each item goes to CHECKED/PART-ITEM, of all of `workers` to CHECKED/workers (CHECKED: /tmp/snes-full-check).
 #
-# It wants the built programs (./snes demo 7 --frames 0, ./look --help, ./trace --help; ONLY_BUILD=1 tools/run_built.sh CRATE
+# It wants the built programs (./snes demo 7 --frames 0, ./look --help, ./trace --help, ./bench --help; ONLY_BUILD=1 tools/run_built.sh CRATE
 # CRATE for spc_of_job, wild_jobs and console_rows), a C compiler, and some three hours of four processors, of which the wrong bodies take nearly all.
 # TREE, a clone of this repository that it may keep its proofs in, spares proofs of crates below. It
 # checks what is committed. The status is 1 where a part doesn't hold.
@@ -42,7 +43,7 @@ watched=${CONSOLE_ROWS:-$top/crates/console_rows/out/console_rows}
 commit=$(git -C "$top" rev-parse --short HEAD) || exit 2
 read -r kit _ < <(rt version) || exit 2
 parts=("$@")
-[ $# -gt 0 ] || parts=(edits device ends states edges allocations soak rows workers bodies)
+[ $# -gt 0 ] || parts=(edits device ends bench states edges allocations soak rows workers bodies)
 
 # A full device, a device that takes everything, a name that can't be made: what the program says and its status.
 device() {
@@ -136,6 +137,11 @@ ends() {
   item all now "$top/tools/evidence/try_trace_ends.sh"
   item words now "$top/tools/evidence/try_trace_words.sh"
   ! command -v ca65 >/dev/null || item lines now "$top/tools/compare/compare_lines.py" "$top/crates/snes_trace/out/snes_trace"
+}
+
+bench() {
+  local program=$top/crates/cart_bench/out/cart_bench
+  item cases "$(sum_of "$program" "$top"/crates/cart_bench/{stdout,data/*} "$top"/{docs/use/BENCH.md,tools/evidence/try_bench.sh})" "$top/tools/evidence/try_bench.sh" "$program"
 }
 
 states() {

@@ -2,14 +2,15 @@
 # Tries a package that tools/package.sh made where there is no toolchain and no network: it is installed in a minimal Debian, everything
 # in it is used, and it is removed again.
 #
-#     tools/evidence/try_package.sh PACKAGE.deb [ROOT]
+#     tools/evidence/try_package.sh PACKAGE.deb [ROOT [C_ROOT]]
 #
-# ROOT is a folder that `debootstrap --variant=minbase bookworm ROOT` has made; it is copied, not changed. Without it the script makes
-# one, which takes some minutes and a network. The package's tar archive is beside it, by the same name. It needs root (chroot,
-# unshare), dpkg, python3, man or mandoc, and cc with pkg-config if the library is part of it. With ROOT it takes a minute. It says each check; its
+# ROOT is a folder that `debootstrap --variant=minbase bookworm ROOT` has made; it is copied, not changed. If the library is part of
+# the package, the C example is linked and run in a second root, C_ROOT, made with --include=gcc,libc6-dev,pkg-config. The script makes
+# a root that is not named, which takes some minutes and a network. The package's tar archive is beside it, by the same name. It
+# needs root (chroot, unshare), dpkg, python3, and man or mandoc. With both roots it takes a minute or two. It says each check; its
 # status is 1 if one failed.
 top=$(cd "$(dirname "$(readlink -f "${BASH_SOURCE[0]}")")/../.." && pwd) || exit 2
-[ $# -ge 1 ] && [ -f "$1" ] || { echo 'try_package.sh PACKAGE.deb [ROOT]: installs, uses and removes a package' >&2; exit 2; }
+[ $# -ge 1 ] && [ -f "$1" ] || { echo 'try_package.sh PACKAGE.deb [ROOT [C_ROOT]]: installs, uses and removes a package' >&2; exit 2; }
 [ "$(id -u)" -eq 0 ] || { echo 'try_package: chroot and unshare need root' >&2; exit 2; }
 package=$(readlink -f "$1")
 failed=0
@@ -28,12 +29,16 @@ check() {
 
 work=$(mktemp -d) || exit 2
 trap 'rm -rf "$work"' EXIT
+# Copies a root to a folder, or makes it there with the packages that --include names.
+make_root() {
+  if [ -n "$2" ]; then
+    cp -a "$2" "$1" || exit 2
+  else
+    debootstrap --variant=minbase ${3:+"--include=$3"} bookworm "$1" >"$work/log" 2>&1 || { tail -n 3 "$work/log" >&2; exit 2; }
+  fi
+}
 root=$work/root
-if [ -n "${2-}" ]; then
-  cp -a "$2" "$root" || exit 2
-else
-  debootstrap --variant=minbase bookworm "$root" >"$work/log" 2>&1 || { tail -n 3 "$work/log" >&2; exit 2; }
-fi
+make_root "$root" "${2-}"
 # Runs words in the root, without a network. Its environment is that of a login there.
 inside() { unshare -nm sh -c 'mount -t proc proc "$0/proc" && exec chroot "$0" "$@"' "$root" /usr/bin/env -i PATH=/usr/sbin:/usr/bin:/sbin:/bin HOME=/root LC_ALL=C "$@"; }
 # Every file there, but for what the package manager itself notes, and the cache of the linker.
@@ -85,11 +90,27 @@ P
 check 'the PNG, read by another program' "$(sed -n 1p "$work/read")" 'picture 512 478 of colours'
 check 'the WAV, read by another program' "$(sed -n 2p "$work/read")" 'sound 32000 2 31947 True'
 check 'trace: instructions of a frame' "$(run "snes-trace $files --frame 1 --instructions --lines 500 | wc -l")" 500
+run "snes-look sums serial.video serial.audio >sums.csv"
+cat >"$root/tmp/try/bench.toml" <<'T'
+[[case]]
+name = "scene"
+cart = "s/scene.sfc"
+boot = "s/boot.bin"
+table = "s/table.bin"
+script = "s/script.txt"
+frames = 60
+sums = "sums.csv"
+[[case.frame]]
+at = 59
+png = "frame.png"
+T
+check 'bench: a case' "$(run snes-bench bench.toml)" 'ok scene
+1 case: 1 as expected, 0 failed, 0 could not be run'
 
 # What the wrapper adds.
 dpkg -x "$package" "$work/tree" || exit 2
 version=$(sed -n '1s/^snes //p' "$work/tree/usr/lib/snes/about")
-for name in snes snes-look snes-trace snes-scene; do
+for name in snes snes-look snes-trace snes-scene snes-bench; do
   check "$name --version" "$(run $name --version)" "$name $version
 $(sed 1d "$work/tree/usr/lib/snes/about")"
 done
@@ -102,7 +123,7 @@ pages() {
   done
 }
 check 'the man pages: no warning' "$(pages)" ''
-check 'the man pages: five' "$(ls "$work"/tree/usr/share/man/man*/*.gz | wc -l)" 5
+check 'the man pages: six' "$(ls "$work"/tree/usr/share/man/man*/*.gz | wc -l)" 6
 check 'help: the text of the sources' "$(run snes --help)" "$("$top/snes" --help)"
 # Runs words in the root with a terminal as standard error, and prints what came there. A run that says how far it is ends then.
 on_terminal() {
@@ -137,30 +158,56 @@ check 'completion: options' "$(inside bash -c '. /usr/share/bash-completion/comp
 check 'completion: values' "$(inside bash -c '. /usr/share/bash-completion/completions/snes-look; COMP_WORDS=(snes-look avi --region p); COMP_CWORD=3; _snes_look; echo "${COMPREPLY[@]}"')" pal
 check 'the sums of PROVED' "$(inside sh -c 'cd /usr && grep -E "^[0-9a-f]{64} " share/doc/snes/PROVED | sha256sum -c --quiet && echo hold')" hold
 
-# The library, if it is part of the package: the C example is linked here, and runs there.
-if [ -f "$work/tree/usr/include/snes.h" ]; then
-  place=$work/tree/usr/lib/x86_64-linux-gnu
-  flags=$(PKG_CONFIG_PATH=$place/pkgconfig pkg-config --cflags --libs snes)
-  cc -o "$root/tmp/try/shared" "$work/tree/usr/share/doc/snes/examples/frame.c" $flags
-  cc -o "$root/tmp/try/static" "$work/tree/usr/share/doc/snes/examples/frame.c" -I"$work/tree/usr/include" "$place/libsnes.a"
-  for kind in shared static; do
-    run "./$kind s/scene.sfc s/boot.bin s/table.bin s/script.txt 60 $kind.frame $kind.sound" >/dev/null
-    check "the C example, $kind: the last frame" "$(run "tail -c 244736 serial.video | cmp - $kind.frame && echo same")" same
-    check "the C example, $kind: all sound" "$(run "cmp serial.audio $kind.sound && echo same")" same
-  done
-else
-  echo '        the library is not part of this package'
-fi
-
 # The archive, in a folder of its own.
 mkdir "$root/tmp/try/opt" && tar -C "$root/tmp/try/opt" --strip-components 1 -xf "${package%.deb}.tar.gz"
 check 'the archive: the same files' "$(diff -r --no-dereference "$work/tree/usr" "$root/tmp/try/opt" | grep -v 'share: lintian$')" ''
 check 'the archive: a demo' "$(run opt/bin/snes demo 7 --frames 60)" 'frames 60 samples 31947 video 1271400168 sound 16274526'
 
-rm -rf "$root/tmp/try"
-inside dpkg -P snes >"$work/said" 2>&1
-check 'it is removed' "$? $(inside dpkg-query -W -f '${Status}' snes 2>/dev/null)" '0 '
-list_files >"$work/after"
-check 'nothing is left behind' "$(diff "$work/before" "$work/after")" ''
+# Removes the package from the root again, which leaves the files that were there before.
+remove() {
+  rm -rf "$root/tmp/try"
+  inside dpkg -P snes >"$work/said" 2>&1
+  check 'it is removed' "$? $(inside dpkg-query -W -f '${Status}' snes 2>/dev/null)" '0 '
+  list_files >"$work/after"
+  check 'nothing is left behind' "$(diff "$work/before" "$work/after")" ''
+}
+remove
+
+# The library, if it is part of the package: where there is a C compiler, the C example is linked with what is installed, and runs.
+if [ -d "$work/tree/usr/include/bogtrun" ]; then
+  rm -rf "$root"
+  make_root "$root" "${3-}" gcc,libc6-dev,pkg-config
+  check 'for C: there is no toolchain' "$(inside sh -c 'command -v rt clang python3')" ''
+  list_files >"$work/before"
+  cp "$package" "$root/tmp/snes.deb"
+  inside dpkg -i /tmp/snes.deb >"$work/said" 2>&1
+  check 'for C: it is installed' "$? $(inside dpkg-query -W -f '${Status}' snes)" '0 install ok installed'
+  rm "$root/tmp/snes.deb"
+  mkdir "$root/tmp/try"
+  check 'pkg-config: the version' "$(inside pkg-config --modversion bogtrun-snes)" "${version%%~*}"
+  check 'the shared object shows one name' "$(inside nm -D --defined-only -j /usr/lib/x86_64-linux-gnu/libbogtrun-snes.so.1)" snes_play
+  source=/usr/share/doc/snes/examples/frame.c
+  check 'the C example, shared: links' "$(run "cc -o shared $source \$(pkg-config --cflags --libs bogtrun-snes) 2>&1 && echo links")" links
+  check 'the C example, static: links' "$(run "cc -o static $source \$(pkg-config --cflags bogtrun-snes) -l:libbogtrun-snes.a 2>&1 && echo links")" links
+  check 'the C example, shared: what it loads' "$(run 'ldd shared | grep -c libbogtrun-snes.so.1')" 1
+  run snes-scene s >/dev/null
+  run "snes serial $files --frames 60 --video video --audio audio" >/dev/null
+  for kind in shared static; do
+    run "./$kind s/scene.sfc s/boot.bin s/table.bin s/script.txt 60 $kind.frame $kind.sound" >/dev/null
+    check "the C example, $kind: the last frame" "$(run "tail -c 244736 video | cmp - $kind.frame && echo same")" same
+    check "the C example, $kind: all sound" "$(run "cmp audio $kind.sound && echo same")" same
+  done
+  # The archive is used from a folder of its own: pkg-config names that folder.
+  mkdir "$root/opt/snes" && tar -C "$root/opt/snes" --strip-components 1 -xf "${package%.deb}.tar.gz"
+  flags='PKG_CONFIG_PATH=/opt/snes/lib/x86_64-linux-gnu/pkgconfig pkg-config --cflags --libs bogtrun-snes'
+  check 'the archive for C: links' "$(run "cc -o moved /opt/snes/share/doc/snes/examples/frame.c \$($flags) -Wl,-rpath,/opt/snes/lib/x86_64-linux-gnu 2>&1 && echo links")" links
+  check 'the archive for C: what it loads' "$(run 'ldd moved | grep -c /opt/snes/')" 1
+  run './moved s/scene.sfc s/boot.bin s/table.bin s/script.txt 60 moved.frame moved.sound' >/dev/null
+  check 'the archive for C: the last frame' "$(run 'cmp shared.frame moved.frame && echo same')" same
+  rm -rf "$root/opt/snes"
+  remove
+else
+  echo '        the library is not part of this package'
+fi
 echo "$passed passed, $failed failed"
 [ "$failed" -eq 0 ]

@@ -2,7 +2,8 @@
 """Checks the listings of programs of the sound processor that stand in the repository as bytes.
 
 Each instruction is assembled anew and must give the bytes that stand beside it; the addresses must go on without a gap;
-and the bytes must be those of the sources that have them. The status is 1 where something differs.
+and the bytes must be those of the sources that have them. The files of examples/bench, which users run, must be those of
+crates/cart_bench/data, which CI runs. The status is 1 where something differs.
 """
 import os
 import re
@@ -114,5 +115,18 @@ def check(listing, first, sources):
     print(f"{listing}: {len(lines)} lines give the {len(whole)} bytes of {' and '.join(name for name, _ in sources)}")
 
 
+def check_copies(copies, data):
+    """Checks that two folders hold the same files, beside README.md."""
+    held = {}
+    for folder in (copies, data):
+        names = sorted(name for name in os.listdir(os.path.join(TOP, folder)) if name != "README.md")
+        held[folder] = {name: open(os.path.join(TOP, folder, name), "rb").read() for name in names}
+    for name in sorted(set(held[copies]) | set(held[data])):
+        if held[copies].get(name) != held[data].get(name):
+            sys.exit(f"{copies}/{name} and {data}/{name} are not the same file: cp {data}/{name} {copies}/")
+    print(f"{copies}: its {len(held[copies])} files are those of {data}")
+
+
 for listing in LISTINGS:
     check(*listing)
+check_copies("examples/bench", "crates/cart_bench/data")

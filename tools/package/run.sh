@@ -1,5 +1,5 @@
 #!/bin/bash
-# Runs a program of snes as it is installed: snes, snes-look, snes-trace and snes-scene are this file under four names. The
+# Runs a program of snes as it is installed: snes, snes-look, snes-trace, snes-scene and snes-bench are this file under five names. The
 # programs are in lib/snes; they run alone too. This adds --version with commit and proof, and on a terminal
 # how far a run is (with_progress.sh, which ./snes of the repository has too).
 name=${0##*/}

@@ -1,10 +1,10 @@
 #!/usr/bin/env python3
 """Writes the man pages and the completions of an installed snes, of the texts by which its programs help.
 
-    tools/package/texts.py OUT LOOK TRACE SCENE VERSION DATE
+    tools/package/texts.py OUT LOOK TRACE SCENE BENCH VERSION DATE
 
-OUT is a folder, as `usr/share` of a package. LOOK, TRACE and SCENE are the programs frame_look, snes_trace and scene_cart, whose
---help is read. The help of snes is in crates/run_io/src/help.rt, the formats are in docs/use/COMMANDS.md.
+OUT is a folder, as `usr/share` of a package. LOOK, TRACE, SCENE and BENCH are the programs frame_look, snes_trace, scene_cart and
+cart_bench, whose --help is read. The help of snes is in crates/run_io/src/help.rt, the formats are in docs/use/COMMANDS.md.
 So an option that a program has is in its page and in its completions, and none is that it has not. DATE is 2026-11-29, for one.
 """
 import os
@@ -171,6 +171,10 @@ def option_tag(option, value):
     return f"\\fB{escaped(option)}\\fR" + (f" \\fI{value}\\fR" if value else "")
 
 
+def version_option():
+    return [".TP", option_tag("--version", None), "Alone: prints the version, the commit, and whether the program was proved."]
+
+
 def head(name, section, date, version, what):
     title = "User Commands" if section == 1 else "File Formats"
     return [f'.TH {name.upper()} {section} {date} "snes {version}" "{title}"', ".SH NAME", f"{escaped(name)} \\- {what}"]
@@ -201,13 +205,14 @@ def snes_page(version, date):
     for option, meaning in described.items():
         page += [".TP", option_tag(option, "FILE"), escaped(meaning) + "."]
     page += [".TP", option_tag("--quiet", None), "In front of all other words: nothing is said of how far a run is."]
+    page += version_option()
     page += [".SH EXIT STATUS"]
     for number, meaning in statuses:
         if number == "70":
             meaning = "the program was not found"
         page += [".TP", f"\\fB{number}\\fR", escaped(meaning) + "."]
     page += [".SH FILES", ".TP", "\\fI/usr/share/doc/snes/PROVED\\fR", "By which commit and toolchain the programs were made, whether they were proved, and the checksum of each file."]
-    return page + list(ending([("snes-look", 1), ("snes-scene", 1), ("snes-trace", 1), ("snes", 5)]))
+    return page + list(ending([("snes-bench", 1), ("snes-look", 1), ("snes-scene", 1), ("snes-trace", 1), ("snes", 5)]))
 
 
 def sentence(text):
@@ -231,7 +236,7 @@ def look_page(program, version, date):
         for option, value, meaning in one.options:
             if option != "--help":
                 body += [".TP", option_tag(option, value), escaped(sentence(meaning))]
-    page += [".SH DESCRIPTION", escaped(sentence(whole.what)), ".SH COMMANDS", *body]
+    page += [".SH DESCRIPTION", escaped(sentence(whole.what)), ".SH COMMANDS", *body, ".SH OPTIONS", *version_option()]
     return page + list(ending([("snes", 1), ("snes", 5)])), commands
 
 
@@ -241,6 +246,7 @@ def trace_page(program, version, date):
     page += [".SH DESCRIPTION", escaped(sentence(whole.what)), ".SH OPTIONS"]
     for option, value, meaning in whole.options:
         page += [".TP", option_tag(option, value), escaped(sentence(meaning))]
+    page += version_option()
     heads = {"A file of breakpoints": ".SH BREAKPOINTS", "--symbols": ".SH SYMBOLS", "--until": ".SH END", "--coverage": ".SH COVERAGE", "Statuses: ": ".SH EXIT STATUS"}
     for paragraph in after.split("\n\n"):
         page += [next((head for begin, head in heads.items() if paragraph.startswith(begin)), ".PP")]
@@ -258,8 +264,22 @@ def plain_page(name, what, program, version, date):
     page += [".SH OPTIONS"]
     for option, value, meaning in whole.options:
         page += [".TP", option_tag(option, value), escaped(sentence(meaning))]
+    page += version_option()
     page += [".SH EXIT STATUS", escaped(sentence(" ".join(after.removeprefix("Statuses: ").split())))]
     return page + list(ending([("snes", 1), ("snes", 5)])), whole
+
+
+def bench_page(program, version, date):
+    """The page of bench: as a plain one, with the form of a file of cases, as its page of the repository has it."""
+    page, whole = plain_page("snes-bench", "cases of cartridges, and what each is expected to do", program, version, date)
+    sections = dict(re.findall(r"^## (.+)\n((?:(?!## ).*\n?)*)", text_of("docs/use/BENCH.md"), re.M))
+    told = "".join(f"## {name}\n{sections[name]}" for name in ("A first case", "The file"))
+    for name in ("bench", "look", "trace", "snes"):
+        told = told.replace(f"./{name}", "snes" if name == "snes" else f"snes-{name}")
+    at = page.index(".SH EXIT STATUS")
+    page = [line.replace("docs/use/BENCH.md has its form", "THE FILE says in which form") for line in page[:at]] + list(page_of(told)) + page[at:]
+    # A paragraph begins with its section anyway.
+    return [line for number, line in enumerate(page) if line != ".PP" or not page[number - 1].startswith(".S")], whole
 
 
 def formats_page(version, date):
@@ -301,7 +321,7 @@ def bash_values(commands):
         for option, value, meaning in it.options:
             if value:
                 few = re.search(r"\[possible values: ([^\]]+)\]", meaning)
-                kinds[option] = few[1].replace(",", "") if few else None if value in ("FILE", "OUT") else ""
+                kinds[option] = few[1].replace(",", "") if few else None if value in ("FILE", "OUT", "FOLDER") else ""
     for option, words in sorted(kinds.items()):
         if words is None:
             yield f'    {option}) compopt -o default 2>/dev/null; return ;;\n'
@@ -328,7 +348,7 @@ def quoted(text):
 def zsh_options(it):
     for option, value, meaning in it.options:
         few = re.search(r"\[possible values: ([^\]]+)\]", meaning)
-        kind = "" if not value else ":value:(" + few[1].replace(",", "") + ")" if few else f":{value.lower()}:" + ("_files" if value in ("FILE", "OUT") else " ")
+        kind = "" if not value else ":value:(" + few[1].replace(",", "") + ")" if few else f":{value.lower()}:" + ("_files" if value in ("FILE", "OUT", "FOLDER") else " ")
         yield f"'{option}[{quoted(meaning or option[2:])}]{kind}'"
 
 
@@ -352,23 +372,26 @@ def write(out, name, lines):
 
 
 def main():
-    if len(sys.argv) != 7:
+    if len(sys.argv) != 8:
         sys.exit(__doc__)
-    out, look, trace, scene, version, date = sys.argv[1:]
+    out, look, trace, scene, bench, version, date = sys.argv[1:]
     commands, _, _ = snes_help()
     look_text, look_commands = look_page(look, version, date)
     trace_text, trace_whole = trace_page(trace, version, date)
     scene_text, scene_whole = plain_page("snes-scene", "free cartridges and the files that a run of snes needs", scene, version, date)
+    bench_text, bench_whole = bench_page(bench, version, date)
     write(out, "man/man1/snes.1", snes_page(version, date))
     write(out, "man/man1/snes-look.1", look_text)
     write(out, "man/man1/snes-trace.1", trace_text)
     write(out, "man/man1/snes-scene.1", scene_text)
+    write(out, "man/man1/snes-bench.1", bench_text)
     write(out, "man/man5/snes.5", formats_page(version, date))
     programs = {
         "snes": (commands, ["--help", "--version", "--quiet"]),
         "snes-look": ([it for it, _ in look_commands], ["--help", "--version"]),
         "snes-trace": ([trace_whole], ["--version"]),
         "snes-scene": ([scene_whole], ["--version"]),
+        "snes-bench": ([bench_whole], ["--version"]),
     }
     for name, (known, first) in programs.items():
         write(out, f"bash-completion/completions/{name}", bash(name, known, first))

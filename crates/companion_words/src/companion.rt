@@ -2,7 +2,7 @@
 
 use crate::table::{Program, command};
 use anyhow::Result;
-use clap::ArgMatches;
+use clap::{ArgMatches, Error};
 use standard_streams::hold_standard_streams;
 use std::env;
 use std::process::ExitCode;
@@ -31,6 +31,23 @@ pub trait Companion {
     ) -> Result<u8>;
 }
 
+/// Prints the help, or what is at fault in the command line, and returns the exit status.
+pub fn answer<R: Print + Eprint>(rt: &R, error: &Error) -> Result<u8> {
+    error.print(rt)?;
+    Ok(if error.exit_code() == 0 { DONE } else { FAULT })
+}
+
+/// How a companion ends. A fault is one line on standard error, which begins with its name.
+pub fn exit_of<R: Eprint>(rt: &R, program: &Program, ended: Result<u8>) -> ExitCode {
+    match ended {
+        Ok(status) => ExitCode::from(status),
+        Err(error) => {
+            let _ = eprintln!(rt; "{}: {error:#}", program.name);
+            ExitCode::from(FAULT)
+        }
+    }
+}
+
 /// Reads the command line, and does what it asks for.
 fn obey_words<C: Companion, R: Files + Print + Eprint + AllocGlobal + Env>(
     rt: &R,
@@ -41,10 +58,7 @@ fn obey_words<C: Companion, R: Files + Print + Eprint + AllocGlobal + Env>(
     let given: Vec<String> = env::args(rt)?.collect(alloc)?;
     let matches = match command(alloc, program)?.try_get_matches_from(given.as_slice()) {
         Ok(matches) => matches,
-        Err(error) => {
-            error.print(rt)?;
-            return Ok(if error.exit_code() == 0 { DONE } else { FAULT });
-        }
+        Err(error) => return answer(rt, &error),
     };
     match matches.subcommand() {
         Some((name, words)) => companion.obey(rt, name, words),
@@ -52,15 +66,9 @@ fn obey_words<C: Companion, R: Files + Print + Eprint + AllocGlobal + Env>(
     }
 }
 
-/// Runs a companion: `main` of each of them. A fault is one line on standard error, which begins with its name.
+/// Runs a companion: `main` of each of them that starts no thread.
 pub fn run<C: Companion>(rt: &HostRuntime, companion: &C) -> ExitCode {
     let _streams = hold_standard_streams(rt);
     let program = companion.program();
-    match obey_words(rt, companion, &program) {
-        Ok(status) => ExitCode::from(status),
-        Err(error) => {
-            let _ = eprintln!(rt; "{}: {error:#}", program.name);
-            ExitCode::from(FAULT)
-        }
-    }
+    exit_of(rt, &program, obey_words(rt, companion, &program))
 }

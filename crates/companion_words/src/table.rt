@@ -162,7 +162,7 @@ fn subcommands<'a>(alloc: Global, program: &Program) -> Result<Vec<Command<'a>>,
 }
 
 /// The command line as `clap` reads it.
-pub(crate) fn command<'a>(alloc: Global, program: &Program) -> Result<Command<'a>, AllocError> {
+pub fn command<'a>(alloc: Global, program: &Program) -> Result<Command<'a>, AllocError> {
     let words = arguments(alloc, program.words, "")?;
     let commands = subcommands(alloc, program)?;
     Command::new(alloc, program.name)

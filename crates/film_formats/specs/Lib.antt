@@ -1,9 +1,13 @@
 pub mod Apart
+pub mod Bits
 pub mod Checksums
 pub mod Colours
+pub mod Deflate
 pub mod Film
+pub mod Matching
 pub mod Mixed
 pub mod Numbers
+pub mod Palette
 pub mod Pictures
 pub mod Png
 pub mod Wav

@@ -1,20 +1,26 @@
 // The formats of the files that `snes` writes, and of the ones that other programs open, byte for byte.
 //
 // `film` reads raw frames and samples piece by piece from any reader, and detects a cut file. `colours` makes 24-bit
-// colours of 15-bit ones; `png` and `wav` make whole files of pictures and of samples. Every call that makes bytes
-// says exactly which, by the definitions in `specs/`. Nothing here opens a file.
+// colours of 15-bit ones; `png` and `wav` make whole files of pictures and of samples. Every call that
+// makes bytes says exactly which, or (of a PNG) what they show, by the definitions in `specs/`. Nothing here opens a
+// file.
 #![tactic(auto)]
 
 mod adler;
 mod apart;
+mod bits;
 mod checksums;
+mod codes;
 mod colours;
+mod deflate;
 mod film;
 mod mixed;
 mod numbers;
+mod palette;
 mod pictures;
 mod png;
 mod rows;
+mod token;
 mod wav;
 
 pub use adler::Adler;

@@ -1,138 +1,12 @@
 //! The comparison of a frame with a picture that is kept as PNG, in `look diff --frame`.
 
-ghost use Rattle.std.specs.Prelude.{◌≡◌, length, vec_len};
-
 use crate::compare::Dot;
 use crate::films;
-use anyhow::{Context, Result, bail};
+use anyhow::Result;
 use companion_words::{DONE, NO};
-use film_formats::{Colour, FRAME_BYTES, HEIGHT, ROW_BYTES, WIDTH, dot_of_row, marked_png};
-use png_reader::{Picture, read_png};
-use std::alloc::{AllocError, Global};
+use film_formats::marked_png;
+use golden_frame::Golden;
 use std::rt::Files;
-
-/// How the pixels of a picture lie over a frame's half-pixels.
-#[derive(Clone, Copy)]
-struct Grid {
-    /// Whether a pixel is as wide as two half-pixels.
-    wide: bool,
-    /// The rows of the picture for each row of the frame: 1 or 2.
-    times: usize,
-    /// The rows of the frame that the picture has, from the top.
-    rows: usize,
-}
-
-impl Grid {
-    /// The grid of a picture, if it has one of the sizes that are compared.
-    fn of(picture: &Picture) -> Option<Grid> {
-        let wide = match picture.width() {
-            512 => false,
-            256 => true,
-            _ => return None,
-        };
-        let (times, rows) = match picture.height() {
-            478 => (2, 239),
-            448 => (2, 224),
-            239 => (1, 239),
-            224 => (1, 224),
-            _ => return None,
-        };
-        Some(Grid { wide, times, rows })
-    }
-}
-
-/// The first half-pixel that differs, its bits, and the picture's colour there.
-#[derive(Clone, Copy)]
-struct Place {
-    row: usize,
-    dot: usize,
-    film: u16,
-    golden: [u8; 3],
-}
-
-/// What the comparison of a frame with a picture found: how many half-pixels differ, and the first.
-#[derive(Drop)]
-struct Found {
-    differing: u32,
-    place: Option<Place>,
-    /// The frame with one bit turned in each half-pixel that differs.
-    turned: Vec<u8>,
-    ghost whole: { vec_len turned ≡ 244736 },
-}
-
-impl Found {
-    /// Nothing yet, of this frame.
-    fn new(alloc: Global, frame: &[u8]) -> Result<Found, AllocError>
-        requires { length frame.now ≡ 244736 }
-    {
-        let mut turned = Vec::new(alloc);
-        turned.extend_from_slice(frame)?;
-        Ok(Found {
-            differing: 0,
-            place: None,
-            turned,
-        })
-    }
-
-    /// Takes a half-pixel that differs.
-    fn add(&mut self, place: Place) {
-        self.differing = self.differing.saturating_add(1);
-        self.place = self.place.or(Some(place));
-        let at = place
-            .row
-            .saturating_mul(ROW_BYTES)
-            .saturating_add(place.dot.saturating_mul(2));
-        if let Some(byte) = self.turned.get_mut(at) {
-            *byte ^= 1;
-        }
-    }
-}
-
-/// The colour of a picture that a half-pixel of this colour doesn't have, if there is one.
-fn other_colour(
-    picture: &Picture,
-    grid: Grid,
-    row: usize,
-    dot: usize,
-    film: [u8; 3],
-) -> Option<[u8; 3]> {
-    let column = if grid.wide { dot / 2 } else { dot };
-    for k in 0..grid.times {
-        let golden = picture.pixel(row.saturating_mul(grid.times).saturating_add(k), column)?;
-        if golden != film {
-            return Some(golden);
-        }
-    }
-    None
-}
-
-/// Compares a frame with a picture.
-fn compare(alloc: Global, frame: &[u8], picture: &Picture, grid: Grid) -> Result<Found, AllocError>
-    requires { length frame.now ≡ FRAME_BYTES }
-{
-    let mut found = Found::new(alloc, frame)?;
-    for row in 0..HEIGHT {
-        if row >= grid.rows {
-            break;
-        }
-        let from = ROW_BYTES * row;
-        let bytes = &frame[from..from + ROW_BYTES];
-        for dot in 0..WIDTH {
-            let film = dot_of_row(bytes, dot);
-            let colour = Colour::of_dot(film);
-            let shown = [colour.red, colour.green, colour.blue];
-            if let Some(golden) = other_colour(picture, grid, row, dot, shown) {
-                found.add(Place {
-                    row,
-                    dot,
-                    film,
-                    golden,
-                });
-            }
-        }
-    }
-    Ok(found)
-}
 
 /// Obeys `look diff --frame NUMBER VIDEO PNG`.
 pub fn say_difference<R: Files + Print + AllocGlobal>(
@@ -144,23 +18,16 @@ pub fn say_difference<R: Files + Print + AllocGlobal>(
 ) -> Result<u8> {
     let alloc = rt.alloc();
     let file = films::read(rt, golden)?;
-    let picture = read_png(alloc, file.as_slice()).context(format_args!("cannot read {golden}"))?;
-    let Some(grid) = Grid::of(&picture) else {
-        bail!(
-            "{golden} has {} by {} pixels: a frame is compared with 512 or 256 by 478, 448, 239 or 224",
-            picture.width(),
-            picture.height()
-        );
-    };
+    let picture = Golden::read(alloc, golden, file.as_slice())?;
     let frames = films::open_at(rt, video, number)?;
-    let found = compare(alloc, frames.frame(), &picture, grid)?;
-    let all = grid.rows.saturating_mul(WIDTH);
+    let found = picture.compare(alloc, frames.frame())?;
+    let all = picture.half_pixels();
     let Some(place) = found.place else {
         println!(rt; "alike: {all} half-pixels of frame {number}")?;
         return Ok(DONE);
     };
     if let Some(out) = png {
-        let marked = marked_png(alloc, frames.frame(), found.turned.as_slice())?;
+        let marked = marked_png(alloc, frames.frame(), found.turned())?;
         films::write(rt, out, &[video, golden], marked.as_slice())?;
     }
     println!(rt; "different: {} of {all} half-pixels", found.differing)?;

@@ -1,18 +1,21 @@
+ghost use Rattle.std.specs.Prelude.{◌<◌};
+
 use film_avi::{Layout, file_head, samples_upto};
 use film_formats::{
     Adler, Colour, Piece, crc_of_chunk, first_apart, png_file, read_piece, wav_header,
 };
 use png_reader::{Picture, PngFault, read_png};
 use snes_defs::Region;
+use std::alloc::{AllocError, Global};
 use std::test::Fail;
 
-/// The PNG that zlib makes of two dots, red and dark blue, in a stored block of its own.
-static TWO_DOTS: [u8; 104] = [
-    137, 80, 78, 71, 13, 10, 26, 10, 0, 0, 0, 13, 73, 72, 68, 82, 0, 0, 0, 2, 0, 0, 0, 1, 8, 2, 0,
-    0, 0, 123, 64, 232, 221, 0, 0, 0, 2, 73, 68, 65, 84, 120, 1, 236, 26, 126, 210, 0, 0, 0, 12,
-    73, 68, 65, 84, 0, 7, 0, 248, 255, 0, 255, 0, 0, 8, 16, 24, 219, 155, 228, 155, 0, 0, 0, 9, 73,
-    68, 65, 84, 1, 0, 0, 255, 255, 6, 81, 1, 48, 239, 60, 211, 230, 0, 0, 0, 0, 73, 69, 78, 68,
-    174, 66, 96, 130,
+/// The PNG of two dots, red and dark blue, with a palette of both. Its block is worked out by hand: the bits 1 1 0, the
+/// codes 00110000 00110000 00110001 0000000, and six zeros. zlib makes the same block of the row 0 0 1 with fixed codes.
+static TWO_DOTS: [u8; 86] = [
+    137, 80, 78, 71, 13, 10, 26, 10, 0, 0, 0, 13, 73, 72, 68, 82, 0, 0, 0, 2, 0, 0, 0, 1, 8, 3, 0,
+    0, 0, 195, 252, 143, 184, 0, 0, 0, 6, 80, 76, 84, 69, 255, 0, 0, 8, 16, 24, 22, 30, 201, 188,
+    0, 0, 0, 11, 73, 68, 65, 84, 120, 1, 99, 96, 96, 4, 0, 0, 4, 0, 2, 139, 47, 60, 19, 0, 0, 0, 0,
+    73, 69, 78, 68, 174, 66, 96, 130,
 ];
 
 /// A picture of 16 by 10 in three colours of a palette of 13, 4 bits each, all five filters in turn, packed by zlib with
@@ -72,6 +75,34 @@ fn a_picture_of_another_program_is_read(rt: HostRuntime) -> Result<(), Fail> {
     wrong[120] ^= 1;
     assert!(rt; matches!(read_png(rt.alloc(), &wrong), Err(PngFault::Crc("IDAT"))));
     assert!(rt; matches!(read_png(rt.alloc(), &FILTERED[..202]), Err(PngFault::Cut)));
+    Ok(())
+}
+
+/// The colour type of the PNG of 16 by 17 dots in `colours` colours, if the reader finds these dots in it.
+fn colour_type_of(alloc: Global, colours: u16) -> Result<Option<u8>, AllocError>
+    requires { 0 < colours }
+{
+    let mut dots = [0u8; 816];
+    for at in 0..272usize {
+        let number = at * 7 % colours as usize;
+        dots[3 * at] = (number % 256) as u8;
+        dots[3 * at + 1] = (number / 256) as u8;
+    }
+    let file = png_file(alloc, 16, 17, &dots)?;
+    let found = read_png(alloc, file.as_slice())
+        .ok()
+        .map(|picture| adler_of(&picture));
+    if found != Some(Adler::new().fed_all(&dots).number()) {
+        return Ok(None);
+    }
+    Ok(file.as_slice().get(25).copied())
+}
+
+#[test]
+fn a_png_has_a_palette_of_at_most_256_colours(rt: HostRuntime) -> Result<(), Fail> {
+    assert_eq!(rt; colour_type_of(rt.alloc(), 1)?, Some(3));
+    assert_eq!(rt; colour_type_of(rt.alloc(), 256)?, Some(3));
+    assert_eq!(rt; colour_type_of(rt.alloc(), 257)?, Some(2));
     Ok(())
 }
 

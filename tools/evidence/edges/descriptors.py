@@ -50,7 +50,7 @@ def scene(room):
         for name, right in whole.items():
             assert read(room.path(f"out{combination}/{name}")) == right, f"{name} is not whole, without {text}"
         same(f"script.txt, without {text}", read(room.path(f"out{combination}/script.txt")), b"")
-        same(f"status without {text}", end.status, 4 if combination & 2 else 0)
+        same(f"status without {text}", end.status, 2 if combination & 2 else 0)
 
 
 @case("descriptors: look without each of them")

@@ -99,4 +99,4 @@ def companions_on_device(room):
             assert right.startswith(read(kept)), "the frames are no prefix"
         shutil.rmtree(room.path("device"))
     end, _ = on_small_device(room, [programs["scene"], "device"], 4)
-    end.came(4, b"", b"cannot write device/scene.sfc")
+    end.came(2, b"", b"cannot write device/scene.sfc")

@@ -67,8 +67,10 @@ class Module:
             if is_check:
                 is_check = line != "}"
                 continue
-            # A check that can't be passed; the fill that shows what is read before it is written.
+            # A check that can't be passed, and the call of a check; the fill that shows what is read before it is written.
             if "@llvm.trap()" in line and "call" in line or "@llvm.memset.p0.i64(ptr %r" in line and "i8 -86" in line:
+                continue
+            if line.startswith(f'  call void @"{CHECKS}'):
                 continue
             self.count(function, line)
             self.lines.append(self.plain(line))

@@ -2,10 +2,11 @@
 # Builds a program of the sources as they stand, without a proof, nearly as the toolchain builds what is proved: to measure what
 # a change gains before it is proved.
 #
-#   [MODULE=FILE] [PROVED=1] tools/lab/unproved/build.sh OUT [CRATE WORD..]
+#   [MODULE=FILE] [PROVED=1] [PARTS=N] tools/lab/unproved/build.sh OUT [CRATE WORD..]
 #
 # CRATE is snes_run where none is named. Its words are what `rt try` runs on the way, to no other end: a short run.
-# MODULE names a file for the LLVM module as `rt try` has it, for try_hints.py.
+# MODULE names a file for the LLVM module as `rt try` has it, for try_hints.py. With PARTS the module is cut into N
+# parts that are compiled at the same time (split.py): sooner built for a first look, and not for figures, since less is inlined.
 #
 # `rt try` compiles a program with a check at each operation. Its LLVM module is kept on the way; as_built.py takes the
 # checks out, which a proved program doesn't have, and puts in what the sources say of inlining; the toolchain's compiler and
@@ -32,6 +33,8 @@ done
 for one in "$kit"/bin/*; do
   case ${one##*/} in rt | rtlib.py) cp "$one" "$work/kit/bin/" ;; *) ln -s "$one" "$work/kit/bin/" ;; esac
 done
+# Beside a try `rt` has the prover look for names that a check refuses. Nobody reads here what it finds.
+[ -n "${PROVED-}" ] || { rm "$work/kit/bin/rattle" && printf '#!/bin/sh\n' >"$work/kit/bin/rattle" && chmod +x "$work/kit/bin/rattle"; } || exit 2
 ln -s "$kit/toolchain/lib" "$work/kit/toolchain/lib"
 for one in "$kit"/toolchain/bin/*; do
   [ "${one##*/}" = clang ] || ln -s "$one" "$work/kit/toolchain/bin/"
@@ -61,4 +64,10 @@ if [ -n "${PROVED-}" ]; then
   cp "$work/module.ll" "$work/program.ll"
 else
   "$here/as_built.py" "$here/../../.." "$work/module.ll" "$work/program.ll"
-fi && "$here/compile.sh" "$work/program.ll" "$out"
+fi || exit 1
+modules=("$work/program.ll")
+if [ "${PARTS:-1}" -gt 1 ]; then
+  "$here/split.py" "$work/program.ll" "$work/part" "$PARTS" || exit 1
+  modules=("$work"/part.*.ll)
+fi
+"$here/compile.sh" "$out" "${modules[@]}"

@@ -51,7 +51,7 @@ def measured(module, jobs):
     with tempfile.TemporaryDirectory() as work:
         with open(f"{work}/module.ll", "w", encoding="utf-8") as text:
             text.write("\n".join(module.written()) + "\n")
-        subprocess.run([f"{HERE}/compile.sh", f"{work}/module.ll", f"{work}/program"], check=True)
+        subprocess.run([f"{HERE}/compile.sh", f"{work}/program", f"{work}/module.ll"], check=True)
         return [(instructions(f"{work}/program", it, 25) - instructions(f"{work}/program", it, 5)) / 20e6 for it in jobs]
 
 

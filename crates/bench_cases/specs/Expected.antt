@@ -1,0 +1,37 @@
+-- When bytes, sums, samples and instructions are as a bench file expects them.
+use Rattle.std.specs.Prelude.{◌≡◌, ℕ, ◌+◌, ◌*◌, ◌<◌, ◌≤◌, Bool, true, false, List, length, vec_len, slice_index, Option, Some, None, IsSome}
+use Rattle.bench_cases.specs.declared.plan.Expected.{Expected}
+use Rattle.bench_cases.specs.declared.plan.Expected.TheVariants.{Byte, Word, Bytes}
+use Rattle.bench_cases.specs.declared.sums.Sum.{Sum}
+
+-- how many bytes are expected
+abbrev pub size_of : Expected → ℕ
+size_of (Byte least most) = 1
+size_of (Word least most) = 2
+size_of (Bytes bytes) = vec_len bytes
+
+-- a number is one of these bounds, or between them
+abbrev pub IsWithin : ℕ → ℕ → ℕ → Type 0
+IsWithin least most number = (least ≤ number) × (number ≤ most)
+
+-- the bytes of a place are those that are expected: a word has its low byte first
+abbrev pub AreMet : Expected → List ℕ → Type 0
+AreMet (Byte least most) bytes = (length bytes ≡ 1) × IsWithin least most (slice_index bytes 0)
+AreMet (Word least most) bytes = (length bytes ≡ 2) × IsWithin least most (slice_index bytes 0 + 256 * slice_index bytes 1)
+AreMet (Bytes expected) bytes = bytes ≡ expected.items
+
+-- a sum is that which is expected, if one is
+abbrev pub IsSumMet : Option Sum → List ℕ → Type 0
+IsSumMet None sum = Unit {0}
+IsSumMet (Some expected) sum = sum ≡ expected.bytes
+
+-- the first instruction at an address began in one of the first frames, so many
+abbrev pub IsInTime : ℕ → Option ℕ → Type 0
+IsInTime within None = ⊥
+IsInTime within (Some frame) = frame < within
+
+-- what is heard is as expected, by the first frame in which a sample is other than 0
+abbrev pub IsHeardAs : Option Bool → Option ℕ → Type 0
+IsHeardAs None heard = Unit {0}
+IsHeardAs (Some true) heard = IsSome heard
+IsHeardAs (Some false) heard = heard ≡ None

@@ -1,0 +1,180 @@
+//! Runs cases, several at once, and returns what is known of each in the order of the file.
+//!
+//! The main thread reads the files of the cases, and deals what each run needs to the workers in turn. A worker has
+//! machines of its own. It reads and writes no file, and shares nothing with another.
+
+ghost use Rattle.std.specs.Prelude.{◌<◌};
+
+use crate::cases::{Ready, Task, Wanted, judge_task, ready_case};
+use anyhow::Result;
+use bench_cases::Case;
+use bench_report::{End, Verdict};
+use std::alloc::{AllocError, Global};
+use std::rt::Files;
+use std::thread;
+use std::thread::Threads;
+
+/// The most workers.
+const MOST_WORKERS: u32 = 64;
+
+/// The cases of a wave for each worker, if there are several: a report comes after each wave.
+const WAVE: usize = 8;
+
+/// Who runs the cases.
+#[derive(Clone, Copy)]
+pub struct Crew {
+    /// How many cases run at once: 1 or more.
+    workers: usize,
+    /// Whether standard error shows which cases run.
+    shows: bool,
+    /// How many cases there are in all.
+    all: usize,
+}
+
+/// What the run of a case needs, and the place of the case in the wave.
+#[derive(Drop)]
+struct Dealt {
+    place: usize,
+    task: Task,
+}
+
+/// A verdict, and the place of its case in the wave.
+#[derive(Drop)]
+struct Judged {
+    place: usize,
+    verdict: Verdict,
+}
+
+impl Crew {
+    /// Returns a crew of so many workers.
+    pub fn new(workers: u32, shows: bool, all: usize) -> Crew {
+        Crew {
+            workers: workers.max(1).min(MOST_WORKERS) as usize,
+            shows,
+            all,
+        }
+    }
+
+    /// How many cases are run before they are reported.
+    pub fn wave(&self) -> usize
+        ensures { 0 < result }
+    {
+        if self.workers > 1 {
+            self.workers.saturating_mul(WAVE).max(1)
+        } else {
+            1
+        }
+    }
+
+    /// Shows which cases run, on a line that is written over. `before` is how many have ended.
+    fn show<R: Eprint>(&self, rt: &R, before: usize, wave: &[Case]) {
+        if !self.shows {
+            return;
+        }
+        let all = self.all;
+        let first = before.saturating_add(1);
+        let last = before.saturating_add(wave.len());
+        let _ = match wave {
+            [case] => eprint!(rt; "\r\x1b[K{first} of {all}: {}", case.name.as_str()),
+            _ => eprint!(rt; "\r\x1b[K{first} to {last} of {all}"),
+        };
+    }
+
+    /// Clears what `show` showed.
+    fn hide<R: Eprint>(&self, rt: &R) {
+        if self.shows {
+            let _ = eprint!(rt; "\r\x1b[K");
+        }
+    }
+}
+
+/// Runs the cases that are dealt to a worker.
+fn work(
+    alloc: Global,
+    keeps: bool,
+    wave: &[Case],
+    hand: Vec<Dealt>,
+) -> Result<Vec<Judged>, AllocError> {
+    let mut done = Vec::new(alloc);
+    for dealt in hand {
+        let Dealt { place, task } = dealt;
+        if let Some(case) = wave.get(place) {
+            let mut verdict = judge_task(alloc, keeps, case, task)?;
+            if verdict.end() == End::Passed {
+                verdict.forget();
+            }
+            done.push(Judged { place, verdict })?;
+        }
+    }
+    Ok(done)
+}
+
+/// So many hands, in which nothing is yet.
+fn empty_hands(alloc: Global, count: usize) -> Result<Vec<Vec<Dealt>>, AllocError> {
+    let mut hands = Vec::new(alloc);
+    for _ in 0..count {
+        hands.push(Vec::new(alloc))?;
+    }
+    Ok(hands)
+}
+
+/// The verdicts, in the order of the cases. A case without one can't have been run.
+fn in_order(alloc: Global, found: Vec<Option<Verdict>>) -> Result<Vec<Verdict>, AllocError> {
+    let mut verdicts = Vec::new(alloc);
+    for slot in found {
+        match slot {
+            Some(verdict) => verdicts.push(verdict)?,
+            None => {
+                let reason = String::from_str(alloc, "no worker has run it")?;
+                verdicts.push(Verdict::fault(alloc, reason)?)?;
+            }
+        }
+    }
+    Ok(verdicts)
+}
+
+/// Puts the verdicts of the workers to the places of their cases.
+fn put_in(
+    found: &mut Vec<Option<Verdict>>,
+    lists: Vec<Result<Vec<Judged>, AllocError>>,
+) -> Result<(), AllocError> {
+    for list in lists {
+        for judged in list? {
+            let Judged { place, verdict } = judged;
+            if let Some(slot) = found.get_mut(place) {
+                *slot = Some(verdict);
+            }
+        }
+    }
+    Ok(())
+}
+
+/// Judges the cases of a wave. The verdicts are in the order of the cases. `before` is how many cases are before it.
+pub fn judge_wave<R: Files + Print + Eprint + AllocGlobal + Threads + Sync>(
+    rt: &R,
+    wanted: &Wanted<'_>,
+    crew: Crew,
+    before: usize,
+    wave: &[Case],
+) -> Result<Vec<Verdict>> {
+    let (alloc, keeps) = (rt.alloc(), wanted.keeps);
+    crew.show(rt, before, wave);
+    let workers = crew.workers.min(wave.len()).max(1);
+    let mut hands = empty_hands(alloc, workers)?;
+    let mut found = Vec::new(alloc);
+    for (place, case) in wave.iter().enumerate() {
+        match ready_case(rt, wanted, case)? {
+            Ready::Ended(verdict) => found.push(Some(verdict))?,
+            Ready::Runs(task) => {
+                found.push(None)?;
+                if let Some(hand) = hands.get_mut(place % workers) {
+                    hand.push(Dealt { place, task })?;
+                }
+            }
+        }
+    }
+    let lists = thread::map_vec(rt, hands, &|hand| work(alloc, keeps, wave, hand))?;
+    crew.hide(rt);
+    put_in(&mut found, lists)?;
+    Ok(in_order(alloc, found)?)
+}
