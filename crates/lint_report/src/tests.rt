@@ -83,10 +83,12 @@ fn machines_get_the_same(rt: HostRuntime) -> Result<(), AllocError> {
     assert!(rt; has(sarif.as_slice(), "\"uri\": \"a%20b.s\""));
     assert!(rt; has(sarif.as_slice(), "\"byteOffset\": 32732"));
     let tap = text_of(alloc, Format::Tap, &report)?;
-    assert!(rt; has(
-        tap.as_slice(),
-        "not ok 20 - brk\n# a b.s:12: 008010 main+04"
-    ));
+    assert!(rt;
+        has(
+            tap.as_slice(),
+            "not ok 20 - brk\n# a b.s:12: 008010 main+04"
+        )
+    );
     assert!(rt; has(tap.as_slice(), "\nok 21 - cop\n"));
     Ok(())
 }
