@@ -1,0 +1,141 @@
+//! The two machines of a job, and their steps one after another, each shown to the rules.
+
+use crate::seen::{Seen, finish, look_at, tell_dma};
+use crate::sound_watch::SoundWatch;
+use crate::watch::{Now, Watch};
+use anyhow::{Result, bail};
+use audio_side::AudioSide;
+use clock_ratio::console_first;
+use console_machine::ConsoleSide;
+use dma_hdma::Dma;
+use lint_rules::Findings;
+use serial_console::Serial;
+use side_law::Machine;
+use snes_defs::{Job, NoMemory, Region};
+use std::alloc::Global;
+
+/// The last stamp at which a step may begin.
+const LAST: u64 = 1 << 62;
+
+/// The serial console of a job, and what watches it.
+#[derive(Drop)]
+pub struct Pair {
+    serial: Serial<ConsoleSide, AudioSide>,
+    /// Channels that follow DMA alone, to tell it from HDMA.
+    dma: Dma,
+    /// The buffer for emitted bytes, which are dropped.
+    bytes: Vec<u8>,
+    region: Region,
+    watch: Watch,
+    sound: SoundWatch,
+    findings: Findings,
+}
+
+/// Takes the next step of a serial console, after making room for its bytes; returns whether it was taken.
+fn make_turn<C: Machine, S: Machine>(serial: &mut Serial<C, S>, bytes: &mut [u8]) -> bool {
+    if serial.console().pending() > 0 {
+        let _count = serial.console().drain(bytes);
+    }
+    if serial.sound().pending() > 0 {
+        let _count = serial.sound().drain(bytes);
+    }
+    let (console, sound) = serial.machines();
+    if !console.ready() || !sound.ready() || console.stamp() > LAST || sound.stamp() > LAST {
+        return false;
+    }
+    let _side = serial.turn();
+    true
+}
+
+/// Returns the time of a step of the console side, and what the picture unit does then.
+fn now_of(region: Region, console: &ConsoleSide) -> Now {
+    let registers = console.bus().picture().registers();
+    Now {
+        region,
+        stamp: console.stamp(),
+        overscan: registers.settings.overscan,
+        forced: registers.display.blanked,
+        mode7: registers.mode == 7,
+    }
+}
+
+impl Pair {
+    /// Returns the machines of a job before its first step.
+    pub fn new(alloc: Global, job: &Job, findings: Findings) -> Result<Pair, NoMemory> {
+        let console = ConsoleSide::new(alloc, job)?;
+        let sound = AudioSide::new(alloc, job)?;
+        let Ok(bytes) = vec![in alloc; 0u8; 4096] else {
+            return Err(NoMemory);
+        };
+        let watch = Watch::new(alloc)?;
+        Ok(Pair {
+            serial: Serial::new(console, sound),
+            dma: Dma::new(),
+            bytes,
+            region: job.region,
+            watch,
+            sound: SoundWatch::new(),
+            findings,
+        })
+    }
+
+    /// Returns the console side, read-only.
+    pub fn console(&self) -> &ConsoleSide {
+        let (console, _) = self.serial.machines();
+        console
+    }
+
+    /// Returns what was found, and ends the run.
+    pub fn into_findings(self) -> Findings {
+        let Pair { findings, .. } = self;
+        findings
+    }
+
+    /// Takes the next step of the console, and shows it to the rules.
+    fn step_console(&mut self) -> Result<bool> {
+        let (console, _) = self.serial.machines();
+        let now = now_of(self.region, console);
+        let mut seen = look_at(console, &self.dma);
+        if !make_turn(&mut self.serial, self.bytes.as_mut_slice()) {
+            return Ok(false);
+        }
+        let (console, _) = self.serial.machines();
+        finish(console, &mut seen);
+        tell_dma(&mut self.dma, &seen);
+        self.watch
+            .see(&mut self.findings, console.bus(), &seen, &now)?;
+        Ok(true)
+    }
+
+    /// Takes the next step of the sound side, and shows it to the rules.
+    fn step_sound(&mut self) -> Result<bool> {
+        let (console, sound) = self.serial.machines();
+        let mut now = now_of(self.region, console);
+        now.stamp = sound.stamp();
+        self.sound.see(&mut self.findings, sound, &now)?;
+        Ok(make_turn(&mut self.serial, self.bytes.as_mut_slice()))
+    }
+
+    /// Takes the next step, that of the earlier machine; returns whether it was taken.
+    fn step(&mut self) -> Result<bool> {
+        let (console, sound) = self.serial.machines();
+        if console_first(console.stamp(), sound.stamp()) {
+            self.step_console()
+        } else {
+            self.step_sound()
+        }
+    }
+
+    /// Takes the steps that begin before a stamp.
+    pub fn run_to(&mut self, end: u64) -> Result<()> {
+        for _ in 0..u64::MAX {
+            if self.serial.finished(end) {
+                break;
+            }
+            if !self.step()? {
+                bail!("the machines cannot go on");
+            }
+        }
+        Ok(())
+    }
+}

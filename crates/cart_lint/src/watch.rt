@@ -1,0 +1,311 @@
+//! What the rules have to know of the console side's past, and each of its steps as they see it.
+
+ghost use Rattle.std.specs.Prelude.{◌≡◌};
+ghost use Rattle.cart_lint.specs.Times.{clocks_before, frame_at, line_at, clock_at};
+
+use cart_map::Place;
+use clock_ratio::{CONSOLE_RATE, PAL_CONSOLE_RATE};
+use console_bus::Bus;
+use lint_rules::{
+    Asked, At, Cause, Finding, Findings, Moment, Polls, Rule, Unit, interrupt_rule, picture_rule,
+    register_rule,
+};
+use snes_defs::{NoMemory, Region};
+use std::alloc::{AllocError, Global};
+
+/// The bytes of work RAM, and the address of the first.
+const WRAM_SIZE: u32 = 131_072;
+
+const WRAM_BASE: u32 = 0x7e_0000;
+
+/// The master clocks of a line, and the lines of a frame.
+const LINE: u64 = 1364;
+
+const LINES: u64 = 262;
+
+const PAL_LINES: u64 = 312;
+
+/// The time of a step, and what the picture unit does then.
+#[derive(Clone, Copy)]
+pub struct Now {
+    /// The region of the run.
+    pub region: Region,
+    /// The stamp at which the step begins.
+    pub stamp: u64,
+    /// Whether overscan is on.
+    pub overscan: bool,
+    /// Whether forced blank is on.
+    pub forced: bool,
+    /// Whether the picture is of mode 7.
+    pub mode7: bool,
+}
+
+impl Now {
+    /// Returns the master clocks since the start of the run.
+    pub fn clocks(&self) -> u64
+        ensures { result ≡ clocks_before self.now.region self.now.stamp }
+    {
+        match self.region {
+            Region::Ntsc => self.stamp / CONSOLE_RATE,
+            Region::Pal => self.stamp / PAL_CONSOLE_RATE,
+        }
+    }
+
+    /// Returns the moment.
+    pub fn moment(&self) -> Moment
+        ensures frame { result.frame ≡ frame_at self.now.region self.now.stamp }
+        ensures line { result.line ≡ line_at self.now.region self.now.stamp }
+        ensures clock { result.clock ≡ clock_at self.now.region self.now.stamp }
+        ensures blank { (result.overscan ≡ self.now.overscan) × (result.forced ≡ self.now.forced) }
+    {
+        let clocks = self.clocks();
+        let lines = clocks / LINE;
+        match self.region {
+            Region::Ntsc => Moment {
+                frame: lines / LINES,
+                line: lines % LINES,
+                clock: clocks % LINE,
+                overscan: self.overscan,
+                forced: self.forced,
+            },
+            Region::Pal => Moment {
+                frame: lines / PAL_LINES,
+                line: lines % PAL_LINES,
+                clock: clocks % LINE,
+                overscan: self.overscan,
+                forced: self.forced,
+            },
+        }
+    }
+}
+
+/// Returns what lies at an address, as the rules see it.
+pub fn at_of(place: Place) -> At {
+    match place {
+        Place::Wram(_) => At::Wram,
+        Place::Rom(_) => At::Rom,
+        Place::Ram(_) => At::Ram,
+        Place::BBus(_) => At::Register,
+        Place::Cpu(_) => At::Register,
+        Place::Open => At::Nothing,
+    }
+}
+
+/// Adds a finding, if a rule was broken by an instruction of the console's processor.
+pub fn tell(
+    findings: &mut Findings,
+    rule: Option<Rule>,
+    by: u32,
+    detail: u32,
+    now: &Now,
+) -> Result<(), AllocError> {
+    match rule {
+        Some(rule) => {
+            let cause = Cause {
+                unit: Unit::Console,
+                address: by,
+            };
+            findings.add(Finding::new(rule, cause, detail, now.moment()))
+        }
+        None => Ok(()),
+    }
+}
+
+/// Checks the vector of an interrupt that is enabled.
+pub fn check_vector(
+    findings: &mut Findings,
+    bus: &Bus,
+    vector: u32,
+    by: u32,
+    now: &Now,
+) -> Result<(), AllocError> {
+    let target = u32::from(bus.take(vector)) + 256 * u32::from(bus.take(vector.wrapping_add(1)));
+    let rule = interrupt_rule(at_of(bus.place(target)));
+    tell(findings, rule, by, vector, now)
+}
+
+/// What is kept of the console side's past.
+#[derive(Drop)]
+pub struct Watch {
+    /// The cycles of the processor.
+    pub(crate) cycle: u64,
+    /// What the arithmetic unit was asked for last.
+    pub(crate) asked: Option<Asked>,
+    /// When auto-read was turned on, if it is on.
+    pub(crate) auto_read: Option<Moment>,
+    /// When 4212 was read last.
+    pub(crate) polled: Option<Moment>,
+    pub(crate) polls: Polls,
+    /// The bytes last written to 4200, 4201 and 420C, and VTIME.
+    pub(crate) nmitimen: u8,
+    pub(crate) wrio: u8,
+    pub(crate) hdma: u8,
+    pub(crate) vtime: u16,
+    /// The instructions that wrote 420B and 420C last.
+    pub(crate) dma_by: u32,
+    pub(crate) hdma_by: u32,
+    /// Whether the transfer under way began in blank, and how many of its bytes came after the blank's end.
+    pub(crate) began_in_blank: bool,
+    pub(crate) past: u64,
+    /// The last instruction, and whether the stack pointer was outside work RAM when it began.
+    pub(crate) last_by: u32,
+    pub(crate) is_stack_out: bool,
+    /// Which bytes of work RAM have been written, and the address of 2180.
+    pub(crate) written: Vec<bool>,
+    pub(crate) port: u32,
+}
+
+impl Watch {
+    /// Returns the state before the first step.
+    pub fn new(alloc: Global) -> Result<Watch, NoMemory> {
+        let Ok(written) = vec![in alloc; false; 131_072] else {
+            return Err(NoMemory);
+        };
+        Ok(Watch {
+            cycle: 0,
+            asked: None,
+            auto_read: None,
+            polled: None,
+            polls: Polls::begin(0, 0, 0),
+            nmitimen: 0,
+            wrio: 0xff,
+            hdma: 0,
+            vtime: 0x1ff,
+            dma_by: 0,
+            hdma_by: 0,
+            began_in_blank: false,
+            past: 0,
+            last_by: 0,
+            is_stack_out: false,
+            written,
+            port: 0,
+        })
+    }
+
+    /// Counts a cycle of the processor.
+    pub fn count_cycle(&mut self) {
+        self.cycle = self.cycle.saturating_add(1);
+    }
+
+    /// Forgets what a reset sets back.
+    pub fn reset(&mut self) {
+        self.asked = None;
+        self.auto_read = None;
+        self.nmitimen = 0;
+        self.wrio = 0xff;
+        self.hdma = 0;
+        self.vtime = 0x1ff;
+    }
+
+    /// Takes note of a write to a byte of work RAM.
+    pub fn write_wram(&mut self, at: u32) {
+        let at = at as usize;
+        if at < self.written.len() {
+            self.written[at] = true;
+        }
+    }
+
+    /// Checks a read of a byte of work RAM. Each byte that nothing has written is told once.
+    pub fn read_wram(
+        &mut self,
+        findings: &mut Findings,
+        at: u32,
+        by: u32,
+        now: &Now,
+    ) -> Result<(), AllocError> {
+        let place = at as usize;
+        if place < self.written.len() && !self.written[place] {
+            self.written[place] = true;
+            let detail = WRAM_BASE + at % WRAM_SIZE;
+            return tell(findings, Some(Rule::WramBeforeWrite), by, detail, now);
+        }
+        Ok(())
+    }
+
+    /// Returns the byte of work RAM that 2180 accesses, and goes on to the next.
+    fn next_of_port(&mut self) -> u32 {
+        let at = self.port % WRAM_SIZE;
+        self.port = (at + 1) % WRAM_SIZE;
+        at
+    }
+
+    /// Takes note of a write to the registers of work RAM, 2180 to 2183.
+    fn write_port(&mut self, register: u8, byte: u8) {
+        let port = self.port % WRAM_SIZE;
+        match register {
+            0x80 => {
+                let at = self.next_of_port();
+                self.write_wram(at);
+            }
+            0x81 => self.port = port / 256 * 256 + u32::from(byte),
+            0x82 => self.port = port / 65_536 * 65_536 + 256 * u32::from(byte) + port % 256,
+            0x83 => self.port = port % 65_536 + 65_536 * u32::from(byte % 2),
+            _ => {}
+        }
+    }
+
+    /// Sees a write to a register of the B bus, as an offset from 2100.
+    pub fn write_b(
+        &mut self,
+        findings: &mut Findings,
+        register: u8,
+        byte: u8,
+        by: u32,
+        now: &Now,
+    ) -> Result<(), AllocError> {
+        self.write_port(register, byte);
+        if register >= 0x40 {
+            return Ok(());
+        }
+        let moment = now.moment();
+        let detail = 0x2100 + u32::from(register);
+        tell(
+            findings,
+            picture_rule(register, true, &moment),
+            by,
+            detail,
+            now,
+        )?;
+        tell(
+            findings,
+            register_rule(now.mode7, register, &moment),
+            by,
+            detail,
+            now,
+        )
+    }
+
+    /// Sees a read of a register of the B bus, as an offset from 2100.
+    pub fn read_b(
+        &mut self,
+        findings: &mut Findings,
+        register: u8,
+        by: u32,
+        now: &Now,
+    ) -> Result<(), AllocError> {
+        if register == 0x80 {
+            let at = self.next_of_port();
+            return self.read_wram(findings, at, by, now);
+        }
+        let rule = picture_rule(register, false, &now.moment());
+        tell(findings, rule, by, 0x2100 + u32::from(register), now)
+    }
+
+    /// Adds a byte to the transfer under way that came after the end of blank. Each transfer counts once.
+    pub fn tell_past(
+        &mut self,
+        findings: &mut Findings,
+        detail: u32,
+        now: &Now,
+    ) -> Result<(), AllocError> {
+        self.past = self.past.saturating_add(1);
+        let cause = Cause {
+            unit: Unit::Console,
+            address: self.dma_by,
+        };
+        let mut found = Finding::new(Rule::TransferPastBlank, cause, detail, now.moment());
+        found.count = if self.past == 1 { 1 } else { 0 };
+        found.most = self.past;
+        findings.add(found)
+    }
+}

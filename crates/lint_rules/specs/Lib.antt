@@ -1,0 +1,3 @@
+pub mod Picture
+pub mod Units
+pub mod Places

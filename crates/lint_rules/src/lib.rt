@@ -1,0 +1,33 @@
+//! The rules by which `lint` warns: what a console would not forgive, decided on plain numbers.
+//!
+//! No console is in this crate. Each decider takes an access, the moment at which it is made, and what the program did
+//! before, and returns the rule that the access breaks, if it breaks one. Its clause says exactly when. `Findings` keeps
+//! where each rule was broken, how often, and when first and last.
+#![tactic(auto)]
+
+mod addresses;
+mod arithmetic;
+mod file;
+mod findings;
+mod moment;
+mod pads;
+mod picture;
+mod profile;
+mod rule;
+mod sound;
+mod transfers;
+
+pub use addresses::{Access, At, address_rule, opcode_rule, stack_rule};
+pub use arithmetic::{Asked, arithmetic_rule};
+pub use file::{checksum_rule, complement_of, interrupt_rule, reset_rule, size_rule};
+pub use findings::{Cause, Finding, Findings, Unit};
+pub use moment::Moment;
+pub use pads::{Polls, pad_rule};
+pub use picture::{memory_of, picture_rule};
+pub use profile::{latch_rule, register_rule, timer_rule};
+pub use rule::{RULES, Rule, Severity, rule_named};
+pub use sound::{key_off_rule, key_on_rule, selector_rule};
+pub use transfers::{channel_rule, enable_rule, transfer_rule};
+
+#[cfg(test)]
+mod tests;

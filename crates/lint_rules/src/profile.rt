@@ -1,0 +1,59 @@
+//! What the profile of this machine does otherwise than a console.
+
+ghost use Rattle.std.specs.Prelude.{◌≡◌};
+ghost use Rattle.lint_rules.specs.Picture.{changes_picture, register_broken};
+ghost use Rattle.lint_rules.specs.Units.{timer_broken, latch_broken};
+
+use crate::moment::Moment;
+use crate::rule::Rule;
+
+/// Whether a write to a register changes what is drawn. The register is an offset from 2100.
+fn changes_picture(mode7: bool, register: u8) -> bool
+    ensures { result ≡ changes_picture mode7 register }
+{
+    match register {
+        0x00 | 0x01 | 0x05..=0x14 | 0x1a | 0x23..=0x33 => true,
+        0x1b..=0x20 => mode7,
+        _ => false,
+    }
+}
+
+/// Returns the rule that a write to a register of the picture unit breaks. The register is an offset from 2100; `mode7` says
+/// whether the picture is of mode 7.
+///
+/// Here a row is drawn at once at the end of its line, from the registers as they are then.
+pub fn register_rule(mode7: bool, register: u8, moment: &Moment) -> Option<Rule>
+    ensures { result ≡ register_broken mode7 register moment.now }
+{
+    if moment.is_drawn() && changes_picture(mode7, register) {
+        Some(Rule::RegisterInsideLine)
+    } else {
+        None
+    }
+}
+
+/// Returns the rule that a write of VTIME breaks, given the timer's kind of 4200 and the new VTIME.
+///
+/// A console compares the lines as long as the line lasts. Here V-IRQ (kind 2) comes at the line's first clock alone.
+pub fn timer_rule(kind: u8, vtime: u16, moment: &Moment) -> Option<Rule>
+    ensures { result ≡ timer_broken kind vtime moment.now }
+{
+    if kind == 2 && u64::from(vtime) == moment.line && 0 < moment.clock {
+        Some(Rule::TimerOnItsLine)
+    } else {
+        None
+    }
+}
+
+/// Returns the rule that a write of 4201 breaks, given the byte before it.
+///
+/// Source: fullsnes, 4201h WRIO: the counters are latched when bit 7 is cleared.
+pub fn latch_rule(before: u8, byte: u8) -> Option<Rule>
+    ensures { result ≡ latch_broken before byte }
+{
+    if 128 <= before && byte < 128 {
+        Some(Rule::LatchBy4201)
+    } else {
+        None
+    }
+}
