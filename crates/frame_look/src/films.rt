@@ -126,7 +126,13 @@ impl<'a, F: Read + Drop> Frames<'a, F> {
     /// Reads frames up to and with one of this number, and no further. If there is no such frame, the error says how
     /// many there are.
     pub fn reach(&mut self, wanted: u64) -> Result<()> {
-        for _ in self.read..wanted.saturating_add(1) {
+        self.read_up_to(wanted.saturating_add(1), wanted)
+    }
+
+    /// Reads frames until this many were read. If there are fewer, the error says that the frame `wanted` is not there,
+    /// and how many are.
+    fn read_up_to(&mut self, count: u64, wanted: u64) -> Result<()> {
+        for _ in self.read..count {
             match self.piece()? {
                 Piece::Whole => {}
                 Piece::End => bail!(
@@ -134,8 +140,8 @@ impl<'a, F: Read + Drop> Frames<'a, F> {
                     self.name,
                     self.read
                 ),
-                Piece::Cut(count) => bail!(
-                    "{} has no frame {wanted}: it has {} frames, and {count} bytes of the next",
+                Piece::Cut(bytes) => bail!(
+                    "{} has no frame {wanted}: it has {} frames, and {bytes} bytes of the next",
                     self.name,
                     self.read
                 ),
@@ -167,9 +173,7 @@ pub fn open_before<'a, R: Files + AllocGlobal>(
     let mut file = open(rt, name)?;
     let Some(whole) = frames_of_file(rt, name) else {
         let mut frames = Frames::new(rt.alloc(), name, file)?;
-        if wanted > 0 {
-            frames.reach(wanted - 1)?;
-        }
+        frames.read_up_to(wanted, wanted)?;
         return Ok(frames);
     };
     let skipped = wanted.min(whole);
