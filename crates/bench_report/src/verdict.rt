@@ -50,9 +50,9 @@ pub struct Verdict {
 }
 
 impl Verdict {
-    ghost use Rattle.std.specs.Prelude.{◌≡◌, ◌+◌, false, true, vec_len, OnOk};
+    ghost use Rattle.std.specs.Prelude.{◌≡◌, ◌+◌, false, true, vec_len, OnOk, IfOk};
     ghost use Rattle.bench_report.specs.Ends.{end_of};
-    ghost use Rattle.bench_report.specs.declared.verdict.End.TheVariants.{Passed};
+    ghost use Rattle.bench_report.specs.declared.verdict.End.TheVariants.{Passed, Fault};
 
     /// Returns the verdict on a case in which nothing is wrong so far.
     pub fn new(alloc: Global) -> Verdict
@@ -68,7 +68,9 @@ impl Verdict {
     }
 
     /// Returns the verdict on a case that could not be run, for this reason.
-    pub fn fault(alloc: Global, reason: String) -> Result<Verdict, AllocError> {
+    pub fn fault(alloc: Global, reason: String) -> Result<Verdict, AllocError>
+        ensures { IfOk result (λ verdict. end_of verdict ≡ Fault) }
+    {
         let mut verdict = Verdict::new(alloc);
         verdict.is_fault = true;
         verdict.lines.push(reason)?;
@@ -77,7 +79,8 @@ impl Verdict {
 
     /// Notes what is not as expected.
     pub fn fail(&mut self, line: String) -> Result<(), AllocError>
-        ensures { OnOk result (vec_len self.new.lines ≡ vec_len self.old.lines + 1) }
+        ensures more { OnOk result (vec_len self.new.lines ≡ vec_len self.old.lines + 1) }
+        ensures kept { self.new.is_fault ≡ self.old.is_fault }
     {
         self.lines.push(line)?;
         Ok(())

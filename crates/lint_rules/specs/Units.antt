@@ -1,8 +1,9 @@
 -- Units of a console that need time, in this project's terms: the arithmetic unit, auto-read, the timer, the DSP. After fullsnes ("SNES
 -- Maths Multiply/Divide", 4212h HVBJOY, 4201h WRIO, "SNES APU DSP").
-use Rattle.std.specs.Prelude.{ℕ, ◌-◌, ◌*◌, Option, Some, None, Bool, true, false, not, ◌&&◌, ◌||◌, ◌==◌, nat_le, nat_lt, if◌then◌else◌}
+use Rattle.std.specs.Prelude.{ℕ, ◌-◌, ◌*◌, ◌/◌, bit_or, Option, Some, None, Bool, true, false, not, ◌&&◌, ◌||◌, ◌==◌, nat_le, nat_lt, if◌then◌else◌}
 use Rattle.lint_rules.specs.declared.arithmetic.Asked.{Asked}
 use Rattle.lint_rules.specs.declared.moment.Moment.{Moment}
+use Rattle.lint_rules.specs.declared.pads.Polls.{Polls}
 use Rattle.lint_rules.specs.declared.rule.Rule.{Rule}
 use Rattle.lint_rules.specs.declared.rule.Rule.TheVariants.{ProductEarly, QuotientEarly, ArithmeticAgain, PadsWhileBusy, StrobeWhileBusy, TimerOnItsLine, LatchBy4201, KeyOnTwice, KeyOffShort, DspSelector}
 use Rattle.lint_rules.specs.Picture.{lies, blank_line, in_blank}
@@ -40,6 +41,23 @@ pad_broken register writes =
 
 abbrev pub pad_at : Bool → ℕ → Bool → Moment → Option Rule
 pad_at reads register writes m = if reads && is_reading m then pad_broken register writes else None
+
+-- The first read of 4212 by a loop; each further one, by the same instruction within 200 clocks, adds the bits that it found set and
+-- clear.
+abbrev pub first_poll : ℕ → ℕ → ℕ → Polls
+first_poll by clock byte = record { by = by; last = clock; set = byte; clear = 255 - byte }
+
+abbrev pub is_further : Polls → ℕ → ℕ → Bool
+is_further p by clock = by == p.by && nat_le (clock - p.last) 200
+
+abbrev pub polls_after : Polls → ℕ → ℕ → ℕ → Polls
+polls_after p by clock byte =
+    if is_further p by clock then record p { last = clock; set = bit_or p.set byte; clear = bit_or p.clear (255 - byte) }
+    else first_poll by clock byte
+
+-- bits 7 and 6 have both been set and clear, so vertical and horizontal blank came and went: a loop that still reads waits for bit 0
+abbrev pub has_seen_all : Polls → Bool
+has_seen_all p = p.set / 64 == 3 && p.clear / 64 == 3
 
 -- V-IRQ set for the line that has begun
 abbrev pub timer_broken : ℕ → ℕ → Moment → Option Rule

@@ -1,7 +1,7 @@
 //! The pads, and auto-read, which a console needs time for.
 
-ghost use Rattle.std.specs.Prelude.{◌≡◌};
-ghost use Rattle.lint_rules.specs.Units.{lines_of_blank, is_reading, pad_broken, pad_at};
+ghost use Rattle.std.specs.Prelude.{◌≡◌, ◌&&◌};
+ghost use Rattle.lint_rules.specs.Units.{lines_of_blank, is_reading, pad_broken, pad_at, first_poll, is_further, polls_after, has_seen_all};
 
 use crate::moment::Moment;
 use crate::rule::Rule;
@@ -68,7 +68,9 @@ const SOON: u64 = 200;
 
 impl Polls {
     /// Returns the first read of a loop.
-    pub fn begin(by: u32, clock: u64, byte: u8) -> Polls {
+    pub fn begin(by: u32, clock: u64, byte: u8) -> Polls
+        ensures { result ≡ first_poll by clock byte }
+    {
         Polls {
             by,
             last: clock,
@@ -78,14 +80,26 @@ impl Polls {
     }
 
     /// Whether bits 7 and 6 have both been set and clear.
-    fn has_seen_all(&self) -> bool {
+    fn has_seen_all(&self) -> bool
+        ensures { result ≡ has_seen_all self.now }
+    {
         self.set / 64 == 3 && self.clear / 64 == 3
+    }
+
+    /// Whether a read is a further one of the loop.
+    fn is_further(&self, by: u32, clock: u64) -> bool
+        ensures { result ≡ is_further self.now by clock }
+    {
+        by == self.by && clock.saturating_sub(self.last) <= SOON
     }
 
     /// Adds a read, and returns whether the loop waits for bit 0: it goes on, though bits 7 and 6 have both been set and clear.
     /// Another instruction's read, or one that comes late, is the first of another loop.
-    pub fn add(&mut self, by: u32, clock: u64, byte: u8) -> bool {
-        if by != self.by || clock.saturating_sub(self.last) > SOON {
+    pub fn add(&mut self, by: u32, clock: u64, byte: u8) -> bool
+        ensures waits { result ≡ is_further self.old by clock && has_seen_all self.old }
+        ensures after { self.new ≡ polls_after self.old by clock byte }
+    {
+        if !self.is_further(by, clock) {
             *self = Polls::begin(by, clock, byte);
             return false;
         }
