@@ -6,8 +6,8 @@
 # OUT gets snes_VERSION_amd64.deb and snes_VERSION_amd64.tar.gz. The programs are those that CI has built, crates/NAME/out/NAME, each
 # of the sources as they are now; else the status is 1 and nothing is made. (CI keeps no checksums: of its programs it is seen only that no
 # source is newer. tools/release.sh runs CI itself.) With --from they are FOLDER/snes_run, frame_look,
-# snes_trace, scene_cart and cart_bench, and FOLDER/libsnes_library.a if it is there. Nobody knows then what they were built from: VERSION ends
-# with ~unproved, and PROVED and --version say that a proof is not shown.
+# snes_trace, cart_lint, scene_cart and cart_bench, and FOLDER/libsnes_library.a if it is there. Nobody knows then what they were built
+# from: VERSION ends with ~unproved, and PROVED and --version say that a proof is not shown.
 #
 # The library is part of it if crates/snes_library/out/libsnes_library.a is there (`rt lib` in that crate's folder, which
 # takes long), and is left out with a message if not. Installed, its files have names of this project (DECISIONS, "The package"). The package depends on the C library alone, at least of the version that
@@ -41,15 +41,16 @@ export SOURCE_DATE_EPOCH=${SOURCE_DATE_EPOCH:-$(git log -1 --format=%ct 2>/dev/n
 maintainer=${MAINTAINER:-$(git log -1 --format='%an <%ae>' 2>/dev/null)}
 
 # Crates and names of what is installed.
-declare -A crates=([snes]=snes_run [snes-look]=frame_look [snes-trace]=snes_trace [snes-scene]=scene_cart [snes-bench]=cart_bench)
-names=(snes snes-look snes-scene snes-trace snes-bench)
+declare -A crates=([snes]=snes_run [snes-look]=frame_look [snes-trace]=snes_trace [snes-lint]=cart_lint [snes-scene]=scene_cart
+  [snes-bench]=cart_bench)
+names=(snes snes-look snes-scene snes-trace snes-lint snes-bench)
 proof=
 for name in "${names[@]}"; do
   crate=${crates[$name]}
   if [ -n "$folder" ]; then
     [ -x "$folder/$crate" ] || give_up "there is no program $folder/$crate"
   else
-    is_built "$crate" || give_up "crates/$crate/out/$crate is not built, or of other sources: run .ci/run, or ./snes, ./look, ./trace, ./scene and ./bench"
+    is_built "$crate" || give_up "crates/$crate/out/$crate is not built, or of other sources: run .ci/run, or ./snes, ./look, ./trace, ./lint, ./scene and ./bench"
     proof+="$name: crate $crate, of $(tools/lines_below.sh "$crate" | wc -l) crates whose sources have the sum $(sum_of_sources "$top" "$(tools/lines_below.sh "$crate")")"$'\n'
   fi
 done
@@ -83,7 +84,8 @@ for name in "${names[@]:1}"; do ln -s snes "$usr/bin/$name"; done
 install -m 644 tools/with_progress.sh "$usr/lib/snes"
 printf 'snes %s\ncommit %s\n%s\n' "$version" "$commit" "$shown" >"$usr/lib/snes/about"
 
-programs=("$(program_of snes-look)" "$(program_of snes-trace)" "$(program_of snes-scene)" "$(program_of snes-bench)")
+programs=()
+for name in snes-look snes-trace snes-lint snes-scene snes-bench; do programs+=("$(program_of "$name")"); done
 tools/package/texts.py "$usr/share" "${programs[@]}" "$version" "$(date -d "@$SOURCE_DATE_EPOCH" +%F)" ||
   give_up 'the man pages were not made'
 
@@ -180,8 +182,8 @@ Description: Super Nintendo emulator without a window, for checks and archives
  video and raw audio, byte for byte the same on every run. $told
  .
  With it come snes-look (pictures, sounds, sums), snes-trace (each step of a
- run), snes-bench (cases for CI) and snes-scene (free cartridges and the files
- that a run needs).
+ run), snes-lint (warnings of what fails on a console), snes-bench (cases for
+ CI) and snes-scene (free cartridges and the files that a run needs).
 TEXT
 (cd "$tree" && find usr -type f -print0 | sort -z | xargs -0 md5sum) >"$tree/DEBIAN/md5sums"
 find "$tree" -type d -exec chmod 755 {} +

@@ -13,6 +13,8 @@
 #     ends         what ./trace says of machines that go nowhere (try_trace_ends.sh), its labels, ends and coverage
 #                  (try_trace_words.sh), and the lines of source that it counts, if ca65 is there (compare_lines.py)
 #     bench        the cases of ./bench, wrong files of cases, its reports and the CI pieces of its page (try_bench.sh)
+#     lint         each rule of ./lint, its formats and arguments, and the planted faults, if ca65 is there (try_lint.py); its logs of
+#                  SARIF are validated if SARIF_SCHEMA names the schema (try_lint.py says how to get it)
 #     states       what snes dump writes of cartridges at random (try_states.py)
 #     edges        the cases of try_edges.py by the built programs; 10,000 hostile inputs and command lines (try_hostile.py);
 #                  each fault of tools/evidence/edges is told (try_edge_faults.sh)
@@ -29,10 +31,10 @@
 # of the libraries that the prover takes; two kits that differ by name alone count as one, and the line names the one that was used.
 # The output of each item goes to CHECKED/PART-ITEM, of all of `workers` to CHECKED/workers (CHECKED: /tmp/snes-full-check).
 #
-# It wants the built programs (./snes demo 7 --frames 0, ./look --help, ./trace --help, ./bench --help; ONLY_BUILD=1 tools/run_built.sh CRATE
-# CRATE for spc_of_job, wild_jobs and console_rows), a C compiler, and some three hours of four processors, of which the wrong bodies take nearly all.
-# TREE, a clone of this repository that it may keep its proofs in, spares proofs of crates below. It
-# checks what is committed. The status is 1 where a part doesn't hold.
+# It wants the built programs (./snes demo 7 --frames 0, ./look --help, ./trace --help, ./lint --help, ./bench --help; ONLY_BUILD=1
+# tools/run_built.sh CRATE CRATE for spc_of_job, wild_jobs and console_rows), a C compiler, and some three hours of four processors,
+# of which the wrong bodies take nearly all. TREE, a clone of this repository that it may keep its proofs in, spares proofs of crates
+# below. It checks what is committed. The status is 1 where a part doesn't hold.
 top=$(cd "$(dirname "${BASH_SOURCE[0]}")/../.." && pwd) || exit 2
 checked=${CHECKED:-/tmp/snes-full-check}
 held=${HELD:-$top/records/full_check.held}
@@ -43,7 +45,7 @@ watched=${CONSOLE_ROWS:-$top/crates/console_rows/out/console_rows}
 commit=$(git -C "$top" rev-parse --short HEAD) || exit 2
 read -r kit _ < <(rt version) || exit 2
 parts=("$@")
-[ $# -gt 0 ] || parts=(edits device ends bench states edges allocations soak rows workers bodies)
+[ $# -gt 0 ] || parts=(edits device ends bench lint states edges allocations soak rows workers bodies)
 
 # A full device, a device that takes everything, a name that can't be made: what the program says and its status.
 device() {
@@ -144,6 +146,12 @@ bench() {
   item cases "$(sum_of "$program" "$top"/crates/cart_bench/{stdout,data/*} "$top"/{docs/use/BENCH.md,tools/evidence/try_bench.sh})" "$top/tools/evidence/try_bench.sh" "$program"
 }
 
+lint() {
+  local program=$top/crates/cart_lint/out/cart_lint rest=("${SARIF_SCHEMA:-no schema}" "$(command -v ca65 >/dev/null && echo ca65)")
+  item rules "$(sum_of "$program" "$top"/tools/evidence/{try_lint.py,lint/{faults.cfg,faults.s,sarif_schema.py}} "${rest[@]}")" \
+    "$top/tools/evidence/try_lint.py" --lint "$program" ${SARIF_SCHEMA:+--schema "$SARIF_SCHEMA"}
+}
+
 states() {
   local scene=$top/crates/scene_cart/out/scene_cart
   item random "$(sum_of "$snes" "$scene" "$top/tools/evidence/try_states.py")" "$top/tools/evidence/try_states.py" "$snes" "$scene"
@@ -237,7 +245,7 @@ for part in "${parts[@]}"; do
   started=$(date +%s) items=0 noted=0 bad=0 only=
   [[ $part != *:* ]] || { only=${part#*:} && part=${part%%:*}; }
   case $part in
-    edits | ends | states | edges | allocations | soak | rows | workers | bodies) $part ;;
+    edits | ends | bench | lint | states | edges | allocations | soak | rows | workers | bodies) $part ;;
     device) item all now device ;;
     *) echo "no part of this name: $part" ;;
   esac

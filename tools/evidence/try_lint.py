@@ -1,13 +1,21 @@
 #!/usr/bin/env python3
 """Tries each rule of ./lint: a small cartridge that breaks it, and a neighbour that almost does.
 
-    tools/evidence/try_lint.py [--lint PROGRAM] [--only RULE]
+    tools/evidence/try_lint.py [--lint PROGRAM] [--only RULE] [--schema FILE]
 
 The cartridges are made here, instruction by instruction. Of each, the findings are compared with what is expected: each rule, the label of
 the instruction that caused it, and how often. So a finding too many counts as a failure, too. The other formats, --allow, --allowed and
 --fail-on are tried with one cartridge. Of SARIF the parts that are written are checked against what its standard requires of them.
 If ca65 is there (Debian: apt-get install cc65), lint/faults.s is assembled, and each of its five faults has to be found on its line, and
 nothing else. The last line is `N tried, M failed`, and the status is 1 if M is not 0.
+
+With --schema, logs of SARIF are validated by the JSON schema of OASIS for SARIF 2.1.0: the log of each case with a finding, of a run
+without one, and of the planted faults. Changed logs have to be refused. It needs Debian's python3-jsonschema, and checks the form of
+URIs if python3-rfc3987 is there too. The schema is no part of the repository. The tests of GCC 15.3 have it, so the source package gcc-15
+of Debian unstable has it. With a line `deb-src` of Debian unstable among apt's sources, these lines get it:
+
+    apt-get source --download-only gcc-15
+    tar -xOf gcc-15_*.orig.tar.gz --wildcards '*/gcc-*.tar.xz' | tar -xJO --wildcards '*/sarif-schema-2.1.0.json' >sarif-schema-2.1.0.json
 """
 import argparse
 import json
@@ -19,6 +27,10 @@ import sys
 import tempfile
 
 HERE = os.path.dirname(os.path.realpath(__file__))
+sys.path.insert(0, os.path.join(HERE, "lint"))
+
+import sarif_schema  # noqa: E402
+
 TOP = os.path.dirname(os.path.dirname(HERE))
 SIZE = 0x8000
 
@@ -566,12 +578,17 @@ def address_of(code, label):
     return f"{label if isinstance(label, int) else code.labels[label]:06X}"
 
 
-def differs(lint, folder, code, wanted):
-    """How the findings of a cartridge differ from what is wanted; empty if they don't."""
-    image = cartridge(code, **code.options)
+def written(folder, code):
+    """Writes the cartridge of a case, and returns the file's name."""
     path = os.path.join(folder, "case.sfc")
     with open(path, "wb") as file:
-        file.write(image)
+        file.write(cartridge(code, **code.options))
+    return path
+
+
+def differs(lint, folder, code, wanted):
+    """How the findings of a cartridge differ from what is wanted; empty if they don't."""
+    path = written(folder, code)
     ran = subprocess.run([lint, path, "--frames", "8", "--format", "json"], capture_output=True, timeout=300, check=False)
     if ran.returncode == 2 or not ran.stdout:
         return f"status {ran.returncode}: {ran.stderr.decode()}"
@@ -682,13 +699,39 @@ def planted(lint, folder):
     return "" if status == 1 and got == wanted else f"status {status}, {said}, {sorted(got ^ wanted, key=str)}"
 
 
+def validated(lint, folder, validator):
+    """Validates a log of each case with a finding, of a run without one, and of the planted faults; and has changed logs refused."""
+    def log_of(*words):
+        return json.loads(call(lint, folder, *words, "--format", "sarif")[1])
+
+    def fault_of(log, has_results):
+        if bool(log["runs"][0]["results"]) != has_results:
+            return "results" if has_results else "no results"
+        return sarif_schema.fault_of(validator, log)
+
+    for _, name, make, wanted in CASES:
+        if wanted or name == "right_file":
+            log = log_of(written(folder, make()), "--frames", "8")
+            yield f"log of {name}", fault_of(log, bool(wanted))
+        if name == "wrong_checksum":
+            for change, wrong in sarif_schema.changed(validator, log):
+                yield f"changed log: {change}", "" if sarif_schema.fault_of(validator, wrong) else "the schema takes it"
+    if os.path.exists(os.path.join(folder, "faults.sfc")):
+        log = log_of("faults.sfc", "--symbols", "faults.dbg", "--frames", "30")
+        lines = json.dumps(log).count('"startLine"')
+        yield "log of the planted faults", fault_of(log, True) or ("" if lines == 5 else f"{lines} lines of source")
+
+
 def main():
     words = argparse.ArgumentParser(description=__doc__, formatter_class=argparse.RawDescriptionHelpFormatter)
     words.add_argument("--lint", default=os.path.join(TOP, "crates/cart_lint/out/cart_lint"))
     words.add_argument("--only")
+    words.add_argument("--schema", metavar="FILE")
     given = words.parse_args()
+    given.lint = os.path.abspath(given.lint)
     if not os.access(given.lint, os.X_OK):
         sys.exit(f"no program: {given.lint} (ONLY_BUILD=1 tools/run_built.sh lint cart_lint builds it)")
+    validator = sarif_schema.validator_of(given.schema) if given.schema else None
     tried = failed = 0
     with tempfile.TemporaryDirectory() as folder:
         for rule, name, make, wanted in CASES:
@@ -702,6 +745,14 @@ def main():
             more = list(words_and_formats(given.lint, folder))
             if shutil.which("ca65"):
                 more.append(("five planted faults", planted(given.lint, folder)))
+            if validator:
+                logs = list(validated(given.lint, folder, validator))
+                valid = sum(name.startswith("log ") and not wrong for name, wrong in logs)
+                refused = sum(name.startswith("changed ") and not wrong for name, wrong in logs)
+                print(f"by the schema {valid} logs are valid, and {refused} changed ones are not")
+                more += logs
+            else:
+                print("no log of SARIF is validated: no --schema FILE (--help says how to get it)")
             tried += len(more)
             for name, wrong in more:
                 if wrong:

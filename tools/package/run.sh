@@ -1,7 +1,7 @@
 #!/bin/bash
-# Runs a program of snes as it is installed: snes, snes-look, snes-trace, snes-scene and snes-bench are this file under five names. The
-# programs are in lib/snes; they run alone too. This adds --version with commit and proof, and on a terminal
-# how far a run is (with_progress.sh, which ./snes of the repository has too).
+# Runs a program of snes as it is installed: snes, snes-look, snes-trace, snes-lint, snes-scene and snes-bench are this file under six
+# names. The programs are in lib/snes; they run alone too. This adds --version with commit and proof, and on a terminal
+# how far a run is (with_progress.sh, which ./snes of the repository has too; snes-lint prints it itself).
 name=${0##*/}
 top=$(dirname "$(dirname "$(readlink -f "${BASH_SOURCE[0]}")")") || exit 70
 library=$top/lib/snes
@@ -21,7 +21,10 @@ fi
 if [ "$name" != snes ] || [ ! -t 2 ]; then
   # A write beyond a limit of file sizes is a fault that the program tells, and does not end it by a signal.
   trap '' XFSZ
-  exec "$program" "$@"
+  words=()
+  [ "$name" != snes-lint ] || [ $# -eq 0 ] || [ ! -t 2 ] || words=(--progress)
+  for word; do [ "$word" != --progress ] || words=(); done
+  exec "$program" "$@" "${words[@]}"
 fi
 source "$library/with_progress.sh" || exit 70
 run_with_progress "$program" "$@"

@@ -1,10 +1,11 @@
 #!/usr/bin/env python3
 """Writes the man pages and the completions of an installed snes, of the texts by which its programs help.
 
-    tools/package/texts.py OUT LOOK TRACE SCENE BENCH VERSION DATE
+    tools/package/texts.py OUT LOOK TRACE LINT SCENE BENCH VERSION DATE
 
-OUT is a folder, as `usr/share` of a package. LOOK, TRACE, SCENE and BENCH are the programs frame_look, snes_trace, scene_cart and
-cart_bench, whose --help is read. The help of snes is in crates/run_io/src/help.rt, the formats are in docs/use/COMMANDS.md.
+OUT is a folder, as `usr/share` of a package. LOOK, TRACE, LINT, SCENE and BENCH are the programs frame_look, snes_trace, cart_lint,
+scene_cart and cart_bench, whose --help is read. The help of snes is in crates/run_io/src/help.rt, the formats are in
+docs/use/COMMANDS.md, the file of cases in docs/use/BENCH.md, and the rules of lint in docs/use/LINT.md.
 So an option that a program has is in its page and in its completions, and none is that it has not. DATE is 2026-11-29, for one.
 """
 import os
@@ -101,6 +102,7 @@ def escaped(text):
 def inline(text):
     """A line of a page of the repository as one of a man page."""
     text = re.sub(r"\[([^\]]*)\]\([^)]*\)", r"\1", text)
+    text = re.sub(r"\*\*(`[^`]*`)\*\*", r"\1", text)
     done = []
     for number, part in enumerate(re.split(r"`([^`]*)`", text)):
         if number % 2:
@@ -151,7 +153,7 @@ def page_of(markdown):
             in_code = False
         if line.startswith("#"):
             yield from flush()
-            yield (".SH " + escaped(line[3:]).upper()) if line.startswith("## ") else ".SS " + escaped(line.lstrip("# "))
+            yield (".SH " + escaped(line[3:]).upper()) if line.startswith("## ") else ".SS " + escaped(line.lstrip("# ").replace("`", ""))
         elif line.startswith("|"):
             rows.append(line)
         elif line.startswith("- "):
@@ -212,7 +214,8 @@ def snes_page(version, date):
             meaning = "the program was not found"
         page += [".TP", f"\\fB{number}\\fR", escaped(meaning) + "."]
     page += [".SH FILES", ".TP", "\\fI/usr/share/doc/snes/PROVED\\fR", "By which commit and toolchain the programs were made, whether they were proved, and the checksum of each file."]
-    return page + list(ending([("snes-bench", 1), ("snes-look", 1), ("snes-scene", 1), ("snes-trace", 1), ("snes", 5)]))
+    others = [("snes-bench", 1), ("snes-lint", 1), ("snes-look", 1), ("snes-scene", 1), ("snes-trace", 1), ("snes", 5)]
+    return page + list(ending(others))
 
 
 def sentence(text):
@@ -265,27 +268,46 @@ def plain_page(name, what, program, version, date):
     for option, value, meaning in whole.options:
         page += [".TP", option_tag(option, value), escaped(sentence(meaning))]
     page += version_option()
-    page += [".SH EXIT STATUS", escaped(sentence(" ".join(after.removeprefix("Statuses: ").split())))]
+    statuses = after.split("\n\n")[-1]
+    page += [".SH EXIT STATUS", escaped(sentence(" ".join(statuses.removeprefix("Statuses: ").split())))]
     return page + list(ending([("snes", 1), ("snes", 5)])), whole
+
+
+def sections_of(name):
+    return re.findall(r"^## (.+)\n((?:(?!## ).*\n?)*)", text_of(name), re.M)
+
+
+def with_sections(page, name, titles):
+    """A plain page, with sections of a page of the repository in front of its statuses."""
+    sections = dict(sections_of(name))
+    told = "".join(f"## {title}\n{sections[title]}" for title in titles)
+    for tool in ("bench", "lint", "look", "trace", "snes"):
+        told = told.replace(f"./{tool}", "snes" if tool == "snes" else f"snes-{tool}")
+    at = page.index(".SH EXIT STATUS")
+    page = page[:at] + list(page_of(told)) + page[at:]
+    # A paragraph begins with its section anyway.
+    return [line for number, line in enumerate(page) if line != ".PP" or not page[number - 1].startswith(".S")]
 
 
 def bench_page(program, version, date):
     """The page of bench: as a plain one, with the form of a file of cases, as its page of the repository has it."""
     page, whole = plain_page("snes-bench", "cases of cartridges, and what each is expected to do", program, version, date)
-    sections = dict(re.findall(r"^## (.+)\n((?:(?!## ).*\n?)*)", text_of("docs/use/BENCH.md"), re.M))
-    told = "".join(f"## {name}\n{sections[name]}" for name in ("A first case", "The file"))
-    for name in ("bench", "look", "trace", "snes"):
-        told = told.replace(f"./{name}", "snes" if name == "snes" else f"snes-{name}")
-    at = page.index(".SH EXIT STATUS")
-    page = [line.replace("docs/use/BENCH.md has its form", "THE FILE says in which form") for line in page[:at]] + list(page_of(told)) + page[at:]
-    # A paragraph begins with its section anyway.
-    return [line for number, line in enumerate(page) if line != ".PP" or not page[number - 1].startswith(".S")], whole
+    page = [line.replace("docs/use/BENCH.md has its form", "THE FILE says in which form") for line in page]
+    return with_sections(page, "docs/use/BENCH.md", ("A first case", "The file")), whole
+
+
+def lint_page(program, version, date):
+    """The page of lint: as a plain one, with the rules and the formats, as its page of the repository has them."""
+    page, whole = plain_page("snes-lint", "what a cartridge does that a console would not forgive", program, version, date)
+    page = [line.replace("(below)", "(ALLOWED PLACES)") for line in page]
+    page.insert(page.index(option_tag("--progress", None)) + 2, "It is added if standard error is a terminal.")
+    at = page.index(".SH DESCRIPTION") + 2
+    page.insert(at, "RULES says of each rule what a console does, what snes does, and how to mend it.")
+    page.insert(at + 1, "A source in capitals is a page of the repository of snes.")
+    return with_sections(page, "docs/use/LINT.md", ("What a finding says", "Rules", "Allowed places", "Formats")), whole
 
 
 def formats_page(version, date):
-    def sections_of(name):
-        return re.findall(r"^## (.+)\n((?:(?!## ).*\n?)*)", text_of(name), re.M)
-
     sections = dict(sections_of("docs/use/COMMANDS.md") + sections_of("docs/use/STATE.md"))
     page = head("snes", 5, date, version, "files that snes reads and writes, its messages and its limits")
     for name in FORMATS[:2] + STATE + FORMATS[2:]:
@@ -372,19 +394,21 @@ def write(out, name, lines):
 
 
 def main():
-    if len(sys.argv) != 8:
+    if len(sys.argv) != 9:
         sys.exit(__doc__)
-    out, look, trace, scene, bench, version, date = sys.argv[1:]
+    out, look, trace, lint, scene, bench, version, date = sys.argv[1:]
     commands, _, _ = snes_help()
     look_text, look_commands = look_page(look, version, date)
     trace_text, trace_whole = trace_page(trace, version, date)
     scene_text, scene_whole = plain_page("snes-scene", "free cartridges and the files that a run of snes needs", scene, version, date)
     bench_text, bench_whole = bench_page(bench, version, date)
+    lint_text, lint_whole = lint_page(lint, version, date)
     write(out, "man/man1/snes.1", snes_page(version, date))
     write(out, "man/man1/snes-look.1", look_text)
     write(out, "man/man1/snes-trace.1", trace_text)
     write(out, "man/man1/snes-scene.1", scene_text)
     write(out, "man/man1/snes-bench.1", bench_text)
+    write(out, "man/man1/snes-lint.1", lint_text)
     write(out, "man/man5/snes.5", formats_page(version, date))
     programs = {
         "snes": (commands, ["--help", "--version", "--quiet"]),
@@ -392,6 +416,7 @@ def main():
         "snes-trace": ([trace_whole], ["--version"]),
         "snes-scene": ([scene_whole], ["--version"]),
         "snes-bench": ([bench_whole], ["--version"]),
+        "snes-lint": ([lint_whole], ["--version"]),
     }
     for name, (known, first) in programs.items():
         write(out, f"bash-completion/completions/{name}", bash(name, known, first))
