@@ -3,8 +3,8 @@
 #
 #     tools/build_page.sh
 #
-# The library is proved and built as everywhere (`rt lib` in crates/snes_library). Its LLVM module, of which rt makes the
-# code for C programs, is kept on the way, and the same compiler makes a second code of it, for wasm64. (A line
+# The library is proved and built as everywhere (tools/build_library.sh). Its LLVM module, of which the code for C programs
+# is made, is kept on the way, and the same compiler makes a second code of it, for wasm64. (A line
 # `wasm64` in crates.txt does not serve yet: the toolchain compiles no call of the heap for that target, and its gate
 # has no place for such a crate.) SCENE may name a built program in place of ./scene.
 top=$(cd "$(dirname "${BASH_SOURCE[0]}")/.." && pwd) || exit 1
@@ -13,26 +13,7 @@ scene=${SCENE:-$top/scene}
 work=$(mktemp -d) || exit 1
 trap 'rm -rf "$work"' EXIT
 
-# The toolchain by links, with a compiler that keeps the module that it is given.
-mkdir -p "$work/kit/bin" "$work/kit/toolchain/bin"
-for one in "$kit"/*; do
-  case ${one##*/} in bin | toolchain) ;; *) ln -s "$one" "$work/kit/" ;; esac
-done
-for one in "$kit"/bin/*; do
-  case ${one##*/} in rt | rtlib.py) cp "$one" "$work/kit/bin/" ;; *) ln -s "$one" "$work/kit/bin/" ;; esac
-done
-ln -s "$kit/toolchain/lib" "$work/kit/toolchain/lib"
-for one in "$kit"/toolchain/bin/*; do
-  [ "${one##*/}" = clang ] || ln -s "$one" "$work/kit/toolchain/bin/"
-done
-cat >"$work/kit/toolchain/bin/clang" <<TEXT
-#!/bin/sh
-for word; do case \$word in *.bc) cp "\$word" "$work/module.bc" ;; esac; done
-exec "$kit/toolchain/bin/clang" "\$@"
-TEXT
-chmod +x "$work/kit/toolchain/bin/clang"
-(cd "$top/crates/snes_library" && "$work/kit/bin/rt" lib "$@") || exit 1
-[ -f "$work/module.bc" ] || { echo "build_page: the toolchain made no LLVM module" >&2; exit 1; }
+MODULE=$work/module.bc "$top/tools/build_library.sh" || exit 1
 
 # The second code, and what it takes memory by.
 clang=$kit/toolchain/bin/clang

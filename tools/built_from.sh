@@ -81,6 +81,12 @@ is_built() {
   return 0
 }
 
+# Whether the proved library stands and was built from the sources as they are (tools/build_library.sh).
+is_library_built() {
+  local made=$top/crates/snes_library/out/libsnes_library.a kept_sources
+  [ -f "$made" ] && has_kept_sums "$made" && [ "$kept_sources" = "$(sum_of_sources "$top" "$("$top/tools/lines_below.sh" snes_library)")" ]
+}
+
 # Copies crates and those below them to a folder, without what was made of them and without their must-fail edits.
 copy_sources() {
   local work=$1 folders

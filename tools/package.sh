@@ -9,8 +9,8 @@
 # snes_trace, cart_lint, scene_cart and cart_bench, and FOLDER/libsnes_library.a if it is there. Nobody knows then what they were built
 # from: VERSION ends with ~unproved, and PROVED and --version say that a proof is not shown.
 #
-# The library is part of it if crates/snes_library/out/libsnes_library.a is there (`rt lib` in that crate's folder, which
-# takes long), and is left out with a message if not. Installed, its files have names of this project (DECISIONS, "The package"). The package depends on the C library alone, at least of the version that
+# The library is part of it if tools/build_library.sh has built it, and is left out with a message if not. Installed, its files
+# have names of this project (DECISIONS, "The package"). The package depends on the C library alone, at least of the version that
 # the programs ask for. Man pages and completions are made by tools/package/texts.py of the programs' own help.
 #
 # Two calls with the same programs and the same SOURCE_DATE_EPOCH (the time of the commit, if it is not set) make the same bytes.
@@ -56,8 +56,7 @@ for name in "${names[@]}"; do
 done
 library=${folder:-$top/crates/snes_library/out}/libsnes_library.a
 if [ -z "$folder" ] && [ -f "$library" ]; then
-  [ -z "$(find_sources "$(tools/lines_below.sh snes_library)" -newer "$library" -print -quit)" ] ||
-    give_up "$library is of other sources: run rt lib in crates/snes_library, or remove it"
+  is_library_built || give_up "$library is of other sources: run tools/build_library.sh, or remove it"
 fi
 if [ -n "$folder" ]; then
   full=$version~unproved
@@ -132,7 +131,7 @@ snes: package-name-doesnt-match-sonames *
 snes: link-to-shared-library-in-wrong-package *
 TEXT
 else
-  say "without the library: $library is not there (rt lib in crates/snes_library)"
+  say "without the library: $library is not there (tools/build_library.sh)"
 fi
 
 # The pages for who installs it.

@@ -4,7 +4,7 @@
 #     tools/release.sh OUT [ROOT [C_ROOT]]
 #
 # In this order: what the steps need is here; the tree has no changes, and CHANGELOG.md has closed the version; CI (.ci/run); everything
-# that is not part of CI (tools/evidence/full_check.sh); the library (rt lib); the package twice, which have to be the same bytes;
+# that is not part of CI (tools/evidence/full_check.sh); the library (tools/build_library.sh); the package twice, which have to be the same bytes;
 # lintian; the package in roots without the toolchain (tools/evidence/try_package.sh, with ROOT and C_ROOT if they are given); the first
 # look (tools/evidence/try_unproved.sh); the commit and the tree are still those of the beginning.
 #
@@ -65,7 +65,6 @@ is_clean() {
 }
 # Its notes go to OUT, so that the tree stays as it is committed.
 check_fully() { cp records/full_check.held "$out/full_check.held" && HELD=$out/full_check.held tools/evidence/full_check.sh; }
-make_library() { (cd crates/snes_library && rt lib) && [ -f crates/snes_library/out/libsnes_library.a ]; }
 package_twice() {
   rm -rf "$out/again" && rm -f "$out"/snes_*_amd64.deb "$out"/snes_*_amd64.tar.gz || return 1
   tools/package.sh "$out" && tools/package.sh "$out/again" && cmp "$out"/snes_*_amd64.deb "$out"/again/*.deb &&
@@ -82,7 +81,7 @@ step needs has_needs
 step tree is_clean
 step ci .ci/run
 step full check_fully
-step library make_library
+step library tools/build_library.sh
 step package package_twice
 step lint no_warning
 step root in_roots

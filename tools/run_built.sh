@@ -31,7 +31,7 @@ out=$top/crates/$crate/out
 program=$out/$crate
 log=$out/build.log
 
-source "$top/tools/built_from.sh" || exit 70
+source "$top/tools/built_from.sh" && source "$top/tools/gate_over_copy.sh" || exit 70
 
 if [ "$#,${1-}" = 1,--version ]; then
   echo "$tool $(version_of_tree)"
@@ -45,54 +45,6 @@ to_build() {
   local name together=("$crate")
   case $crate in snes_run | scene_cart) together=(snes_run scene_cart) ;; esac
   for name in "${together[@]}"; do is_built "$name" || echo "$name"; done
-}
-
-# Tells each crate that is proved, of what the gate has printed since it was looked at last.
-tell() {
-  local line
-  while IFS= read -r line <&7; do
-    line=$part$line
-    part=''
-    if [[ $line =~ ^rt:\ ([a-z0-9_]+)\ (proved|is\ kept) ]]; then
-      finished=$((finished + 1))
-      say "proved $finished of $1: ${BASH_REMATCH[1]}"
-    fi
-  done
-  part=$part$line
-}
-
-# Ends the gate, whose process group it is told, and removes the copy as soon as this script has ended, by whatever.
-watch_over() {
-  local group='' word
-  trap '' INT TERM HUP QUIT
-  while read -r word; do group=$word; done
-  if [ "${group:-none}" != none ]; then
-    kill -TERM -- "-$group" 2>/dev/null && sleep 1
-    kill -KILL -- "-$group" 2>/dev/null
-  fi
-  rm -rf "$1"
-}
-
-# Runs the gate over a copy, in a process group of its own, and tells how far it is.
-run_gate() {
-  local gate finished=0 part=''
-  : >"$log" && exec 7<"$log" || return 1
-  set -m
-  # rt is a program of Python, which else would hold its lines back.
-  (cd "$work" && PYTHONUNBUFFERED=1 exec rt ci) </dev/null >>"$log" 2>&1 7<&- 8>&- 9>&- &
-  gate=$!
-  set +m
-  echo "$gate" >&8
-  while kill -0 "$gate" 2>/dev/null; do
-    tell "$1"
-    sleep 1
-  done
-  wait "$gate"
-  local status=$?
-  tell "$1"
-  exec 7<&-
-  echo none >&8
-  return "$status"
 }
 
 build() {

@@ -4,7 +4,7 @@
 #
 #     tools/compare/try_embedding.sh [FRAMES]
 #
-# FRAMES is 60 if left out. The library is proved and built first where it is missing (`rt lib`). Needs a C compiler and
+# FRAMES is 60 if left out. The library is proved and built first where that is needed (tools/build_library.sh). Needs a C compiler and
 # python3. SNES and SCENE may name built programs in place of ./snes and ./scene. Says each check, and ends with status 1
 # where one failed.
 top=$(cd "$(dirname "${BASH_SOURCE[0]}")/../.." && pwd) || exit 1
@@ -28,7 +28,7 @@ check() {
 
 sum_of() { sha256sum "$1" | cut -d ' ' -f 1; }
 
-[ -f "$library" ] || (cd "$top/crates/snes_library" && rt lib) || exit 1
+"$top/tools/build_library.sh" || exit 1
 work=$(mktemp -d) || exit 1
 trap 'rm -rf "$work"' EXIT
 cd "$work" || exit 1
