@@ -1,7 +1,7 @@
 //! What the rules have to know of the console side's past, and each of its steps as they see it.
 
 ghost use Rattle.std.specs.Prelude.{◌≡◌};
-ghost use Rattle.cart_lint.specs.Times.{clocks_before, frame_at, line_at, clock_at};
+ghost use Rattle.lint_watch.specs.Times.{clocks_before, frame_at, line_at, clock_at};
 
 use cart_map::Place;
 use clock_ratio::{CONSOLE_RATE, PAL_CONSOLE_RATE};
@@ -10,7 +10,7 @@ use lint_rules::{
     Asked, At, Cause, Finding, Findings, Moment, Polls, Rule, Unit, interrupt_rule, picture_rule,
     register_rule,
 };
-use snes_defs::{NoMemory, Region};
+use snes_defs::Region;
 use std::alloc::{AllocError, Global};
 
 /// The bytes of work RAM, and the address of the first.
@@ -157,10 +157,7 @@ pub struct Watch {
 
 impl Watch {
     /// Returns the state before the first step.
-    pub fn new(alloc: Global) -> Result<Watch, NoMemory> {
-        let Ok(written) = vec![in alloc; false; 131_072] else {
-            return Err(NoMemory);
-        };
+    pub fn new(alloc: Global) -> Result<Watch, AllocError> {
         Ok(Watch {
             cycle: 0,
             asked: None,
@@ -177,7 +174,7 @@ impl Watch {
             past: 0,
             last_by: 0,
             is_stack_out: false,
-            written,
+            written: vec![in alloc; false; 131_072]?,
             port: 0,
         })
     }

@@ -127,19 +127,24 @@ pub fn checksum_of(cart: &Cart) -> Option<u16> {
     Some((whole % 65_536) as u16)
 }
 
-/// Checks the file of a cartridge that has a header.
-pub fn check_file(findings: &mut Findings, size: usize, cart: &Cart) -> Result<(), AllocError> {
-    let front = if size % 1024 == FRONT as usize {
+/// Returns how many bytes a copier put in front of the image, in a file of so many bytes: 512 or 0.
+pub fn front_of(size: usize) -> u32 {
+    if size % 1024 == FRONT as usize {
         FRONT
     } else {
         0
-    };
+    }
+}
+
+/// Checks the file of a cartridge that has a header. `size` is the number of its bytes.
+pub fn check_file(findings: &mut Findings, size: usize, cart: &Cart) -> Result<(), AllocError> {
+    let front = front_of(size);
     if front > 0 {
         tell(findings, Some(Rule::CopierHeader), 0, 0)?;
     }
     let rom = cart.rom.get();
     let header = header_of(cart);
-    let offset = header as u32 + front;
+    let offset = (header as u32).saturating_add(front);
     if let Some(right) = checksum_of(cart) {
         let stated = word(rom, header + CHECKSUM);
         let rule = checksum_rule(stated, word(rom, header + COMPLEMENT), right);
