@@ -176,10 +176,14 @@ fn run_opened<R: Eprint + AllocGlobal>(
 ) -> Result<Run> {
     let alloc = rt.alloc();
     let mut findings = Findings::new(alloc);
-    let Opened { size, job } = opened;
+    let Opened {
+        size,
+        map_byte,
+        job,
+    } = opened;
     let front = front_of(size);
     let Some(job) = job else {
-        no_header(&mut findings)?;
+        no_header(&mut findings, map_byte)?;
         return Ok(Run {
             findings,
             frames: 0,

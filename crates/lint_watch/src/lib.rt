@@ -10,7 +10,9 @@
 mod allowed;
 mod chip;
 mod header;
+mod lines;
 mod names;
+mod ports;
 mod run;
 mod seen;
 mod sound_watch;
@@ -18,7 +20,7 @@ mod steps;
 mod watch;
 
 pub use allowed::{Allowed, remaining};
-pub use header::{check_file, checksum_of, front_of, no_header};
+pub use header::{check_file, checksum_of, front_of, no_header, other_map_byte};
 pub use names::Sources;
 pub use run::{WatchedRun, watch_job};
 

@@ -1,7 +1,8 @@
 //! The two machines of a job, and their steps one after another, each shown to the rules.
 
 use crate::header::check_file;
-use crate::seen::{finish, look_at, tell_dma};
+use crate::ports::Ports;
+use crate::seen::{Kind, finish, look_at, tell_dma};
 use crate::sound_watch::SoundWatch;
 use crate::watch::{Now, Watch};
 use anyhow::{Result, bail};
@@ -59,6 +60,7 @@ fn now_of(region: Region, console: &ConsoleSide) -> Now {
         overscan: registers.settings.overscan,
         forced: registers.display.blanked,
         mode7: registers.mode == 7,
+        ports: Ports::of(registers),
     }
 }
 
@@ -79,7 +81,8 @@ impl WatchedRun {
             bail!("no memory");
         };
         let bytes = vec![in alloc; 0u8; 4096]?;
-        let watch = Watch::new(alloc)?;
+        let watch = Watch::new(alloc, &job.cart, console.bus().cart_ram())?;
+        let sounds = SoundWatch::new(alloc)?;
         Ok(WatchedRun {
             serial: Serial::new(console, sound),
             dma: Dma::new(),
@@ -87,7 +90,7 @@ impl WatchedRun {
             region: job.region,
             frames: 0,
             watch,
-            sound: SoundWatch::new(),
+            sound: sounds,
             findings,
         })
     }
@@ -102,6 +105,8 @@ impl WatchedRun {
     fn step_console(&mut self) -> Result<bool> {
         let (console, _) = self.serial.machines();
         let now = now_of(self.region, console);
+        self.watch
+            .see_time(&mut self.findings, console.bus(), &now)?;
         let mut seen = look_at(console, &self.dma);
         if !make_turn(&mut self.serial, self.bytes.as_mut_slice()) {
             return Ok(false);
@@ -109,6 +114,9 @@ impl WatchedRun {
         let (console, _) = self.serial.machines();
         finish(console, &mut seen);
         tell_dma(&mut self.dma, &seen);
+        if let Kind::Reset = seen.kind {
+            self.sound.reset();
+        }
         self.watch
             .see(&mut self.findings, console.bus(), &seen, &now)?;
         Ok(true)
