@@ -77,7 +77,7 @@ impl EndxPolls {
 
     /// Returns the rule that a loop breaks: once, at its third read.
     ///
-    /// Source: fullsnes, "SNES APU DSP BRR Samples": ENDX is set when the header of the last block is read.
+    /// Here the bit of a voice that ends is set after the last sample of its block. Other emulators set it up to 26 samples earlier.
     pub fn rule(&self) -> Option<Rule>
         ensures { result ≡ waits_for_endx self.now }
     {

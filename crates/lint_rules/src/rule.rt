@@ -80,7 +80,7 @@ pub enum Rule {
     DspSelector,
     /// An echo buffer over memory that the sound program uses otherwise.
     EchoOverMemory,
-    /// A loop waits for a bit of ENDX, which a console sets earlier.
+    /// A loop waits for a bit of ENDX, which a console sets some samples earlier.
     WaitForEndx,
     /// A read of work RAM that nothing has written.
     WramBeforeWrite,
@@ -317,7 +317,7 @@ fn described(rule: Rule) -> Description {
         ),
         Rule::WaitForEndx => note(
             "wait-for-endx",
-            "a loop waits for ENDX (7C): a console sets a bit when the last block begins, this machine when it has ended",
+            "a loop waits for ENDX (7C): a console sets the bit of a voice that ends up to 26 samples earlier than this machine",
         ),
         Rule::WramBeforeWrite => warning(
             "wram-before-write",
