@@ -88,25 +88,22 @@ impl PictureWrites {
 }
 
 /// Returns an object by its number from 0 to 127, with a size code.
-fn object_of(oam: &[u8; 544], number: usize, size: u8) -> Option<Object> {
-    let bytes = oam.get(4 * number..4 * number + 4)?;
-    let high = *oam.get(512 + number / 4)?;
+fn object_of(oam: &[u8; 544], number: u8, size: u8) -> Option<Object> {
+    let at = 4 * usize::from(number);
+    let high = *oam.get(512 + usize::from(number / 4))?;
     let bits = match number % 4 {
         0 => high % 4,
         1 => high / 4 % 4,
         2 => high / 16 % 4,
         _ => high / 64,
     };
-    match bytes {
-        [x, y, _tile, attributes] => Some(Object {
-            size,
-            large: bits / 2 == 1,
-            x: u16::from(*x) + 256 * u16::from(bits % 2),
-            y: *y,
-            attributes: *attributes,
-        }),
-        _ => None,
-    }
+    Some(Object {
+        size,
+        large: bits / 2 == 1,
+        x: u16::from(*oam.get(at)?) + 256 * u16::from(bits % 2),
+        y: *oam.get(at + 1)?,
+        attributes: *oam.get(at + 3)?,
+    })
 }
 
 /// Returns the rule that an object of a picture breaks, if one does. A picture has so many rows.
@@ -115,7 +112,7 @@ fn objects_rule(picture: &Ppu, rows: u64) -> Option<Rule> {
     if size < 6 {
         return None;
     }
-    for number in 0..128usize {
+    for number in 0u8..128 {
         if let Some(object) = object_of(picture.oam(), number, size) {
             let rule = flip_rule(object, rows);
             if rule.is_some() {
@@ -174,7 +171,7 @@ impl Watch {
         let screen = self.writes.screen();
         let last = moment.blank_line();
         if moment.line == last && screen.shows_objects() {
-            let rule = objects_rule(picture, last - 1);
+            let rule = objects_rule(picture, last.saturating_sub(1));
             return tell(findings, rule, self.writes.oam_by, 0, now);
         }
         if moment.line == 0 || moment.in_blank() {

@@ -137,7 +137,7 @@ impl PictureMemories {
 
     /// Takes note of a read of 2139, or of 213A if `high`: it gives the byte that was fetched. Returns whether nothing has written it.
     fn read_vram(&mut self, port: &VramPort, high: bool) -> bool {
-        let at = 2 * usize::from(self.fetched % 32_768) + usize::from(high);
+        let at = 2 * usize::from(self.fetched % 32_768) + if high { 1 } else { 0 };
         if port.steps_at_high == high {
             self.fetched = vram_place(port);
         }

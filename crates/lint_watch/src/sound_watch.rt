@@ -14,13 +14,7 @@ const RAM: usize = 65_536;
 
 const BOOT: u16 = 0xffc0;
 
-/// The registers of the S-DSP that the rules know.
-const FLG: u8 = 0x6c;
-
-const ESA: u8 = 0x6d;
-
-const EDL: u8 = 0x7d;
-
+/// The register of the S-DSP that says which voices have ended.
 const ENDX: u8 = 0x7c;
 
 /// What is kept of the sound side's past.
@@ -148,9 +142,10 @@ impl SoundWatch {
     ) -> Result<(), AllocError> {
         let before = self.echo;
         match self.selector {
-            FLG => self.echo.flags = byte / 32 % 2 * 32,
-            ESA => self.echo.start = byte,
-            EDL => self.echo.delay = byte % 16,
+            // FLG, of which bit 5 counts; ESA; EDL.
+            0x6c => self.echo.flags = byte / 32 % 2 * 32,
+            0x6d => self.echo.start = byte,
+            0x7d => self.echo.delay = byte % 16,
             _ => return Ok(()),
         }
         if self.echo == before || self.echo.flags != 0 {

@@ -2,7 +2,7 @@
 
 use crate::chip::ChipAccess;
 use crate::seen::{Kind, Seen};
-use crate::watch::{Now, Watch, at_of, tell};
+use crate::watch::{Now, Watch, at_of, check_b, tell};
 use cart_map::Place;
 use console_bus::Bus;
 use dma_hdma::Move;
@@ -128,7 +128,7 @@ impl Watch {
                 return self.tell_past(findings, 0x2100 + u32::from(port), now);
             }
         }
-        self.check_b(findings, port, byte, by, now)
+        check_b(findings, port, byte, by, now)
     }
 
     /// Returns the instruction that began DMA, or that enabled HDMA.

@@ -115,6 +115,28 @@ pub fn tell(
     }
 }
 
+/// Checks a write to a register of the B bus, as an offset from 2100.
+pub fn check_b(
+    findings: &mut Findings,
+    register: u8,
+    byte: u8,
+    by: u32,
+    now: &Now,
+) -> Result<(), AllocError> {
+    if register >= 0x40 {
+        return Ok(());
+    }
+    let moment = now.moment();
+    let detail = 0x2100 + u32::from(register);
+    let rule = picture_rule(register, true, &moment);
+    tell(findings, rule, by, detail, now)?;
+    if register == 0 {
+        tell(findings, edge_rule(byte, &moment), by, detail, now)?;
+    }
+    let rule = register_rule(now.mode7, register, &moment);
+    tell(findings, rule, by, detail, now)
+}
+
 /// Checks the vector of an interrupt that is enabled.
 pub fn check_vector(
     findings: &mut Findings,
@@ -247,8 +269,12 @@ impl Watch {
     ) -> Result<(), AllocError> {
         match place {
             Place::Wram(at) => self.read_wram(findings, at, by, now),
-            Place::Ram(at) if self.sram.read(at as usize) => {
-                tell(findings, Some(Rule::SramBeforeWrite), by, address, now)
+            Place::Ram(at) => {
+                if self.sram.read(at as usize) {
+                    tell(findings, Some(Rule::SramBeforeWrite), by, address, now)
+                } else {
+                    Ok(())
+                }
             }
             _ => Ok(()),
         }
@@ -298,39 +324,6 @@ impl Watch {
         self.writes.write(register, byte, by);
     }
 
-    /// Checks a write to a register of the B bus, as an offset from 2100.
-    pub fn check_b(
-        &self,
-        findings: &mut Findings,
-        register: u8,
-        byte: u8,
-        by: u32,
-        now: &Now,
-    ) -> Result<(), AllocError> {
-        if register >= 0x40 {
-            return Ok(());
-        }
-        let moment = now.moment();
-        let detail = 0x2100 + u32::from(register);
-        tell(
-            findings,
-            picture_rule(register, true, &moment),
-            by,
-            detail,
-            now,
-        )?;
-        if register == 0 {
-            tell(findings, edge_rule(byte, &moment), by, detail, now)?;
-        }
-        tell(
-            findings,
-            register_rule(now.mode7, register, &moment),
-            by,
-            detail,
-            now,
-        )
-    }
-
     /// Sees a write to a register of the B bus, as an offset from 2100.
     pub fn write_b(
         &mut self,
@@ -341,7 +334,7 @@ impl Watch {
         now: &Now,
     ) -> Result<(), AllocError> {
         self.note_b(register, byte, by, now);
-        self.check_b(findings, register, byte, by, now)
+        check_b(findings, register, byte, by, now)
     }
 
     /// Sees a read of a register of the B bus, as an offset from 2100.
