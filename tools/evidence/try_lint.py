@@ -639,7 +639,7 @@ def same_byte_in_4201():
 
 @case("blank-near-edge", found("blank-near-edge"))
 def blank_after_an_irq_at_the_edge():
-    return blank_after_an_irq(260)
+    return blank_after_an_irq(268)
 
 
 @case("blank-near-edge", {})

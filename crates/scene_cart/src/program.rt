@@ -71,8 +71,10 @@ static PICTURE: [(u16, u8); 22] = [
 ];
 
 /// Registers that are not zero on a console before a program writes them. The scene that speed is measured by leaves them out.
-static CLEARED: [u16; 8] = [
+static CLEARED: [u16; 10] = [
     0x2106, // MOSAIC
+    0x210d, // BG1HOFS, twice
+    0x210d,
     0x210f, // BG2HOFS, twice
     0x210f,
     0x2111, // BG3HOFS, twice
