@@ -22,7 +22,11 @@ impl Echo {
         ensures { result ≡ echo_size self.now.delay }
     {
         let delay = self.delay % 16;
-        if delay == 0 { 4 } else { 2048 * u16::from(delay) }
+        if delay == 0 {
+            4
+        } else {
+            2048 * u16::from(delay)
+        }
     }
 
     /// Whether the S-DSP writes to a byte of sound RAM: writes are allowed, and the buffer is there. It goes on at 0000 after FFFF.

@@ -75,7 +75,11 @@ fn is_near_edge(moment: &Moment) -> bool
 pub fn edge_rule(byte: u8, moment: &Moment) -> Option<Rule>
     ensures { result ≡ edge_broken byte moment.now }
 {
-    let changes = if moment.forced { byte < 128 } else { 128 <= byte };
+    let changes = if moment.forced {
+        byte < 128
+    } else {
+        128 <= byte
+    };
     if is_near_edge(moment) && changes {
         Some(Rule::BlankNearEdge)
     } else {

@@ -1,8 +1,8 @@
 //! What no clause says: the names, and the table of findings.
 
 use crate::{
-    Cause, Echo, EndxPolls, Finding, Findings, MapPlace, Moment, Object, Polls, RULES, Rule, Screen,
-    Unit, Written, backdrop_rule, edge_rule, flip_rule, map_rule, rule_named, speed_rule,
+    Cause, Echo, EndxPolls, Finding, Findings, MapPlace, Moment, Object, Polls, RULES, Rule,
+    Screen, Unit, Written, backdrop_rule, edge_rule, flip_rule, map_rule, rule_named, speed_rule,
     status_rule, unset_rule,
 };
 use std::alloc::AllocError;
@@ -133,7 +133,10 @@ fn the_sub_screen_counts_if_it_is_seen(rt: HostRuntime) {
     };
     assert!(rt; needs(&mixed, 0x09) && needs(&mixed, 0x0c) && needs(&mixed, 0x11));
     assert!(rt; needs(&mixed, 0x2d) && needs(&mixed, 0x32) && !needs(&mixed, 0x08));
-    let unmixed = Screen { math: 0x80, ..mixed };
+    let unmixed = Screen {
+        math: 0x80,
+        ..mixed
+    };
     assert!(rt; !needs(&unmixed, 0x2d) && !needs(&unmixed, 0x09));
     let fine = Screen {
         settings: 8,
@@ -154,10 +157,21 @@ fn a_mode_has_its_own_registers(rt: HostRuntime) {
         ..PLAIN
     };
     assert!(rt; needs(&second, 0x1b));
-    assert!(rt; !needs(&Screen { settings: 0, ..second }, 0x1b));
+    assert!(rt;
+        !needs(
+            &Screen {
+                settings: 0,
+                ..second
+            },
+            0x1b
+        )
+    );
     let columns = Screen { mode: 2, ..PLAIN };
     assert!(rt; needs(&columns, 0x09) && needs(&columns, 0x12) && !needs(&columns, 0x0c));
-    let empty = Screen { main: 0x10, ..columns };
+    let empty = Screen {
+        main: 0x10,
+        ..columns
+    };
     assert!(rt; !needs(&empty, 0x09) && !needs(&empty, 0x06));
 }
 
@@ -186,10 +200,21 @@ fn is_flipped(object: Object) -> bool {
 #[test]
 fn an_object_that_is_seen_is_turned_over(rt: HostRuntime) {
     assert!(rt; is_flipped(TALL));
-    assert!(rt; !is_flipped(Object { attributes: 0x40, ..TALL }));
+    assert!(rt;
+        !is_flipped(Object {
+            attributes: 0x40,
+            ..TALL
+        })
+    );
     assert!(rt; !is_flipped(Object { size: 5, ..TALL }));
     assert!(rt; is_flipped(Object { size: 7, ..TALL }));
-    assert!(rt; !is_flipped(Object { size: 7, large: true, ..TALL }));
+    assert!(rt;
+        !is_flipped(Object {
+            size: 7,
+            large: true,
+            ..TALL
+        })
+    );
     assert!(rt; is_flipped(Object { y: 223, ..TALL }) && !is_flipped(Object { y: 224, ..TALL }));
     assert!(rt; is_flipped(Object { y: 225, ..TALL }) && is_flipped(Object { y: 255, ..TALL }));
     assert!(rt; !is_flipped(Object { x: 256, ..TALL }) && is_flipped(Object { x: 497, ..TALL }));
@@ -206,9 +231,20 @@ fn blank_ends_near_an_edge(rt: HostRuntime) {
     assert!(rt; edge_rule(0x0f, &at(24, true)) == Some(Rule::BlankNearEdge));
     assert!(rt; edge_rule(0x80, &at(1159, false)) == Some(Rule::BlankNearEdge));
     assert!(rt; edge_rule(0x80, &at(24, true)).is_none());
-    assert!(rt; edge_rule(0x0f, &at(23, true)).is_none() && edge_rule(0x0f, &at(152, true)).is_none());
+    assert!(rt;
+        edge_rule(0x0f, &at(23, true)).is_none() && edge_rule(0x0f, &at(152, true)).is_none()
+    );
     assert!(rt; edge_rule(0x80, &at(1160, false)).is_none());
-    assert!(rt; edge_rule(0x80, &Moment { line: 225, ..at(24, false) }).is_none());
+    assert!(rt;
+        edge_rule(
+            0x80,
+            &Moment {
+                line: 225,
+                ..at(24, false)
+            }
+        )
+        .is_none()
+    );
     assert!(rt; status_rule(0x3f) == Some(Rule::FieldAndRegionBits) && status_rule(0x3e).is_none());
 }
 
@@ -223,8 +259,17 @@ fn the_echo_buffer_goes_on_at_0000(rt: HostRuntime) {
     assert!(rt; echo.covers(0xfc00) && echo.covers(0xffff) && echo.covers(0x03ff));
     assert!(rt; !echo.covers(0xfbff) && !echo.covers(0x0400));
     assert!(rt; echo.rule(0) == Some(Rule::EchoOverMemory));
-    assert!(rt; !Echo { flags: 0x20, ..echo }.covers(0));
-    let least = Echo { delay: 0xf0, ..echo };
+    assert!(rt;
+        !Echo {
+            flags: 0x20,
+            ..echo
+        }
+        .covers(0)
+    );
+    let least = Echo {
+        delay: 0xf0,
+        ..echo
+    };
     assert!(rt; least.covers(0xfc03) && !least.covers(0xfc04));
 }
 

@@ -43,6 +43,10 @@ fn what_is_no_rule_is_refused(rt: HostRuntime) {
     let alloc = rt.alloc();
     let mut allowed = Allowed::nothing(alloc);
     assert!(rt; allowed.allow_rules("brk,nothing").is_err());
-    assert!(rt; allowed.allow_file(alloc, "allowed", "brk start more\n").is_err());
+    assert!(rt;
+        allowed
+            .allow_file(alloc, "allowed", "brk start more\n")
+            .is_err()
+    );
     assert!(rt; allowed.allow_file(alloc, "allowed", "\n  # none\n").is_ok());
 }

@@ -74,12 +74,9 @@ static PICTURE: [(u16, u8); 22] = [
 static CLEARED: [u16; 10] = [
     0x2106, // MOSAIC
     0x210d, // BG1HOFS, twice
-    0x210d,
-    0x210f, // BG2HOFS, twice
-    0x210f,
-    0x2111, // BG3HOFS, twice
-    0x2111,
-    0x212e, // TMW
+    0x210d, 0x210f, // BG2HOFS, twice
+    0x210f, 0x2111, // BG3HOFS, twice
+    0x2111, 0x212e, // TMW
     0x212f, // TSW
     0x2133, // SETINI
 ];
