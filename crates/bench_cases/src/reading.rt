@@ -3,15 +3,16 @@
 use crate::fields::Fields;
 use crate::plan::{Address, Case, Expected, FrameCheck, Memory, MemoryCheck, Reach};
 use crate::sums::Sum;
+use crate::warnings::no_warnings_in;
 use anyhow::{Context, Result, anyhow, bail};
 use snes_defs::{MOST_FRAMES, Region};
 use std::alloc::Global;
 use toml::Table;
 
 /// The keys of a case.
-static CASE: [&str; 15] = [
+static CASE: [&str; 18] = [
     "name", "cart", "boot", "table", "script", "region", "frames", "symbols", "sums", "film",
-    "sound", "refused", "frame", "memory", "reach",
+    "sound", "warnings", "allow", "allowed", "refused", "frame", "memory", "reach",
 ];
 
 /// The keys of a memory check.
@@ -182,7 +183,7 @@ fn heard_in(alloc: Global, fields: &Fields<'_>) -> Result<Option<bool>> {
 fn frames_in(fields: &Fields<'_>, is_refused: bool) -> Result<u32> {
     if is_refused {
         for key in [
-            "frames", "sums", "film", "sound", "frame", "memory", "reach",
+            "frames", "sums", "film", "sound", "warnings", "frame", "memory", "reach",
         ] {
             if fields.has(key) {
                 bail!(
@@ -265,6 +266,7 @@ fn case_in(alloc: Global, path: &str, table: &Table) -> Result<Case> {
         symbols: fields.text(alloc, "symbols")?,
         sums: fields.text(alloc, "sums")?,
         film: fields.text(alloc, "film")?,
+        no_warnings: no_warnings_in(alloc, &fields)?,
         is_heard: heard_in(alloc, &fields)?,
         refused,
         frame_checks: Vec::new(alloc),
