@@ -104,7 +104,10 @@ fn is_warning(severity: Severity) -> bool
 pub fn warnings_in(found: &[Severity]) -> usize
     ensures { result ≡ count_by is_warning found.now }
 {
-    found.iter().filter(|severity| is_warning(**severity)).count()
+    found
+        .iter()
+        .filter(|severity| is_warning(**severity))
+        .count()
 }
 
 /// Whether a run has no warnings. `found` has the severities of the findings that are not allowed; `more` is how often rules

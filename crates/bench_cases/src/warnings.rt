@@ -22,7 +22,10 @@ fn rules_in(alloc: Global, fields: &Fields<'_>) -> Result<Vec<Rule>> {
     for name in names.as_slice() {
         match rule_named(*name) {
             Some(rule) => rules.push(rule)?,
-            None => bail!("{}: allow has {name}, which is no rule of lint", fields.path()),
+            None => bail!(
+                "{}: allow has {name}, which is no rule of lint",
+                fields.path()
+            ),
         }
     }
     Ok(rules)
