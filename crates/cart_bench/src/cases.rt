@@ -9,6 +9,8 @@ use crate::judging::{Compared, Judging};
 use crate::labels::{number_of, symbols_of};
 use crate::pictures::read_pngs;
 use crate::played::{Awaited, Played};
+use crate::warnings::judge_warnings;
+use crate::watching::{Watching, watching_of};
 use anyhow::{Context, Error, Result, bail};
 use bench_cases::Case;
 use bench_report::Verdict;
@@ -93,11 +95,7 @@ fn find_places(case: &Case, symbols: Option<&Symbols>, places: &mut Vec<u32>) ->
 }
 
 /// Finds the addresses that a case waits for.
-fn find_awaited(
-    case: &Case,
-    symbols: Option<&Symbols>,
-    awaited: &mut Vec<Awaited>,
-) -> Result<()> {
+fn find_awaited(case: &Case, symbols: Option<&Symbols>, awaited: &mut Vec<Awaited>) -> Result<()> {
     for reach in case.reaches.as_slice() {
         let address = number_of(symbols, &reach.address)?;
         awaited.push(Awaited {
@@ -114,6 +112,8 @@ pub struct Task {
     job: Job,
     compared: Compared,
     awaited: Vec<Awaited>,
+    /// What the watch needs, if no warnings are expected.
+    watching: Option<Watching>,
 }
 
 /// A case that has been read.
@@ -141,35 +141,40 @@ fn read_sums<R: Files + Print>(
     }
 }
 
-/// Reads into a task what its run needs beside the job. Who owns the task drops it after a fault.
+/// Reads into a task what its run needs beside the job. `size` is that of the cartridge's file. Who owns the task drops it after a fault.
 fn read_task<R: Files + Print>(
     shelf: &mut FileShelf<'_, R>,
     alloc: Global,
     wanted: &Wanted<'_>,
     case: &Case,
+    size: usize,
     task: &mut Task,
 ) -> Result<()> {
     let symbols = symbols_of(shelf, alloc, wanted.folder, case)?;
     task.compared.golden = read_sums(shelf, alloc, wanted, case)?;
     read_pngs(shelf, alloc, wanted.folder, case, &mut task.compared.pngs)?;
     find_places(case, symbols.as_ref(), &mut task.compared.places)?;
-    find_awaited(case, symbols.as_ref(), &mut task.awaited)
+    find_awaited(case, symbols.as_ref(), &mut task.awaited)?;
+    task.watching = watching_of(shelf, alloc, wanted.folder, case, size)?;
+    Ok(())
 }
 
-/// Reads what the run of a case needs.
+/// Reads what the run of a case needs. `size` is that of the cartridge's file.
 fn task_of<R: Files + Print>(
     shelf: &mut FileShelf<'_, R>,
     alloc: Global,
     wanted: &Wanted<'_>,
     case: &Case,
     job: Job,
+    size: usize,
 ) -> Result<Task> {
     let mut task = Task {
         job,
         compared: Compared::new(alloc),
         awaited: Vec::new(alloc),
+        watching: None,
     };
-    read_task(shelf, alloc, wanted, case, &mut task)?;
+    read_task(shelf, alloc, wanted, case, size, &mut task)?;
     Ok(task)
 }
 
@@ -199,6 +204,18 @@ fn judge_job(
     judge_frames(&mut played, frames, awaited, judging)
 }
 
+/// Runs the job of a case and judges its frames, and once more under the watch if no warnings are expected.
+fn judge_runs(
+    alloc: Global,
+    job: &Job,
+    watching: &Option<Watching>,
+    awaited: &mut [Awaited],
+    judging: &mut Judging<'_>,
+) -> Result<()> {
+    judge_job(alloc, job, job.frames, awaited, judging)?;
+    judge_warnings(alloc, watching, job, judging)
+}
+
 /// Runs a case, and judges it.
 fn run_task(
     alloc: Global,
@@ -206,10 +223,11 @@ fn run_task(
     case: &Case,
     job: &Job,
     compared: &Compared,
+    watching: &Option<Watching>,
     awaited: &mut [Awaited],
 ) -> Result<Verdict> {
     let mut judging = Judging::new(alloc, case, keeps, compared);
-    judge_job(alloc, job, case.frames, awaited, &mut judging)?;
+    judge_runs(alloc, job, watching, awaited, &mut judging)?;
     Ok(judging.verdict())
 }
 
@@ -336,13 +354,14 @@ fn judge_with_files<R: Files + Print + AllocGlobal>(
     wanted: &Wanted<'_>,
     case: &Case,
     job: &Job,
+    watching: &Option<Watching>,
     awaited: &mut [Awaited],
     judging: &mut Judging<'_>,
 ) -> Result<()> {
-    match run_beside(rt, wanted, case, job, awaited, judging)? {
-        Some(sums) => write_sums(shelf, rt.alloc(), wanted, case, sums, judging),
-        None => Ok(()),
+    if let Some(sums) = run_beside(rt, wanted, case, job, awaited, judging)? {
+        write_sums(shelf, rt.alloc(), wanted, case, sums, judging)?;
     }
+    judge_warnings(rt.alloc(), watching, job, judging)
 }
 
 /// Runs a case beside its golden film, or to make its golden sums, and returns the verdict on it.
@@ -357,12 +376,23 @@ fn run_with_files<R: Files + Print + AllocGlobal>(
         job,
         compared,
         mut awaited,
+        watching,
     } = task;
     let awaited = awaited.as_mut_slice();
     let mut judging = Judging::new(rt.alloc(), case, wanted.keeps, &compared);
-    judge_with_files(rt, shelf, wanted, case, &job, awaited, &mut judging)?;
+    judge_with_files(
+        rt,
+        shelf,
+        wanted,
+        case,
+        &job,
+        &watching,
+        awaited,
+        &mut judging,
+    )?;
     Ok(judging.verdict())
 }
+
 /// Compares why a cartridge is refused with what is expected.
 fn judge_refusal(alloc: Global, case: &Case, cause: &str) -> Result<Verdict> {
     let mut verdict = Verdict::new(alloc);
@@ -381,15 +411,17 @@ fn accepted(alloc: Global) -> Result<Verdict> {
     Ok(verdict)
 }
 
-/// Reads what the run of a case needs, and makes the run at once if it reads or writes files.
+/// Reads what the run of a case needs, and makes the run at once if it reads or writes files. `size` is that of the
+/// cartridge's file.
 fn ready_to_run<R: Files + Print + AllocGlobal>(
     rt: &R,
     shelf: &mut FileShelf<'_, R>,
     wanted: &Wanted<'_>,
     case: &Case,
     job: Job,
+    size: usize,
 ) -> Result<Ready> {
-    let task = task_of(shelf, rt.alloc(), wanted, case, job)?;
+    let task = task_of(shelf, rt.alloc(), wanted, case, job, size)?;
     if case.film.is_some() || (wanted.updates && case.sums.is_some()) {
         let verdict = run_with_files(rt, shelf, wanted, case, task)?;
         return Ok(Ready::Ended(verdict));
@@ -406,11 +438,9 @@ fn ready_by<R: Files + Print + AllocGlobal>(
 ) -> Result<Ready> {
     let alloc = rt.alloc();
     match input_of(shelf, alloc, wanted.folder, case)? {
-        Input::Refused(cause) => {
-            Ok(Ready::Ended(judge_refusal(alloc, case, cause.as_str())?))
-        }
-        Input::Runs(_) if case.refused.is_some() => Ok(Ready::Ended(accepted(alloc)?)),
-        Input::Runs(job) => ready_to_run(rt, shelf, wanted, case, job),
+        Input::Refused(cause) => { Ok(Ready::Ended(judge_refusal(alloc, case, cause.as_str())?)) }
+        Input::Runs(_, _) if case.refused.is_some() => Ok(Ready::Ended(accepted(alloc)?)),
+        Input::Runs(job, size) => ready_to_run(rt, shelf, wanted, case, job, size),
     }
 }
 
@@ -453,8 +483,10 @@ pub fn judge_task(
         job,
         compared,
         mut awaited,
+        watching,
     } = task;
-    match run_task(alloc, keeps, case, &job, &compared, awaited.as_mut_slice()) {
+    let awaited = awaited.as_mut_slice();
+    match run_task(alloc, keeps, case, &job, &compared, &watching, awaited) {
         Ok(verdict) => Ok(verdict),
         Err(error) => fault_for(alloc, &error),
     }

@@ -23,8 +23,8 @@ const SCRIPT: usize = 1_048_576;
 /// The cartridge of a case as the console takes it: the job of its run, or why it is refused.
 #[derive(Drop)]
 pub enum Input {
-    /// The job of its run.
-    Runs(Job),
+    /// The job of its run, and how many bytes the cartridge's file has.
+    Runs(Job, usize),
     /// The words of the refusal.
     Refused(String),
 }
@@ -203,8 +203,10 @@ pub fn input_of<R: Files + Print>(
     folder: &str,
     case: &Case,
 ) -> Result<Input> {
-    match accept(cart_bytes(shelf, alloc, folder, case)?) {
-        Ok(cart) => Ok(Input::Runs(job_of(shelf, alloc, folder, case, cart)?)),
+    let bytes = cart_bytes(shelf, alloc, folder, case)?;
+    let size = bytes.len();
+    match accept(bytes) {
+        Ok(cart) => Ok(Input::Runs(job_of(shelf, alloc, folder, case, cart)?, size)),
         Err(CartEnd::NoMemory) => bail!("no memory"),
         Err(CartEnd::Refused(cause)) => Ok(Input::Refused(words_of(alloc, cause)?)),
     }

@@ -122,12 +122,7 @@ fn other_sum(
 
 impl<'a> Judging<'a> {
     /// Returns a case before its run.
-    pub fn new(
-        alloc: Global,
-        case: &'a Case,
-        keeps: bool,
-        compared: &'a Compared,
-    ) -> Judging<'a> {
+    pub fn new(alloc: Global, case: &'a Case, keeps: bool, compared: &'a Compared) -> Judging<'a> {
         Judging {
             alloc,
             case,
@@ -386,6 +381,11 @@ impl<'a> Judging<'a> {
         self.tell_differing("pictures", film, film_pictures)?;
         self.judge_sound()?;
         self.judge_reaches(awaited)
+    }
+
+    /// Notes what is not as expected: a line.
+    pub fn fail(&mut self, line: String) -> Result<()> {
+        Ok(self.verdict.fail(line)?)
     }
 
     /// Notes what else was done: a line.

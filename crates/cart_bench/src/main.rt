@@ -19,6 +19,8 @@ mod memories;
 mod pictures;
 mod places;
 mod played;
+mod warnings;
+mod watching;
 mod words;
 
 use anyhow::{Context, Result, bail};
