@@ -17,7 +17,7 @@ use bench_report::Verdict;
 use file_shelf::FileShelf;
 use film_formats::{FRAME_BYTES, Piece, read_piece};
 use frame_sums::SumsFile;
-use snes_defs::Job;
+use snes_defs::{Job, Region};
 use std::alloc::{AllocError, Global};
 use std::fs;
 use std::io::Read;
