@@ -86,9 +86,23 @@ class Code:
         """The beginning of the next vertical blank."""
         return self.until_clear(0x4212).until_set(0x4212)
 
+    def registers(self, without=None):
+        """Zeros in all registers of the picture, but for one."""
+        for register in [0x2101, *range(0x2105, 0x2115), *range(0x2105, 0x2115), *range(0x211A, 0x2121), *range(0x2123, 0x2134)]:
+            if register != without:
+                self(0x9C, word(register))
+        return self
+
+    def shown(self, without=None):
+        """The screen on, its registers set."""
+        return self.registers(without).store(0x2100, 0x0F)
+
     def picture(self):
         """Some lines below the top of the next picture, which is on."""
-        return self.store(0x2100, 0x0F).vblank().until_clear(0x4212).pause(2000)
+        return self.shown().below_the_top()
+
+    def below_the_top(self):
+        return self.vblank().until_clear(0x4212).pause(2000)
 
     def drawn(self):
         """Within the dots of a line: some clocks after H-blank ended."""
@@ -133,11 +147,11 @@ def begin():
     return Code()(0x78, 0x18, 0xFB, 0xC2, 0x18, 0xE2, 0x20, 0xA2, word(0x1FFF), 0x9A).store(0x2100, 0x80)
 
 
-def cartridge(code, nmi=0xFF00, brk=0xFF00, checksum=None, size=5, reset=0x8000, map_byte=0x20, front=0):
+def cartridge(code, nmi=0xFF00, brk=0xFF00, checksum=None, size=5, reset=0x8000, map_byte=0x20, front=0, ram=0, complement=None):
     rom = bytearray(code.image().ljust(SIZE, b"\0"))
     rom[0x7F00:0x7F03] = b"\x40\x80\xFE"  # RTI; and from FF01 on an endless loop
     rom[0x7FC0:0x7FD5] = b"LINT".ljust(21)
-    rom[0x7FD5], rom[0x7FD7] = map_byte, size
+    rom[0x7FD5], rom[0x7FD6], rom[0x7FD7], rom[0x7FD8] = map_byte, 2 if ram else 0, size, ram
     for vector in (0x7FE4, 0x7FEE):
         rom[vector:vector + 2] = word(0xFF00)
     for vector in (0x7FE6, 0x7FFE):
@@ -146,7 +160,7 @@ def cartridge(code, nmi=0xFF00, brk=0xFF00, checksum=None, size=5, reset=0x8000,
     rom[0x7FFC:0x7FFE] = word(reset)
     rom[0x7FDC:0x7FE0] = b"\xFF\xFF\0\0"
     right = sum(rom) % 65536 if checksum is None else checksum
-    rom[0x7FDC:0x7FE0] = word(65535 - right) + word(right)
+    rom[0x7FDC:0x7FE0] = word(65535 - right if complement is None else complement) + word(right)
     return bytes(front) + bytes(rom)
 
 
@@ -173,7 +187,7 @@ def vram_in_the_picture():
 
 @case("vram-outside-blank", {})
 def vram_in_vertical_blank():
-    return begin().store(0x2100, 0x0F).vblank().store(0x2118, 1).end()
+    return begin().shown().vblank().store(0x2118, 1).end()
 
 
 @case("vram-outside-blank", {})
@@ -181,7 +195,7 @@ def vram_in_forced_blank():
     return begin().picture().vblank().store(0x2100, 0x80).until_clear(0x4212).store(0x2118, 1).end()
 
 
-@case("vram-outside-blank", found("vram-outside-blank"))
+@case("vram-outside-blank", {("vram-outside-blank", "it"): 1, ("vram-before-write", "it"): 1})
 def vram_read_in_the_picture():
     return begin().picture().label("it").load(0x2139).end()
 
@@ -208,12 +222,12 @@ def oam_in_vertical_blank():
 
 @case("transfer-past-blank", found("transfer-past-blank", "dma"))
 def dma_past_the_blank():
-    return begin().store(0x2100, 0x0F).vblank().dma(1, 0x18, 0x8000, 0, 0x6000).end()
+    return begin().shown().vblank().dma(1, 0x18, 0x8000, 0, 0x6000).end()
 
 
 @case("transfer-past-blank", {})
 def dma_within_the_blank():
-    return begin().store(0x2100, 0x0F).vblank().dma(1, 0x18, 0x8000, 0, 0x1000).end()
+    return begin().shown().vblank().dma(1, 0x18, 0x8000, 0, 0x1000).end()
 
 
 # Arithmetic: 7 and 8 cycles between, 15 and 16.
@@ -447,6 +461,26 @@ def no_header():
     return begin().end().in_file(map_byte=0)
 
 
+@case("map-byte", {("map-byte", None): 1, ("no-header", None): 1})
+def map_byte_of_the_other_place():
+    return begin().end().in_file(map_byte=0x21)
+
+
+@case("map-byte", found("no-header", None))
+def map_byte_without_a_sum():
+    return begin().end().in_file(map_byte=0x21, checksum=0x1234, complement=0)
+
+
+@case("map-byte", found("map-byte"))
+def speed_that_the_map_byte_forbids():
+    return begin().lda(1).label("it").store(0x420D).end()
+
+
+@case("map-byte", {})
+def speed_that_the_map_byte_allows():
+    return begin().store(0x420D, 1).end().in_file(map_byte=0x30)
+
+
 @case("reset-vector", {("reset-vector", None): 1, ("wram-before-write", 0): 2, ("brk", 0): 1})
 def reset_to_work_ram():
     return begin().end().in_file(reset=0, brk=0xFF01)
@@ -481,6 +515,85 @@ def reads_what_it_wrote():
 @case("wram-before-write", {})
 def reads_what_2180_wrote():
     return begin().store(0x2181, 0x10).store(0x2182, 0).store(0x2183, 0).dma(8, 0x80, 0x8000, 0, 2).load(0x0011).end()
+
+
+# Other memories that nothing has written.
+@case("sram-before-write", found("sram-before-write"))
+def reads_cartridge_ram():
+    return begin().label("it")(0xAF, word(0), 0x70).end().in_file(ram=3)
+
+
+@case("sram-before-write", {})
+def reads_cartridge_ram_that_it_wrote():
+    return begin()(0x8F, word(0), 0x70, 0xAF, word(0), 0x70).end().in_file(ram=3)
+
+
+def vram_at(code, address):
+    return code.store(0x2116, address % 256).store(0x2117, address // 256)
+
+
+@case("vram-before-write", found("vram-before-write"))
+def reads_vram():
+    return vram_at(begin(), 0x1234).label("it").load(0x2139).end()
+
+
+@case("vram-before-write", {})
+def reads_vram_that_it_wrote():
+    code = vram_at(begin().store(0x2115, 0x80), 0x1234).store(0x2118, 1).store(0x2119, 2)
+    return vram_at(code, 0x1234).load(0x2139).load(0x213A).end()
+
+
+@case("vram-before-write", found("vram-before-write", "dma", 2))
+def dma_reads_vram():
+    return vram_at(begin().store(0x2115, 0x80), 0x1234).dma(0x81, 0x39, 0x0100, 0x7E, 2).end()
+
+
+@case("vram-before-write", {})
+def dma_reads_vram_that_dma_wrote():
+    code = vram_at(begin().store(0x2115, 0x84), 0x12F4).dma(1, 0x18, 0x8000, 0, 4)
+    return vram_at(code, 0x12F4).dma(0x81, 0x39, 0x0100, 0x7E, 2, "again").end()
+
+
+@case("cgram-before-write", found("cgram-before-write"))
+def reads_cgram():
+    return begin().store(0x2121, 7).label("it").load(0x213B).load(0x213B).end()
+
+
+@case("cgram-before-write", {})
+def reads_cgram_that_it_wrote():
+    return begin().store(0x2121, 7).store(0x2122, 1).store(0x2122, 0).store(0x2121, 7).load(0x213B).load(0x213B).end()
+
+
+@case("oam-before-write", found("oam-before-write"))
+def reads_oam():
+    return begin().store(0x2102, 3).store(0x2103, 0).label("it").load(0x2138).end()
+
+
+@case("oam-before-write", {})
+def reads_oam_that_it_wrote():
+    code = begin().store(0x2102, 3).store(0x2103, 0).store(0x2104, 1).store(0x2104, 2)
+    return code.store(0x2102, 3).store(0x2103, 0).load(0x2138).load(0x2138).end()
+
+
+# Registers of the picture. Six count in any mode: 2105, 212C, 212E, 2130, 2131 and 2133.
+@case("registers-unset", found("registers-unset", "it", 6))
+def screen_without_registers():
+    return begin().lda(0x0F).label("it").store(0x2100).end()
+
+
+@case("registers-unset", {})
+def forced_blank_without_registers():
+    return begin().store(0x2100, 0x8F).vblank().store(0x2100, 0).end()
+
+
+@case("registers-unset", found("registers-unset"))
+def background_without_its_map():
+    return begin().registers(0x2107).store(0x212C, 1).lda(0x0F).label("it").store(0x2100).end()
+
+
+@case("registers-unset", {})
+def another_background_without_its_map():
+    return begin().registers(0x2107).store(0x212C, 2).store(0x2100, 0x0F).end()
 
 
 # What the profile does otherwise.
@@ -522,6 +635,77 @@ def latch_by_4201():
 @case("latch-by-4201", {})
 def same_byte_in_4201():
     return begin().lda(0xFF).store(0x4201).end()
+
+
+@case("blank-near-edge", found("blank-near-edge"))
+def blank_after_an_irq_at_the_edge():
+    return blank_after_an_irq(268)
+
+
+@case("blank-near-edge", {})
+def blank_after_a_later_irq():
+    return blank_after_an_irq(300)
+
+
+def blank_after_an_irq(dot):
+    code = begin().picture().store(0x4207, dot % 256).store(0x4208, dot // 256).store(0x4200, 0x10)(0xCB).load(0x4211)
+    return code.lda(0x80)(0xCB).label("it").store(0x2100)(0x9C, word(0x4200)).end()
+
+
+@case("field-and-region-bits", found("field-and-region-bits"))
+def reads_213f():
+    return begin().label("it").load(0x213F).end()
+
+
+@case("field-and-region-bits", {})
+def reads_213e():
+    return begin().load(0x213E).end()
+
+
+def flipped(sizes, attributes, y=0):
+    code = begin().registers().store(0x2101, sizes).store(0x212C, 0x10).store(0x2102, 0).store(0x2103, 0)
+    code.store(0x2104, 0).store(0x2104, y).store(0x2104, 0).lda(attributes)
+    return code.label("it").store(0x2104).store(0x2100, 0x0F).end()
+
+
+@case("vertical-flip-of-halves", found("vertical-flip-of-halves", "it", None))
+def object_of_16_by_32_turned_over():
+    return flipped(0xC0, 0x80)
+
+
+@case("vertical-flip-of-halves", {})
+def object_of_16_by_32_turned_sideways():
+    return flipped(0xC0, 0x40)
+
+
+@case("vertical-flip-of-halves", {})
+def square_object_turned_over():
+    return flipped(0xA0, 0x80)
+
+
+@case("vertical-flip-of-halves", {})
+def object_turned_over_below_the_picture():
+    return flipped(0xC0, 0x80, 224)
+
+
+def fine(settings, colour):
+    code = begin().registers().store(0x2121, 0).store(0x2122, colour).store(0x2122, 0).lda(settings)
+    return code.label("it").store(0x2133).store(0x2100, 0x0F).end()
+
+
+@case("backdrop-in-high-resolution", found("backdrop-in-high-resolution", "it", None))
+def half_pixels_over_red():
+    return fine(8, 0x1F)
+
+
+@case("backdrop-in-high-resolution", {})
+def half_pixels_over_black():
+    return fine(8, 0)
+
+
+@case("backdrop-in-high-resolution", {})
+def whole_pixels_over_red():
+    return fine(0, 0x1F)
 
 
 # The sound side. Its program is sent by the protocol of the boot ROM.
@@ -570,6 +754,57 @@ def selector_without_bit_7():
     return sound(dsp((0xF2, 0x0C), (0xF3, 1)))
 
 
+@case("aram-before-write", found("aram-before-write", ("sound", 0x0200)))
+def reads_sound_ram():
+    return sound(b"\xE5\x00\x04\x2F\xFE")  # MOV A,!$0400; BRA
+
+
+@case("aram-before-write", {})
+def reads_sound_ram_that_it_wrote():
+    return sound(b"\xC5\x00\x04\xE5\x00\x04\x2F\xFE")
+
+
+def echo(fill, then=b""):
+    """Fills 0800 (and 0804: BRA to itself), and puts an echo buffer of 4 bytes there."""
+    code = b"\xE8\x2F\xC5\x04\x08\xE8\xFE\xC5\x05\x08" + bytes([0xE8, fill]) + b"\xC5\x00\x08"
+    return sound(code + dsp((0xF2, 0x6D), (0xF3, 8), (0xF2, 0x7D), (0xF3, 0), (0xF2, 0x6C), (0xF3, 0))[:-2] + then + b"\x2F\xFE")
+
+
+@case("echo-over-memory", found("echo-over-memory", ("sound", 0x021E)))
+def echo_over_what_was_filled():
+    return echo(1)
+
+
+@case("echo-over-memory", {})
+def echo_over_what_was_cleared():
+    return echo(0)
+
+
+@case("echo-over-memory", found("echo-over-memory", ("sound", 0x0223)))
+def fills_the_echo_buffer():
+    return echo(0, b"\xE8\x01\xC5\x03\x08")
+
+
+@case("echo-over-memory", {})
+def fills_behind_the_echo_buffer():
+    return echo(0, b"\xE8\x01\xC5\x06\x08")
+
+
+@case("echo-over-memory", {("echo-over-memory", ("sound", 0x0800 + at)): 1 for at in range(4)})
+def runs_in_the_echo_buffer():
+    return echo(0, b"\x5F\x00\x08")  # JMP !$0800: four NOP, as the S-DSP writes zeros
+
+
+@case("wait-for-endx", found("wait-for-endx", ("sound", 0x0203)))
+def waits_for_endx():
+    return sound(b"\x8F\x7C\xF2\xE4\xF3\xF0\xFC\x2F\xFE")  # MOV A,$F3; BEQ
+
+
+@case("wait-for-endx", {})
+def looks_at_endx_now_and_then():
+    return sound(b"\x8F\x7C\xF2\xE4\xF3\xCD\x20\x1D\xD0\xFD\x2F\xF7")
+
+
 def address_of(code, label):
     if label is None:
         return None
@@ -596,7 +831,7 @@ def differs(lint, folder, code, wanted):
     got = {}
     for one in told["findings"]:
         place = None if one["unit"] == "file" else one["address"]
-        got[one["rule"], place] = one["count"]
+        got[one["rule"], place] = got.get((one["rule"], place), 0) + one["count"]
     left = dict(got)
     for (rule, label), count in wanted.items():
         key = rule, address_of(code, label)

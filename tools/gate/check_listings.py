@@ -3,7 +3,8 @@
 
 Each instruction is assembled anew and must give the bytes that stand beside it; the addresses must go on without a gap;
 and the bytes must be those of the sources that have them. The files of examples/bench, which users run, must be those of
-crates/cart_bench/data, which CI runs. The status is 1 where something differs.
+crates/cart_bench/data. CI runs gate.toml there, which must be both files of cases, one after the other. The status is 1 where
+something differs.
 """
 import os
 import re
@@ -116,14 +117,17 @@ def check(listing, first, sources):
 
 
 def check_copies(copies, data):
-    """Checks that two folders hold the same files, beside README.md."""
+    """Checks that two folders hold the same files, beside README.md and gate.toml."""
     held = {}
     for folder in (copies, data):
-        names = sorted(name for name in os.listdir(os.path.join(TOP, folder)) if name != "README.md")
+        names = sorted(name for name in os.listdir(os.path.join(TOP, folder)) if name not in ("README.md", "gate.toml"))
         held[folder] = {name: open(os.path.join(TOP, folder, name), "rb").read() for name in names}
     for name in sorted(set(held[copies]) | set(held[data])):
         if held[copies].get(name) != held[data].get(name):
             sys.exit(f"{copies}/{name} and {data}/{name} are not the same file: cp {data}/{name} {copies}/")
+    with open(os.path.join(TOP, data, "gate.toml"), "rb") as gate:
+        if gate.read() != held[data]["bench.toml"] + b"\n" + held[data]["faults.toml"]:
+            sys.exit(f"{data}/gate.toml is not bench.toml, an empty line and faults.toml")
     print(f"{copies}: its {len(held[copies])} files are those of {data}")
 
 

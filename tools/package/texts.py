@@ -293,7 +293,7 @@ def bench_page(program, version, date):
     """The page of bench: as a plain one, with the form of a file of cases, as its page of the repository has it."""
     page, whole = plain_page("snes-bench", "cases of cartridges, and what each is expected to do", program, version, date)
     page = [line.replace("docs/use/BENCH.md has its form", "THE FILE says in which form") for line in page]
-    return with_sections(page, "docs/use/BENCH.md", ("A first case", "The file")), whole
+    return with_sections(page, "docs/use/BENCH.md", ("A first case", "The file", "Warnings")), whole
 
 
 def lint_page(program, version, date):

@@ -1,8 +1,10 @@
--- When bytes, sums, samples and instructions are as a bench file expects them.
-use Rattle.std.specs.Prelude.{◌≡◌, ℕ, ◌+◌, ◌*◌, ◌<◌, ◌≤◌, Bool, true, false, List, length, vec_len, slice_index, Option, Some, None, IsSome}
+-- When bytes, sums, samples, instructions and warnings are as a bench file expects them.
+use Rattle.std.specs.Prelude.{◌≡◌, ℕ, ◌+◌, ◌*◌, ◌<◌, ◌≤◌, Bool, true, false, List, length, vec_len, slice_index, Option, Some, None, IsSome, count_by}
 use Rattle.bench_cases.specs.declared.plan.Expected.{Expected}
 use Rattle.bench_cases.specs.declared.plan.Expected.TheVariants.{Byte, Word, Bytes}
 use Rattle.bench_cases.specs.declared.sums.Sum.{Sum}
+use Rattle.lint_rules.specs.declared.rule.Severity.{Severity}
+use Rattle.lint_rules.specs.declared.rule.Severity.TheVariants.{Warning, Note}
 
 -- how many bytes are expected
 abbrev pub size_of : Expected → ℕ
@@ -35,3 +37,12 @@ abbrev pub IsHeardAs : Option Bool → Option ℕ → Type 0
 IsHeardAs None heard = Unit {0}
 IsHeardAs (Some true) heard = IsSome heard
 IsHeardAs (Some false) heard = heard ≡ None
+
+-- a finding of lint is a warning, and not a note
+abbrev pub is_warning : Severity → Bool
+is_warning Warning = true
+is_warning Note = false
+
+-- no finding is a warning, by the severities of those that are not allowed, and none was left out
+abbrev pub IsWithoutWarnings : List Severity → ℕ → Type 0
+IsWithoutWarnings found more = (count_by is_warning found ≡ 0) × (more ≡ 0)

@@ -120,6 +120,24 @@ impl<'a> Fields<'a> {
         Ok(Some(bytes))
     }
 
+    /// The texts of a key's list; none if it isn't there.
+    pub fn texts(&self, alloc: Global, key: &str) -> Result<Vec<&'a str>> {
+        let mut texts = Vec::new(alloc);
+        let Some(value) = self.table.get(key) else {
+            return Ok(texts);
+        };
+        let Some(list) = value.as_array() else {
+            bail!("{}: {key} is no list of texts", self.path);
+        };
+        for item in list.as_slice() {
+            match item.as_str() {
+                Some(text) => texts.push(text)?,
+                None => bail!("{}: {key} is no list of texts", self.path),
+            }
+        }
+        Ok(texts)
+    }
+
     /// The tables of a key; none if it isn't there.
     pub fn tables(&self, alloc: Global, key: &str) -> Result<Vec<&'a Table>> {
         let mut tables = Vec::new(alloc);

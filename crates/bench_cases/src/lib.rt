@@ -10,8 +10,9 @@ mod met;
 mod plan;
 mod reading;
 mod sums;
+mod warnings;
 
-pub use met::{is_heard_as, is_silent, is_sum_met};
-pub use plan::{Address, Case, Expected, FrameCheck, Memory, MemoryCheck, Reach};
+pub use met::{is_heard_as, is_silent, is_sum_met, is_without_warnings, warnings_in};
+pub use plan::{Address, Case, Expected, FrameCheck, Memory, MemoryCheck, NoWarnings, Reach};
 pub use reading::read_cases;
 pub use sums::{Sum, read_golden};

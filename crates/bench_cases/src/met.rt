@@ -1,11 +1,12 @@
 //! Whether what came is as a bench file expects it.
 
-ghost use Rattle.std.specs.Prelude.{◌≡◌, ◌+◌, ◌*◌, ◌↔◌, ◌==◌, IsTrue};
+ghost use Rattle.std.specs.Prelude.{◌≡◌, ◌+◌, ◌*◌, ◌↔◌, ◌==◌, IsTrue, count_by};
 ghost use Rattle.std.specs.List.{list_all};
-ghost use Rattle.bench_cases.specs.Expected.{size_of, IsWithin, AreMet, IsSumMet, IsInTime, IsHeardAs};
+ghost use Rattle.bench_cases.specs.Expected.{size_of, IsWithin, AreMet, IsSumMet, IsInTime, IsHeardAs, is_warning, IsWithoutWarnings};
 
 use crate::plan::{Expected, Reach};
 use crate::sums::Sum;
+use lint_rules::Severity;
 
 /// Whether a number is one of these bounds, or between them.
 fn is_within(least: u32, most: u32, number: u32) -> bool
@@ -87,4 +88,32 @@ pub fn is_silent(samples: &[u8]) -> bool
     ensures { result ≡ list_all (λ byte. byte == 0) samples.now }
 {
     samples.iter().all(|byte| *byte == 0)
+}
+
+/// Whether a finding is a warning.
+fn is_warning(severity: Severity) -> bool
+    ensures { result ≡ is_warning severity }
+{
+    match severity {
+        Severity::Warning => true,
+        Severity::Note => false,
+    }
+}
+
+/// How many findings of these severities are warnings.
+pub fn warnings_in(found: &[Severity]) -> usize
+    ensures { result ≡ count_by is_warning found.now }
+{
+    found
+        .iter()
+        .filter(|severity| is_warning(**severity))
+        .count()
+}
+
+/// Whether a run has no warnings. `found` has the severities of the findings that are not allowed; `more` is how often rules
+/// were broken at places that are not kept.
+pub fn is_without_warnings(found: &[Severity], more: u64) -> bool
+    ensures { IsTrue result ↔ IsWithoutWarnings found.now more }
+{
+    warnings_in(found) == 0 && more == 0
 }

@@ -1,6 +1,7 @@
 //! What a bench file asks for: its cases, and what each expects.
 
 use crate::sums::Sum;
+use lint_rules::Rule;
 use snes_defs::Region;
 
 /// A memory whose bytes can be expected.
@@ -77,6 +78,15 @@ pub struct Reach {
     pub within: u32,
 }
 
+/// What may be broken in a run that is to have no warnings of `lint`.
+#[derive(Drop)]
+pub struct NoWarnings {
+    /// The rules that may be broken everywhere.
+    pub allow: Vec<Rule>,
+    /// The file of rules that may be broken, and where.
+    pub allowed: Option<String>,
+}
+
 /// A case: a cartridge, how it is run, and what is expected.
 #[derive(Drop)]
 pub struct Case {
@@ -100,6 +110,8 @@ pub struct Case {
     pub sums: Option<String>,
     /// The file of the golden pictures.
     pub film: Option<String>,
+    /// What may be broken, if the run is to have no warnings of `lint`.
+    pub no_warnings: Option<NoWarnings>,
     /// Whether anything is heard.
     pub is_heard: Option<bool>,
     /// Why the cartridge is refused.

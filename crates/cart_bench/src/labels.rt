@@ -10,7 +10,7 @@ use std::str;
 use symbol_files::Symbols;
 
 /// The most bytes of a symbol file.
-const SYMBOLS: usize = 67_108_864;
+pub const SYMBOLS: usize = 67_108_864;
 
 /// Reads the symbol file of a case, if it names one.
 pub fn symbols_of<R: Files + Print>(

@@ -5,6 +5,7 @@ use cart_map::{CartEnd, CartRefused, accept};
 use file_shelf::FileShelf;
 use free_files::{free_boot_rom, interpolation_table};
 use input_files::{ScriptEnd, read_boot, read_script, read_table};
+use lint_watch::other_map_byte;
 use shelf::{LoadEnd, Shelf};
 use snes_defs::{Cart, Job, MOST_FRAMES, Spans, Table};
 use std::alloc::Global;
@@ -100,6 +101,8 @@ fn script_of<R: Files + Print>(rt: &R, alloc: Global, name: Option<&str>) -> Res
 pub struct Opened {
     /// The bytes of the file.
     pub size: usize,
+    /// The place of a map byte that is that of another place, if there is one.
+    pub map_byte: Option<u32>,
     /// The job, with as many frames as a job can have; none if the file has no header.
     pub job: Option<Job>,
 }
@@ -108,8 +111,13 @@ pub struct Opened {
 pub fn open_job<R: Files + Print>(rt: &R, alloc: Global, names: Names<'_>) -> Result<Opened> {
     let bytes = load(rt, alloc, names.cart, CART)?;
     let size = bytes.len();
+    let map_byte = other_map_byte(bytes.as_slice());
     let Some(cart) = cart_of(names.cart, bytes)? else {
-        return Ok(Opened { size, job: None });
+        return Ok(Opened {
+            size,
+            map_byte,
+            job: None,
+        });
     };
     let boot = boot_of(rt, alloc, names.boot)?;
     let table = table_of(rt, alloc, names.table)?;
@@ -125,6 +133,7 @@ pub fn open_job<R: Files + Print>(rt: &R, alloc: Global, names: Names<'_>) -> Re
     };
     Ok(Opened {
         size,
+        map_byte,
         job: Some(job),
     })
 }

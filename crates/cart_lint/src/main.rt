@@ -1,38 +1,25 @@
 //! Warns of what a cartridge does that a console would not forgive.
 //!
-//! `lint --help` lists its arguments. It takes the steps of the serial console (`serial_console`) one after another, with the
-//! two machines of `snes`, and hands each access to the rules of `lint_rules`. The machines are read and never changed, so
-//! the run is that of `snes serial`. `docs/use/LINT.md` has the rules.
+//! `lint --help` lists its arguments. `lint_watch` runs the cartridge and hands each access to the rules of `lint_rules`,
+//! `lint_report` writes what was found. `docs/use/LINT.md` has the rules.
 //!
 //! The status is 0 if there is nothing to warn of, 1 if there is, and 2 if something could not be read or was refused, or if
 //! the command line is invalid.
 #![tactic(auto)]
 
-mod allowed;
-mod chip;
-mod header;
 mod inputs;
-mod names;
-mod pair;
-mod seen;
-mod sound_watch;
-mod steps;
-mod watch;
 mod words;
 
-use allowed::Allowed;
 use anyhow::{Context, Result, bail};
-use cart_map::{Place, place};
 use clap::ArgMatches;
-use clock_ratio::end_stamp_in;
 use companion_words::{Companion, DONE, NO, Program, run};
-use header::{check_file, checksum_of, no_header};
 use inputs::{Names, Opened, open_job};
 use lint_report::{Format, Report, Told, text_of};
-use lint_rules::{Finding, Findings, Rule, Severity, Unit, complement_of};
-use names::Sources;
-use pair::Pair;
-use snes_defs::{Cart, Job, MOST_FRAMES};
+use lint_rules::{Finding, Findings, Rule, Severity, complement_of};
+use lint_watch::{
+    Allowed, Sources, WatchedRun, check_file, checksum_of, front_of, no_header, remaining,
+};
+use snes_defs::{Cart, MOST_FRAMES};
 use std::alloc::Global;
 use std::fs;
 use std::io::{self, Write};
@@ -47,7 +34,7 @@ fn allowed_of<R: Files + AllocGlobal>(rt: &R, words: &ArgMatches<'_>) -> Result<
     let alloc = rt.alloc();
     let mut allowed = Allowed::nothing(alloc);
     if let Some(list) = words.get_str("allow") {
-        allowed.allow_rules(list)?;
+        allowed.allow_rules(list).context("--allow")?;
     }
     if let Some(name) = words.get_str("allowed") {
         let file = fs::read_to_string(rt, name).context(format_args!("cannot read {name}"))?;
@@ -95,16 +82,13 @@ fn fails(words: &ArgMatches<'_>, report: &Report<'_>) -> bool {
 }
 
 /// Runs a job frame by frame, and tells how far it is if this is asked for.
-fn run_job<R: Eprint>(rt: &R, pair: &mut Pair, job: &Job, frames: u32, tells: bool) -> Result<()> {
+fn run_frames<R: Eprint>(rt: &R, run: &mut WatchedRun, frames: u32, tells: bool) -> Result<()> {
     for frame in 0..frames {
-        let next = frame + 1;
-        if next > MOST_FRAMES {
-            break;
-        }
-        pair.run_to(end_stamp_in(job.region, next))?;
+        run.next_frame()?;
         if tells && frame % STRIDE == STRIDE - 1 {
+            let done = frame + 1;
             // A failed write of the progress changes nothing.
-            let _ = eprint!(rt; "\rlint: {next} of {frames} frames");
+            let _ = eprint!(rt; "\rlint: {done} of {frames} frames");
         }
     }
     if tells {
@@ -113,7 +97,7 @@ fn run_job<R: Eprint>(rt: &R, pair: &mut Pair, job: &Job, frames: u32, tells: bo
     Ok(())
 }
 
-/// A finding that is not allowed, with the numbers of its place in a report.
+/// A finding that is not allowed, with what tells a person where it is.
 fn told_of<'a>(
     sources: &'a Sources,
     cart: Option<&Cart>,
@@ -121,24 +105,11 @@ fn told_of<'a>(
     front: u32,
     advice: &'a str,
 ) -> Told<'a> {
-    let address = finding.cause.address;
-    let is_code = finding.cause.unit == Unit::Console;
-    let offset = match cart {
-        Some(cart) if is_code => match place(cart, address % 0x100_0000) {
-            Place::Rom(at) => Some(at.saturating_add(front)),
-            _ => None,
-        },
-        _ => None,
-    };
     Told {
         finding: *finding,
-        label: if is_code {
-            sources.label(address)
-        } else {
-            None
-        },
-        source: match offset {
-            Some(offset) => sources.source(offset),
+        label: sources.label_of(finding),
+        source: match cart {
+            Some(cart) => sources.line_of(cart, front, finding),
             None => None,
         },
         advice: advice_on(finding.rule, advice),
@@ -205,10 +176,14 @@ fn run_opened<R: Eprint + AllocGlobal>(
 ) -> Result<Run> {
     let alloc = rt.alloc();
     let mut findings = Findings::new(alloc);
-    let Opened { size, job } = opened;
-    let front = if size % 1024 == 512 { 512 } else { 0 };
+    let Opened {
+        size,
+        map_byte,
+        job,
+    } = opened;
+    let front = front_of(size);
     let Some(job) = job else {
-        no_header(&mut findings)?;
+        no_header(&mut findings, map_byte)?;
         return Ok(Run {
             findings,
             frames: 0,
@@ -218,14 +193,10 @@ fn run_opened<R: Eprint + AllocGlobal>(
     };
     let frames = frames_of(words)?;
     check_file(&mut findings, size, &job.cart)?;
-    let Ok(mut pair) = Pair::new(alloc, &job, findings) else {
-        bail!("no memory");
-    };
-    run_job(rt, &mut pair, &job, frames, words.get_flag("progress"))?;
-    let mut findings = pair.into_findings();
-    findings.sort()?;
+    let mut run = WatchedRun::new(alloc, &job, findings)?;
+    run_frames(rt, &mut run, frames, words.get_flag("progress"))?;
     Ok(Run {
-        findings,
+        findings: run.into_findings()?,
         frames,
         front,
         cart: Some(job.cart),
@@ -247,18 +218,16 @@ fn lint<R: Files + Print + Eprint + AllocGlobal>(rt: &R, words: &ArgMatches<'_>)
     let opened = open_job(rt, alloc, names)?;
     let run = run_opened(rt, words, opened)?;
     let advice = checksum_text(alloc, run.cart.as_ref())?;
+    let left = remaining(alloc, &run.findings, &allowed, &sources)?;
     let mut told = Vec::new(alloc);
-    for finding in run.findings.list() {
-        let one = told_of(
+    for finding in left.as_slice() {
+        told.push(told_of(
             &sources,
             run.cart.as_ref(),
             finding,
             run.front,
             advice.as_str(),
-        );
-        if !allowed.holds(finding, one.label) {
-            told.push(one)?;
-        }
+        ))?;
     }
     let report = Report {
         cart,

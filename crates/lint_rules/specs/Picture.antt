@@ -6,7 +6,7 @@ use Rattle.lint_rules.specs.declared.moment.Moment.{Moment}
 use Rattle.lint_rules.specs.declared.picture.Memory.{Memory}
 use Rattle.lint_rules.specs.declared.picture.Memory.TheVariants.{Vram, Cgram, Oam}
 use Rattle.lint_rules.specs.declared.rule.Rule.{Rule}
-use Rattle.lint_rules.specs.declared.rule.Rule.TheVariants.{VramOutsideBlank, CgramOutsideBlank, OamOutsideBlank, RegisterInsideLine}
+use Rattle.lint_rules.specs.declared.rule.Rule.TheVariants.{VramOutsideBlank, CgramOutsideBlank, OamOutsideBlank, RegisterInsideLine, BlankNearEdge, FieldAndRegionBits}
 
 abbrev pub lies : ℕ → ℕ → ℕ → Bool
 lies first last n = nat_le first n && nat_le n last
@@ -64,3 +64,16 @@ changes_picture mode7 register =
 abbrev pub register_broken : Bool → ℕ → Moment → Option Rule
 register_broken mode7 register m =
     if is_drawn m && changes_picture mode7 register then Some RegisterInsideLine else None
+
+-- within 16 dots (64 clocks) of line clock 88 or 1096, in a line of the picture; the number is this project's choice
+abbrev pub is_near_edge : Moment → Bool
+is_near_edge m =
+    (nat_le 1 m.line && not (in_blank m))
+    && ((nat_le 24 m.clock && nat_lt m.clock 152) || (nat_le 1032 m.clock && nat_lt m.clock 1160))
+
+-- a write of 2100 changes forced blank there
+abbrev pub edge_broken : ℕ → Moment → Option Rule
+edge_broken byte m = if is_near_edge m && (if m.forced then nat_lt byte 128 else nat_le 128 byte) then Some BlankNearEdge else None
+
+abbrev pub status_broken : ℕ → Option Rule
+status_broken register = if register == 0x3f then Some FieldAndRegionBits else None

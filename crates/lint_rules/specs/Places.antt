@@ -4,6 +4,8 @@ use Rattle.lint_rules.specs.declared.addresses.At.{At}
 use Rattle.lint_rules.specs.declared.addresses.At.TheVariants as at
 use Rattle.lint_rules.specs.declared.addresses.Access.{Access}
 use Rattle.lint_rules.specs.declared.addresses.Access.TheVariants as access
+use Rattle.lint_rules.specs.declared.file.MapPlace.{MapPlace}
+use Rattle.lint_rules.specs.declared.file.MapPlace.TheVariants as map
 use Rattle.lint_rules.specs.declared.moment.Moment.{Moment}
 use Rattle.lint_rules.specs.declared.rule.Rule.{Rule}
 use Rattle.lint_rules.specs.declared.rule.Rule.TheVariants as rule
@@ -80,6 +82,18 @@ size_holds size bytes =
 
 abbrev pub size_broken : ℕ → ℕ → Option Rule
 size_broken size bytes = if size_holds size bytes then None else Some rule.SizeByte
+
+-- the map bytes of the other place: 20 and 30 are LoROM, 21 and 31 HiROM
+abbrev pub is_other_map : MapPlace → ℕ → Bool
+is_other_map map.LoRom byte = byte == 0x21 || byte == 0x31
+is_other_map map.HiRom byte = byte == 0x20 || byte == 0x30
+
+abbrev pub map_broken : MapPlace → ℕ → Bool → Option Rule
+map_broken place byte adds = if adds && is_other_map place byte then Some rule.MapByte else None
+
+-- 3.58 MHz are turned on by bit 0 of 420D, and bit 4 of the map byte does not allow it
+abbrev pub speed_broken : ℕ → ℕ → Option Rule
+speed_broken map_byte written = if written % 2 == 1 && map_byte / 16 % 2 == 0 then Some rule.MapByte else None
 
 abbrev pub reset_broken : At → Option Rule
 reset_broken at.Rom = None

@@ -68,9 +68,11 @@ impl Finding {
         }
     }
 
-    /// Whether this is of the same rule and the same cause as another one.
+    /// Whether this is of the same rule and the same cause as another one. Each register that was not set is a finding of its own.
     pub fn is_same(&self, other: &Finding) -> bool {
-        self.rule == other.rule && self.cause == other.cause
+        self.rule == other.rule
+            && self.cause == other.cause
+            && (self.rule != Rule::RegistersUnset || self.detail == other.detail)
     }
 
     /// Adds another time to a finding. The count stops at its greatest number.

@@ -7,27 +7,38 @@
 
 mod addresses;
 mod arithmetic;
+mod echo;
 mod file;
 mod findings;
 mod moment;
+mod objects;
 mod pads;
 mod picture;
 mod profile;
 mod rule;
+mod screen;
 mod sound;
 mod transfers;
+mod written;
 
 pub use addresses::{Access, At, address_rule, opcode_rule, stack_rule};
 pub use arithmetic::{Asked, arithmetic_rule};
-pub use file::{checksum_rule, complement_of, interrupt_rule, reset_rule, size_rule};
+pub use echo::{Echo, EndxPolls};
+pub use file::{
+    MapPlace, checksum_rule, complement_of, interrupt_rule, map_rule, reset_rule, size_rule,
+    speed_rule,
+};
 pub use findings::{Cause, Finding, Findings, Unit};
 pub use moment::Moment;
+pub use objects::{Object, flip_rule};
 pub use pads::{Polls, pad_rule};
 pub use picture::{memory_of, picture_rule};
-pub use profile::{latch_rule, register_rule, timer_rule};
+pub use profile::{edge_rule, latch_rule, register_rule, status_rule, timer_rule};
 pub use rule::{RULES, Rule, Severity, rule_named};
+pub use screen::{Screen, backdrop_rule, unset_rule};
 pub use sound::{key_off_rule, key_on_rule, selector_rule};
 pub use transfers::{channel_rule, enable_rule, transfer_rule};
+pub use written::Written;
 
 #[cfg(test)]
 mod tests;

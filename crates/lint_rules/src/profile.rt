@@ -1,7 +1,7 @@
 //! What the profile of this machine does otherwise than a console.
 
 ghost use Rattle.std.specs.Prelude.{◌≡◌};
-ghost use Rattle.lint_rules.specs.Picture.{changes_picture, register_broken};
+ghost use Rattle.lint_rules.specs.Picture.{changes_picture, register_broken, is_near_edge, edge_broken, status_broken};
 ghost use Rattle.lint_rules.specs.Units.{timer_broken, latch_broken};
 
 use crate::moment::Moment;
@@ -53,6 +53,48 @@ pub fn latch_rule(before: u8, byte: u8) -> Option<Rule>
 {
     if 128 <= before && byte < 128 {
         Some(Rule::LatchBy4201)
+    } else {
+        None
+    }
+}
+
+/// Whether a moment is within 16 dots of an edge of the drawn dots, in a line of the picture.
+fn is_near_edge(moment: &Moment) -> bool
+    ensures { result ≡ is_near_edge moment.now }
+{
+    let clock = moment.clock;
+    1 <= moment.line
+        && !moment.in_blank()
+        && (24 <= clock && clock < 152 || 1032 <= clock && clock < 1160)
+}
+
+/// Returns the rule that a write of 2100 breaks: forced blank begins or ends near an edge of the drawn dots. The moment is that
+/// before the write.
+///
+/// The 16 dots are this project's choice: forced blank that followed an H-IRQ at dots 254 to 267 looked otherwise in other emulators.
+pub fn edge_rule(byte: u8, moment: &Moment) -> Option<Rule>
+    ensures { result ≡ edge_broken byte moment.now }
+{
+    let changes = if moment.forced {
+        byte < 128
+    } else {
+        128 <= byte
+    };
+    if is_near_edge(moment) && changes {
+        Some(Rule::BlankNearEdge)
+    } else {
+        None
+    }
+}
+
+/// Returns the rule that a read of a register of the picture unit breaks, as an offset from 2100: 213F has bits of field and region.
+///
+/// Source: fullsnes, 213Fh STAT78.
+pub fn status_rule(register: u8) -> Option<Rule>
+    ensures { result ≡ status_broken register }
+{
+    if register == 0x3f {
+        Some(Rule::FieldAndRegionBits)
     } else {
         None
     }

@@ -66,6 +66,8 @@ pub enum Rule {
     Checksum,
     /// A size byte that does not fit the file.
     SizeByte,
+    /// A map byte that fits neither its place nor the speed of the program.
+    MapByte,
     /// A reset vector that leads nowhere.
     ResetVector,
     /// A vector that is used and leads nowhere.
@@ -76,18 +78,42 @@ pub enum Rule {
     KeyOffShort,
     /// A write to a DSP register above 7F.
     DspSelector,
+    /// An echo buffer over memory that the sound program uses otherwise.
+    EchoOverMemory,
+    /// A loop waits for a bit of ENDX, which a console sets some samples earlier.
+    WaitForEndx,
     /// A read of work RAM that nothing has written.
     WramBeforeWrite,
+    /// A read of sound RAM that nothing has written.
+    AramBeforeWrite,
+    /// A read of the cartridge's RAM that nothing has written.
+    SramBeforeWrite,
+    /// A read of VRAM that nothing has written.
+    VramBeforeWrite,
+    /// A read of CGRAM that nothing has written.
+    CgramBeforeWrite,
+    /// A read of OAM that nothing has written.
+    OamBeforeWrite,
+    /// A picture is shown that depends on a register that nothing has written.
+    RegistersUnset,
     /// A register of the picture written while the dots of a line are drawn.
     RegisterInsideLine,
     /// A V-IRQ set for the line that has begun.
     TimerOnItsLine,
     /// The counters latched by 4201.
     LatchBy4201,
+    /// A read of 213F, whose bits of field and region are always clear here.
+    FieldAndRegionBits,
+    /// An object that is not square, turned over from top to bottom.
+    VerticalFlipOfHalves,
+    /// High resolution with a backdrop that is not black.
+    BackdropInHighResolution,
+    /// Forced blank begun or ended near an edge of the drawn dots.
+    BlankNearEdge,
 }
 
 /// All rules, in the order in which they are reported.
-pub static RULES: [Rule; 36] = [
+pub static RULES: [Rule; 49] = [
     Rule::VramOutsideBlank,
     Rule::CgramOutsideBlank,
     Rule::OamOutsideBlank,
@@ -115,15 +141,28 @@ pub static RULES: [Rule; 36] = [
     Rule::CopierHeader,
     Rule::Checksum,
     Rule::SizeByte,
+    Rule::MapByte,
     Rule::ResetVector,
     Rule::InterruptVector,
     Rule::KeyOnTwice,
     Rule::KeyOffShort,
     Rule::DspSelector,
+    Rule::EchoOverMemory,
+    Rule::WaitForEndx,
     Rule::WramBeforeWrite,
+    Rule::AramBeforeWrite,
+    Rule::SramBeforeWrite,
+    Rule::VramBeforeWrite,
+    Rule::CgramBeforeWrite,
+    Rule::OamBeforeWrite,
+    Rule::RegistersUnset,
     Rule::RegisterInsideLine,
     Rule::TimerOnItsLine,
     Rule::LatchBy4201,
+    Rule::FieldAndRegionBits,
+    Rule::VerticalFlipOfHalves,
+    Rule::BackdropInHighResolution,
+    Rule::BlankNearEdge,
 ];
 
 /// What is printed of a rule.
@@ -251,6 +290,10 @@ fn described(rule: Rule) -> Description {
             "size-byte",
             "the header's size byte does not fit the size of the file",
         ),
+        Rule::MapByte => warning(
+            "map-byte",
+            "the header's map byte fits neither its place in the file nor the speed that the program turns on",
+        ),
         Rule::ResetVector => warning("reset-vector", "the RESET vector does not lead to ROM"),
         Rule::InterruptVector => warning(
             "interrupt-vector",
@@ -268,9 +311,41 @@ fn described(rule: Rule) -> Description {
             "dsp-selector",
             "F3 is written while bit 7 of F2 is set: a console drops the write",
         ),
+        Rule::EchoOverMemory => warning(
+            "echo-over-memory",
+            "the echo buffer lies over sound RAM that the program executes or has filled: the S-DSP writes over it",
+        ),
+        Rule::WaitForEndx => note(
+            "wait-for-endx",
+            "a loop waits for ENDX (7C): a console sets the bit of a voice that ends up to 26 samples earlier than this machine",
+        ),
         Rule::WramBeforeWrite => warning(
             "wram-before-write",
             "work RAM is read that nothing has written: a console has anything there, this machine has zero",
+        ),
+        Rule::AramBeforeWrite => warning(
+            "aram-before-write",
+            "sound RAM is read that nothing has written: a console has anything there, this machine has zero",
+        ),
+        Rule::SramBeforeWrite => note(
+            "sram-before-write",
+            "cartridge RAM is read that nothing has written: a console has what was saved, or anything, this machine has zero",
+        ),
+        Rule::VramBeforeWrite => warning(
+            "vram-before-write",
+            "VRAM is read that nothing has written: a console has anything there, this machine has zero",
+        ),
+        Rule::CgramBeforeWrite => warning(
+            "cgram-before-write",
+            "CGRAM is read that nothing has written: a console has anything there, this machine has zero",
+        ),
+        Rule::OamBeforeWrite => warning(
+            "oam-before-write",
+            "OAM is read that nothing has written: a console has anything there, this machine has zero",
+        ),
+        Rule::RegistersUnset => warning(
+            "registers-unset",
+            "the screen is on, and nothing has written a register that the picture depends on: a console has anything there",
         ),
         Rule::RegisterInsideLine => note(
             "register-inside-line",
@@ -283,6 +358,22 @@ fn described(rule: Rule) -> Description {
         Rule::LatchBy4201 => warning(
             "latch-by-4201",
             "bit 7 of 4201 is cleared: a console latches the counters, this machine does not",
+        ),
+        Rule::FieldAndRegionBits => note(
+            "field-and-region-bits",
+            "213F is read: a console tells field and region by bits 7 and 4, which are always clear here",
+        ),
+        Rule::VerticalFlipOfHalves => note(
+            "vertical-flip-of-halves",
+            "an object of 16 by 32 or 32 by 64 is turned over: a console turns each half by itself, this machine the whole",
+        ),
+        Rule::BackdropInHighResolution => note(
+            "backdrop-in-high-resolution",
+            "high resolution with a backdrop that is not black: here even half-pixels of it have the fixed colour",
+        ),
+        Rule::BlankNearEdge => note(
+            "blank-near-edge",
+            "forced blank begins or ends within 16 dots of an edge of the drawn dots: a console and this machine may show other rows",
         ),
     }
 }

@@ -28,6 +28,11 @@ reset:  sei
         sep     #$20
         lda     #$80
         sta     INIDISP
+        ldx     #$33                    ; 2101 to 2133: zeros, twice, since many of them take two bytes
+:       stz     INIDISP,x
+        stz     INIDISP,x
+        dex
+        bne     :-
         stz     lives
         stz     lives+1
         stz     CGADD

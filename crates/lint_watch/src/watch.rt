@@ -1,16 +1,18 @@
 //! What the rules have to know of the console side's past, and each of its steps as they see it.
 
 ghost use Rattle.std.specs.Prelude.{◌≡◌};
-ghost use Rattle.cart_lint.specs.Times.{clocks_before, frame_at, line_at, clock_at};
+ghost use Rattle.lint_watch.specs.Times.{clocks_before, frame_at, line_at, clock_at};
 
+use crate::lines::PictureWrites;
+use crate::ports::{PictureMemories, Ports};
 use cart_map::Place;
 use clock_ratio::{CONSOLE_RATE, PAL_CONSOLE_RATE};
 use console_bus::Bus;
 use lint_rules::{
-    Asked, At, Cause, Finding, Findings, Moment, Polls, Rule, Unit, interrupt_rule, picture_rule,
-    register_rule,
+    Asked, At, Cause, Finding, Findings, Moment, Polls, Rule, Unit, Written, edge_rule,
+    interrupt_rule, picture_rule, register_rule, status_rule,
 };
-use snes_defs::{NoMemory, Region};
+use snes_defs::{Cart, MapKind, Region};
 use std::alloc::{AllocError, Global};
 
 /// The bytes of work RAM, and the address of the first.
@@ -38,6 +40,8 @@ pub struct Now {
     pub forced: bool,
     /// Whether the picture is of mode 7.
     pub mode7: bool,
+    /// The ports to the picture unit's memories.
+    pub ports: Ports,
 }
 
 impl Now {
@@ -111,6 +115,28 @@ pub fn tell(
     }
 }
 
+/// Checks a write to a register of the B bus, as an offset from 2100.
+pub fn check_b(
+    findings: &mut Findings,
+    register: u8,
+    byte: u8,
+    by: u32,
+    now: &Now,
+) -> Result<(), AllocError> {
+    if register >= 0x40 {
+        return Ok(());
+    }
+    let moment = now.moment();
+    let detail = 0x2100 + u32::from(register);
+    let rule = picture_rule(register, true, &moment);
+    tell(findings, rule, by, detail, now)?;
+    if register == 0 {
+        tell(findings, edge_rule(byte, &moment), by, detail, now)?;
+    }
+    let rule = register_rule(now.mode7, register, &moment);
+    tell(findings, rule, by, detail, now)
+}
+
 /// Checks the vector of an interrupt that is enabled.
 pub fn check_vector(
     findings: &mut Findings,
@@ -151,16 +177,37 @@ pub struct Watch {
     pub(crate) last_by: u32,
     pub(crate) is_stack_out: bool,
     /// Which bytes of work RAM have been written, and the address of 2180.
-    pub(crate) written: Vec<bool>,
+    pub(crate) wram: Written,
     pub(crate) port: u32,
+    /// Which bytes of the cartridge's RAM have been written.
+    pub(crate) sram: Written,
+    /// Which bytes of the picture unit's memories have been written, and its registers.
+    pub(crate) pictures: PictureMemories,
+    pub(crate) writes: PictureWrites,
+    /// The stamp at which the next line begins.
+    pub(crate) line_end: u64,
+    /// The map byte of the header.
+    pub(crate) map_byte: u8,
+}
+
+/// Returns the map byte of a cartridge's header.
+fn map_byte_of(cart: &Cart) -> u8 {
+    let at = match cart.map {
+        MapKind::LoRom => 0x7fd5,
+        MapKind::HiRom => 0xffd5,
+    };
+    match cart.rom.get().get(at) {
+        Some(byte) => *byte,
+        None => 0,
+    }
 }
 
 impl Watch {
-    /// Returns the state before the first step.
-    pub fn new(alloc: Global) -> Result<Watch, NoMemory> {
-        let Ok(written) = vec![in alloc; false; 131_072] else {
-            return Err(NoMemory);
-        };
+    /// Returns the state before the first step of a cartridge's run. Its RAM has so many bytes.
+    pub fn new(alloc: Global, cart: &Cart, ram: u32) -> Result<Watch, AllocError> {
+        let wram = Written::nothing(alloc, WRAM_SIZE as usize)?;
+        let sram = Written::nothing(alloc, ram as usize)?;
+        let pictures = PictureMemories::new(alloc)?;
         Ok(Watch {
             cycle: 0,
             asked: None,
@@ -177,8 +224,13 @@ impl Watch {
             past: 0,
             last_by: 0,
             is_stack_out: false,
-            written,
+            wram,
             port: 0,
+            sram,
+            pictures,
+            writes: PictureWrites::new(),
+            line_end: 0,
+            map_byte: map_byte_of(cart),
         })
     }
 
@@ -197,29 +249,50 @@ impl Watch {
         self.vtime = 0x1ff;
     }
 
-    /// Takes note of a write to a byte of work RAM.
-    pub fn write_wram(&mut self, at: u32) {
-        let at = at as usize;
-        if at < self.written.len() {
-            self.written[at] = true;
+    /// Takes note of a write to a memory.
+    pub fn write_memory(&mut self, place: Place) {
+        match place {
+            Place::Wram(at) => self.wram.write(at as usize),
+            Place::Ram(at) => self.sram.write(at as usize),
+            _ => {}
         }
     }
 
-    /// Checks a read of a byte of work RAM. Each byte that nothing has written is told once.
-    pub fn read_wram(
+    /// Checks a read of a memory at an address. Each byte that nothing has written is told once.
+    pub fn read_memory(
+        &mut self,
+        findings: &mut Findings,
+        place: Place,
+        address: u32,
+        by: u32,
+        now: &Now,
+    ) -> Result<(), AllocError> {
+        match place {
+            Place::Wram(at) => self.read_wram(findings, at, by, now),
+            Place::Ram(at) => {
+                if self.sram.read(at as usize) {
+                    tell(findings, Some(Rule::SramBeforeWrite), by, address, now)
+                } else {
+                    Ok(())
+                }
+            }
+            _ => Ok(()),
+        }
+    }
+
+    /// Checks a read of a byte of work RAM.
+    fn read_wram(
         &mut self,
         findings: &mut Findings,
         at: u32,
         by: u32,
         now: &Now,
     ) -> Result<(), AllocError> {
-        let place = at as usize;
-        if place < self.written.len() && !self.written[place] {
-            self.written[place] = true;
-            let detail = WRAM_BASE + at % WRAM_SIZE;
-            return tell(findings, Some(Rule::WramBeforeWrite), by, detail, now);
+        if !self.wram.read(at as usize) {
+            return Ok(());
         }
-        Ok(())
+        let detail = WRAM_BASE + at % WRAM_SIZE;
+        tell(findings, Some(Rule::WramBeforeWrite), by, detail, now)
     }
 
     /// Returns the byte of work RAM that 2180 accesses, and goes on to the next.
@@ -235,13 +308,20 @@ impl Watch {
         match register {
             0x80 => {
                 let at = self.next_of_port();
-                self.write_wram(at);
+                self.wram.write(at as usize);
             }
             0x81 => self.port = port / 256 * 256 + u32::from(byte),
             0x82 => self.port = port / 65_536 * 65_536 + 256 * u32::from(byte) + port % 256,
             0x83 => self.port = port % 65_536 + 65_536 * u32::from(byte % 2),
             _ => {}
         }
+    }
+
+    /// Takes note of a write to a register of the B bus, as an offset from 2100.
+    pub fn note_b(&mut self, register: u8, byte: u8, by: u32, now: &Now) {
+        self.write_port(register, byte);
+        self.pictures.write(register, byte, &now.ports);
+        self.writes.write(register, byte, by);
     }
 
     /// Sees a write to a register of the B bus, as an offset from 2100.
@@ -253,26 +333,8 @@ impl Watch {
         by: u32,
         now: &Now,
     ) -> Result<(), AllocError> {
-        self.write_port(register, byte);
-        if register >= 0x40 {
-            return Ok(());
-        }
-        let moment = now.moment();
-        let detail = 0x2100 + u32::from(register);
-        tell(
-            findings,
-            picture_rule(register, true, &moment),
-            by,
-            detail,
-            now,
-        )?;
-        tell(
-            findings,
-            register_rule(now.mode7, register, &moment),
-            by,
-            detail,
-            now,
-        )
+        self.note_b(register, byte, by, now);
+        check_b(findings, register, byte, by, now)
     }
 
     /// Sees a read of a register of the B bus, as an offset from 2100.
@@ -287,8 +349,11 @@ impl Watch {
             let at = self.next_of_port();
             return self.read_wram(findings, at, by, now);
         }
+        let detail = 0x2100 + u32::from(register);
         let rule = picture_rule(register, false, &now.moment());
-        tell(findings, rule, by, 0x2100 + u32::from(register), now)
+        tell(findings, rule, by, detail, now)?;
+        tell(findings, status_rule(register), by, detail, now)?;
+        self.read_picture(findings, register, by, now)
     }
 
     /// Adds a byte to the transfer under way that came after the end of blank. Each transfer counts once.

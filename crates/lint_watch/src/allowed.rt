@@ -1,8 +1,9 @@
 //! What is allowed: rules, everywhere or at a place.
 
+use crate::names::Sources;
 use anyhow::{Result, bail};
-use lint_rules::{Finding, Rule, rule_named};
-use std::alloc::Global;
+use lint_rules::{Finding, Findings, Rule, rule_named};
+use std::alloc::{AllocError, Global};
 
 /// Where a rule may be broken.
 #[derive(Drop)]
@@ -84,7 +85,7 @@ impl Allowed {
         }
     }
 
-    /// Allows the rules of a list with commas.
+    /// Allows the rules of a list, with commas between them. Fails if one of them is no rule.
     pub fn allow_rules(&mut self, list: &str) -> Result<()> {
         for name in list.split(",") {
             match rule_named(name.trim()) {
@@ -92,25 +93,25 @@ impl Allowed {
                     rule,
                     place: Place::Everywhere,
                 })?,
-                None => bail!("--allow {name}: no rule (see docs/use/LINT.md)"),
+                None => bail!("{name} is not a rule (see docs/use/LINT.md)"),
             }
         }
         Ok(())
     }
 
-    /// Allows what a file says, a rule a line.
-    pub fn allow_file(&mut self, alloc: Global, name: &str, file: &str) -> Result<()> {
+    /// Allows what the text of a file says, a rule a line. Fails at a line that is none; `name` is the file's.
+    pub fn allow_file(&mut self, alloc: Global, name: &str, text: &str) -> Result<()> {
         let mut number = 0u64;
-        for line in file.lines() {
+        for line in text.lines() {
             number = number.saturating_add(1);
-            let text = without_comment(line);
-            if text.is_empty() {
+            let said = without_comment(line);
+            if said.is_empty() {
                 continue;
             }
-            match entry_of(alloc, text)? {
+            match entry_of(alloc, said)? {
                 Some(entry) => self.entries.push(entry)?,
                 None => bail!(
-                    "{name} refused: line {number} is not a rule, and a place (see --help)"
+                    "{name} refused: line {number} is not a rule, and a place (see docs/use/LINT.md)"
                 ),
             }
         }
@@ -134,4 +135,20 @@ impl Allowed {
         }
         false
     }
+}
+
+/// Returns the findings that are not allowed, in their order. `sources` has the labels that places are named by.
+pub fn remaining(
+    alloc: Global,
+    findings: &Findings,
+    allowed: &Allowed,
+    sources: &Sources,
+) -> Result<Vec<Finding>, AllocError> {
+    let mut left = Vec::new(alloc);
+    for finding in findings.list() {
+        if !allowed.holds(finding, sources.label_of(finding)) {
+            left.push(*finding)?;
+        }
+    }
+    Ok(left)
 }

@@ -1,6 +1,9 @@
 //! Labels and lines of source, by a symbol file.
 
 use anyhow::{Result, bail};
+use cart_map::{Place, place};
+use lint_rules::{Finding, Unit};
+use snes_defs::Cart;
 use std::alloc::Global;
 use symbol_files::{SourceLines, Symbols};
 
@@ -29,7 +32,7 @@ impl Sources {
         }
     }
 
-    /// Reads a symbol file.
+    /// Reads the text of a symbol file. Fails if it has none of the forms of symbol files; `name` is the file's.
     pub fn read(alloc: Global, name: &str, text: &str) -> Result<Sources> {
         let symbols = match Symbols::read(alloc, text) {
             Ok(symbols) => symbols,
@@ -58,7 +61,7 @@ impl Sources {
     }
 
     /// Returns the last label at an address or before it, there or in the mirror of the bank.
-    pub fn label(&self, address: u32) -> Option<(&str, u64)> {
+    fn label(&self, address: u32) -> Option<(&str, u64)> {
         match self.nearest(address) {
             Some(found) => Some(found),
             None => {
@@ -73,7 +76,7 @@ impl Sources {
     }
 
     /// Returns the line of source that made a byte of the file: the one with the fewest bytes.
-    pub fn source(&self, offset: u32) -> Option<(&str, u32)> {
+    fn source(&self, offset: u32) -> Option<(&str, u32)> {
         let Some(lines) = &self.lines else {
             return None;
         };
@@ -88,5 +91,24 @@ impl Sources {
         }
         let (file, line) = found?;
         Some((lines.name_of(file)?, line))
+    }
+
+    /// Returns the last label at a finding's instruction or before it, and how many bytes behind it the instruction is.
+    pub fn label_of(&self, finding: &Finding) -> Option<(&str, u64)> {
+        match finding.cause.unit {
+            Unit::Console => self.label(finding.cause.address),
+            Unit::Sound | Unit::File => None,
+        }
+    }
+
+    /// Returns the file and line of source of a finding's instruction. `front` is how many bytes a copier put in front of the image.
+    pub fn line_of(&self, cart: &Cart, front: u32, finding: &Finding) -> Option<(&str, u32)> {
+        match finding.cause.unit {
+            Unit::Console => match place(cart, finding.cause.address % 0x100_0000) {
+                Place::Rom(at) => self.source(at.saturating_add(front)),
+                _ => None,
+            },
+            Unit::Sound | Unit::File => None,
+        }
     }
 }

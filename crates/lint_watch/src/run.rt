@@ -1,17 +1,19 @@
 //! The two machines of a job, and their steps one after another, each shown to the rules.
 
-use crate::seen::{Seen, finish, look_at, tell_dma};
+use crate::header::check_file;
+use crate::ports::Ports;
+use crate::seen::{Kind, finish, look_at, tell_dma};
 use crate::sound_watch::SoundWatch;
 use crate::watch::{Now, Watch};
 use anyhow::{Result, bail};
 use audio_side::AudioSide;
-use clock_ratio::console_first;
+use clock_ratio::{console_first, end_stamp_in};
 use console_machine::ConsoleSide;
 use dma_hdma::Dma;
 use lint_rules::Findings;
 use serial_console::Serial;
 use side_law::Machine;
-use snes_defs::{Job, NoMemory, Region};
+use snes_defs::{Job, MOST_FRAMES, Region};
 use std::alloc::Global;
 
 /// The last stamp at which a step may begin.
@@ -19,13 +21,15 @@ const LAST: u64 = 1 << 62;
 
 /// The serial console of a job, and what watches it.
 #[derive(Drop)]
-pub struct Pair {
+pub struct WatchedRun {
     serial: Serial<ConsoleSide, AudioSide>,
     /// Channels that follow DMA alone, to tell it from HDMA.
     dma: Dma,
     /// The buffer for emitted bytes, which are dropped.
     bytes: Vec<u8>,
     region: Region,
+    /// How many frames have run.
+    frames: u32,
     watch: Watch,
     sound: SoundWatch,
     findings: Findings,
@@ -56,45 +60,53 @@ fn now_of(region: Region, console: &ConsoleSide) -> Now {
         overscan: registers.settings.overscan,
         forced: registers.display.blanked,
         mode7: registers.mode == 7,
+        ports: Ports::of(registers),
     }
 }
 
-impl Pair {
-    /// Returns the machines of a job before its first step.
-    pub fn new(alloc: Global, job: &Job, findings: Findings) -> Result<Pair, NoMemory> {
-        let console = ConsoleSide::new(alloc, job)?;
-        let sound = AudioSide::new(alloc, job)?;
-        let Ok(bytes) = vec![in alloc; 0u8; 4096] else {
-            return Err(NoMemory);
+/// Returns findings by rule and then by cause.
+fn sorted(mut findings: Findings) -> Result<Findings> {
+    findings.sort()?;
+    Ok(findings)
+}
+
+impl WatchedRun {
+    /// Returns the run of a job before its first step. What it finds is added to `findings`. A run of more than the job's frames
+    /// goes on with no button pressed. Fails if memory runs out.
+    pub fn new(alloc: Global, job: &Job, findings: Findings) -> Result<WatchedRun> {
+        let Ok(console) = ConsoleSide::new(alloc, job) else {
+            bail!("no memory");
         };
-        let watch = Watch::new(alloc)?;
-        Ok(Pair {
+        let Ok(sound) = AudioSide::new(alloc, job) else {
+            bail!("no memory");
+        };
+        let bytes = vec![in alloc; 0u8; 4096]?;
+        let watch = Watch::new(alloc, &job.cart, console.bus().cart_ram())?;
+        let sounds = SoundWatch::new(alloc)?;
+        Ok(WatchedRun {
             serial: Serial::new(console, sound),
             dma: Dma::new(),
             bytes,
             region: job.region,
+            frames: 0,
             watch,
-            sound: SoundWatch::new(),
+            sound: sounds,
             findings,
         })
     }
 
-    /// Returns the console side, read-only.
-    pub fn console(&self) -> &ConsoleSide {
-        let (console, _) = self.serial.machines();
-        console
-    }
-
-    /// Returns what was found, and ends the run.
-    pub fn into_findings(self) -> Findings {
-        let Pair { findings, .. } = self;
-        findings
+    /// Returns what was found, by rule and then by cause, and ends the run.
+    pub fn into_findings(self) -> Result<Findings> {
+        let WatchedRun { findings, .. } = self;
+        sorted(findings)
     }
 
     /// Takes the next step of the console, and shows it to the rules.
     fn step_console(&mut self) -> Result<bool> {
         let (console, _) = self.serial.machines();
         let now = now_of(self.region, console);
+        self.watch
+            .see_time(&mut self.findings, console.bus(), &now)?;
         let mut seen = look_at(console, &self.dma);
         if !make_turn(&mut self.serial, self.bytes.as_mut_slice()) {
             return Ok(false);
@@ -102,6 +114,9 @@ impl Pair {
         let (console, _) = self.serial.machines();
         finish(console, &mut seen);
         tell_dma(&mut self.dma, &seen);
+        if let Kind::Reset = seen.kind {
+            self.sound.reset();
+        }
         self.watch
             .see(&mut self.findings, console.bus(), &seen, &now)?;
         Ok(true)
@@ -126,8 +141,14 @@ impl Pair {
         }
     }
 
-    /// Takes the steps that begin before a stamp.
-    pub fn run_to(&mut self, end: u64) -> Result<()> {
+    /// Takes the steps of the next frame. Fails after `MOST_FRAMES` frames, or if memory for a finding runs out.
+    pub fn next_frame(&mut self) -> Result<()> {
+        let frame = self.frames;
+        if frame >= MOST_FRAMES {
+            bail!("a run has at most {MOST_FRAMES} frames");
+        }
+        self.frames = frame + 1;
+        let end = end_stamp_in(self.region, frame + 1);
         for _ in 0..u64::MAX {
             if self.serial.finished(end) {
                 break;
@@ -138,4 +159,16 @@ impl Pair {
         }
         Ok(())
     }
+}
+
+/// Checks the file of a cartridge, runs so many frames of its job, and returns what was found, by rule and then by cause. `size`
+/// is the number of bytes of the file.
+pub fn watch_job(alloc: Global, size: usize, job: &Job, frames: u32) -> Result<Findings> {
+    let mut findings = Findings::new(alloc);
+    check_file(&mut findings, size, &job.cart)?;
+    let mut run = WatchedRun::new(alloc, job, findings)?;
+    for _ in 0..frames {
+        run.next_frame()?;
+    }
+    run.into_findings()
 }

@@ -4,7 +4,7 @@ use crate::watch::{Now, Watch, check_vector, tell};
 use console_bus::Bus;
 use lint_rules::{
     Asked, Findings, Moment, Rule, arithmetic_rule, channel_rule, enable_rule, latch_rule,
-    pad_rule, timer_rule,
+    pad_rule, speed_rule, timer_rule,
 };
 use std::alloc::AllocError;
 
@@ -155,6 +155,7 @@ impl Watch {
             0x4209 | 0x420a => self.write_vtime(access, &moment),
             0x420b => self.start_dma(access, &moment),
             0x420c => self.enable_hdma(access, &moment),
+            0x420d => speed_rule(self.map_byte, access.byte),
             _ => self.pad_rule_at(register, true, &moment),
         };
         tell(findings, rule, access.by, u32::from(register), now)

@@ -2,7 +2,7 @@
 
 use crate::chip::ChipAccess;
 use crate::seen::{Kind, Seen};
-use crate::watch::{Now, Watch, at_of, tell};
+use crate::watch::{Now, Watch, at_of, check_b, tell};
 use cart_map::Place;
 use console_bus::Bus;
 use dma_hdma::Move;
@@ -32,10 +32,7 @@ impl Watch {
         self.count_cycle();
         let rule = address_rule(Access::Fetch, at_of(seen.place));
         tell(findings, rule, seen.by(), seen.address, now)?;
-        match seen.place {
-            Place::Wram(at) => self.read_wram(findings, at, seen.by(), now),
-            _ => Ok(()),
-        }
+        self.read_memory(findings, seen.place, seen.address, seen.by(), now)
     }
 
     /// Sees the fetch of an opcode.
@@ -78,7 +75,9 @@ impl Watch {
     ) -> Result<(), AllocError> {
         self.count_cycle();
         match seen.place {
-            Place::Wram(at) => self.read_wram(findings, at, seen.by(), now),
+            Place::Wram(_) | Place::Ram(_) => {
+                self.read_memory(findings, seen.place, seen.address, seen.by(), now)
+            }
             Place::BBus(register) => self.read_b(findings, register, seen.by(), now),
             Place::Cpu(register) => { self.read_chip(findings, &chip_access(seen, register), now) }
             place => {
@@ -98,8 +97,8 @@ impl Watch {
     ) -> Result<(), AllocError> {
         self.count_cycle();
         match seen.place {
-            Place::Wram(at) => {
-                self.write_wram(at);
+            Place::Wram(_) | Place::Ram(_) => {
+                self.write_memory(seen.place);
                 Ok(())
             }
             Place::BBus(register) => self.write_b(findings, register, seen.byte, seen.by(), now),
@@ -122,12 +121,14 @@ impl Watch {
         is_dma: bool,
         now: &Now,
     ) -> Result<(), AllocError> {
+        let by = self.mover(is_dma);
+        self.note_b(port, byte, by, now);
         if is_dma && self.began_in_blank {
             if picture_rule(port, true, &now.moment()).is_some() {
                 return self.tell_past(findings, 0x2100 + u32::from(port), now);
             }
         }
-        self.write_b(findings, port, byte, self.mover(is_dma), now)
+        check_b(findings, port, byte, by, now)
     }
 
     /// Returns the instruction that began DMA, or that enabled HDMA.
@@ -145,28 +146,24 @@ impl Watch {
         now: &Now,
     ) -> Result<(), AllocError> {
         let by = self.mover(is_dma);
-        let wram = match seen.place {
-            Place::Wram(at) => Some(at),
-            _ => None,
+        let is_wram = match seen.place {
+            Place::Wram(_) => true,
+            _ => false,
         };
         let port = match due {
             Move::Load { .. } => 0,
             Move::ToB { port, .. } => port,
             Move::ToA { port, .. } => port,
         };
-        let rule = transfer_rule(seen.address, wram.is_some(), port);
+        let rule = transfer_rule(seen.address, is_wram, port);
         tell(findings, rule, by, seen.address, now)?;
         match due {
             Move::ToA { port, .. } => {
-                if let Some(at) = wram {
-                    self.write_wram(at);
-                }
+                self.write_memory(seen.place);
                 self.read_b(findings, port, by, now)
             }
             _ => {
-                if let Some(at) = wram {
-                    self.read_wram(findings, at, by, now)?;
-                }
+                self.read_memory(findings, seen.place, seen.address, by, now)?;
                 self.end_move(findings, seen, due, is_dma, now)
             }
         }
