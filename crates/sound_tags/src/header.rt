@@ -33,9 +33,9 @@ fn is_text(field: &[u8]) -> bool
         && field[text.len()..].iter().all(|byte| *byte == 0)
 }
 
-/// Returns the form of the tags in a header, or none if it has no tags.
+/// Returns the form of the tags in a header, or none if it has no tags. It needs the first 256 bytes of a sound file.
 #[tactic(auto, unfolding(crate::specs::Header::form_of))]
-fn form_of(file: &[u8]) -> Option<Form>
+pub fn form_of(file: &[u8]) -> Option<Form>
     requires { 256 ≤ length file.now }
     ensures { result ≡ form_of file.now }
 {

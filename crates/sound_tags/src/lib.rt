@@ -15,5 +15,6 @@ mod tag;
 
 pub use area::{FieldRefused, Tags, put_tags};
 pub use field::{Field, Form};
+pub use header::form_of;
 pub use sound_file::{NotSoundFile, refusal};
 pub use tag::{NumberTag, TextTag, number_of, text_of};

@@ -1,0 +1,71 @@
+-- THE LINES OF A SOUND FILE. Each definition adds lines to the text so far; a tag that is not there has no line.
+use Rattle.std.specs.Prelude.{ℕ, ◌+◌, ◌/◌, ◌%◌, ◌&&◌, nat_lt, List, [], ◌∷◌, ◌++◌, codes, decimal, Option, Some, None, if◌then◌else◌}
+use Rattle.sound_tags.specs.declared.field.Form.{Form}
+use Rattle.sound_tags.specs.declared.field.Form.TheVariants.{Text, Binary}
+use Rattle.sound_tags.specs.declared.tag.TextTag.TheVariants as text
+use Rattle.sound_tags.specs.declared.tag.NumberTag.TheVariants as number
+use Rattle.sound_tags.specs.Header.{form_of}
+use Rattle.sound_tags.specs.AllTags.{text_of, number_of}
+use Rattle.tag_report.specs.Shown.{shown}
+
+-- a line: its name with a colon, what it says, and LF
+abbrev pub with_text : (before name : List ℕ) → Option (List ℕ) → List ℕ
+with_text before name None = before
+with_text before name (Some text) = before ++ name ++ shown text ++ 10 ∷ []
+
+abbrev pub with_number : (before name : List ℕ) → Option ℕ → List ℕ
+with_number before name None = before
+with_number before name (Some number) = before ++ name ++ decimal number ++ 10 ∷ []
+
+-- the character of a track, if it is a visible one
+abbrev pub letter_of : ℕ → List ℕ
+letter_of code = if nat_lt 0x20 code && nat_lt code 0x7F then code ∷ [] else []
+
+abbrev pub with_track : (before : List ℕ) → Option ℕ → List ℕ
+with_track before None = before
+with_track before (Some track) =
+    before ++ codes "track: " ++ decimal (track / 256) ++ letter_of (track % 256) ++ 10 ∷ []
+
+-- the first line: which form the header's tags have
+unfoldable pub form_text : Option Form → List ℕ
+form_text None = codes "header: no tags\n"
+form_text (Some Text) = codes "header: text\n"
+form_text (Some Binary) = codes "header: binary\n"
+
+-- the texts
+unfoldable pub with_texts : (before file : List ℕ) → List ℕ
+with_texts before file =
+    let a = with_text before (codes "title: ") (text_of file text.Title) in
+    let b = with_text a (codes "game: ") (text_of file text.Game) in
+    let c = with_text b (codes "artist: ") (text_of file text.Artist) in
+    let d = with_text c (codes "dumper: ") (text_of file text.Dumper) in
+    let e = with_text d (codes "date-text: ") (text_of file text.Date) in
+    let f = with_text e (codes "comment: ") (text_of file text.Comment) in
+    let g = with_text f (codes "soundtrack: ") (text_of file text.Soundtrack) in
+    with_text g (codes "publisher: ") (text_of file text.Publisher)
+
+-- how the file is played: seconds, milliseconds, and ticks of 1/64,000 s
+unfoldable pub with_numbers : (before file : List ℕ) → List ℕ
+with_numbers before file =
+    let a = with_number before (codes "length: ") (number_of file number.Length) in
+    let b = with_number a (codes "fade: ") (number_of file number.Fade) in
+    let c = with_number b (codes "intro-ticks: ") (number_of file number.Intro) in
+    let d = with_number c (codes "loop-ticks: ") (number_of file number.Loop) in
+    let e = with_number d (codes "end-ticks: ") (number_of file number.End) in
+    let f = with_number e (codes "fade-ticks: ") (number_of file number.FadeTicks) in
+    let g = with_number f (codes "loops: ") (number_of file number.Loops) in
+    let h = with_number g (codes "muted: ") (number_of file number.Muted) in
+    with_number h (codes "amplification: ") (number_of file number.Amplification)
+
+-- where the tune is from
+unfoldable pub with_album : (before file : List ℕ) → List ℕ
+with_album before file =
+    let a = with_number before (codes "date: ") (number_of file number.Date) in
+    let b = with_number a (codes "disc: ") (number_of file number.Disc) in
+    let c = with_track b (number_of file number.Track) in
+    let d = with_number c (codes "year: ") (number_of file number.Year) in
+    with_number d (codes "emulator: ") (number_of file number.Emulator)
+
+-- ALL LINES
+unfoldable pub report_of : List ℕ → List ℕ
+report_of file = with_album (with_numbers (with_texts (form_text (form_of file)) file) file) file

@@ -1,0 +1,66 @@
+ghost use Rattle.std.specs.Prelude.{◌≡◌, ◌<◌, ◌++◌, [], ◌∷◌, OnOk};
+ghost use Rattle.std.specs.Str.{is_utf8};
+ghost use Rattle.std.specs.List.{flat_map};
+ghost use Rattle.tag_report.specs.Shown.{hides, is_readable, hex_digit, shown_byte, shown};
+
+use std::alloc::AllocError;
+use std::str;
+
+/// Whether a character has no place in a line: a control character, a separator of lines, or one that turns the
+/// direction of writing.
+fn hides(character: char) -> bool
+    ensures { result ≡ hides character }
+{
+    matches!(
+        character,
+        '\u{7f}'..='\u{9f}' | '\u{200e}'..='\u{200f}' | '\u{2028}'..='\u{202e}' | '\u{2066}'..='\u{2069}'
+    )
+}
+
+/// Whether a text is UTF-8, and each of its characters beyond ASCII can be shown.
+#[tactic(auto, unfolding(crate::specs::Shown::is_readable))]
+fn is_readable(text: &[u8]) -> bool
+    ensures { result ≡ is_readable text.now }
+{
+    match str::from_utf8(text) {
+        Ok(text) => !text.chars().any(|character| hides(character)),
+        Err(_) => false,
+    }
+}
+
+/// Returns the hexadecimal digit of a number below 16.
+fn hex_digit(number: u8) -> u8
+    requires { number < 16 }
+    ensures { result ≡ hex_digit number }
+{
+    if number < 10 {
+        b'0' + number
+    } else {
+        b'a' + (number - 10)
+    }
+}
+
+/// Adds a byte of a text: itself, `\\` or `\x` and two digits.
+fn push_byte(out: &mut Vec<u8>, readable: bool, byte: u8) -> Result<(), AllocError>
+    ensures { OnOk result (out.new.items ≡ out.old.items ++ shown_byte readable byte) }
+{
+    if byte == b'\\' {
+        return out.extend_from_slice(b"\\\\");
+    }
+    if byte >= 0x20 && byte < 0x7F || readable && byte >= 0x80 {
+        return out.push(byte);
+    }
+    out.extend_from_slice(&[b'\\', b'x', hex_digit(byte / 16), hex_digit(byte % 16)])
+}
+
+/// Adds a text as it is shown.
+#[tactic(auto, unfolding(crate::specs::Shown::shown))]
+pub(crate) fn push_shown(out: &mut Vec<u8>, text: &[u8]) -> Result<(), AllocError>
+    ensures { OnOk result (out.new.items ≡ out.old.items ++ shown text.now) }
+{
+    let readable = is_readable(text);
+    for byte in text {
+        push_byte(out, readable, *byte)?;
+    }
+    Ok(())
+}
