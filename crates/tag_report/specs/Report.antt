@@ -28,9 +28,9 @@ with_track before (Some track) =
 
 -- the first line: which form the header's tags have
 unfoldable pub form_text : Option Form → List ℕ
-form_text None = codes "header: no tags\n"
-form_text (Some Text) = codes "header: text\n"
-form_text (Some Binary) = codes "header: binary\n"
+form_text None = codes "header: no tags" ++ 10 ∷ []
+form_text (Some Text) = codes "header: text" ++ 10 ∷ []
+form_text (Some Binary) = codes "header: binary" ++ 10 ∷ []
 
 -- the texts
 unfoldable pub with_texts : (before file : List ℕ) → List ℕ
