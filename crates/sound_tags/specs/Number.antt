@@ -1,5 +1,5 @@
 -- Numbers in decimal digits.
-use Rattle.std.specs.Prelude.{ℕ, ◌+◌, ◌-◌, ◌*◌, List, [], ◌∷◌, Option, Some, None, if◌then◌else◌}
+use Rattle.std.specs.Prelude.{ℕ, ◌+◌, ◌-◌, ◌*◌, ◌==◌, List, [], ◌∷◌, length, Option, Some, None, if◌then◌else◌}
 use Rattle.std.specs.Char.{is_ascii_digit}
 
 -- the number that these digits spell where `before` was read in front of them, or none where one of them is no digit
@@ -10,5 +10,4 @@ number_after before (digit ∷ digits) =
 
 -- the number that these digits spell, of which there is at least one
 abbrev pub spelled : List ℕ → Option ℕ
-spelled [] = None
-spelled (digit ∷ digits) = number_after 0 (digit ∷ digits)
+spelled digits = if length digits == 0 then None else number_after 0 digits

@@ -29,8 +29,8 @@ text_bytes size text = text ++ replicate (size - length text) 0
 unfoldable pub number_bytes : ℕ → List ℕ → List ℕ
 number_bytes size digits = replicate (size - length digits) 48 ++ digits
 
-abbrev pub field_bytes : Field → List ℕ → List ℕ
-field_bytes field text = if is_number field then number_bytes (size_of Text field) text else text_bytes (size_of Text field) text
+abbrev pub bytes_of : Bool → ℕ → List ℕ → List ℕ
+bytes_of number size text = if number then number_bytes size text else text_bytes size text
 
 -- a list with these bytes at this place
 abbrev pub put_at : ℕ → List ℕ → List ℕ → List ℕ
@@ -41,7 +41,7 @@ unfoldable pub no_tags : List ℕ
 no_tags = replicate 210 0
 
 unfoldable pub with_field : List ℕ → Field → List ℕ → List ℕ
-with_field tags field text = put_at (offset_of Text field - 0x2E) (field_bytes field text) tags
+with_field tags field text = put_at (offset_of Text field - 0x2E) (bytes_of (is_number field) (size_of Text field) text) tags
 
 -- A FILE WITH THESE TAGS: the byte at 23 is 26 (the file has tags), and the tags are at 2E
 unfoldable pub with_tags : List ℕ → List ℕ → List ℕ

@@ -1,6 +1,5 @@
 -- A sound file (the SPC file format), as far as all its tags need it: which files are accepted, and how parts are read.
-use Rattle.std.specs.Prelude.{ℕ, ◌+◌, ◌*◌, not, ◌==◌, nat_lt, List, length, take, drop, slice_index, codes, Option, Some, None, if◌then◌else◌}
-use Rattle.std.specs.List.{before_first}
+use Rattle.std.specs.Prelude.{ℕ, ◌+◌, ◌*◌, not, ◌==◌, nat_lt, List, length, take, drop, slice_index, position, codes, Option, Some, None, unwrap_or, if◌then◌else◌}
 use Rattle.std.specs.Str.{bytes_eq}
 use Rattle.sound_tags.specs.declared.sound_file.NotSoundFile.{NotSoundFile}
 use Rattle.sound_tags.specs.declared.sound_file.NotSoundFile.TheVariants.{TooLong, TooShort, NoText}
@@ -19,7 +18,7 @@ part_at file at size = take size (drop at file)
 
 -- the bytes before the first zero, or all if there is none
 abbrev pub up_to_zero : List ℕ → List ℕ
-up_to_zero bytes = before_first (λ byte. byte == 0) bytes
+up_to_zero bytes = take (unwrap_or (position (λ byte. byte == 0) bytes) (length bytes)) bytes
 
 -- numbers of two to four bytes at an offset, the low byte first
 abbrev pub little2 : List ℕ → ℕ → ℕ

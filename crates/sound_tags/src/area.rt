@@ -1,8 +1,9 @@
-ghost use Rattle.std.specs.Prelude.{◌≡◌, ◌+◌, ◌-◌, ◌<◌, ◌≤◌, ◌↔◌, ◌++◌, Some, None, Err, OnOk, OnErr, length, take, drop, replicate, list_all, slice_index};
+ghost use Rattle.std.specs.Prelude.{◌≡◌, ◌≤◌, ◌↔◌, Some, None, Err, OnOk, OnErr, length, take, drop};
 ghost use Rattle.sound_tags.specs.Fields.{size_of};
-ghost use Rattle.sound_tags.specs.Put.{is_printable, is_digit, refusal_of, text_bytes, number_bytes, no_tags, with_field, with_tags};
+ghost use Rattle.sound_tags.specs.Put.{refusal_of, text_bytes, number_bytes, bytes_of, no_tags, with_field, with_tags};
 
 use crate::field::{Field, Form};
+use crate::header::{all_digits, all_printable};
 use std::marker::Model;
 
 /// The offset of the first tag in a file.
@@ -66,6 +67,18 @@ fn lay_number(field: &mut [u8], digits: &[u8])
     field[lead..].copy_from_slice(digits);
 }
 
+/// Writes a text or a number into its field.
+fn lay(field: &mut [u8], is_number: bool, text: &[u8])
+    requires { length text.now ≤ length field.old }
+    ensures { field.new ≡ bytes_of is_number (length field.old) text.now }
+{
+    if is_number {
+        lay_number(field, text);
+    } else {
+        lay_text(field, text);
+    }
+}
+
 /// Returns why a text is refused as the content of a field, or none if it is accepted.
 #[tactic(auto, unfolding(crate::specs::Put::refusal_of))]
 fn field_refusal(field: Field, text: &[u8]) -> Option<FieldRefused>
@@ -73,7 +86,7 @@ fn field_refusal(field: Field, text: &[u8]) -> Option<FieldRefused>
     ensures short { result ≡ None → length text.now ≤ size_of Form.Text field }
 {
     if field.is_number() {
-        if text.is_empty() || !text.iter().all(|byte| byte.is_ascii_digit()) {
+        if text.is_empty() || !all_digits(text) {
             return Some(FieldRefused::NotANumber);
         }
         if text.len() > field.size(Form::Text) {
@@ -84,7 +97,7 @@ fn field_refusal(field: Field, text: &[u8]) -> Option<FieldRefused>
     if text.len() > field.size(Form::Text) {
         return Some(FieldRefused::TooLong);
     }
-    if !text.iter().all(|byte| *byte >= 0x20 && *byte <= 0x7E) {
+    if !all_printable(text) {
         return Some(FieldRefused::NotPrintable);
     }
     None
@@ -92,6 +105,7 @@ fn field_refusal(field: Field, text: &[u8]) -> Option<FieldRefused>
 
 impl Tags {
     /// No tags: each field is empty.
+    #[tactic(auto, unfolding(crate::specs::Put::no_tags))]
     pub fn none() -> Tags
         ensures { result ≡ no_tags }
     {
@@ -109,27 +123,25 @@ impl Tags {
         if let Some(why) = field_refusal(field, text) {
             return Err(why);
         }
-        self.lay(field, text);
+        self.lay_field(field, text);
         Ok(())
     }
 
     /// Sets a field to a text that is accepted.
-    fn lay(&mut self, field: Field, text: &[u8])
+    #[tactic(auto, unfolding(crate::specs::Put::with_field))]
+    fn lay_field(&mut self, field: Field, text: &[u8])
         requires { length text.now ≤ size_of Form.Text field }
         ensures { self.new ≡ with_field self.old field text.now }
     {
+        let size = field.size(Form::Text);
         let at = field.offset(Form::Text) - FIRST;
-        let place = &mut self.area[at..at + field.size(Form::Text)];
-        if field.is_number() {
-            lay_number(place, text);
-        } else {
-            lay_text(place, text);
-        }
+        lay(&mut self.area[at..at + size], field.is_number(), text);
     }
 }
 
 /// Writes the tags into a sound file, or into its header of 256 bytes: the byte at 23 says that there are tags, and the
 /// bytes from 2E to FF are the tags. All other bytes stay.
+#[tactic(auto, unfolding(crate::specs::Put::with_tags))]
 pub fn put_tags(tags: &Tags, file: &mut [u8])
     requires { 256 ≤ length file.old }
     ensures bytes { file.new ≡ with_tags tags.now file.old }

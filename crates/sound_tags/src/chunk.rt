@@ -88,12 +88,12 @@ fn chunks_end(file: &[u8]) -> Option<usize>
     Some((FIRST + size).min(file.len()))
 }
 
-/// Returns the first chunk of an ID, or none if the file has none.
-fn chunk_of(file: &[u8], id: u8) -> Option<Chunk>
-    ensures chunk { result ≡ chunk_of file.now id }
+/// Returns the first chunk of an ID among those before `end`.
+fn chunk_before(file: &[u8], end: usize, id: u8) -> Option<Chunk>
+    requires { end ≤ length file.now }
+    ensures chunk { result ≡ chunk_from end file.now end 0x10208 id }
     ensures within { IfSome result (λ chunk. chunk.at + chunk.size ≤ length file.now) }
 {
-    let end = chunks_end(file)?;
     let mut at = FIRST;
     for n in 0..end {
         let Some(chunk) = chunk_at(file, end, at) else {
@@ -105,6 +105,18 @@ fn chunk_of(file: &[u8], id: u8) -> Option<Chunk>
         at = chunk.next;
     }
     None
+}
+
+/// Returns the first chunk of an ID, or none if the file has none.
+#[tactic(auto, unfolding(crate::specs::Chunks::chunk_of))]
+fn chunk_of(file: &[u8], id: u8) -> Option<Chunk>
+    ensures chunk { result ≡ chunk_of file.now id }
+    ensures within { IfSome result (λ chunk. chunk.at + chunk.size ≤ length file.now) }
+{
+    match chunks_end(file) {
+        Some(end) => chunk_before(file, end, id),
+        None => None,
+    }
 }
 
 /// The text of the first chunk of an ID.

@@ -1,10 +1,13 @@
 //! The tags in the header: ID666 in its two forms.
 
-ghost use Rattle.std.specs.Prelude.{◌≡◌, ◌≤◌, length};
+ghost use Rattle.std.specs.Prelude.{◌≡◌, ◌≤◌, ◌==◌, length};
+ghost use Rattle.std.specs.Char.{is_ascii_digit};
+ghost use Rattle.std.specs.List.{list_all};
 ghost use Rattle.std.specs.Option.{option_copied};
 ghost use Rattle.sound_tags.specs.SoundFile.{part_at};
 ghost use Rattle.sound_tags.specs.Fields.{offset_of, size_of};
 ghost use Rattle.sound_tags.specs.Number.{spelled};
+ghost use Rattle.sound_tags.specs.Put.{is_printable};
 ghost use Rattle.sound_tags.specs.Header.{is_digits, is_text, form_of, filled, counted, digit_or_byte, header_text, header_length, header_fade, header_date, header_muted, header_emulator};
 
 use crate::field::{Field, Form};
@@ -15,22 +18,43 @@ const HAS_TAGS: usize = 0x23;
 
 const YES: u8 = 26;
 
+/// Whether all bytes are decimal digits.
+pub(crate) fn all_digits(bytes: &[u8]) -> bool
+    ensures { result ≡ list_all is_ascii_digit bytes.now }
+{
+    bytes.iter().all(|byte| byte.is_ascii_digit())
+}
+
+/// Whether all bytes are printable ASCII characters.
+pub(crate) fn all_printable(bytes: &[u8]) -> bool
+    ensures { result ≡ list_all is_printable bytes.now }
+{
+    bytes.iter().all(|byte| *byte >= 0x20 && *byte <= 0x7E)
+}
+
+/// Whether all bytes are zeros.
+fn all_zeros(bytes: &[u8]) -> bool
+    ensures { result ≡ list_all (λ byte. byte == 0) bytes.now }
+{
+    bytes.iter().all(|byte| *byte == 0)
+}
+
 /// Whether a field is decimal digits and then zeros alone.
+#[tactic(auto, unfolding(crate::specs::Header::is_digits))]
 fn is_digits(field: &[u8]) -> bool
     ensures { result ≡ is_digits field.now }
 {
     let text = before_zero(field);
-    text.iter().all(|byte| byte.is_ascii_digit())
-        && field[text.len()..].iter().all(|byte| *byte == 0)
+    all_digits(text) && all_zeros(&field[text.len()..])
 }
 
 /// Whether a field is printable characters and then zeros alone.
+#[tactic(auto, unfolding(crate::specs::Header::is_text))]
 fn is_text(field: &[u8]) -> bool
     ensures { result ≡ is_text field.now }
 {
     let text = before_zero(field);
-    text.iter().all(|byte| *byte >= 0x20 && *byte <= 0x7E)
-        && field[text.len()..].iter().all(|byte| *byte == 0)
+    all_printable(text) && all_zeros(&field[text.len()..])
 }
 
 /// Returns the form of the tags in a header, or none if it has no tags. It needs the first 256 bytes of a sound file.

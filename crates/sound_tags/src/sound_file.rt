@@ -1,4 +1,4 @@
-ghost use Rattle.std.specs.Prelude.{◌≡◌, ◌+◌, ◌≤◌, None, length};
+ghost use Rattle.std.specs.Prelude.{◌≡◌, ◌+◌, ◌<◌, ◌≤◌, ◌==◌, None, IfSome, length, position};
 ghost use Rattle.sound_tags.specs.SoundFile.{refusal_of, up_to_zero, little4};
 
 /// The text that a sound file begins with.
@@ -50,12 +50,18 @@ pub(crate) fn four_at(file: &[u8], at: usize) -> u32
         + 0x100_0000 * u32::from(file[at + 3])
 }
 
+/// The place of the first zero.
+fn first_zero(bytes: &[u8]) -> Option<usize>
+    ensures place { result ≡ position (λ byte. byte == 0) bytes.now }
+    ensures inside { IfSome result (λ place. place < length bytes.now) }
+{
+    bytes.iter().position(|byte| *byte == 0)
+}
+
 /// The bytes before the first zero, or all if there is none.
 pub(crate) fn before_zero(bytes: &[u8]) -> &[u8]
     ensures { result.now ≡ up_to_zero bytes.now }
 {
-    match bytes.iter().position(|byte| *byte == 0) {
-        Some(count) => &bytes[..count],
-        None => bytes,
-    }
+    let end = first_zero(bytes).unwrap_or(bytes.len());
+    &bytes[..end]
 }
