@@ -1,5 +1,5 @@
 -- A text of a file in a line: nothing in it ends the line or moves a terminal's cursor.
-use Rattle.std.specs.Prelude.{ℕ, ◌+◌, ◌-◌, ◌/◌, ◌%◌, Bool, ◌&&◌, ◌||◌, not, ◌==◌, nat_le, nat_lt, List, [], ◌∷◌, if◌then◌else◌}
+use Rattle.std.specs.Prelude.{ℕ, ◌+◌, ◌-◌, ◌/◌, ◌%◌, Bool, false, ◌&&◌, ◌||◌, not, ◌==◌, nat_le, nat_lt, List, [], ◌∷◌, Option, Some, None, if◌then◌else◌}
 use Rattle.std.specs.List.{flat_map, list_any}
 use Rattle.std.specs.Str.{chars, is_utf8}
 
@@ -10,8 +10,15 @@ hides character =
     || (nat_le 0x2028 character && nat_le character 0x202E) || (nat_le 0x2066 character && nat_le character 0x2069)
 
 -- a text that is UTF-8, with no such character
+abbrev pub if_utf8 : List ℕ → Option (List ℕ)
+if_utf8 text = if is_utf8 text then Some text else None
+
+abbrev pub shows_all : Option (List ℕ) → Bool
+shows_all None = false
+shows_all (Some text) = not (list_any hides (chars text))
+
 unfoldable pub is_readable : List ℕ → Bool
-is_readable text = is_utf8 text && not (list_any hides (chars text))
+is_readable text = shows_all (if_utf8 text)
 
 abbrev pub hex_digit : ℕ → ℕ
 hex_digit number = if nat_lt number 10 then 48 + number else 97 + (number - 10)

@@ -28,7 +28,7 @@ pub(crate) fn push_text(
     name: &str,
     text: Option<&[u8]>,
 ) -> Result<(), AllocError>
-    ensures { OnOk result (out.new.items ≡ with_text out.old.items name.now (option_copied text)) }
+    ensures { OnOk result (out.new.items ≡ with_text out.old.items name.now (option_copied text.entry)) }
 {
     let Some(text) = text else {
         return Ok(());

@@ -1,7 +1,6 @@
 ghost use Rattle.std.specs.Prelude.{◌≡◌, ◌<◌, ◌++◌, [], ◌∷◌, OnOk};
-ghost use Rattle.std.specs.Str.{is_utf8};
-ghost use Rattle.std.specs.List.{flat_map};
-ghost use Rattle.tag_report.specs.Shown.{hides, is_readable, hex_digit, shown_byte, shown};
+ghost use Rattle.std.specs.Option.{option_copied};
+ghost use Rattle.tag_report.specs.Shown.{hides, if_utf8, is_readable, hex_digit, shown_byte, shown};
 
 use std::alloc::AllocError;
 use std::str;
@@ -11,20 +10,32 @@ use std::str;
 fn hides(character: char) -> bool
     ensures { result ≡ hides character }
 {
-    matches!(
-        character,
-        '\u{7f}'..='\u{9f}' | '\u{200e}'..='\u{200f}' | '\u{2028}'..='\u{202e}' | '\u{2066}'..='\u{2069}'
-    )
+    let code = u32::from(character);
+    code >= 0x7F && code <= 0x9F
+        || code >= 0x200E && code <= 0x200F
+        || code >= 0x2028 && code <= 0x202E
+        || code >= 0x2066 && code <= 0x2069
+}
+
+/// A text as UTF-8, if it is.
+#[tactic(auto, using(crate::proofs::Utf8::is_one, crate::proofs::Utf8::is_none))]
+fn as_utf8(bytes: &[u8]) -> Option<&str>
+    ensures { option_copied result ≡ if_utf8 bytes.now }
+{
+    match str::from_utf8(bytes) {
+        Ok(text) => Some(text),
+        Err(_) => None,
+    }
 }
 
 /// Whether a text is UTF-8, and each of its characters beyond ASCII can be shown.
 #[tactic(auto, unfolding(crate::specs::Shown::is_readable))]
-fn is_readable(text: &[u8]) -> bool
-    ensures { result ≡ is_readable text.now }
+fn is_readable(bytes: &[u8]) -> bool
+    ensures { result ≡ is_readable bytes.now }
 {
-    match str::from_utf8(text) {
-        Ok(text) => !text.chars().any(|character| hides(character)),
-        Err(_) => false,
+    match as_utf8(bytes) {
+        Some(text) => !text.chars().any(|character| hides(character)),
+        None => false,
     }
 }
 
