@@ -1,1 +1,2 @@
 mod Search
+mod Writes

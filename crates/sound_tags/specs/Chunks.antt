@@ -1,7 +1,7 @@
 -- THE EXTENDED TAGS (xid6). At 10200 are the text "xid6", the size of all chunks in four bytes, and the chunks. A chunk
 -- has a head of four bytes: its ID, its kind, and a word. Kind 0 has its content in the word. Of any other kind the word
 -- is the size of the content, which follows the head and is filled up to a multiple of four.
-use Rattle.std.specs.Prelude.{ℕ, zero, suc, ◌+◌, ◌*◌, ◌/◌, Bool, ◌&&◌, ◌||◌, not, ◌==◌, nat_lt, min, List, length, slice_index, codes, Option, Some, None, if◌then◌else◌}
+use Rattle.std.specs.Prelude.{ℕ, zero, suc, ◌+◌, ◌*◌, ◌/◌, Bool, ◌&&◌, not, ◌==◌, nat_lt, min, List, length, slice_index, codes, Option, Some, None, if◌then◌else◌}
 use Rattle.std.specs.Str.{bytes_eq}
 use Rattle.sound_tags.specs.declared.chunk.Chunk.{Chunk}
 use Rattle.sound_tags.specs.SoundFile.{part_at, up_to_zero, little2, little4}
@@ -27,8 +27,9 @@ chunk_at file end at =
 -- where the chunks end: behind as many bytes as their size says, or with the file
 unfoldable pub chunks_end : List ℕ → Option ℕ
 chunks_end file =
-    if nat_lt (length file) 0x10208 || not (bytes_eq (part_at file 0x10200 4) (codes "xid6")) then None
-    else Some (min (0x10208 + little4 file 0x10204) (length file))
+    if nat_lt (length file) 0x10208 then None
+    else (if not (bytes_eq (part_at file 0x10200 4) (codes "xid6")) then None
+    else Some (min (0x10208 + little4 file 0x10204) (length file)))
 
 -- the chunk, if it has the ID, or what a search from its end on gives
 abbrev pub or_next : ℕ → Option Chunk → (ℕ → Option Chunk) → Option Chunk

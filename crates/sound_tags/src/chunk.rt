@@ -81,7 +81,10 @@ fn chunks_end(file: &[u8]) -> Option<usize>
     ensures end { result ≡ chunks_end file.now }
     ensures within { IfSome result (λ end. end ≤ length file.now) }
 {
-    if file.len() < FIRST || &file[START..START + 4] != TEXT.as_slice() {
+    if file.len() < FIRST {
+        return None;
+    }
+    if &file[START..START + 4] != TEXT.as_slice() {
         return None;
     }
     let size = four_at(file, START + 4) as usize;
