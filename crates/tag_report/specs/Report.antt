@@ -33,29 +33,35 @@ form_text (Some Text) = codes "header: text" ++ 10 ∷ []
 form_text (Some Binary) = codes "header: binary" ++ 10 ∷ []
 
 -- the texts
-unfoldable pub with_texts : (before file : List ℕ) → List ℕ
-with_texts before file =
+unfoldable pub with_names : (before file : List ℕ) → List ℕ
+with_names before file =
     let a = with_text before (codes "title: ") (text_of file text.Title) in
     let b = with_text a (codes "game: ") (text_of file text.Game) in
     let c = with_text b (codes "artist: ") (text_of file text.Artist) in
-    let d = with_text c (codes "dumper: ") (text_of file text.Dumper) in
-    let e = with_text d (codes "date-text: ") (text_of file text.Date) in
-    let f = with_text e (codes "comment: ") (text_of file text.Comment) in
-    let g = with_text f (codes "soundtrack: ") (text_of file text.Soundtrack) in
-    with_text g (codes "publisher: ") (text_of file text.Publisher)
+    with_text c (codes "dumper: ") (text_of file text.Dumper)
+
+unfoldable pub with_notes : (before file : List ℕ) → List ℕ
+with_notes before file =
+    let a = with_text before (codes "date-text: ") (text_of file text.Date) in
+    let b = with_text a (codes "comment: ") (text_of file text.Comment) in
+    let c = with_text b (codes "soundtrack: ") (text_of file text.Soundtrack) in
+    with_text c (codes "publisher: ") (text_of file text.Publisher)
 
 -- how the file is played: seconds, milliseconds, and ticks of 1/64,000 s
-unfoldable pub with_numbers : (before file : List ℕ) → List ℕ
-with_numbers before file =
+unfoldable pub with_lengths : (before file : List ℕ) → List ℕ
+with_lengths before file =
     let a = with_number before (codes "length: ") (number_of file number.Length) in
     let b = with_number a (codes "fade: ") (number_of file number.Fade) in
     let c = with_number b (codes "intro-ticks: ") (number_of file number.Intro) in
     let d = with_number c (codes "loop-ticks: ") (number_of file number.Loop) in
-    let e = with_number d (codes "end-ticks: ") (number_of file number.End) in
-    let f = with_number e (codes "fade-ticks: ") (number_of file number.FadeTicks) in
-    let g = with_number f (codes "loops: ") (number_of file number.Loops) in
-    let h = with_number g (codes "muted: ") (number_of file number.Muted) in
-    with_number h (codes "amplification: ") (number_of file number.Amplification)
+    with_number d (codes "end-ticks: ") (number_of file number.End)
+
+unfoldable pub with_settings : (before file : List ℕ) → List ℕ
+with_settings before file =
+    let a = with_number before (codes "fade-ticks: ") (number_of file number.FadeTicks) in
+    let b = with_number a (codes "loops: ") (number_of file number.Loops) in
+    let c = with_number b (codes "muted: ") (number_of file number.Muted) in
+    with_number c (codes "amplification: ") (number_of file number.Amplification)
 
 -- where the tune is from
 unfoldable pub with_album : (before file : List ℕ) → List ℕ
@@ -68,4 +74,6 @@ with_album before file =
 
 -- ALL LINES
 unfoldable pub report_of : List ℕ → List ℕ
-report_of file = with_album (with_numbers (with_texts (form_text (form_of file)) file) file) file
+report_of file =
+    let names = with_notes (with_names (form_text (form_of file)) file) file in
+    with_album (with_settings (with_lengths names file) file) file

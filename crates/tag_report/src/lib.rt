@@ -5,7 +5,7 @@
 #![tactic(auto)]
 
 mod line;
-mod report;
+mod lines;
 mod shown;
 
-pub use report::{ReportEnd, report};
+pub use lines::{ReportEnd, report};

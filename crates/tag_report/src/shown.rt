@@ -1,5 +1,7 @@
 ghost use Rattle.std.specs.Prelude.{◌≡◌, ◌<◌, ◌++◌, [], ◌∷◌, OnOk};
+ghost use Rattle.std.specs.List.{list_any};
 ghost use Rattle.std.specs.Option.{option_copied};
+ghost use Rattle.std.specs.Str.{chars};
 ghost use Rattle.tag_report.specs.Shown.{hides, if_utf8, is_readable, hex_digit, shown_byte, shown};
 
 use std::alloc::AllocError;
@@ -28,13 +30,20 @@ fn as_utf8(bytes: &[u8]) -> Option<&str>
     }
 }
 
+/// Whether a text has such a character.
+fn hides_any(text: &str) -> bool
+    ensures { result ≡ list_any hides (chars text.now) }
+{
+    text.chars().any(|character| hides(character))
+}
+
 /// Whether a text is UTF-8, and each of its characters beyond ASCII can be shown.
 #[tactic(auto, unfolding(crate::specs::Shown::is_readable))]
 fn is_readable(bytes: &[u8]) -> bool
     ensures { result ≡ is_readable bytes.now }
 {
     match as_utf8(bytes) {
-        Some(text) => !text.chars().any(|character| hides(character)),
+        Some(text) => !hides_any(text),
         None => false,
     }
 }
@@ -59,7 +68,7 @@ fn push_byte(out: &mut Vec<u8>, readable: bool, byte: u8) -> Result<(), AllocErr
         return out.extend_from_slice(b"\\\\");
     }
     if byte >= 0x20 && byte < 0x7F || readable && byte >= 0x80 {
-        return out.push(byte);
+        return out.extend_from_slice(&[byte]);
     }
     out.extend_from_slice(&[b'\\', b'x', hex_digit(byte / 16), hex_digit(byte % 16)])
 }

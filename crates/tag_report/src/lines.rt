@@ -1,7 +1,7 @@
 ghost use Rattle.std.specs.Prelude.{◌≡◌, ◌↔◌, ◌≤◌, [], Some, None, Err, IfOk, OnOk, length};
 ghost use Rattle.sound_tags.specs.SoundFile.{refusal_of};
 ghost use Rattle.sound_tags.specs.Header.{form_of};
-ghost use Rattle.tag_report.specs.Report.{form_text, with_texts, with_numbers, with_album, report_of};
+ghost use Rattle.tag_report.specs.Report.{form_text, with_names, with_notes, with_lengths, with_settings, with_album, report_of};
 
 use crate::line::{push_number, push_text, push_track};
 use sound_tags::{Form, NotSoundFile, NumberTag, TextTag, form_of, number_of, refusal, text_of};
@@ -28,33 +28,49 @@ fn form_text(form: Option<Form>) -> &'static str
     }
 }
 
-/// Adds the texts.
-#[tactic(auto, unfolding(crate::specs::Report::with_texts))]
-fn push_texts(out: &mut Vec<u8>, file: &[u8]) -> Result<(), AllocError>
+/// Adds the names.
+#[tactic(auto, unfolding(crate::specs::Report::with_names))]
+fn push_names(out: &mut Vec<u8>, file: &[u8]) -> Result<(), AllocError>
     requires { 65920 ≤ length file.now }
-    ensures { OnOk result (out.new.items ≡ with_texts out.old.items file.now) }
+    ensures { OnOk result (out.new.items ≡ with_names out.old.items file.now) }
 {
     push_text(out, "title: ", text_of(file, TextTag::Title))?;
     push_text(out, "game: ", text_of(file, TextTag::Game))?;
     push_text(out, "artist: ", text_of(file, TextTag::Artist))?;
-    push_text(out, "dumper: ", text_of(file, TextTag::Dumper))?;
+    push_text(out, "dumper: ", text_of(file, TextTag::Dumper))
+}
+
+/// Adds the other texts.
+#[tactic(auto, unfolding(crate::specs::Report::with_notes))]
+fn push_notes(out: &mut Vec<u8>, file: &[u8]) -> Result<(), AllocError>
+    requires { 65920 ≤ length file.now }
+    ensures { OnOk result (out.new.items ≡ with_notes out.old.items file.now) }
+{
     push_text(out, "date-text: ", text_of(file, TextTag::Date))?;
     push_text(out, "comment: ", text_of(file, TextTag::Comment))?;
     push_text(out, "soundtrack: ", text_of(file, TextTag::Soundtrack))?;
     push_text(out, "publisher: ", text_of(file, TextTag::Publisher))
 }
 
-/// Adds what says how the file is played.
-#[tactic(auto, unfolding(crate::specs::Report::with_numbers))]
-fn push_numbers(out: &mut Vec<u8>, file: &[u8]) -> Result<(), AllocError>
+/// Adds how long the file is played.
+#[tactic(auto, unfolding(crate::specs::Report::with_lengths))]
+fn push_lengths(out: &mut Vec<u8>, file: &[u8]) -> Result<(), AllocError>
     requires { 65920 ≤ length file.now }
-    ensures { OnOk result (out.new.items ≡ with_numbers out.old.items file.now) }
+    ensures { OnOk result (out.new.items ≡ with_lengths out.old.items file.now) }
 {
     push_number(out, "length: ", number_of(file, NumberTag::Length))?;
     push_number(out, "fade: ", number_of(file, NumberTag::Fade))?;
     push_number(out, "intro-ticks: ", number_of(file, NumberTag::Intro))?;
     push_number(out, "loop-ticks: ", number_of(file, NumberTag::Loop))?;
-    push_number(out, "end-ticks: ", number_of(file, NumberTag::End))?;
+    push_number(out, "end-ticks: ", number_of(file, NumberTag::End))
+}
+
+/// Adds what else says how the file is played.
+#[tactic(auto, unfolding(crate::specs::Report::with_settings))]
+fn push_settings(out: &mut Vec<u8>, file: &[u8]) -> Result<(), AllocError>
+    requires { 65920 ≤ length file.now }
+    ensures { OnOk result (out.new.items ≡ with_settings out.old.items file.now) }
+{
     push_number(out, "fade-ticks: ", number_of(file, NumberTag::FadeTicks))?;
     push_number(out, "loops: ", number_of(file, NumberTag::Loops))?;
     push_number(out, "muted: ", number_of(file, NumberTag::Muted))?;
@@ -82,8 +98,10 @@ fn push_all(out: &mut Vec<u8>, file: &[u8]) -> Result<(), AllocError>
     ensures { OnOk result (out.new.items ≡ report_of file.now) }
 {
     out.extend_from_slice(form_text(form_of(file)).as_bytes())?;
-    push_texts(out, file)?;
-    push_numbers(out, file)?;
+    push_names(out, file)?;
+    push_notes(out, file)?;
+    push_lengths(out, file)?;
+    push_settings(out, file)?;
     push_album(out, file)
 }
 
