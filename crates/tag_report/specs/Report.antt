@@ -47,21 +47,24 @@ with_notes before file =
     let c = with_text b (codes "soundtrack: ") (text_of file text.Soundtrack) in
     with_text c (codes "publisher: ") (text_of file text.Publisher)
 
--- how the file is played: seconds, milliseconds, and ticks of 1/64,000 s
+-- how the file is played: seconds and milliseconds; ticks of 1/64,000 s; loops, voices and loudness
 unfoldable pub with_lengths : (before file : List ℕ) → List ℕ
 with_lengths before file =
     let a = with_number before (codes "length: ") (number_of file number.Length) in
-    let b = with_number a (codes "fade: ") (number_of file number.Fade) in
-    let c = with_number b (codes "intro-ticks: ") (number_of file number.Intro) in
-    let d = with_number c (codes "loop-ticks: ") (number_of file number.Loop) in
-    with_number d (codes "end-ticks: ") (number_of file number.End)
+    with_number a (codes "fade: ") (number_of file number.Fade)
+
+unfoldable pub with_ticks : (before file : List ℕ) → List ℕ
+with_ticks before file =
+    let a = with_number before (codes "intro-ticks: ") (number_of file number.Intro) in
+    let b = with_number a (codes "loop-ticks: ") (number_of file number.Loop) in
+    let c = with_number b (codes "end-ticks: ") (number_of file number.End) in
+    with_number c (codes "fade-ticks: ") (number_of file number.FadeTicks)
 
 unfoldable pub with_settings : (before file : List ℕ) → List ℕ
 with_settings before file =
-    let a = with_number before (codes "fade-ticks: ") (number_of file number.FadeTicks) in
-    let b = with_number a (codes "loops: ") (number_of file number.Loops) in
-    let c = with_number b (codes "muted: ") (number_of file number.Muted) in
-    with_number c (codes "amplification: ") (number_of file number.Amplification)
+    let a = with_number before (codes "loops: ") (number_of file number.Loops) in
+    let b = with_number a (codes "muted: ") (number_of file number.Muted) in
+    with_number b (codes "amplification: ") (number_of file number.Amplification)
 
 -- where the tune is from
 unfoldable pub with_album : (before file : List ℕ) → List ℕ
@@ -76,4 +79,4 @@ with_album before file =
 unfoldable pub report_of : List ℕ → List ℕ
 report_of file =
     let names = with_notes (with_names (form_text (form_of file)) file) file in
-    with_album (with_settings (with_lengths names file) file) file
+    with_album (with_settings (with_ticks (with_lengths names file) file) file) file

@@ -1,7 +1,8 @@
 ghost use Rattle.std.specs.Prelude.{◌≡◌, ◌↔◌, ◌≤◌, [], Some, None, Err, IfOk, OnOk, length};
 ghost use Rattle.sound_tags.specs.SoundFile.{refusal_of};
 ghost use Rattle.sound_tags.specs.Header.{form_of};
-ghost use Rattle.tag_report.specs.Report.{form_text, with_names, with_notes, with_lengths, with_settings, with_album, report_of};
+ghost use Rattle.sound_tags.specs.AllTags.{number_of};
+ghost use Rattle.tag_report.specs.Report.{form_text, with_number, with_names, with_notes, with_lengths, with_ticks, with_settings, with_album, report_of};
 
 use crate::line::{push_number, push_text, push_track};
 use sound_tags::{Form, NotSoundFile, NumberTag, TextTag, form_of, number_of, refusal, text_of};
@@ -52,17 +53,39 @@ fn push_notes(out: &mut Vec<u8>, file: &[u8]) -> Result<(), AllocError>
     push_text(out, "publisher: ", text_of(file, TextTag::Publisher))
 }
 
+/// Adds the line of a number, if the file has it.
+fn push_tag(
+    out: &mut Vec<u8>,
+    name: &str,
+    file: &[u8],
+    tag: NumberTag,
+) -> Result<(), AllocError>
+    requires { 65920 ≤ length file.now }
+    ensures { OnOk result (out.new.items ≡ with_number out.old.items name.now (number_of file.now tag)) }
+{
+    push_number(out, name, number_of(file, tag))
+}
+
 /// Adds how long the file is played.
 #[tactic(auto, unfolding(crate::specs::Report::with_lengths))]
 fn push_lengths(out: &mut Vec<u8>, file: &[u8]) -> Result<(), AllocError>
     requires { 65920 ≤ length file.now }
     ensures { OnOk result (out.new.items ≡ with_lengths out.old.items file.now) }
 {
-    push_number(out, "length: ", number_of(file, NumberTag::Length))?;
-    push_number(out, "fade: ", number_of(file, NumberTag::Fade))?;
-    push_number(out, "intro-ticks: ", number_of(file, NumberTag::Intro))?;
-    push_number(out, "loop-ticks: ", number_of(file, NumberTag::Loop))?;
-    push_number(out, "end-ticks: ", number_of(file, NumberTag::End))
+    push_tag(out, "length: ", file, NumberTag::Length)?;
+    push_tag(out, "fade: ", file, NumberTag::Fade)
+}
+
+/// Adds the lengths of the extended tags.
+#[tactic(auto, unfolding(crate::specs::Report::with_ticks))]
+fn push_ticks(out: &mut Vec<u8>, file: &[u8]) -> Result<(), AllocError>
+    requires { 65920 ≤ length file.now }
+    ensures { OnOk result (out.new.items ≡ with_ticks out.old.items file.now) }
+{
+    push_tag(out, "intro-ticks: ", file, NumberTag::Intro)?;
+    push_tag(out, "loop-ticks: ", file, NumberTag::Loop)?;
+    push_tag(out, "end-ticks: ", file, NumberTag::End)?;
+    push_tag(out, "fade-ticks: ", file, NumberTag::FadeTicks)
 }
 
 /// Adds what else says how the file is played.
@@ -71,10 +94,9 @@ fn push_settings(out: &mut Vec<u8>, file: &[u8]) -> Result<(), AllocError>
     requires { 65920 ≤ length file.now }
     ensures { OnOk result (out.new.items ≡ with_settings out.old.items file.now) }
 {
-    push_number(out, "fade-ticks: ", number_of(file, NumberTag::FadeTicks))?;
-    push_number(out, "loops: ", number_of(file, NumberTag::Loops))?;
-    push_number(out, "muted: ", number_of(file, NumberTag::Muted))?;
-    push_number(out, "amplification: ", number_of(file, NumberTag::Amplification))
+    push_tag(out, "loops: ", file, NumberTag::Loops)?;
+    push_tag(out, "muted: ", file, NumberTag::Muted)?;
+    push_tag(out, "amplification: ", file, NumberTag::Amplification)
 }
 
 /// Adds what says where the tune is from.
@@ -101,6 +123,7 @@ fn push_all(out: &mut Vec<u8>, file: &[u8]) -> Result<(), AllocError>
     push_names(out, file)?;
     push_notes(out, file)?;
     push_lengths(out, file)?;
+    push_ticks(out, file)?;
     push_settings(out, file)?;
     push_album(out, file)
 }
