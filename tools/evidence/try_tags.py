@@ -301,7 +301,7 @@ class Rows:
             put(file, at, content)
         self.out += title.encode() + b"\n" + said
         for start, end in ((0x23, 0x2E), (0x2E, 0x100), (0x100, 0x102)):
-            self.out += b"  " + "".join(" %02x" % byte for byte in file[start:end]).encode() + b"\n"
+            self.out += b" " + "".join(" %02x" % byte for byte in file[start:end]).encode() + b"\n"
         self.out += report(bytes(file))
 
 
