@@ -15,6 +15,7 @@
 #     bench        the cases of ./bench, wrong files of cases, its reports and the CI pieces of its page (try_bench.sh)
 #     lint         each rule of ./lint, its formats and arguments, and the planted faults, if ca65 is there (try_lint.py); its logs of
 #                  SARIF are validated if SARIF_SCHEMA names the schema (try_lint.py says how to get it)
+#     tags         the tags that ./look prints of sound files at random (try_tags.py)
 #     states       what snes dump writes of cartridges at random (try_states.py)
 #     edges        the cases of try_edges.py by the built programs; 10,000 hostile inputs and command lines (try_hostile.py);
 #                  each fault of tools/evidence/edges is told (try_edge_faults.sh)
@@ -45,7 +46,7 @@ watched=${CONSOLE_ROWS:-$top/crates/console_rows/out/console_rows}
 commit=$(git -C "$top" rev-parse --short HEAD) || exit 2
 read -r kit _ < <(rt version) || exit 2
 parts=("$@")
-[ $# -gt 0 ] || parts=(edits device ends bench lint states edges allocations soak rows workers bodies)
+[ $# -gt 0 ] || parts=(edits device ends bench lint tags states edges allocations soak rows workers bodies)
 
 # A full device, a device that takes everything, a name that can't be made: what the program says and its status.
 device() {
@@ -150,6 +151,12 @@ lint() {
   local program=$top/crates/cart_lint/out/cart_lint rest=("${SARIF_SCHEMA:-no schema}" "$(command -v ca65 >/dev/null && echo ca65)")
   item rules "$(sum_of "$program" "$top"/tools/evidence/{try_lint.py,lint/{faults.cfg,faults.s,sarif_schema.py}} "${rest[@]}")" \
     "$top/tools/evidence/try_lint.py" --lint "$program" ${SARIF_SCHEMA:+--schema "$SARIF_SCHEMA"}
+}
+
+tags() {
+  local program=$top/crates/frame_look/out/frame_look
+  item random "$(sum_of "$program" "$top/tools/evidence/try_tags.py" "$(command -v ffprobe >/dev/null && echo ffprobe)")" \
+    "$top/tools/evidence/try_tags.py" --look "$program"
 }
 
 states() {

@@ -3,7 +3,7 @@
 use companion_words::{About, Kind, Program, Word, words};
 
 /// The commands.
-static COMMANDS: [About; 8] = [
+static COMMANDS: [About; 9] = [
     About {
         name: "png",
         text: "One frame as PNG, as a television shows it: 512 by 478, each row twice",
@@ -36,6 +36,10 @@ static COMMANDS: [About; 8] = [
         name: "state",
         text: "What a state of snes dump holds: registers, and the lines of each memory that have a byte other than 0",
     },
+    About {
+        name: "tags",
+        text: "The tags of a sound file (.spc), a line for each that is there: title, game, artist, length and more",
+    },
 ];
 
 /// The names of the regions.
@@ -45,7 +49,7 @@ const REGIONS: &[&str] = &["ntsc", "pal"];
 const MEMORIES: &[&str] = &["dsp", "cgram", "oam", "wram", "vram", "aram", "sram"];
 
 /// The words of all commands.
-static WORDS: [Word; 34] = words![
+static WORDS: [Word; 35] = words![
     "png" Kind::Placed, "VIDEO" "" "" "raw frames; - is standard input";
     "png" Kind::PlacedNumber, "FRAME" "" "" "its number, from 0";
     "png" Kind::Placed, "OUT" "" "" "the PNG";
@@ -80,6 +84,7 @@ static WORDS: [Word; 34] = words![
     "state" Kind::Choice(MEMORIES), "memory" "NAME" "" "one memory alone, with its lines of zeros";
     "state" Kind::Text, "from" "ADDRESS" "" "with --memory: the first address, decimal, or hexadecimal after 0x; 0 if left out";
     "state" Kind::Text, "count" "COUNT" "" "with --memory: how many bytes; all if left out";
+    "tags" Kind::Placed, "FILE" "" "" "the sound file; - is standard input";
 ];
 
 /// What the help says last.
@@ -91,7 +96,7 @@ or the command line is at fault: standard error says which.";
 pub fn program() -> Program {
     Program {
         name: "look",
-        about: "Looks at the raw frames, the samples and the states that snes wrote",
+        about: "Looks at the raw frames, the samples and the states that snes wrote, and at sound files",
         commands: &COMMANDS,
         words: &WORDS,
         needs_words: true,
