@@ -25,7 +25,8 @@ use std::thread::Threads;
 ///
 /// Reads the arguments, then loads and accepts the inputs of their command in their order. Allocates all memory,
 /// creates the outputs in their order, fills and flushes them. Prints the line of its status at the end.
-/// `specs/Commands.antt` says which commands there are, and what each makes.
+/// `specs/Commands.antt` says which commands there are, and what each makes. `P` plays jobs and plans, also for the state
+/// that a run leaves. `Z` plays jobs for the sound file that is taken at their end.
 ///
 /// Each clause is about what the shelf tells. For a shelf that tells nothing, it is about the arguments and the counts
 /// alone. `NoMemory` is the one failure that no argument, input or count causes. No clause is about the gate, which
