@@ -67,17 +67,17 @@ module _ (region : Region) where
   close_turn : (w : SerialState ConsoleState SoundState) → IsClose w → IsClose (turn console_moves sound_moves w)
   close_turn w h = go (turn_of console_moves sound_moves w)
     where
-      by : (v : SerialState ConsoleState SoundState) → turn console_moves sound_moves w ≡ v
+      made_close : (v : SerialState ConsoleState SoundState) → turn console_moves sound_moves w ≡ v
           → console_moves.stamp v.console ≤ sound_moves.stamp v.sound + 4096000 → sound_moves.stamp v.sound ≤ console_moves.stamp v.console + 4096000
           → IsClose (turn console_moves sound_moves w)
-      by v e console sound = subst IsClose (sym e) (record { serving = subst (IsServing (IsConsoleOf region) (IsSound region)) e (serves w h.serving); console = console; sound = sound })
+      made_close v e console sound = subst IsClose (sym e) (record { serving = subst (IsServing (IsConsoleOf region) (IsSound region)) e (serves w h.serving); console = console; sound = sound })
 
       go : TurnOf console_moves sound_moves w → IsClose (turn console_moves sound_moves w)
       go (by_console le e) =
-          by (console_step console_moves sound_moves w) (turn_console console_moves sound_moves w e)
+          made_close (console_step console_moves sound_moves w) (turn_console console_moves sound_moves w e)
           (omega (arith, le, console_at_most w h.serving)) (omega (arith, h.sound, console_rises w h.serving))
       go (by_sound lt e) =
-          by (sound_step console_moves sound_moves w) (turn_sound console_moves sound_moves w e)
+          made_close (sound_step console_moves sound_moves w) (turn_sound console_moves sound_moves w e)
           (omega (arith, h.console, sound_rises w h.serving)) (omega (arith, lt, sound_at_most w h.serving))
 
   close_turns : (w : SerialState ConsoleState SoundState) (n : ℕ) → IsClose w → IsClose (after_turns console_moves sound_moves w n)
@@ -129,6 +129,12 @@ at_zero Ntsc Sound = omega arith
 at_zero Pal Console = omega arith
 at_zero Pal Sound = omega arith
 
+zero_is_least : (n m : ℕ) → n ≡ 0 → n ≤ m
+zero_is_least n m is = omega (arith, is)
+
+too_late : (stamp end more : ℕ) → stamp ≤ (end + 4096000) + 4096000 * more → end ≤ 2 ^ 51 → more ≤ 1048576 → 2 ^ 62 < stamp → ⊥
+too_late stamp end more most soon little late = absurd (omega (arith, most, soon, little, late))
+
 module _ (job : Job) where
   start : SerialState ConsoleState SoundState
   start = serial_of (console_of job) (sound_of job)
@@ -153,13 +159,13 @@ module _ (job : Job) where
 
   -- where the run has ended, both sides are at most a step behind its end
   ended_by : (turns : ℕ) → RunsFor console_moves sound_moves (serial_of (console_of job) (sound_of job)) (end_of job) turns → IsBy job.region (end_of job + 4096000) (after job turns)
-  ended_by zero runs = record { console = omega (arith, console_first); sound = omega (arith, sound_first) }
+  ended_by zero runs = record { console = zero_is_least _ _ console_first; sound = zero_is_least _ _ sound_first }
   ended_by (suc n) runs = by_the_end job.region (after job n) (end_of job) (close_after n) (runs.first n (omega arith))
 
   pub not_late : job.frames ≤ 36000 → (turns : ℕ) → RunsFor console_moves sound_moves (serial_of (console_of job) (sound_of job)) (end_of job) turns
       → (more : ℕ) → more ≤ 1048576 → IsLate (onward (after job turns) more) → ⊥
   unfolding onward
   not_late few turns runs more little late =
-      let by = by_turns job.region (after job turns) (end_of job + 4096000) more (close_after turns) (ended_by turns runs) in
+      let bound = by_turns job.region (after job turns) (end_of job + 4096000) more (close_after turns) (ended_by turns runs) in
       let soon = ends_soon job.region job.frames few in
-      ⊎_elim (λ lt. absurd (omega (arith, lt, by.console, soon, little))) (λ lt. absurd (omega (arith, lt, by.sound, soon, little))) late
+      ⊎_elim (too_late _ (end_of job) more bound.console soon little) (too_late _ (end_of job) more bound.sound soon little) late
