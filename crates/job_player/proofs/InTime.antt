@@ -149,8 +149,8 @@ module _ (job : Job) where
   unfolding start
   close_at_first = record {
     serving = serving_at_first (IsConsoleOf job.region) (IsSound job.region) (console_of job) (sound_of job) (record { region = refl; line = omega arith }) refl;
-    console = omega (arith, console_first, sound_first);
-    sound = omega (arith, console_first, sound_first);
+    console = zero_is_least _ _ console_first;
+    sound = zero_is_least _ _ sound_first;
   }
 
   close_after : (turns : ℕ) → IsClose job.region (after job turns)

@@ -1,5 +1,5 @@
 // Turns of a serial console behind the end of a job, up to a moment at which a sound file can be taken.
-ghost use Rattle.std.specs.Prelude.{◌≡◌, ◌^◌, ◌<◌, ◌≤◌, ◌⊎◌, ◌%◌, ◌+◌, [], IsTrue, length, min};
+ghost use Rattle.std.specs.Prelude.{◌≡◌, ◌^◌, ◌<◌, ◌≤◌, [], IsTrue, length, min};
 ghost use Rattle.clock_ratio.specs.Stamp.{rate_of};
 ghost use Rattle.snes_defs.specs.declared.ports.Side.TheVariants.{Sound};
 ghost use Rattle.side_law.specs.Serial.{SerialState, turn};
@@ -104,7 +104,7 @@ fn is_moment(sound: &AudioSide, first: u64) -> bool
         return false;
     }
     match sound.begins() {
-        Some(_) => true,
+        Some(_regs) => true,
         None => false,
     }
 }
