@@ -19,9 +19,13 @@ register_bytes r = r.pc % 256 ∷ (r.pc / 256 ∷ (r.a ∷ (r.x ∷ (r.y ∷ (r.
 unfoldable pub head_of : SpcRegs → List ℕ
 head_of regs = text ++ (register_bytes regs ++ zeros 212)
 
--- 10100 what the registers of the S-DSP show, 10180 zeros, 101C0 the last 64 bytes of RAM, which the boot ROM may hide
+-- the last 64 bytes of RAM, which the boot ROM may hide
+unfoldable pub last_of : List ℕ → List ℕ
+last_of ram' = drop 0xFFC0 ram'
+
+-- 10100 what the registers of the S-DSP show, 10180 zeros, 101C0 the last bytes of RAM
 unfoldable pub tail_of : HardwareState → List ℕ
-tail_of b = shown_below b.voices 128 ++ (zeros 64 ++ drop 0xFFC0 b.ram)
+tail_of b = shown_below b.voices 128 ++ (zeros 64 ++ last_of b.ram)
 
 -- THE BYTES, by the registers of the SPC700, its hardware and the four bytes at its incoming ports: 000 head, 100 RAM
 -- as the processor sees it, with the registers F1 to FF as a file keeps them, 10100 tail

@@ -1,5 +1,5 @@
 ghost use Rattle.std.specs.Prelude.{◌≡◌, ◌+◌, ◌/◌, ◌%◌, ◌≤◌, [], ◌∷◌, ◌++◌, length};
-ghost use Rattle.sound_file.specs.Bytes.{text, register_bytes, head_of, tail_of, sound_bytes};
+ghost use Rattle.sound_file.specs.Bytes.{text, register_bytes, head_of, last_of, tail_of, sound_bytes};
 
 use audio_side::AudioSide;
 use spc_tables::SpcRegs;
@@ -53,6 +53,15 @@ fn put_head(to: &mut StateBytes, regs: SpcRegs)
     to.add_zeros(212);
 }
 
+/// The last 64 bytes of RAM, which the boot ROM may hide.
+#[tactic(auto, unfolding(crate::specs::Bytes::last_of))]
+fn last_of_ram(sound: &AudioSide) -> &[u8]
+    ensures bytes { result.now ≡ last_of sound.now.hardware.ram }
+    ensures size { length result.now ≡ 64 }
+{
+    &sound.ram()[BOOT_ROM..]
+}
+
 /// Puts what the registers of the S-DSP show, 64 zeros, and the last 64 bytes of RAM.
 #[tactic(auto, using(crate::proofs::Joined::three), unfolding(crate::specs::Bytes::tail_of))]
 fn put_tail(to: &mut StateBytes, sound: &AudioSide)
@@ -63,7 +72,7 @@ fn put_tail(to: &mut StateBytes, sound: &AudioSide)
 {
     put_shown(to, sound);
     to.add_zeros(64);
-    to.add(&sound.ram()[BOOT_ROM..]);
+    to.add(last_of_ram(sound));
 }
 
 /// Puts the sound file of a sound side: with these registers of its processor, and these bytes at its incoming ports.
