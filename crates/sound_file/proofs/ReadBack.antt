@@ -9,7 +9,7 @@ use Rattle.audio_side.specs.HardwareState.{HardwareState}
 use Rattle.audio_side.specs.Kept.{kept_ram, ports_kept, seen_ram, timers_kept, under_boot}
 use Rattle.state_file.specs.Bytes.{zeros, shown_below}
 use Rattle.spc_player.specs.SoundFile.{image_of, refusal_of, regs_of}
-use Rattle.sound_file.specs.Bytes.{text, register_bytes, head_of, tail_of, sound_bytes}
+use Rattle.sound_file.specs.Bytes.{text, register_bytes, head_of, last_of, tail_of, sound_bytes}
 
 -- the lengths of the parts
 shown_length : (d : Voices) (n : ℕ) → length (shown_below d n) ≡ n
@@ -64,10 +64,14 @@ unfolding head_of
 head_length r =
     omega (arith, length-append text (register_bytes r ++ zeros 212), length-append (register_bytes r) (zeros 212), text_length, registers_length r, zeros_length 212)
 
+last_length : (l : List ℕ) → length l ≡ 65536 → length (last_of l) ≡ 64
+unfolding last_of
+last_length l size = omega (arith, length-drop 0xFFC0 l, size)
+
 tail_length : (b : HardwareState) → length b.ram ≡ 65536 → length (tail_of b) ≡ 256
 unfolding tail_of
 tail_length b size =
-    omega (arith, length-append (shown_below b.voices 128) (zeros 64 ++ drop 0xFFC0 b.ram), length-append (zeros 64) (drop 0xFFC0 b.ram), length-drop 0xFFC0 b.ram, shown_length b.voices 128, zeros_length 64, size)
+    omega (arith, length-append (shown_below b.voices 128) (zeros 64 ++ last_of b.ram), length-append (zeros 64) (last_of b.ram), last_length b.ram size, shown_length b.voices 128, zeros_length 64)
 
 -- a part behind others
 part : (before it rest : List ℕ) (n m : ℕ) → length before ≡ n → length it ≡ m → take m (drop n (before ++ (it ++ rest))) ≡ it
@@ -110,9 +114,9 @@ module _ (r : SpcRegs) (b : HardwareState) (ports : List ℕ) (size : length b.r
   unfolding sound_bytes
   by_ram = refl
 
-  by_shown : sound_bytes r b ports ≡ (head_of r ++ kept_ram b ports) ++ (shown_below b.voices 128 ++ (zeros 64 ++ drop 0xFFC0 b.ram))
+  by_shown : sound_bytes r b ports ≡ (head_of r ++ kept_ram b ports) ++ (shown_below b.voices 128 ++ (zeros 64 ++ last_of b.ram))
   unfolding sound_bytes tail_of
-  by_shown = sym (append_assoc (head_of r) (kept_ram b ports) (shown_below b.voices 128 ++ (zeros 64 ++ drop 0xFFC0 b.ram)))
+  by_shown = sym (append_assoc (head_of r) (kept_ram b ports) (shown_below b.voices 128 ++ (zeros 64 ++ last_of b.ram)))
 
   pub whole_length : length (sound_bytes r b ports) ≡ 66048
   whole_length =

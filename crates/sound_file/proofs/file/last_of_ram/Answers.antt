@@ -1,0 +1,6 @@
+use Rattle.std.proofs.Common.{arith}
+use Rattle.std.proofs.lemmas.List.{length-drop}
+use Rattle.sound_file.proofs.file.last_of_ram.Goals as goal
+
+pub returns-clause-size : goal.returns-clause-size
+returns-clause-size c = omega (arith, length-drop 65472 c.ram.result.now, c.ram.ensures.size)
