@@ -47,7 +47,8 @@ class Job:
         self.emit(bytes([0x8F, value, at]), 5)
 
     def byte(self):
-        at, value = self.r.randrange(0xF0), self.r.randrange(256)
+        # The voices read RAM as samples all the time. Bit 0 of a block's first byte would end a sample, and show in ENDX.
+        at, value = self.r.randrange(0xF0), self.r.randrange(0, 256, 2)
         self.put(at, value)
         self.ram[at] = value
 

@@ -37,11 +37,7 @@ pub struct Sounding {
 }
 
 /// Runs on to a moment at which a sound file can be taken, and puts that file. The buffer gets other bytes.
-fn take_sound(
-    serial: &mut Serial<ConsoleSide, AudioSide>,
-    buffer: &mut [u8],
-    to: &mut StateBytes,
-)
+fn take_sound(serial: &mut Serial<ConsoleSide, AudioSide>, buffer: &mut [u8], to: &mut StateBytes)
     requires size { length buffer.old ≡ 65536 }
     requires none { to.old.bytes ≡ [] }
     requires room { 66048 ≤ to.old.room }
