@@ -57,12 +57,7 @@ fn call<C: Performs, R: AllocGlobal + Threads, H: Shelf>(
 
 /// Calls the command of this name. THE COMMANDS are listed here, and in `asked_by`.
 #[tactic(auto, unfolding(crate::specs::Commands::asked_by))]
-fn call_named<
-    P: PlanPlayer + StatePlayer,
-    Z: StatePlayer,
-    R: AllocGlobal + Threads,
-    H: Shelf,
->(
+fn call_named<P: PlanPlayer + StatePlayer, Z: StatePlayer, R: AllocGlobal + Threads, H: Shelf>(
     rt: &R,
     gate: &dyn Gate,
     name: &str,
@@ -123,12 +118,7 @@ pub(crate) fn performed<
     Z: StatePlayer,
     R: AllocGlobal + Threads,
     H: Shelf,
->(
-    rt: &R,
-    gate: &dyn Gate,
-    words: &Argv,
-    shelf: &mut H,
-) -> Status
+>(rt: &R, gate: &dyn Gate, words: &Argv, shelf: &mut H) -> Status
     ensures { EndsWish (asked P.emits P.leaves Z.leaves words.now) (H.shown shelf.old) (H.shown shelf.new) result }
 {
     match words.all().split_first() {
