@@ -4,4 +4,4 @@ pub mod Plays
 pub mod Ready
 pub mod Planning
 pub mod InTime
-pub mod Sounding
+pub mod SoundLemmas

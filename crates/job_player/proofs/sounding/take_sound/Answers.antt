@@ -1,5 +1,5 @@
 use Rattle.std.proofs.Common.{sym}
-use Rattle.job_player.proofs.Sounding.{taken_is}
+use Rattle.job_player.proofs.SoundLemmas.{taken_is}
 use Rattle.job_player.proofs.sounding.take_sound.Goals as goal
 
 pub returns : goal.returns

@@ -1,6 +1,6 @@
 use Rattle.std.proofs.Common.{vec_len, subst, sym}
 use Rattle.job_player.specs.Sounded.{IsTakenFrom}
-use Rattle.job_player.proofs.Sounding.{sounds_is}
+use Rattle.job_player.proofs.SoundLemmas.{sounds_is}
 use Rattle.job_player.proofs.sounding.SoundTakerStatePlayer.play_state.Goals as goal
 
 pub returns : goal.returns

@@ -1,4 +1,4 @@
-use Rattle.job_player.proofs.Sounding.{job_sounds}
+use Rattle.job_player.proofs.SoundLemmas.{job_sounds}
 use Rattle.job_player.proofs.sounding.SoundTakerStatePlayer.ready_state.Goals as goal
 
 pub returns-clause-ends : goal.returns-clause-ends
