@@ -16,7 +16,7 @@
 #     lint         each rule of ./lint, its formats and arguments, and the planted faults, if ca65 is there (try_lint.py); its logs of
 #                  SARIF are validated if SARIF_SCHEMA names the schema (try_lint.py says how to get it)
 #     tags         the tags that ./look prints of sound files at random (try_tags.py)
-#     states       what snes dump writes of cartridges at random (try_states.py)
+#     states       what snes dump and snes spc write of cartridges at random (try_states.py, try_sound_files.py)
 #     edges        the cases of try_edges.py by the built programs; 10,000 hostile inputs and command lines (try_hostile.py);
 #                  each fault of tools/evidence/edges is told (try_edge_faults.sh)
 #     allocations  each request for memory is refused once (refuse_each_allocation.sh)
@@ -33,7 +33,7 @@
 # The output of each item goes to CHECKED/PART-ITEM, of all of `workers` to CHECKED/workers (CHECKED: /tmp/snes-full-check).
 #
 # It wants the built programs (./snes demo 7 --frames 0, ./look --help, ./trace --help, ./lint --help, ./bench --help; ONLY_BUILD=1
-# tools/run_built.sh CRATE CRATE for spc_of_job, wild_jobs and console_rows), a C compiler, and some three hours of four processors,
+# tools/run_built.sh CRATE CRATE for wild_jobs and console_rows), a C compiler, and some three hours of four processors,
 # of which the wrong bodies take nearly all. TREE, a clone of this repository that it may keep its proofs in, spares proofs of crates
 # below. It checks what is committed. The status is 1 where a part doesn't hold.
 top=$(cd "$(dirname "${BASH_SOURCE[0]}")/../.." && pwd) || exit 2
@@ -162,12 +162,13 @@ tags() {
 states() {
   local scene=$top/crates/scene_cart/out/scene_cart
   item random "$(sum_of "$snes" "$scene" "$top/tools/evidence/try_states.py")" "$top/tools/evidence/try_states.py" "$snes" "$scene"
+  item sounds "$(sum_of "$snes" "$top/tools/evidence/try_sound_files.py")" "$top/tools/evidence/try_sound_files.py" "$snes"
 }
 
 # The programs and scripts that the cases are tried with.
 edges() {
   local fault name programs=()
-  for name in snes_run frame_look scene_cart snes_trace spc_of_job; do programs+=("$top/crates/$name/out/$name"); done
+  for name in snes_run frame_look scene_cart snes_trace; do programs+=("$top/crates/$name/out/$name"); done
   local scripts=("$top"/tools/evidence/edges/*.py "$top"/{snes,look,scene,trace,docs/use/CHECKING.md} "$top"/tools/{run_built.sh,built_from.sh,with_progress.sh,lines_below.sh,many_runs.sh,many_runs.sbatch})
   item cases "$(sum_of "$snes" "${programs[@]}" "${scripts[@]}" "$top/tools/evidence/try_edges.py")" "$top/tools/evidence/try_edges.py" --snes "$snes"
   item hostile "$(sum_of "$snes" "$top"/tools/evidence/edges/{oracle,lab}.py "$top/tools/evidence/try_hostile.py")" "$top/tools/evidence/try_hostile.py" --snes "$snes"

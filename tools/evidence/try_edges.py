@@ -1,11 +1,11 @@
 #!/usr/bin/env python3
 """Tries the built programs at their edges, unattended: files, descriptors, signals, command lines.
 
-    tools/evidence/try_edges.py [--snes PROGRAM] [--look PROGRAM] [--scene PROGRAM] [--trace PROGRAM] [--spc PROGRAM]
+    tools/evidence/try_edges.py [--snes PROGRAM] [--look PROGRAM] [--scene PROGRAM] [--trace PROGRAM]
                        [--tree FOLDER] [--only WORD] [--list]
 
 Without options it tries what is built here: crates/snes_run/out/snes_run and so on (./snes demo 7 --frames 0, ./look
---help, ./trace --help and tools/run_built.sh spc_of_job spc_of_job build them). --tree names another checkout whose
+--help and ./trace --help build them). --tree names another checkout whose
 scripts are tried in the place of those here; --only tries the cases whose name has the word, --list prints the names. docs/proof/EDGES.md says what each group is for, and what each fault did before.
 
 Each case brings one fault about and asserts the exit status, the text on standard output, and the bytes of each output:
@@ -27,7 +27,7 @@ The groups, each a file of tools/evidence/edges:
     words        command lines with more words than any form has, and with one word too few
     descriptors  0, 1 and 2 closed, in each combination, of `snes`, `look`, `scene` and `trace`
     messages     what standard error says of words, inputs and outputs; --help and --version
-    companions   what `scene`, `trace`, `look` and `spc_of_job` say, and their statuses
+    companions   what `scene`, `trace` and `look` say, and their statuses
     wrappers     ./snes on a terminal that gets signals; a built tree that was copied; two first builds at once; a first
                  build that is interrupted; the line of docs/use/CHECKING.md for many cartridges
     many         tools/many_runs.sh: what is made again, and what its status tells

@@ -33,7 +33,7 @@ class Command:
 def installed(text):
     """The text, with the names that things have where they are installed."""
     text = re.sub(r"docs/use/COMMANDS\.md", "snes(5)", text)
-    text = re.sub(r"docs/use/(REWIND|STATE)\.md", "snes(5)", text)
+    text = re.sub(r"docs/use/(REWIND|STATE|SPC-FILES)\.md", "snes(5)", text)
     return text.replace("./scene", "snes-scene").replace("./snes", "snes")
 
 

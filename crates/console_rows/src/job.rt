@@ -1,7 +1,7 @@
 //! Runs one job over real files, as `snes` does, with a gate that counts what its two workers do (`turn_watch`).
 
 use file_shelf::FileShelf;
-use job_player::Console;
+use job_player::{Console, SoundTaker};
 use port_wire::Gate;
 use run_io::Argv;
 use snes_program::{Status, snes};
@@ -23,7 +23,7 @@ pub fn run_watched<R: AllocGlobal + Files + Sync + Threads + Print + Eprint>(
     };
     watch.begin();
     let mut shelf = FileShelf::new(rt);
-    let status = snes::<Console, _, _>(rt, &argv, &mut shelf, gate);
+    let status = snes::<Console, SoundTaker, _, _>(rt, &argv, &mut shelf, gate);
     let counts = watch.counts();
     eprintln!(rt;
         "{} turns, {} on two threads, {} overlapped",

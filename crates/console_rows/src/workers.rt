@@ -17,7 +17,7 @@
 mod files;
 
 use files::{Programs, shelf};
-use job_player::Console;
+use job_player::{Console, SoundTaker};
 use memory_shelves::SureShelf;
 use port_wire::{Gate, OpenGate};
 use run_io::Argv;
@@ -124,7 +124,7 @@ fn is_run<R: AllocGlobal + Threads>(
     shelf: &mut SureShelf,
 ) -> bool {
     match words_of(rt.alloc(), command, words) {
-        Some(argv) => snes::<Console, _, _>(rt, &argv, shelf, gate) == Status::Ok,
+        Some(argv) => snes::<Console, SoundTaker, _, _>(rt, &argv, shelf, gate) == Status::Ok,
         None => false,
     }
 }

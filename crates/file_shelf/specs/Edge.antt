@@ -5,7 +5,7 @@ use Rattle.shelf.specs.Counts.{counted, none_counted}
 use Rattle.shelf.specs.declared.counts.Counts.{Counts}
 use Rattle.file_shelf.specs.declared.buffered.Buffered.{Buffered}
 use Rattle.shelf.specs.declared.shelves.Out.{Out}
-use Rattle.shelf.specs.declared.shelves.Out.TheVariants.{Video, Sound, Image, Sums, State, Say}
+use Rattle.shelf.specs.declared.shelves.Out.TheVariants.{Video, Sound, Image, Sums, State, Spc, Say}
 use Rattle.file_shelf.specs.Given.{given_to}
 
 -- An output: whether it takes bytes, which it does from its creation to a fault; what was given to it since, behind
@@ -34,10 +34,11 @@ pub record Edge : Type 0 where
   pub image : Kept
   pub sums : Kept
   pub state : Kept
+  pub spc : Kept
 
 -- no fault yet, and no output
 abbrev pub new_edge : Edge
-new_edge = record { loads = 0; writes = none_counted; video = not_created; sound = not_created; image = not_created; sums = not_created; state = not_created }
+new_edge = record { loads = 0; writes = none_counted; video = not_created; sound = not_created; image = not_created; sums = not_created; state = not_created; spc = not_created }
 
 -- one of the outputs: standard output is always there, tells nothing and gathers nothing
 abbrev pub kept_in : Edge → Out → Kept
@@ -46,6 +47,7 @@ kept_in e Sound = e.sound
 kept_in e Image = e.image
 kept_in e Sums = e.sums
 kept_in e State = e.state
+kept_in e Spc = e.spc
 kept_in e Say = record { is_open = true; given = None; unwritten = 0 }
 
 -- the edge after one more fault of an output

@@ -2,7 +2,7 @@
 use Rattle.std.specs.Prelude.{ℕ, Bool, false, ◌||◌, ◌&&◌, nat_eq, List, [], ◌∷◌, Option, None, Some, replicate, if◌then◌else◌}
 use Rattle.std.specs.List.{list_any}
 use Rattle.shelf.specs.declared.shelves.Out.{Out}
-use Rattle.shelf.specs.declared.shelves.Out.TheVariants.{Video, Sound, Image, Sums, State, Say}
+use Rattle.shelf.specs.declared.shelves.Out.TheVariants.{Video, Sound, Image, Sums, State, Spc, Say}
 use Rattle.file_shelf.specs.declared.known.Identity.{Identity}
 use Rattle.file_shelf.specs.declared.known.Clash.{Clash}
 use Rattle.file_shelf.specs.declared.known.Clash.TheVariants.{Loaded, Created, Stream}
@@ -19,11 +19,12 @@ is_loaded known file = list_any (λ one. is_same one file) known.loaded
 
 -- another output is written to this file
 abbrev pub is_created_otherwise : KnownFiles → Out → Identity → Bool
-is_created_otherwise known Video file = list_any (λ one. is_same one file) (known.sound ∷ (known.image ∷ (known.sums ∷ (known.state ∷ []))))
-is_created_otherwise known Sound file = list_any (λ one. is_same one file) (known.video ∷ (known.image ∷ (known.sums ∷ (known.state ∷ []))))
-is_created_otherwise known Image file = list_any (λ one. is_same one file) (known.video ∷ (known.sound ∷ (known.sums ∷ (known.state ∷ []))))
-is_created_otherwise known Sums file = list_any (λ one. is_same one file) (known.video ∷ (known.sound ∷ (known.image ∷ (known.state ∷ []))))
-is_created_otherwise known State file = list_any (λ one. is_same one file) (known.video ∷ (known.sound ∷ (known.image ∷ (known.sums ∷ []))))
+is_created_otherwise known Video file = list_any (λ one. is_same one file) (known.sound ∷ (known.image ∷ (known.sums ∷ (known.state ∷ (known.spc ∷ [])))))
+is_created_otherwise known Sound file = list_any (λ one. is_same one file) (known.video ∷ (known.image ∷ (known.sums ∷ (known.state ∷ (known.spc ∷ [])))))
+is_created_otherwise known Image file = list_any (λ one. is_same one file) (known.video ∷ (known.sound ∷ (known.sums ∷ (known.state ∷ (known.spc ∷ [])))))
+is_created_otherwise known Sums file = list_any (λ one. is_same one file) (known.video ∷ (known.sound ∷ (known.image ∷ (known.state ∷ (known.spc ∷ [])))))
+is_created_otherwise known State file = list_any (λ one. is_same one file) (known.video ∷ (known.sound ∷ (known.image ∷ (known.sums ∷ (known.spc ∷ [])))))
+is_created_otherwise known Spc file = list_any (λ one. is_same one file) (known.video ∷ (known.sound ∷ (known.image ∷ (known.sums ∷ (known.state ∷ [])))))
 is_created_otherwise known Say file = false
 
 -- what else the file is that an output is to be written to: one that was loaded, another output, or what a stream goes to
@@ -43,6 +44,7 @@ none_known said warned = record {
   image = None;
   sums = None;
   state = None;
+  spc = None;
   said = said;
   warned = warned;
 }

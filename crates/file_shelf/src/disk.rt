@@ -37,6 +37,7 @@ pub struct FileShelf<'a, R: Files + Print> {
     image: Option<Buffered<R::File>>,
     sums: Option<Buffered<R::File>>,
     state: Option<Buffered<R::File>>,
+    spc: Option<Buffered<R::File>>,
     load_faults: u64,
     write_faults: Counts,
     known: KnownFiles,
@@ -48,7 +49,7 @@ impl<'a, R: Files + Print> Model for FileShelf<'a, R> {
 
     ghost Value = { Edge };
 
-    ghost view = { λ s. record { loads = s.load_faults; writes = s.write_faults; video = kept_of R.File.contents s.video; sound = kept_of R.File.contents s.sound; image = kept_of R.File.contents s.image; sums = kept_of R.File.contents s.sums; state = kept_of R.File.contents s.state } };
+    ghost view = { λ s. record { loads = s.load_faults; writes = s.write_faults; video = kept_of R.File.contents s.video; sound = kept_of R.File.contents s.sound; image = kept_of R.File.contents s.image; sums = kept_of R.File.contents s.sums; state = kept_of R.File.contents s.state; spc = kept_of R.File.contents s.spc } };
 }
 
 impl<'a, R: Files + Print> FileShelf<'a, R> {
@@ -63,6 +64,7 @@ impl<'a, R: Files + Print> FileShelf<'a, R> {
             image: None,
             sums: None,
             state: None,
+            spc: None,
             load_faults: 0,
             write_faults: Counts::new(),
             known: KnownFiles::of_streams(
@@ -117,6 +119,7 @@ impl<'a, R: Files + Print> FileShelf<'a, R> {
             Out::Image => put_created(&mut self.image, bytes),
             Out::Sums => put_created(&mut self.sums, bytes),
             Out::State => put_created(&mut self.state, bytes),
+            Out::Spc => put_created(&mut self.spc, bytes),
             Out::Say => say(self.rt, bytes),
         }
     }
@@ -182,6 +185,7 @@ impl<R: Files + Print> Shelf for FileShelf<'_, R> {
             Out::Image => self.image = Some(Buffered::new(file)),
             Out::Sums => self.sums = Some(Buffered::new(file)),
             Out::State => self.state = Some(Buffered::new(file)),
+            Out::Spc => self.spc = Some(Buffered::new(file)),
             Out::Say => {}
         }
         Ok(())
@@ -229,6 +233,7 @@ impl<R: Files + Print> Shelf for FileShelf<'_, R> {
             Out::Image => flush_created(&mut self.image),
             Out::Sums => flush_created(&mut self.sums),
             Out::State => flush_created(&mut self.state),
+            Out::Spc => flush_created(&mut self.spc),
             Out::Say => Ok(()),
         };
         match end {

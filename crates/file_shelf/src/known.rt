@@ -36,6 +36,7 @@ pub(crate) struct KnownFiles {
     image: Option<Identity>,
     sums: Option<Identity>,
     state: Option<Identity>,
+    spc: Option<Identity>,
     said: Option<Identity>,
     warned: Option<Identity>,
 }
@@ -53,6 +54,7 @@ impl KnownFiles {
             image: None,
             sums: None,
             state: None,
+            spc: None,
             said,
             warned,
         }
@@ -86,11 +88,30 @@ impl KnownFiles {
         ensures { result ≡ is_created_otherwise self.now out file }
     {
         match out {
-            Out::Video => is_one_of([self.sound, self.image, self.sums, self.state], file),
-            Out::Sound => is_one_of([self.video, self.image, self.sums, self.state], file),
-            Out::Image => is_one_of([self.video, self.sound, self.sums, self.state], file),
-            Out::Sums => is_one_of([self.video, self.sound, self.image, self.state], file),
-            Out::State => is_one_of([self.video, self.sound, self.image, self.sums], file),
+            Out::Video => is_one_of(
+                [self.sound, self.image, self.sums, self.state, self.spc],
+                file,
+            ),
+            Out::Sound => is_one_of(
+                [self.video, self.image, self.sums, self.state, self.spc],
+                file,
+            ),
+            Out::Image => is_one_of(
+                [self.video, self.sound, self.sums, self.state, self.spc],
+                file,
+            ),
+            Out::Sums => is_one_of(
+                [self.video, self.sound, self.image, self.state, self.spc],
+                file,
+            ),
+            Out::State => is_one_of(
+                [self.video, self.sound, self.image, self.sums, self.spc],
+                file,
+            ),
+            Out::Spc => is_one_of(
+                [self.video, self.sound, self.image, self.sums, self.state],
+                file,
+            ),
             Out::Say => false,
         }
     }
@@ -110,13 +131,14 @@ impl KnownFiles {
             Out::Image => self.image = file,
             Out::Sums => self.sums = file,
             Out::State => self.state = file,
+            Out::Spc => self.spc = file,
             Out::Say => {}
         }
     }
 }
 
-/// Whether a file is one of four that may be known.
-fn is_one_of(known: [Option<Identity>; 4], file: Identity) -> bool
+/// Whether a file is one of five that may be known.
+fn is_one_of(known: [Option<Identity>; 5], file: Identity) -> bool
     ensures { result ≡ list_any (λ one. is_same one file) known }
 {
     known.iter().any(|one| is_same(*one, file))

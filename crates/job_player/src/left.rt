@@ -1,38 +1,13 @@
 // The state that the run of a job leaves.
-ghost use Rattle.std.specs.Prelude.{◌≡◌, ℕ, List, ◌++◌, [], OnOk, OnErr};
-ghost use Rattle.snes_defs.specs.declared.ports.Side.{Side};
-
 use crate::console::{BUFFER, Console};
+use crate::nowhere::Nowhere;
 use audio_side::AudioSide;
 use clock_ratio::end_stamp_in;
 use console_machine::ConsoleSide;
-use run_drive::{Sink, StatePlayer, run_to_end};
-use shelf::Failed;
-use snes_defs::{Job, NoMemory, Side};
+use run_drive::{StatePlayer, run_to_end};
+use snes_defs::{Job, NoMemory};
 use state_file::{StateBytes, put_state};
 use std::alloc::Global;
-
-/// What drops all bytes of a run.
-#[derive(Drop)]
-struct Nowhere;
-
-impl Sink for Nowhere {
-    ghost holds = { λ _ _ _. Unit {0} };
-
-    ghost only_takes = { λ _ _. Unit {0} };
-
-    ghost failed = { λ _ _ _. ⊥ };
-
-    fn take(&mut self, _side: Side, _bytes: &[u8]) -> Result<(), Failed> {
-        Ok(())
-    }
-
-    ghost takes_none = { λ _. tt };
-
-    ghost takes_more = { λ _ _ _ _ _. tt };
-
-    ghost failed_since = { λ _ _ _ _ _ none. none };
-}
 
 /// Both sides of a job at their starts, the end of its frames, a buffer that the run is drained through, and memory for the
 /// bytes of the state.

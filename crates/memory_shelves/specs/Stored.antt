@@ -3,7 +3,7 @@ use Rattle.std.specs.Prelude.{ℕ, ◌+◌, Bool, false, ◌||◌, nat_lt, List,
 use Rattle.std.specs.Option.{option_map}
 use Rattle.std.specs.Str.{bytes_eq}
 use Rattle.shelf.specs.declared.shelves.Out.{Out}
-use Rattle.shelf.specs.declared.shelves.Out.TheVariants.{Video, Sound, Image, Sums, State, Say}
+use Rattle.shelf.specs.declared.shelves.Out.TheVariants.{Video, Sound, Image, Sums, State, Spc, Say}
 
 -- a file
 pub record NamedBytes : Type 0 where
@@ -18,7 +18,7 @@ pub record Written : Type 0 where
   pub bytes : List ℕ
   pub overrun : Bool
 
--- the files, the last that was given first, and the five outputs
+-- the files, the last that was given first, and the seven outputs
 pub record Stored : Type 0 where
   pub files : List NamedBytes
   pub video : Written
@@ -26,6 +26,7 @@ pub record Stored : Type 0 where
   pub image : Written
   pub sums : Written
   pub state : Written
+  pub spc : Written
   pub say : Written
 
 -- the bytes of the first file of that name
@@ -62,6 +63,7 @@ output_of s Sound = s.sound
 output_of s Image = s.image
 output_of s Sums = s.sums
 output_of s State = s.state
+output_of s Spc = s.spc
 output_of s Say = s.say
 
 -- a store with another value for one of the outputs
@@ -71,6 +73,7 @@ with_output s Sound w = record s { sound = w }
 with_output s Image w = record s { image = w }
 with_output s Sums w = record s { sums = w }
 with_output s State w = record s { state = w }
+with_output s Spc w = record s { spc = w }
 with_output s Say w = record s { say = w }
 
 -- nothing held, and nothing put
@@ -82,5 +85,6 @@ nothing_stored room = record {
   image = blank [] room;
   sums = blank [] room;
   state = blank [] room;
+  spc = blank [] room;
   say = blank [] room;
 }

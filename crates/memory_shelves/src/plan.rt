@@ -124,6 +124,7 @@ fn is_same_out(out: Out, other: Out) -> bool
         (Out::Image, Out::Image) => true,
         (Out::Sums, Out::Sums) => true,
         (Out::State, Out::State) => true,
+        (Out::Spc, Out::Spc) => true,
         (Out::Say, Out::Say) => true,
         _ => false,
     }

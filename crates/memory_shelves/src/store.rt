@@ -118,6 +118,7 @@ pub(crate) struct Store {
     image: Output,
     sums: Output,
     state: Output,
+    spc: Output,
     say: Output,
 }
 
@@ -126,7 +127,7 @@ impl Model for Store {
 
     ghost Value = { Stored };
 
-    ghost view = { λ s. record { files = s.files.items; video = s.video; sound = s.sound; image = s.image; sums = s.sums; state = s.state; say = s.say } };
+    ghost view = { λ s. record { files = s.files.items; video = s.video; sound = s.sound; image = s.image; sums = s.sums; state = s.state; spc = s.spc; say = s.say } };
 }
 
 impl Store {
@@ -142,6 +143,7 @@ impl Store {
             image: Output::new(alloc, room)?,
             sums: Output::new(alloc, room)?,
             state: Output::new(alloc, room)?,
+            spc: Output::new(alloc, room)?,
             say: Output::new(alloc, room)?,
         })
     }
@@ -192,6 +194,7 @@ impl Store {
             Out::Image => self.image.create(name),
             Out::Sums => self.sums.create(name),
             Out::State => self.state.create(name),
+            Out::Spc => self.spc.create(name),
             Out::Say => self.say.create(name),
         }
     }
@@ -206,6 +209,7 @@ impl Store {
             Out::Image => self.image.put(bytes),
             Out::Sums => self.sums.put(bytes),
             Out::State => self.state.put(bytes),
+            Out::Spc => self.spc.put(bytes),
             Out::Say => self.say.put(bytes),
         }
     }
@@ -219,6 +223,7 @@ impl Store {
             Out::Image => &self.image,
             Out::Sums => &self.sums,
             Out::State => &self.state,
+            Out::Spc => &self.spc,
             Out::Say => &self.say,
         }
     }

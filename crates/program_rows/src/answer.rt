@@ -1,4 +1,4 @@
-use job_player::Console;
+use job_player::{Console, SoundTaker};
 use port_wire::Gate;
 use run_io::Argv;
 use shelf::Shelf;
@@ -13,5 +13,5 @@ pub fn answer<R: AllocGlobal + Threads, H: Shelf>(
     words: &Argv,
     shelf: &mut H,
 ) -> Status {
-    snes::<Console, _, H>(rt, words, shelf, gate)
+    snes::<Console, SoundTaker, _, H>(rt, words, shelf, gate)
 }

@@ -7,12 +7,13 @@ fn is_same_output(one: &Outcome, other: &Outcome, out: Out) -> bool {
         && one.shelf.written(out) == other.shelf.written(out)
 }
 
-/// Whether video, sound, sums and state have the same names and bytes in two outcomes.
+/// Whether video, sound, sums, state and sound file have the same names and bytes in two outcomes.
 pub fn is_same(one: &Outcome, other: &Outcome) -> bool {
     is_same_output(one, other, Out::Video)
         && is_same_output(one, other, Out::Sound)
         && is_same_output(one, other, Out::Sums)
         && is_same_output(one, other, Out::State)
+        && is_same_output(one, other, Out::Spc)
 }
 
 /// Whether two calls returned the same status, printed the same and left the same.

@@ -27,7 +27,7 @@ fn clear<R: Files>(rt: &R, rows: &Rows, words: &str, row: &Outcome) -> io::Resul
             fs::remove_file(rt, word)?;
         }
     }
-    for out in [Out::Video, Out::Sound, Out::Sums, Out::State] {
+    for out in [Out::Video, Out::Sound, Out::Sums, Out::State, Out::Spc] {
         let name = row.shelf.named(out);
         if !name.is_empty() && !name.starts_with("/") {
             fs::remove_file(rt, name)?;
@@ -75,7 +75,8 @@ fn compare_all<R: AllocGlobal + Files + Print>(
     compare(rt, "video", Out::Video, row)?;
     compare(rt, "sound", Out::Sound, row)?;
     compare(rt, "sums", Out::Sums, row)?;
-    compare(rt, "state", Out::State, row)
+    compare(rt, "state", Out::State, row)?;
+    compare(rt, "spc", Out::Spc, row)
 }
 
 /// Calls the program over real files, and prints its line, the exit status, and whether the outputs are those in

@@ -18,13 +18,19 @@ const MOST_PUTS: u32 = 2000;
 /// What is printed of a row whose line is invalid, or for which allocation failed.
 const NO_ROW: &str = "  no memory, or no row";
 
-/// Keeps an image that was made, as a file for later rows.
-fn keep(rows: &mut Rows, outcome: &Outcome) -> Option<()> {
-    let name = outcome.shelf.named(Out::Image);
+/// Keeps an output that was made, as a file for later rows.
+fn keep(rows: &mut Rows, outcome: &Outcome, out: Out) -> Option<()> {
+    let name = outcome.shelf.named(out);
     if name.is_empty() {
         return Some(());
     }
-    rows.files.add(name, outcome.shelf.written(Out::Image))
+    rows.files.add(name, outcome.shelf.written(out))
+}
+
+/// Keeps an image and a sound file that were made.
+fn keep_made(rows: &mut Rows, outcome: &Outcome) -> Option<()> {
+    keep(rows, outcome, Out::Image)?;
+    keep(rows, outcome, Out::Spc)
 }
 
 /// Runs a row, and prints the status and all that was written.
@@ -38,7 +44,7 @@ fn row<R: AllocGlobal + Threads + Print>(rt: &R, rows: &mut Rows, words: &str) -
 fn show_row<R: Print>(rt: &R, rows: &mut Rows, outcome: &Outcome) -> io::Result<()> {
     show_answer(rt, outcome)?;
     show_outputs(rt, outcome, Detail::Bytes)?;
-    match keep(rows, outcome) {
+    match keep_made(rows, outcome) {
         Some(()) => Ok(()),
         None => println!(rt; "{NO_ROW}"),
     }

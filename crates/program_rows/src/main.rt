@@ -10,10 +10,10 @@
 //! - `file NAME` begins a file. The lines after it add to it: `fill COUNT BYTE`, `hex BYTES`, `text TEXT`,
 //!   `line TEXT` (with LF), `copy NAME` (a file), `ramp STEP` (512 numbers of two bytes), `noise NUMBER COUNT`
 //!   (the generator of cartridges). `put OFFSET BYTES` changes it. Counts and numbers are decimal, the rest
-//!   hexadecimal. A row's shelf holds the files that its words name; an image that was made is a file.
+//!   hexadecimal. A row's shelf holds the files that its words name; an image or a sound file that was made is one.
 //! - `room COUNT`: how many bytes a shelf keeps of each output, from here on.
-//! - `fail load N`, `create`, `put`, `video`, `sound`, `image`, `sums`, `say`: in the next row the Nth call of that kind
-//!   fails; `video` to `say` are puts to one output.
+//! - `fail load N`, `create`, `put`, `video`, `sound`, `image`, `sums`, `state`, `spc`, `say`: in the next row the Nth
+//!   call of that kind fails; `video` to `say` are puts to one output.
 //!
 //! Lines that run something:
 //!

@@ -100,6 +100,7 @@ fn failure_of(text: &str) -> Option<Failure> {
         b"image" => ShelfCall::Put(Some(Out::Image)),
         b"sums" => ShelfCall::Put(Some(Out::Sums)),
         b"state" => ShelfCall::Put(Some(Out::State)),
+        b"spc" => ShelfCall::Put(Some(Out::Spc)),
         b"say" => ShelfCall::Put(Some(Out::Say)),
         _ => return None,
     };

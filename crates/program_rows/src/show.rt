@@ -10,7 +10,7 @@ const MOST_RUNS: usize = 8;
 /// The length of the longest name that is printed; a longer one is shown by its length.
 const MOST_LETTERS: usize = 64;
 
-/// The bytes of a state that are printed in one line.
+/// The bytes of a state or of a sound file that are printed in one line.
 const LINE: usize = 16;
 
 /// How much of an output is printed.
@@ -98,7 +98,7 @@ fn show_output<R: Print>(
     println!(rt; "")
 }
 
-/// Prints sixteen bytes of a state behind their offset.
+/// Prints sixteen bytes behind their offset.
 fn show_line<R: Print>(rt: &R, at: usize, line: &[u8]) -> io::Result<()> {
     print!(rt; "    {at:05x} ")?;
     for byte in line {
@@ -107,11 +107,12 @@ fn show_line<R: Print>(rt: &R, at: usize, line: &[u8]) -> io::Result<()> {
     println!(rt; "")
 }
 
-/// Prints a state that was created: how many bytes it has, and each line of sixteen that has one other than 0.
-fn show_state<R: Print>(rt: &R, outcome: &Outcome) -> io::Result<()> {
-    let name = outcome.shelf.named(Out::State);
-    let bytes = outcome.shelf.written(Out::State);
-    show_output(rt, "state", name, bytes, Detail::Length)?;
+/// Prints a state or a sound file that was created: how many bytes it has, and each line of sixteen that has one other
+/// than 0.
+fn show_lines<R: Print>(rt: &R, what: &str, out: Out, outcome: &Outcome) -> io::Result<()> {
+    let name = outcome.shelf.named(out);
+    let bytes = outcome.shelf.written(out);
+    show_output(rt, what, name, bytes, Detail::Length)?;
     for (number, line) in bytes.chunks(LINE).enumerate() {
         if line.iter().any(|byte| *byte != 0) {
             show_line(rt, number.saturating_mul(LINE), line)?;
@@ -152,5 +153,6 @@ pub fn show_outputs<R: Print>(rt: &R, outcome: &Outcome, detail: Detail) -> io::
     show_output(rt, "sound", shelf.named(Out::Sound), sound, detail)?;
     show_output(rt, "image", shelf.named(Out::Image), image, detail)?;
     show_text(rt, "sums", shelf.named(Out::Sums), sums)?;
-    show_state(rt, outcome)
+    show_lines(rt, "state", Out::State, outcome)?;
+    show_lines(rt, "spc", Out::Spc, outcome)
 }

@@ -115,6 +115,7 @@ cannot_write_text out.Sound = Some (codes "cannot write sound")
 cannot_write_text out.Image = Some (codes "cannot write image")
 cannot_write_text out.Sums = Some (codes "cannot write sums")
 cannot_write_text out.State = Some (codes "cannot write state")
+cannot_write_text out.Spc = Some (codes "cannot write spc")
 cannot_write_text out.Say = None
 
 -- there was no memory

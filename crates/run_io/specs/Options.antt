@@ -30,6 +30,7 @@ output_option out.Sound = codes "--audio"
 output_option out.Image = codes "--out"
 output_option out.Sums = codes "--sums"
 output_option out.State = codes "--state"
+output_option out.Spc = codes "--spc"
 output_option out.Say = []
 
 -- the option of a number, the most decimal digits that it has, and its greatest value

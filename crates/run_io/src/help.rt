@@ -27,6 +27,8 @@ snes check --cart FILE [--boot FILE] [--table FILE] [--script FILE] --frames N -
 \x20           run it likewise, and compare its sums with those of a file: 6 and the first difference, if there is one\n\
 snes dump --cart FILE [--boot FILE] [--table FILE] [--script FILE] --frames N --state FILE\n\
 \x20           run a cartridge, and write the registers and memories at its end (docs/use/STATE.md)\n\
+snes spc --cart FILE [--boot FILE] [--table FILE] [--script FILE] --frames N --spc FILE\n\
+\x20           run a cartridge, and write a sound file of its music at the end (docs/use/SPC-FILES.md)\n\
 snes --help, snes -h, snes --version\n\
 \x20           print this text, or the version\n\
 ./snes --quiet ..\n\

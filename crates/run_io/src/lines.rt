@@ -164,8 +164,8 @@ pub fn cannot_read_line(input: Input) -> Line
     })
 }
 
-/// Returns the line of an output that was not written: `cannot write video`, or `sound`, `image`, `sums`, `state`. There is none for
-/// `Out::Say`, which the lines themselves go to.
+/// Returns the line of an output that was not written: `cannot write video`, or `sound`, `image`, `sums`, `state`,
+/// `spc`. There is none for `Out::Say`, which the lines themselves go to.
 pub fn cannot_write_line(out: Out) -> Option<Line>
     ensures text { result ≡ option_map line_of (cannot_write_text out) }
 {
@@ -175,6 +175,7 @@ pub fn cannot_write_line(out: Out) -> Option<Line>
         Out::Image => Some(whole("cannot write image\n")),
         Out::Sums => Some(whole("cannot write sums\n")),
         Out::State => Some(whole("cannot write state\n")),
+        Out::Spc => Some(whole("cannot write spc\n")),
         Out::Say => None,
     }
 }

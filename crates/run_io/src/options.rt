@@ -46,6 +46,7 @@ pub(crate) fn option_of_output(out: Out) -> &'static str
         Out::Image => "--out",
         Out::Sums => "--sums",
         Out::State => "--state",
+        Out::Spc => "--spc",
         Out::Say => "",
     }
 }

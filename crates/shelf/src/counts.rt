@@ -11,6 +11,7 @@ pub struct Counts {
     image: u64,
     sums: u64,
     state: u64,
+    spc: u64,
     say: u64,
 }
 
@@ -25,6 +26,7 @@ impl Counts {
             image: 0,
             sums: 0,
             state: 0,
+            spc: 0,
             say: 0,
         }
     }
@@ -39,6 +41,7 @@ impl Counts {
             Out::Image => self.image,
             Out::Sums => self.sums,
             Out::State => self.state,
+            Out::Spc => self.spc,
             Out::Say => self.say,
         }
     }
@@ -53,6 +56,7 @@ impl Counts {
             Out::Image => self.image = self.image.saturating_add(1),
             Out::Sums => self.sums = self.sums.saturating_add(1),
             Out::State => self.state = self.state.saturating_add(1),
+            Out::Spc => self.spc = self.spc.saturating_add(1),
             Out::Say => self.say = self.say.saturating_add(1),
         }
     }

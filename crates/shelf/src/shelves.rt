@@ -21,7 +21,7 @@ pub enum Input {
     Sums,
 }
 
-/// The six places that the program writes to.
+/// The seven places that the program writes to.
 #[derive(Clone, Copy, Debug, PartialEq, Eq)]
 pub enum Out {
     /// The frames of a run.
@@ -34,6 +34,8 @@ pub enum Out {
     Sums,
     /// Registers and memories at the end of a run.
     State,
+    /// The sound file of the end of a run.
+    Spc,
     /// The line for the user, standard output.
     Say,
 }
@@ -53,7 +55,7 @@ pub enum LoadEnd {
 #[derive(Clone, Copy, Debug, PartialEq, Eq)]
 pub struct Failed;
 
-/// A shelf of files: named files that can be loaded, and six outputs that can be written.
+/// A shelf of files: named files that can be loaded, and seven outputs that can be written.
 ///
 /// Contracts see what a shelf holds and what was written as far as the shelf shows it. One in memory does; one over
 /// real files shows nothing. Each shelf shows how many of the bytes that were put to an output are not yet written.

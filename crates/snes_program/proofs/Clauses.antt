@@ -140,6 +140,7 @@ module _ (command : Command) (order : Order) (before after : Shown) where
         early out.Image differ late = absurd (omega arith)
         early out.Sums differ late = absurd (omega arith)
         early out.State differ late = absurd (omega arith)
+        early out.Spc differ late = absurd (omega arith)
 
     pub usage : (status : Status) → Answered status ⊎ Short status → status ≡ Usage → ⊥
     usage = by (λ s. s ≡ Usage → ⊥) (λ a e. cc) (λ a e. cc) (λ a risen e. cc) (λ i k e. cc) (λ i k e. cc) (λ o differ k e. cc) (λ k e. cc)
@@ -199,6 +200,7 @@ module _ (command : Command) (order : Order) (before after : Shown) where
         late out.Image early = absurd (omega arith)
         late out.Sums early = absurd (omega arith)
         late out.State early = absurd (omega arith)
+        late out.Spc early = absurd (omega arith)
 
     abbrev AllLeft : Type 0
     AllLeft = AllOf (IsLeft command order before after) command.form.outputs
@@ -222,6 +224,7 @@ module _ (command : Command) (order : Order) (before after : Shown) where
         write out.Image differ k = k.earlier
         write out.Sums differ k = k.earlier
         write out.State differ k = k.earlier
+        write out.Spc differ k = k.earlier
 
     -- with all accepted and no fault counted, the answer is that of a command that was done, or want of memory
     pub complete : (status : Status) → Answered status ⊎ Short status → IsClean command order before after → OrNoMemory command status

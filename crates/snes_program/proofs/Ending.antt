@@ -193,6 +193,7 @@ module _ (command : Command) (order : Order) (before mid after : Shown) (apart :
   passed out.Image none = inr (over_then before mid after out.Image (only.others out.Image none) (puts.others out.Image (λ e. cc)))
   passed out.Sums none = inr (over_then before mid after out.Sums (only.others out.Sums none) (puts.others out.Sums (λ e. cc)))
   passed out.State none = inr (over_then before mid after out.State (only.others out.State none) (puts.others out.State (λ e. cc)))
+  passed out.Spc none = inr (over_then before mid after out.Spc (only.others out.Spc none) (puts.others out.Spc (λ e. cc)))
 
   -- the call ended as the command did
   pub call_ends : (outcome : Result (List ℕ) Status) (status : Status)

@@ -16,5 +16,6 @@ pub mod PlayLemmas
 pub mod Putting
 pub mod RewindLemmas
 pub mod RunLemmas
+pub mod SoundFileLemmas
 pub mod SpcLemmas
 pub mod SumsRunLemmas

@@ -31,6 +31,7 @@ same_self out.Sound = refl
 same_self out.Image = refl
 same_self out.Sums = refl
 same_self out.State = refl
+same_self out.Spc = refl
 same_self out.Say = refl
 
 same_not : (one other : Out) → same_out one other ≡ false → other ≢ one

@@ -5,7 +5,7 @@ use Rattle.snes_defs.specs.declared.ports.Side.{Side}
 use Rattle.snes_defs.specs.declared.ports.Side.TheVariants as side
 use Rattle.shelf.specs.declared.shelves.Input.{Input}
 use Rattle.shelf.specs.declared.shelves.Out.{Out}
-use Rattle.shelf.specs.declared.shelves.Out.TheVariants.{Video, Sound, Image, Sums, State, Say}
+use Rattle.shelf.specs.declared.shelves.Out.TheVariants.{Video, Sound, Image, Sums, State, Spc, Say}
 use Rattle.shelf.specs.Told.{Holds, HasRisen}
 use Rattle.shelf.specs.Shown.{Shown}
 use Rattle.run_drive.specs.Outputs.{output_of, OnlyFills}
@@ -29,6 +29,7 @@ both video audio Sound = audio
 both video audio Image = []
 both video audio Sums = []
 both video audio State = []
+both video audio Spc = []
 both video audio Say = []
 
 module _ (emits : Job → List ℕ → List ℕ → Type 0) (order : Order) (told : Input → Option (List ℕ)) (job : Job) (shows : ShowsJob told order.count job) where

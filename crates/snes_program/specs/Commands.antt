@@ -12,6 +12,7 @@ use Rattle.snes_program.specs.Rewind.{rewind}
 use Rattle.snes_program.specs.SumsRun.{sums}
 use Rattle.snes_program.specs.Check.{check}
 use Rattle.snes_program.specs.Dump.{dump}
+use Rattle.snes_program.specs.SoundFile.{spc}
 use Rattle.snes_program.specs.Help.{help, version}
 
 -- what words ask for: a command and what they give it, or nothing where they are in no form
@@ -31,10 +32,10 @@ abbrev pub where_true : Bool → Wish → Wish → Wish
 where_true true one other = one
 where_true false one other = other
 
--- each command under its name, by the words behind it, and by what the run of a job emits and the state that it leaves;
--- `serial` and `lockless` have the words of `run`, and make the same
-unfoldable pub asked_by : (emits : Job → List ℕ → List ℕ → Type 0) → (leaves : Job → List ℕ → Type 0) → List ℕ → List (List ℕ) → Wish
-asked_by emits leaves name words =
+-- each command under its name, by the words behind it, and by what the run of a job emits, the state that it leaves and
+-- the sound file that is taken at its end; `serial` and `lockless` have the words of `run`, and make the same
+unfoldable pub asked_by : (emits : Job → List ℕ → List ℕ → Type 0) → (leaves sounds : Job → List ℕ → Type 0) → List ℕ → List (List ℕ) → Wish
+asked_by emits leaves sounds name words =
     where_true (bytes_eq name (codes "run")) (asks (run emits) words) (
     where_true (bytes_eq name (codes "serial")) (asks (run emits) words) (
     where_true (bytes_eq name (codes "lockless")) (asks (run emits) words) (
@@ -45,15 +46,16 @@ asked_by emits leaves name words =
     where_true (bytes_eq name (codes "sums")) (asks (sums emits) words) (
     where_true (bytes_eq name (codes "check")) (asks (check emits) words) (
     where_true (bytes_eq name (codes "dump")) (asks (dump leaves) words) (
+    where_true (bytes_eq name (codes "spc")) (asks (spc sounds) words) (
     where_true (bytes_eq name (codes "--help")) (asks help words) (
     where_true (bytes_eq name (codes "-h")) (asks help words) (
     where_true (bytes_eq name (codes "--version")) (asks version words)
-    Nothing))))))))))))
+    Nothing)))))))))))))
 
 -- the first word is the name
-abbrev pub asked : (emits : Job → List ℕ → List ℕ → Type 0) → (leaves : Job → List ℕ → Type 0) → List (List ℕ) → Wish
-asked emits leaves [] = Nothing
-asked emits leaves (name ∷ words) = asked_by emits leaves name words
+abbrev pub asked : (emits : Job → List ℕ → List ℕ → Type 0) → (leaves sounds : Job → List ℕ → Type 0) → List (List ℕ) → Wish
+asked emits leaves sounds [] = Nothing
+asked emits leaves sounds (name ∷ words) = asked_by emits leaves sounds name words
 
 -- where there is a command, this holds of it and of what the words give it
 abbrev pub IfAsks : Wish → (Command → Order → Type 0) → Type 0

@@ -15,6 +15,7 @@ pub mod Rewind
 pub mod Run
 pub mod Said
 pub mod Snes
+pub mod SoundFile
 pub mod SoundOut
 pub mod Status
 pub mod Sums

@@ -13,6 +13,7 @@ use crate::play::Play;
 use crate::rewind::Rewind;
 use crate::run::{Run, Way};
 use crate::say::{refuse, say};
+use crate::sound_file::SoundFile;
 use crate::status::Status;
 use crate::sums_run::SumsRun;
 use plan_drive::PlanPlayer;
@@ -56,14 +57,14 @@ fn call<C: Performs, R: AllocGlobal + Threads, H: Shelf>(
 
 /// Calls the command of this name. THE COMMANDS are listed here, and in `asked_by`.
 #[tactic(auto, unfolding(crate::specs::Commands::asked_by))]
-fn call_named<P: PlanPlayer + StatePlayer, R: AllocGlobal + Threads, H: Shelf>(
+fn call_named<P: PlanPlayer + StatePlayer, Z: StatePlayer, R: AllocGlobal + Threads, H: Shelf>(
     rt: &R,
     gate: &dyn Gate,
     name: &str,
     words: &[Word],
     shelf: &mut H,
 ) -> Status
-    ensures { EndsWish (asked_by P.emits P.leaves name.now words.now) (H.shown shelf.old) (H.shown shelf.new) result }
+    ensures { EndsWish (asked_by P.emits P.leaves Z.leaves name.now words.now) (H.shown shelf.old) (H.shown shelf.new) result }
 {
     if name == "run" {
         return call(&Run::<P>::by(Way::Turns), rt, gate, words, shelf);
@@ -95,6 +96,9 @@ fn call_named<P: PlanPlayer + StatePlayer, R: AllocGlobal + Threads, H: Shelf>(
     if name == "dump" {
         return call(&Dump::<P>::new(), rt, gate, words, shelf);
     }
+    if name == "spc" {
+        return call(&SoundFile::<Z>::new(), rt, gate, words, shelf);
+    }
     if name == "--help" {
         return call(&Help, rt, gate, words, shelf);
     }
@@ -109,16 +113,16 @@ fn call_named<P: PlanPlayer + StatePlayer, R: AllocGlobal + Threads, H: Shelf>(
 
 /// Performs the command that the arguments ask for, prints how it ended, and returns the status.
 #[tactic(auto, using(crate::proofs::Ending::reads))]
-pub(crate) fn performed<P: PlanPlayer + StatePlayer, R: AllocGlobal + Threads, H: Shelf>(
-    rt: &R,
-    gate: &dyn Gate,
-    words: &Argv,
-    shelf: &mut H,
-) -> Status
-    ensures { EndsWish (asked P.emits P.leaves words.now) (H.shown shelf.old) (H.shown shelf.new) result }
+pub(crate) fn performed<
+    P: PlanPlayer + StatePlayer,
+    Z: StatePlayer,
+    R: AllocGlobal + Threads,
+    H: Shelf,
+>(rt: &R, gate: &dyn Gate, words: &Argv, shelf: &mut H) -> Status
+    ensures { EndsWish (asked P.emits P.leaves Z.leaves words.now) (H.shown shelf.old) (H.shown shelf.new) result }
 {
     match words.all().split_first() {
-        Some((name, words)) => call_named::<P, R, H>(rt, gate, name.text(), words, shelf),
+        Some((name, words)) => call_named::<P, Z, R, H>(rt, gate, name.text(), words, shelf),
         None => refuse(shelf, Status::Usage),
     }
 }

@@ -5,8 +5,8 @@
 // lines.
 //
 // What all commands share is in `call`, `perform`, `loads`, `outputs` and `say`. Each command has a file of its own
-// (`run`, `play`, `make`, `demo`, `rewind`, `dump`, `help`), and its meaning is in `specs/`. Each kind of input has a file
-// too: `cart`, `boot`, `spc`, `table`, `script`, `plan`. `CONTRIBUTING.md` says how to add one.
+// (`run`, `play`, `make`, `demo`, `rewind`, `dump`, `sound_file`, `help`), and its meaning is in `specs/`. Each kind of
+// input has a file too: `cart`, `boot`, `spc`, `table`, `script`, `plan`. `CONTRIBUTING.md` says how to add one.
 #![tactic(auto)]
 
 mod boot;
@@ -31,6 +31,7 @@ mod rewind;
 mod run;
 mod say;
 mod script;
+mod sound_file;
 mod sound_out;
 mod spc;
 mod status;

@@ -10,6 +10,7 @@ use crate::make::Make;
 use crate::play::Play;
 use crate::rewind::Rewind;
 use crate::run::Run;
+use crate::sound_file::SoundFile;
 use crate::sums_run::SumsRun;
 use plan_drive::PlanPlayer;
 use run_drive::StatePlayer;
@@ -29,11 +30,11 @@ fn explain_form<C: Performs>(words: &[Word]) -> Option<Mistake<'_>>
 
 /// Returns the mistake in the arguments after this name, if there is one. The commands are listed as in `call_named`.
 #[tactic(auto, unfolding(crate::specs::Commands::asked_by))]
-fn explain_named<'a, P: PlanPlayer + StatePlayer>(
+fn explain_named<'a, P: PlanPlayer + StatePlayer, Z: StatePlayer>(
     name: &'a str,
     words: &'a [Word],
 ) -> Option<Mistake<'a>>
-    ensures { MatchOption result (¬ IsNothing (asked_by P.emits P.leaves name.now words.now)) (λ mistake. IsNothing (asked_by P.emits P.leaves name.now words.now)) }
+    ensures { MatchOption result (¬ IsNothing (asked_by P.emits P.leaves Z.leaves name.now words.now)) (λ mistake. IsNothing (asked_by P.emits P.leaves Z.leaves name.now words.now)) }
 {
     if name == "run" {
         return explain_form::<Run<P>>(words);
@@ -65,6 +66,9 @@ fn explain_named<'a, P: PlanPlayer + StatePlayer>(
     if name == "dump" {
         return explain_form::<Dump<P>>(words);
     }
+    if name == "spc" {
+        return explain_form::<SoundFile<Z>>(words);
+    }
     if name == "--help" {
         return explain_form::<Help>(words);
     }
@@ -78,11 +82,11 @@ fn explain_named<'a, P: PlanPlayer + StatePlayer>(
 }
 
 /// Returns the mistake in a command line: there is one if and only if `snes` returns `Usage`.
-pub fn explain<P: PlanPlayer + StatePlayer>(words: &Argv) -> Option<Mistake<'_>>
-    ensures { MatchOption result (¬ IsNothing (asked P.emits P.leaves words.now)) (λ mistake. IsNothing (asked P.emits P.leaves words.now)) }
+pub fn explain<P: PlanPlayer + StatePlayer, Z: StatePlayer>(words: &Argv) -> Option<Mistake<'_>>
+    ensures { MatchOption result (¬ IsNothing (asked P.emits P.leaves Z.leaves words.now)) (λ mistake. IsNothing (asked P.emits P.leaves Z.leaves words.now)) }
 {
     match words.all().split_first() {
-        Some((name, words)) => explain_named::<P>(name.text(), words),
+        Some((name, words)) => explain_named::<P, Z>(name.text(), words),
         None => Some(Mistake::of(Fault::NoCommand, "", "")),
     }
 }

@@ -9,7 +9,7 @@
 mod messages;
 
 use file_shelf::FileShelf;
-use job_player::Console;
+use job_player::{Console, SoundTaker};
 use messages::{say_why, say_why_no_text};
 use port_wire::OpenGate;
 use run_io::Argv;
@@ -44,7 +44,7 @@ fn main(rt: HostRuntime) -> ExitCode {
     let is_text = given.is_some();
     let words = given.unwrap_or(Argv::new(rt.alloc()));
     let mut shelf = FileShelf::new(&rt);
-    let status = snes::<Console, _, _>(&rt, &words, &mut shelf, &OpenGate);
+    let status = snes::<Console, SoundTaker, _, _>(&rt, &words, &mut shelf, &OpenGate);
     let _ = if is_text {
         say_why(&rt, &words, status, shelf.first_fault())
     } else {

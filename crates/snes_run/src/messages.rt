@@ -1,6 +1,6 @@
 // The messages on standard error. Their texts are not promised, and a failed write of one is ignored.
 use file_shelf::Cause;
-use job_player::Console;
+use job_player::{Console, SoundTaker};
 use run_io::{Argv, Line, Mistake, input_given, output_given};
 use shelf::Out;
 use snes_program::{Status, explain, refusal_line};
@@ -18,7 +18,7 @@ fn text_of(line: &Line) -> &str {
 fn tell_mistake(rt: &HostRuntime, mistake: &Mistake<'_>) -> io::Result<()> {
     eprintln!(rt; "snes: {mistake}")?;
     eprintln!(rt;
-        "snes: the commands are run, serial, lockless, play, make, demo, rewind, sums, check and dump; snes --help says more"
+        "snes: the commands are run, serial, lockless, play, make, demo, rewind, sums, check, dump and spc; snes --help says more"
     )
 }
 
@@ -48,7 +48,7 @@ pub fn say_why(
 ) -> io::Result<()> {
     match status {
         Status::Ok | Status::Differs => Ok(()),
-        Status::Usage => match explain::<Console>(words) {
+        Status::Usage => match explain::<Console, SoundTaker>(words) {
             Some(mistake) => tell_mistake(rt, &mistake),
             None => Ok(()),
         },

@@ -33,7 +33,14 @@ impl StateBytes {
         ensures none { IfOk result (λ s. s.bytes ≡ []) }
         ensures room { IfOk result (λ s. s.room ≡ 327680 + ram) }
     {
-        let room = FIXED + ram as usize;
+        StateBytes::with_room(alloc, FIXED + ram as usize)
+    }
+
+    /// No bytes yet, and memory for that many.
+    pub fn with_room(alloc: Global, room: usize) -> Result<StateBytes, NoMemory>
+        ensures none { IfOk result (λ s. s.bytes ≡ []) }
+        ensures room { IfOk result (λ s. s.room ≡ room) }
+    {
         match Vec::with_capacity(alloc, room) {
             Ok(bytes) => Ok(StateBytes { bytes, room }),
             Err(_) => Err(NoMemory),
@@ -48,7 +55,7 @@ impl StateBytes {
     }
 
     /// Puts some bytes.
-    pub(crate) fn add(&mut self, bytes: &[u8])
+    pub fn add(&mut self, bytes: &[u8])
         requires { length self.old.bytes + length bytes.now ≤ self.old.room }
         ensures bytes { self.new.bytes ≡ self.old.bytes ++ bytes.now }
         ensures size { length self.new.bytes ≡ length self.old.bytes + length bytes.now }
@@ -85,7 +92,7 @@ impl StateBytes {
 
     /// Puts that many zeros.
     #[tactic(auto, using(crate::proofs::Counting::no_zeros, crate::proofs::Counting::one_more_zero))]
-    pub(crate) fn add_zeros(&mut self, count: usize)
+    pub fn add_zeros(&mut self, count: usize)
         requires { length self.old.bytes + count ≤ self.old.room }
         ensures bytes { self.new.bytes ≡ self.old.bytes ++ zeros count }
         ensures size { length self.new.bytes ≡ length self.old.bytes + count }

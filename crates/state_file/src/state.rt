@@ -137,9 +137,9 @@ fn put_header(
     to.add(&ports.1);
 }
 
-/// Puts what the registers of the S-DSP show.
+/// Puts what the registers of the S-DSP show, 00 to 7F in order.
 #[tactic(auto, using(crate::proofs::Counting::no_register, crate::proofs::Counting::one_more_register))]
-fn put_shown(to: &mut StateBytes, sound: &AudioSide)
+pub fn put_shown(to: &mut StateBytes, sound: &AudioSide)
     requires { length to.old.bytes + 128 ≤ to.old.room }
     ensures bytes { to.new.bytes ≡ to.old.bytes ++ shown_below sound.now.hardware.voices 128 }
     ensures size { length to.new.bytes ≡ length to.old.bytes + 128 }

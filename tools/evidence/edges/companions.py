@@ -25,35 +25,6 @@ def scene(room):
     os.chmod(room.path("shut"), 0o755)
 
 
-@case("companions: spc_of_job ends with 0 only where it wrote the file")
-def spc(room):
-    program, inputs = room.bench.programs["spc"], room.bench.inputs
-    files = [inputs[option] for option in ("cart", "boot", "table", "script")]
-    right = room.run([program, *files, "2", "out.spc"]).came(0)
-    assert right.out.startswith(b"cycle "), right.out
-    whole = read(room.path("out.spc"))
-    assert whole.startswith(b"SNES-SPC700 Sound File Data") and len(whole) >= 65920, "it is no sound file"
-    room.run([program]).came(1, b"", b"spc_of_job CART")
-    room.run([program, *files, "2"]).came(1, b"")
-    room.run([program, *files, "2", "other", "x"]).came(1, b"")
-    room.run([program, *files, "2", "other", "10", "more"]).came(1, b"")
-    room.run([program, *files, "2", b"\xff"]).came(1, b"")
-    for frames in ("", "x", "-1", "36001"):
-        room.run([program, *files, frames, "other"]).came(1, b"", b"frames")
-    write(room.path("wrong"), b"wrong")
-    for place in range(4):
-        for name, status in (("missing", 2), ("wrong", 3), (room.folder, 2)):
-            words = [*files[:place], name, *files[place + 1:]]
-            room.run([program, *words, "2", "other"]).came(status, b"", f"spc_of_job: {name}".encode())
-    for name in ("missing/out", ".", "/dev/full", "/proc/x"):
-        room.run([program, *files, "2", name]).came(4, b"", f"spc_of_job: {name} cannot be written".encode())
-    room.run([program, *files, "2", "other"], tail=">/dev/full").came(4, b"")
-    assert read(room.path("other")) == whole, "the file is not whole"
-    os.remove(room.path("other"))
-    room.run([program, *files, "2", "other", "100"]).came(0)
-    assert read(room.path("other")) == whole, "the file is not whole"
-
-
 def program_of(instructions):
     """A cartridge of 32 KiB whose RESET is at 8000, where these bytes stand."""
     rom = bytearray(0x8000)

@@ -99,14 +99,3 @@ def look_cut(room):
         same(f"status without {text}", end.status, 2)
         got = read(room.path("out"))
         assert b"look" not in got, f"the message is in the WAV, without {text}: {got[-80:]}"
-
-
-@case("descriptors: spc_of_job without each of them")
-def spc(room):
-    files = [room.bench.inputs[option] for option in ("cart", "boot", "table", "script")]
-    room.run([room.bench.programs["spc"], *files, "2", "whole"]).came(0)
-    for combination in CLOSED:
-        tail, text = closing(combination)
-        end = room.run([room.bench.programs["spc"], *files, "2", "out"], tail=tail)
-        assert read(room.path("out")) == read(room.path("whole")), f"the file is not whole, without {text}"
-        same(f"status without {text}", end.status, 4 if combination & 2 else 0)

@@ -10,7 +10,7 @@ import threading
 TOP = os.path.realpath(os.path.join(os.path.dirname(os.path.realpath(__file__)), "..", "..", ".."))
 # The checkout whose scripts are tried.
 TREE = TOP
-TOOLS = {"snes": "snes_run", "look": "frame_look", "scene": "scene_cart", "trace": "snes_trace", "spc": "spc_of_job"}
+TOOLS = {"snes": "snes_run", "look": "frame_look", "scene": "scene_cart", "trace": "snes_trace"}
 FRAMES = 8
 SAMPLES = 32000
 SECONDS = 120
@@ -27,6 +27,7 @@ COMMANDS = {
     # The sums of so many frames take more than a page.
     "sums": (JOB, ("--frames", "60"), {"sums": "sums"}),
     "dump": (JOB, ("--frames", str(FRAMES)), {"state": "state"}),
+    "spc": (JOB, ("--frames", str(FRAMES)), {"spc": "spc"}),
 }
 USAGE = b"usage: snes run, serial, make or demo\n"
 PLAN = b"go 3 0000 0000\nkeep 0\ngo 2 8000 0000\nback 0\ngo 3 0000 8000\n"

@@ -61,8 +61,9 @@ def by_pipes(command):
 
 for _command, (_options, _, _outputs) in COMMANDS.items():
     for _option in _outputs:
-        # The sound or the sums of a few frames fit into what is gathered and a pipe holds: nobody is told that they were not read.
-        if _option in ("audio", "sums") and _command != "play":
+        # The sound or the sums of a few frames and a sound file fit into what is gathered and a pipe holds: nobody is told that
+        # they were not read.
+        if _option in ("audio", "sums", "spc") and _command != "play":
             continue
         case(f"readers: {_command}, a reader of {_option} that goes away")(reader_goes(_command, _option, ""))
         case(f"readers: {_command}, the same where SIGPIPE is ignored")(reader_goes(_command, _option, "trap '' PIPE;"))

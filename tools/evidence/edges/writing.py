@@ -5,7 +5,7 @@ import shutil
 from lab import COMMANDS, SAMPLES, case, read, same
 
 # How much of each output fits, in pages of 4 KiB.
-PAGES = {"video": 256, "audio": 2, "out": 64, "sums": 1, "state": 16}
+PAGES = {"video": 256, "audio": 2, "out": 64, "sums": 1, "state": 16, "spc": 8}
 
 
 def on_small_device(room, words, pages):
