@@ -70,20 +70,6 @@ static PICTURE: [(u16, u8); 22] = [
     (0x2100, 0x0f), // INIDISP: the picture on
 ];
 
-/// Registers that are not zero on a console before a program writes them. The scene that speed is measured by leaves them out.
-static CLEARED: [u16; 10] = [
-    0x2106, // MOSAIC
-    0x210d, // BG1HOFS, twice
-    0x210d, 0x210f, // BG2HOFS, twice
-    0x210f, 0x2111, // BG3HOFS, twice
-    0x2111, 0x212e, // TMW
-    0x212f, // TSW
-    0x2133, // SETINI
-];
-
-/// Words of work RAM that are read before they are written else.
-static VARIABLES: [u8; 6] = [ROUNDS, FACTOR, MIXED, FRAME, ACROSS, DOWN];
-
 /// Writes code that sets a register to a byte.
 fn set(code: &mut Code, register: u16, byte: u8) {
     code.write(&[Lda(Byte(byte)), Sta(At(register))]);
@@ -131,20 +117,8 @@ fn show_objects(code: &mut Code) {
     move_bytes(code, 0x220);
 }
 
-/// Writes the clearing of what a console doesn't clear: words of work RAM, and registers of the PPU.
-fn clear(code: &mut Code) {
-    code.write(&[Rep(0x20)]);
-    for at in VARIABLES {
-        code.write(&[Stz(u16::from(at))]);
-    }
-    code.write(&[Sep(0x20)]);
-    for register in CLEARED {
-        code.write(&[Stz(register)]);
-    }
-}
-
 /// Writes the start: native mode, memories, registers, HDMA, and the picture on.
-fn start(code: &mut Code, clears: bool) {
+fn start(code: &mut Code) {
     code.write(&[
         Run(Sei),
         Run(Clc),
@@ -155,9 +129,6 @@ fn start(code: &mut Code, clears: bool) {
         Sep(0x20),
     ]);
     set(code, 0x2100, 0x80); // INIDISP: forced blank
-    if clears {
-        clear(code);
-    }
     set(code, 0x420d, 1); // MEMSEL: fast ROM
     set(code, 0x2115, 0x80); // VMAIN: a step after the high byte
     for half in 0..2u8 {
@@ -182,9 +153,8 @@ fn start(code: &mut Code, clears: bool) {
     set(code, 0x4200, 0x81); // NMITIMEN: NMI and the pads
 }
 
-/// Writes the game's endless work: sums over arrays with a call for each, a product, and port 0. A console needs a third NOP
-/// before it has the product.
-fn work(code: &mut Code, mix: Label, waits: bool) {
+/// Writes the game's endless work: sums over arrays with a call for each, a product, and port 0.
+fn work(code: &mut Code, mix: Label) {
     let round = code.here();
     code.write(&[Rep(0x30), Ldx(Word(0))]);
     let next = code.here();
@@ -205,11 +175,6 @@ fn work(code: &mut Code, mix: Label, waits: bool) {
         Sta(At(0x4203)), // WRMPYB
         Run(Nop),
         Run(Nop),
-    ]);
-    if waits {
-        code.write(&[Run(Nop)]);
-    }
-    code.write(&[
         Lda(At(0x4216)), // RDMPYL
         Sta(Direct(PRODUCT)),
         Lda(At(0x2140)), // APUIO0
@@ -389,8 +354,7 @@ fn interrupt(code: &mut Code, moves: &[Label]) -> Label {
     label
 }
 
-/// Writes the program, with its tune or without, and returns where a reset and an NMI begin. Without it, it is the one that speed
-/// is measured by, whose bytes stay as they are.
+/// Writes the program, with its tune or without, and returns where a reset and an NMI begin.
 pub fn write_program(code: &mut Code, with_tune: bool) -> (Label, Label) {
     let mix = mix(code);
     let bob = Path::of(DOWN, Table::LetterY, 3, 40);
@@ -403,11 +367,11 @@ pub fn write_program(code: &mut Code, with_tune: bool) -> (Label, Label) {
     let waves = bend_waves(code);
     let nmi = interrupt(code, &[letters, balls, glints, waves]);
     let reset = code.here();
-    start(code, with_tune);
+    start(code);
     // The frames are counted in each NMI by now, so the tune takes none of them.
     if with_tune {
         send_sound(code);
     }
-    work(code, mix, with_tune);
+    work(code, mix);
     (reset, nmi)
 }
