@@ -90,24 +90,28 @@ fn label_in(alloc: Global, fields: &Fields<'_>) -> Result<Option<Address>> {
     }
 }
 
-/// Where a memory check looks: one place.
-fn place_in(alloc: Global, fields: &Fields<'_>) -> Result<(Memory, Address)> {
-    let mut place = match label_in(alloc, fields)? {
-        Some(address) => Some((Memory::Bus, address)),
-        None => None,
-    };
+/// The memory of a check and the offset in it, if one is named. With a label it is one place too many.
+fn number_in(fields: &Fields<'_>, has_label: bool) -> Result<Option<(Memory, u32)>> {
+    let mut place = None;
     for entry in MEMORIES.as_slice() {
         let (key, memory, most) = *entry;
         if let Some(at) = fields.number(key, most)? {
-            if place.is_some() {
+            if has_label || place.is_some() {
                 bail!("{}: more than one place", fields.path());
             }
-            place = Some((memory, Address::At(at)));
+            place = Some((memory, at));
         }
     }
-    match place {
-        Some(place) => Ok(place),
-        None => bail!("{}: no place, as wram = 0x10", fields.path()),
+    Ok(place)
+}
+
+/// Where a memory check looks: one place.
+fn place_in(alloc: Global, fields: &Fields<'_>) -> Result<(Memory, Address)> {
+    let label = label_in(alloc, fields)?;
+    match (number_in(fields, label.is_some())?, label) {
+        (Some((memory, at)), _) => Ok((memory, Address::At(at))),
+        (None, Some(address)) => Ok((Memory::Bus, address)),
+        (None, None) => bail!("{}: no place, as wram = 0x10", fields.path()),
     }
 }
 
@@ -200,32 +204,61 @@ fn frames_in(fields: &Fields<'_>, is_refused: bool) -> Result<u32> {
     Ok(frames)
 }
 
+/// What messages call a table of a list: the case, the list's key, and the table's place in it, from 1.
+fn path_of(alloc: Global, fields: &Fields<'_>, key: &str, place: usize) -> Result<String> {
+    let number = place.saturating_add(1);
+    Ok(format!(in alloc; "{}, {key} {number}", fields.path())?)
+}
+
+/// Reads a frame's check into a case.
+fn add_frame(
+    alloc: Global,
+    fields: &Fields<'_>,
+    place: usize,
+    table: &Table,
+    case: &mut Case,
+) -> Result<()> {
+    let path = path_of(alloc, fields, "frame", place)?;
+    let check = frame_check(alloc, path.as_str(), table, case.frames)?;
+    Ok(case.frame_checks.push(check)?)
+}
+
+/// Reads a memory's check into a case.
+fn add_memory(
+    alloc: Global,
+    fields: &Fields<'_>,
+    place: usize,
+    table: &Table,
+    case: &mut Case,
+) -> Result<()> {
+    let path = path_of(alloc, fields, "memory", place)?;
+    let check = memory_check(alloc, path.as_str(), table, case.frames)?;
+    Ok(case.memory_checks.push(check)?)
+}
+
+/// Reads an awaited instruction into a case.
+fn add_reach(
+    alloc: Global,
+    fields: &Fields<'_>,
+    place: usize,
+    table: &Table,
+    case: &mut Case,
+) -> Result<()> {
+    let path = path_of(alloc, fields, "reach", place)?;
+    let reach = reach_in(alloc, path.as_str(), table, case.frames)?;
+    Ok(case.reaches.push(reach)?)
+}
+
 /// Reads the checks of a case into it.
 fn read_checks(alloc: Global, fields: &Fields<'_>, case: &mut Case) -> Result<()> {
-    let frames = case.frames;
-    let mut number = 0u32;
-    let tables = fields.tables(alloc, "frame")?;
-    for table in tables.as_slice() {
-        number = number.saturating_add(1);
-        let path = format!(in alloc; "{}, frame {number}", fields.path())?;
-        case.frame_checks
-            .push(frame_check(alloc, path.as_str(), *table, frames)?)?;
+    for (place, table) in fields.tables(alloc, "frame")?.as_slice().iter().enumerate() {
+        add_frame(alloc, fields, place, *table, case)?;
     }
-    number = 0;
-    let tables = fields.tables(alloc, "memory")?;
-    for table in tables.as_slice() {
-        number = number.saturating_add(1);
-        let path = format!(in alloc; "{}, memory {number}", fields.path())?;
-        case.memory_checks
-            .push(memory_check(alloc, path.as_str(), *table, frames)?)?;
+    for (place, table) in fields.tables(alloc, "memory")?.as_slice().iter().enumerate() {
+        add_memory(alloc, fields, place, *table, case)?;
     }
-    number = 0;
-    let tables = fields.tables(alloc, "reach")?;
-    for table in tables.as_slice() {
-        number = number.saturating_add(1);
-        let path = format!(in alloc; "{}, reach {number}", fields.path())?;
-        case.reaches
-            .push(reach_in(alloc, path.as_str(), *table, frames)?)?;
+    for (place, table) in fields.tables(alloc, "reach")?.as_slice().iter().enumerate() {
+        add_reach(alloc, fields, place, *table, case)?;
     }
     Ok(())
 }
@@ -249,29 +282,60 @@ fn name_in(alloc: Global, fields: &Fields<'_>) -> Result<String> {
     Ok(name)
 }
 
-/// Reads a case.
-fn case_in(alloc: Global, path: &str, table: &Table) -> Result<Case> {
-    let fields = Fields::new(path, table, &CASE)?;
-    let refused = fields.text(alloc, "refused")?;
-    let frames = frames_in(&fields, refused.is_some())?;
-    let mut case = Case {
-        name: name_in(alloc, &fields)?,
-        cart: needed(&fields, "cart", fields.text(alloc, "cart")?)?,
-        boot: fields.text(alloc, "boot")?,
-        table: fields.text(alloc, "table")?,
-        script: fields.text(alloc, "script")?,
-        region: region_in(alloc, &fields)?,
-        frames,
-        symbols: fields.text(alloc, "symbols")?,
-        sums: fields.text(alloc, "sums")?,
-        film: fields.text(alloc, "film")?,
-        is_heard: heard_in(alloc, &fields)?,
-        refused,
+/// A case of which nothing is read yet.
+fn unread_case(alloc: Global) -> Case {
+    Case {
+        name: String::new(alloc),
+        cart: String::new(alloc),
+        boot: None,
+        table: None,
+        script: None,
+        region: None,
+        frames: 0,
+        symbols: None,
+        sums: None,
+        film: None,
+        is_heard: None,
+        refused: None,
         frame_checks: Vec::new(alloc),
         memory_checks: Vec::new(alloc),
         reaches: Vec::new(alloc),
-    };
-    read_checks(alloc, &fields, &mut case)?;
+    }
+}
+
+/// Reads the text of a key, if it is there.
+fn read_text(
+    alloc: Global,
+    fields: &Fields<'_>,
+    key: &str,
+    text: &mut Option<String>,
+) -> Result<()> {
+    *text = fields.text(alloc, key)?;
+    Ok(())
+}
+
+/// Reads a case into an empty one, which its maker owns: so a fault drops nothing here.
+fn read_case(alloc: Global, fields: &Fields<'_>, case: &mut Case) -> Result<()> {
+    read_text(alloc, fields, "refused", &mut case.refused)?;
+    case.frames = frames_in(fields, case.refused.is_some())?;
+    case.name = name_in(alloc, fields)?;
+    case.cart = needed(fields, "cart", fields.text(alloc, "cart")?)?;
+    read_text(alloc, fields, "boot", &mut case.boot)?;
+    read_text(alloc, fields, "table", &mut case.table)?;
+    read_text(alloc, fields, "script", &mut case.script)?;
+    case.region = region_in(alloc, fields)?;
+    read_text(alloc, fields, "symbols", &mut case.symbols)?;
+    read_text(alloc, fields, "sums", &mut case.sums)?;
+    read_text(alloc, fields, "film", &mut case.film)?;
+    case.is_heard = heard_in(alloc, fields)?;
+    read_checks(alloc, fields, case)
+}
+
+/// Reads a case.
+fn case_in(alloc: Global, path: &str, table: &Table) -> Result<Case> {
+    let fields = Fields::new(path, table, &CASE)?;
+    let mut case = unread_case(alloc);
+    read_case(alloc, &fields, &mut case)?;
     Ok(case)
 }
 
@@ -285,24 +349,37 @@ fn is_named(cases: &[Case], name: &str) -> bool {
     false
 }
 
-/// Reads the cases of a file. `name` is what messages call it.
-pub fn read_cases(alloc: Global, name: &str, text: &str) -> Result<Vec<Case>> {
-    let table = toml::table_from_str(alloc, text).context(format_args!("{name} refused"))?;
-    let fields = Fields::new(name, &table, &["case"])?;
-    let mut cases = Vec::new(alloc);
-    let mut number = 0u32;
-    let tables = fields.tables(alloc, "case")?;
-    for table in tables.as_slice() {
-        number = number.saturating_add(1);
-        let path = format!(in alloc; "{name}, case {number}")?;
-        let case = case_in(alloc, path.as_str(), *table)?;
-        if is_named(cases.as_slice(), case.name.as_str()) {
-            bail!("{}: there is another case of this name", path.as_str());
-        }
-        cases.push(case)?;
+/// Adds a case of a file to those before it.
+fn add_case(
+    alloc: Global,
+    path: &str,
+    table: &Table,
+    cases: &mut Vec<Case>,
+) -> Result<()> {
+    let case = case_in(alloc, path, table)?;
+    if is_named(cases.as_slice(), case.name.as_str()) {
+        bail!("{path}: there is another case of this name");
+    }
+    Ok(cases.push(case)?)
+}
+
+/// Reads the cases of a file's table into a list.
+fn read_tables(alloc: Global, name: &str, table: &Table, cases: &mut Vec<Case>) -> Result<()> {
+    let fields = Fields::new(name, table, &["case"])?;
+    for (place, table) in fields.tables(alloc, "case")?.as_slice().iter().enumerate() {
+        let path = path_of(alloc, &fields, "case", place)?;
+        add_case(alloc, path.as_str(), *table, cases)?;
     }
     if cases.is_empty() {
         bail!("{name} refused: it has no case");
     }
+    Ok(())
+}
+
+/// Reads the cases of a file. `name` is what messages call it.
+pub fn read_cases(alloc: Global, name: &str, text: &str) -> Result<Vec<Case>> {
+    let table = toml::table_from_str(alloc, text).context(format_args!("{name} refused"))?;
+    let mut cases = Vec::new(alloc);
+    read_tables(alloc, name, &table, &mut cases)?;
     Ok(cases)
 }
