@@ -469,8 +469,12 @@ def gme_differs(path, file):
     if status != 0:
         return None, 0
     said = {name.lower(): text for name, text in json.loads(out.decode("utf-8", "replace")).get("format", {}).get("tags", {}).items()}
-    _, texts, _ = header_tags(file)
-    texts.update({name: text for name, text in extended_tags(file)[0].items() if text})
+    # libgme takes the last of two chunks, and 31 bytes of the text form's artist: only what is left is compared
+    form, texts, _ = header_tags(file)
+    if chunks(file):
+        return None, 0
+    if form == "text" and len(texts["artist"]) > 31:
+        del texts["artist"]
     count = 0
     for name, their in (("title", "song"), ("game", "game"), ("artist", "author"), ("dumper", "dumper"), ("comment", "comment")):
         if is_plain(texts.get(name, b"")) and their in said:

@@ -15,7 +15,7 @@ one_chunk n file end at id found h e =
     let more : suc (end - (n + 1)) ≡ end - n = omega (arith, h) in
     let rest : ℕ → Option Chunk = λ next. chunk_from (end - (n + 1)) file end next id in
     subst (λ (most : ℕ). chunk_from most file end at id ≡ or_next id found rest) more
-      (stepped (end - (n + 1)) file end at id ∙ ap (λ (o : Option Chunk). or_next id o rest) e)
+    (stepped (end - (n + 1)) file end at id ∙ ap (λ (o : Option Chunk). or_next id o rest) e)
 
 -- there is none at this offset
 pub no_more : (n : ℕ) (file : List ℕ) (end at id : ℕ) → n < end → chunk_at file end at ≡ None → chunk_from (end - n) file end at id ≡ None

@@ -63,7 +63,7 @@ header_fade file = by_form (form_of file) (spelled (up_to_zero (part_at file 0xA
 unfoldable pub header_date : List ℕ → Option ℕ
 header_date file =
     by_form (form_of file) None
-        (counted (10000 * little2 file 0xA0 + 100 * slice_index file 0x9F + slice_index file 0x9E))
+    (counted (10000 * little2 file 0xA0 + 100 * slice_index file 0x9F + slice_index file 0x9E))
 
 unfoldable pub header_muted : List ℕ → Option ℕ
 header_muted file = by_form (form_of file) (counted (slice_index file 0xD1)) (counted (slice_index file 0xD0))

@@ -16,11 +16,11 @@ is_printable byte = nat_le 0x20 byte && nat_le byte 0x7E
 unfoldable pub refusal_of : Field → List ℕ → Option FieldRefused
 refusal_of field text =
     if is_number field then
-        (if (length text == 0) || not (list_all is_ascii_digit text) then Some NotANumber
-        else (if nat_lt (size_of Text field) (length text) then Some TooLong else None))
+    (if (length text == 0) || not (list_all is_ascii_digit text) then Some NotANumber
+    else (if nat_lt (size_of Text field) (length text) then Some TooLong else None))
     else
-        (if nat_lt (size_of Text field) (length text) then Some TooLong
-        else (if not (list_all is_printable text) then Some NotPrintable else None))
+    (if nat_lt (size_of Text field) (length text) then Some TooLong
+    else (if not (list_all is_printable text) then Some NotPrintable else None))
 
 -- a field of so many bytes: a text is followed by zeros, digits follow the character 0
 unfoldable pub text_bytes : ℕ → List ℕ → List ℕ

@@ -136,7 +136,9 @@ pub(crate) fn header_length(file: &[u8]) -> Option<u32>
     match form_of(file)? {
         Form::Text => spelled(before_zero(&file[0xA9..0xAC])),
         Form::Binary => counted(
-            u32::from(file[0xA9]) + 0x100 * u32::from(file[0xAA]) + 0x1_0000 * u32::from(file[0xAB]),
+            u32::from(file[0xA9])
+                + 0x100 * u32::from(file[0xAA])
+                + 0x1_0000 * u32::from(file[0xAB]),
         ),
     }
 }

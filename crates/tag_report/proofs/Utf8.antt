@@ -9,6 +9,6 @@ is_one bytes h = is_utf8-from_IsUtf8 bytes h
 pub is_none : (bytes : List ℕ) → ¬ (IsUtf8 bytes) → is_utf8 bytes ≡ false
 is_none bytes h =
     elim (is_utf8 bytes) as (λ b. is_utf8 bytes ≡ b → b ≡ false) [
-      true ↦ λ e. absurd (h (IsUtf8-from_is_utf8 bytes e))
-    | false ↦ λ e. refl
+      | true ↦ λ e. absurd (h (IsUtf8-from_is_utf8 bytes e))
+      | false ↦ λ e. refl
     ] refl

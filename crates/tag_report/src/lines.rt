@@ -54,12 +54,7 @@ fn push_notes(out: &mut Vec<u8>, file: &[u8]) -> Result<(), AllocError>
 }
 
 /// Adds the line of a number, if the file has it.
-fn push_tag(
-    out: &mut Vec<u8>,
-    name: &str,
-    file: &[u8],
-    tag: NumberTag,
-) -> Result<(), AllocError>
+fn push_tag(out: &mut Vec<u8>, name: &str, file: &[u8], tag: NumberTag) -> Result<(), AllocError>
     requires { 65920 ≤ length file.now }
     ensures { OnOk result (out.new.items ≡ with_number out.old.items name.now (number_of file.now tag)) }
 {
