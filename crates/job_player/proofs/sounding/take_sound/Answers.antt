@@ -1,4 +1,3 @@
-use Rattle.std.proofs.Common.{sym}
 use Rattle.job_player.proofs.SoundLemmas.{taken_is}
 use Rattle.job_player.proofs.sounding.take_sound.Goals as goal
 
