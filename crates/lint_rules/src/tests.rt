@@ -75,8 +75,9 @@ fn each_register_that_is_not_set_is_a_finding(rt: HostRuntime) -> Result<(), All
     findings.add(Finding::new(Rule::RegistersUnset, cause, 0x2105, EARLY))?;
     findings.add(Finding::new(Rule::RegistersUnset, cause, 0x212c, EARLY))?;
     findings.add(Finding::new(Rule::RegistersUnset, cause, 0x2105, LATE))?;
-    assert_eq!(rt; findings.list().len(), 2);
-    assert_eq!(rt; findings.list()[0].count, 2);
+    let told = findings.list();
+    assert_eq!(rt; told.len(), 2);
+    assert_eq!(rt; told[0].count, 2);
     Ok(())
 }
 
