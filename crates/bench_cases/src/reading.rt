@@ -254,7 +254,12 @@ fn read_checks(alloc: Global, fields: &Fields<'_>, case: &mut Case) -> Result<()
     for (place, table) in fields.tables(alloc, "frame")?.as_slice().iter().enumerate() {
         add_frame(alloc, fields, place, *table, case)?;
     }
-    for (place, table) in fields.tables(alloc, "memory")?.as_slice().iter().enumerate() {
+    for (place, table) in fields
+        .tables(alloc, "memory")?
+        .as_slice()
+        .iter()
+        .enumerate()
+    {
         add_memory(alloc, fields, place, *table, case)?;
     }
     for (place, table) in fields.tables(alloc, "reach")?.as_slice().iter().enumerate() {
@@ -350,12 +355,7 @@ fn is_named(cases: &[Case], name: &str) -> bool {
 }
 
 /// Adds a case of a file to those before it.
-fn add_case(
-    alloc: Global,
-    path: &str,
-    table: &Table,
-    cases: &mut Vec<Case>,
-) -> Result<()> {
+fn add_case(alloc: Global, path: &str, table: &Table, cases: &mut Vec<Case>) -> Result<()> {
     let case = case_in(alloc, path, table)?;
     if is_named(cases.as_slice(), case.name.as_str()) {
         bail!("{path}: there is another case of this name");
