@@ -3,13 +3,13 @@
 
     tools/lab/proof_cost.py CRATE|FOLDER [COUNT]
 
-CRATE is a crate whose `rt check` has kept its work in crates/CRATE/out/incremental; FOLDER is such a folder elsewhere (that
-of `rattle check .. --incremental FOLDER`). A check writes a file for each module that it checked. The size of a file goes with
-the time of its module, and other work on the machine does not change it: a figure in seconds of a busy machine says less.
-The seconds are the time between two files: they hold for a check from nothing that ran alone.
+CRATE is a crate whose `rt check` has kept its work in crates/CRATE/out/incremental. FOLDER is such a folder elsewhere,
+that of `rattle check .. --incremental FOLDER`. A check writes a file for each module that it checked. The size of a
+file goes with the time of its module, and other work on the machine does not change it. The seconds are the time
+between two files. They hold for a check from nothing that ran alone.
 
-`Lts` is what the borrow checker says of a function's states, `Tie` what joins it to the function, `Proof` the search for
-what clauses and safety leave open. Functions that are gone since stay in the list until the folder is removed.
+`Lts` is what the borrow checker says of a function's states. `Tie` is what joins that to the function. `Proof` is the
+search for what clauses and safety leave open. Functions that are gone stay in the list until the folder is removed.
 """
 import os
 import re
@@ -32,7 +32,8 @@ def main():
     if not 2 <= len(sys.argv) <= 3:
         sys.exit(__doc__)
     name = sys.argv[1]
-    folder = name if os.path.isdir(name) else f"{os.path.dirname(os.path.abspath(__file__))}/../../crates/{name}/out/incremental"
+    root = os.path.normpath(f"{os.path.dirname(os.path.abspath(__file__))}/../..")
+    folder = name if os.path.isdir(name) else f"{root}/crates/{name}/out/incremental"
     found = modules(folder)
     if not found:
         sys.exit(f"{folder}: no check has kept anything there")
@@ -49,7 +50,8 @@ def main():
         print(f"| {kind} | {number} | {size / 1e6:.1f} | {seconds:.0f} |")
     print("\n| function | Lts, MB | Lts, seconds | Tie, MB | Proof, MB |\n|---|---|---|---|---|")
     lts = lambda it: it[1].get("Lts", (0, 0))
-    for function, parts in sorted(functions.items(), key=lts, reverse=True)[: int(sys.argv[2]) if len(sys.argv) > 2 else 20]:
+    count = int(sys.argv[2]) if len(sys.argv) > 2 else 20
+    for function, parts in sorted(functions.items(), key=lts, reverse=True)[:count]:
         tie, proof = (parts.get(it, (0, 0))[0] / 1e6 for it in ("Tie", "Proof"))
         size, seconds = parts.get("Lts", (0, 0))
         print(f"| `{function}` | {size / 1e6:.2f} | {seconds:.1f} | {tie:.2f} | {proof:.2f} |")
