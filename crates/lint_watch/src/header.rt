@@ -176,7 +176,9 @@ pub fn checksum_of(cart: &Cart) -> Option<u16> {
 }
 
 /// Returns how many bytes a copier put in front of the image, in a file of so many bytes: 512 or 0.
-pub fn front_of(size: usize) -> u32 {
+pub fn front_of(size: usize) -> u32
+    ensures { result ≤ 512 }
+{
     if size % 1024 == FRONT as usize {
         FRONT
     } else {
@@ -192,7 +194,7 @@ pub fn check_file(findings: &mut Findings, size: usize, cart: &Cart) -> Result<(
     }
     let rom = cart.rom.get();
     let header = header_of(cart);
-    let offset = (header as u32).saturating_add(front);
+    let offset = header as u32 + front;
     if let Some(right) = checksum_of(cart) {
         let stated = word(rom, header + CHECKSUM);
         let rule = checksum_rule(stated, word(rom, header + COMPLEMENT), right);

@@ -74,15 +74,13 @@ fn oam_place(address: u16) -> u16
     }
 }
 
-/// Returns the word of VRAM that a write of 2116 or 2117 fetches, as an offset from 2100.
-fn aimed(port: &VramPort, register: u8, byte: u8) -> u16 {
-    let mut port = *port;
-    port.address = if register == 0x16 {
-        port.address / 256 * 256 + u16::from(byte)
+/// Returns VRAM's address after a write of its low byte, or of its high one.
+fn aimed(address: u16, is_low: bool, byte: u8) -> u16 {
+    if is_low {
+        address / 256 * 256 + u16::from(byte)
     } else {
-        port.address % 256 + 256 * u16::from(byte)
-    };
-    vram_place(&port)
+        address % 256 + 256 * u16::from(byte)
+    }
 }
 
 /// Which bytes of the picture unit's memories have been written.
@@ -125,7 +123,10 @@ impl PictureMemories {
     pub fn write(&mut self, register: u8, byte: u8, ports: &Ports) {
         match register {
             0x04 => self.write_oam(ports.oam.address),
-            0x16 | 0x17 => self.fetched = aimed(&ports.vram, register, byte),
+            0x16 | 0x17 => {
+                let address = aimed(ports.vram.address, register == 0x16, byte);
+                self.fetched = remap(ports.vram.remap, address) % 32_768;
+            }
             0x18 => self.vram.write(2 * usize::from(vram_place(&ports.vram))),
             0x19 => self
                 .vram
