@@ -66,6 +66,9 @@ for command in serial run lockless; do
 done
 check 'serial and run: the same bytes' "$(run 'cmp serial.video run.video && cmp serial.audio lockless.audio && echo same')" same
 check 'serial: whole frames' "$(stat -c %s "$root/tmp/try/serial.video")" $((60 * 244736))
+check 'spc: its line' "$(run snes spc $files --frames 60 --spc taken.spc)" 'frames 60 samples 31947'
+check 'look tags: a file without tags' "$(run snes-look tags taken.spc)" 'header: no tags'
+check 'play: the file is taken' "$(run snes play --spc taken.spc --table s/table.bin --samples 320 --audio taken.audio)" 'samples 320'
 run snes-look png serial.video 59 frame.png >/dev/null
 run snes-look wav serial.audio sound.wav >/dev/null
 python3 - "$root/tmp/try" >"$work/read" <<'P'

@@ -100,6 +100,14 @@ alike rewind snes snes_run rewind "${files[@]}" --plan plan.txt --video rewound 
 check 'rewind: status' "$(cat unproved/status)" 0
 alike play snes snes_run play --spc tune.spc --table s/table.bin --samples 3200 --audio tune.raw
 check 'play: samples' "$(stat -c %s unproved/tune.raw)" 12800
+alike sums snes snes_run sums "${files[@]}" --frames 20 --sums run.csv
+check 'sums: lines' "$(wc -l <unproved/run.csv)" 22
+alike check snes snes_run check "${files[@]}" --frames 20 --sums run.csv
+check 'check: status' "$(cat unproved/status)" 0
+alike dump snes snes_run dump "${files[@]}" --frames 20 --state state.bin
+alike spc snes snes_run spc "${files[@]}" --frames 40 --spc taken.spc
+check 'spc: a whole file' "$(stat -c %s unproved/taken.spc)" 66048
+alike 'look tags' look frame_look tags taken.spc
 alike 'refused' snes snes_run serial "${files[@]/scene.sfc/boot.bin}" --script s/script.txt --frames 1 --video v --audio a
 check 'refused: status' "$(cat unproved/status)" 3
 alike 'look png' look frame_look png video.serial 39 frame.png
