@@ -49,12 +49,20 @@ fn cause_of(why: NotSoundFile) -> &'static str {
     }
 }
 
+/// Puts the head at the front of a file that has room for it.
+fn put_head(file: &mut [u8]) {
+    if file.len() < HEAD.len() {
+        return;
+    }
+    for (byte, head) in file.iter_mut().zip(HEAD.iter()) {
+        *byte = *head;
+    }
+}
+
 /// Returns a sound file of this many bytes, of which none is set behind its head.
 fn file_of(alloc: Global, size: usize) -> Option<Vec<u8>> {
     let mut file = vec![in alloc; 0u8; size].ok()?;
-    if size >= HEAD.len() {
-        file.as_mut_slice()[..HEAD.len()].copy_from_slice(HEAD.as_slice());
-    }
+    put_head(file.as_mut_slice());
     Some(file)
 }
 
