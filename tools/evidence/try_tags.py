@@ -469,11 +469,12 @@ def gme_differs(path, file):
     if status != 0:
         return None, 0
     said = {name.lower(): text for name, text in json.loads(out.decode("utf-8", "replace")).get("format", {}).get("tags", {}).items()}
-    # libgme takes the last of two chunks, and 31 bytes of the text form's artist: only what is left is compared
+    # libgme takes the last of two chunks, 31 bytes of the text form's artist, and the binary form's from its second byte on if it
+    # begins with a digit: only what is left is compared
     form, texts, _ = header_tags(file)
     if chunks(file):
         return None, 0
-    if form == "text" and len(texts["artist"]) > 31:
+    if form == "text" and len(texts["artist"]) > 31 or form == "binary" and texts["artist"][:1].isdigit():
         del texts["artist"]
     count = 0
     for name, their in (("title", "song"), ("game", "game"), ("artist", "author"), ("dumper", "dumper"), ("comment", "comment")):
