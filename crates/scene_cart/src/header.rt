@@ -2,12 +2,12 @@
 
 use crate::image::{HEADER, Image};
 
-/// Puts the header, with the addresses at which a reset and an NMI begin. `map_byte` is 20 for slow LoROM, 30 for fast. Its checksum
-/// is over the whole image, so it comes last.
-pub fn put_header(image: &mut Image, map_byte: u8, reset: u16, nmi: u16) {
+/// Puts the header, with the addresses at which a reset and an NMI begin. Its checksum is over the whole image, so it
+/// comes last.
+pub fn put_header(image: &mut Image, reset: u16, nmi: u16) {
     image.put(HEADER, b"SCENE AT DUSK        ");
-    // LoROM, ROM alone, 2^7 KiB, no RAM.
-    image.put(HEADER + 0x15, &[map_byte, 0x00, 0x07, 0x00]);
+    // Slow LoROM, ROM alone, 2^7 KiB, no RAM.
+    image.put(HEADER + 0x15, &[0x20, 0x00, 0x07, 0x00]);
     image.put_word(HEADER + 0x2a, nmi);
     image.put_word(HEADER + 0x3c, reset);
     // The sum and its complement add as much to the sum as these do.

@@ -57,9 +57,7 @@ fn cartridge(alloc: Global, with_tune: bool) -> Result<Option<Image>, AllocError
     }
     landscape::put_landscape(&mut image);
     objects::put_objects(&mut image);
-    // The program turns on fast ROM. The scene that speed is measured by says slow all the same, and keeps its bytes.
-    let map_byte = if with_tune { 0x30 } else { 0x20 };
-    header::put_header(&mut image, map_byte, reset.0, nmi.0);
+    header::put_header(&mut image, reset.0, nmi.0);
     Ok(if code.fits() { Some(image) } else { None })
 }
 
