@@ -5,17 +5,17 @@
 
 use crate::golden::{Recorder, golden_of};
 use crate::inputs::{Input, input_of, name_in};
-use crate::judging::Judging;
+use crate::judging::{Compared, Judging};
 use crate::labels::{number_of, symbols_of};
-use crate::pictures::{GoldenPng, pngs_of};
+use crate::pictures::read_pngs;
 use crate::played::{Awaited, Played};
-use anyhow::{Context, Result, bail};
+use anyhow::{Context, Error, Result, bail};
 use bench_cases::Case;
 use bench_report::Verdict;
 use file_shelf::FileShelf;
 use film_formats::{FRAME_BYTES, Piece, read_piece};
 use frame_sums::SumsFile;
-use snes_defs::Job;
+use snes_defs::{Job, Region};
 use std::alloc::{AllocError, Global};
 use std::fs;
 use std::io::Read;
@@ -84,34 +84,31 @@ fn film_of<R: Files + AllocGlobal>(
     }))
 }
 
-/// Where each memory check of a case looks.
-fn places_of(alloc: Global, case: &Case, symbols: Option<&Symbols>) -> Result<Vec<u32>> {
-    let mut places = Vec::new(alloc);
+/// Finds where each memory check of a case looks.
+fn find_places(case: &Case, symbols: Option<&Symbols>, places: &mut Vec<u32>) -> Result<()> {
     for check in case.memory_checks.as_slice() {
         places.push(number_of(symbols, &check.place)?)?;
     }
-    Ok(places)
+    Ok(())
 }
 
-/// The addresses that a case waits for.
-fn awaited_of(alloc: Global, case: &Case, symbols: Option<&Symbols>) -> Result<Vec<Awaited>> {
-    let mut awaited = Vec::new(alloc);
+/// Finds the addresses that a case waits for.
+fn find_awaited(case: &Case, symbols: Option<&Symbols>, awaited: &mut Vec<Awaited>) -> Result<()> {
     for reach in case.reaches.as_slice() {
+        let address = number_of(symbols, &reach.address)?;
         awaited.push(Awaited {
-            address: number_of(symbols, &reach.address)?,
+            address,
             reached: None,
         })?;
     }
-    Ok(awaited)
+    Ok(())
 }
 
 /// What the run of a case needs: it is read, and no file is touched any more.
 #[derive(Drop)]
 pub struct Task {
     job: Job,
-    golden: Option<SumsFile>,
-    pngs: Vec<GoldenPng>,
-    places: Vec<u32>,
+    compared: Compared,
     awaited: Vec<Awaited>,
 }
 
@@ -124,6 +121,37 @@ pub enum Ready {
     Ended(Verdict),
 }
 
+/// Reads the golden sums of a case, if they are compared.
+fn read_sums<R: Files + Print>(
+    shelf: &mut FileShelf<'_, R>,
+    alloc: Global,
+    wanted: &Wanted<'_>,
+    case: &Case,
+) -> Result<Option<SumsFile>> {
+    if wanted.updates {
+        return Ok(None);
+    }
+    match sums_path(alloc, wanted, case)? {
+        Some(path) => Ok(Some(golden_of(shelf, alloc, path.as_str())?)),
+        None => Ok(None),
+    }
+}
+
+/// Reads into a task what its run needs beside the job. Who owns the task drops it after a fault.
+fn read_task<R: Files + Print>(
+    shelf: &mut FileShelf<'_, R>,
+    alloc: Global,
+    wanted: &Wanted<'_>,
+    case: &Case,
+    task: &mut Task,
+) -> Result<()> {
+    let symbols = symbols_of(shelf, alloc, wanted.folder, case)?;
+    task.compared.golden = read_sums(shelf, alloc, wanted, case)?;
+    read_pngs(shelf, alloc, wanted.folder, case, &mut task.compared.pngs)?;
+    find_places(case, symbols.as_ref(), &mut task.compared.places)?;
+    find_awaited(case, symbols.as_ref(), &mut task.awaited)
+}
+
 /// Reads what the run of a case needs.
 fn task_of<R: Files + Print>(
     shelf: &mut FileShelf<'_, R>,
@@ -132,38 +160,53 @@ fn task_of<R: Files + Print>(
     case: &Case,
     job: Job,
 ) -> Result<Task> {
-    let symbols = symbols_of(shelf, alloc, wanted.folder, case)?;
-    let mut golden = None;
-    if !wanted.updates {
-        if let Some(path) = sums_path(alloc, wanted, case)? {
-            golden = Some(golden_of(shelf, alloc, path.as_str())?);
-        }
-    }
-    Ok(Task {
+    let mut task = Task {
         job,
-        golden,
-        pngs: pngs_of(shelf, alloc, wanted.folder, case)?,
-        places: places_of(alloc, case, symbols.as_ref())?,
-        awaited: awaited_of(alloc, case, symbols.as_ref())?,
-    })
+        compared: Compared::new(alloc),
+        awaited: Vec::new(alloc),
+    };
+    read_task(shelf, alloc, wanted, case, &mut task)?;
+    Ok(task)
+}
+
+/// Runs the frames of a case, and judges them.
+fn judge_frames(
+    played: &mut Played,
+    frames: u32,
+    awaited: &mut [Awaited],
+    judging: &mut Judging<'_>,
+) -> Result<()> {
+    for frame in 0..frames {
+        played.next_frame(awaited)?;
+        judging.judge_frame(frame, played, None)?;
+    }
+    judging.end(awaited)
+}
+
+/// Runs the job of a case, and judges its frames.
+fn judge_job(
+    alloc: Global,
+    job: &Job,
+    frames: u32,
+    awaited: &mut [Awaited],
+    judging: &mut Judging<'_>,
+) -> Result<()> {
+    let mut played = Played::new(alloc, job)?;
+    judge_frames(&mut played, frames, awaited, judging)
 }
 
 /// Runs a case, and judges it.
-fn run_task(alloc: Global, keeps: bool, case: &Case, task: Task) -> Result<Verdict> {
-    let Task {
-        job,
-        golden,
-        pngs,
-        places,
-        mut awaited,
-    } = task;
-    let mut judging = Judging::new(alloc, case, keeps, golden, pngs.as_slice(), places);
-    let mut played = Played::new(alloc, &job)?;
-    for frame in 0..case.frames {
-        played.next_frame(awaited.as_mut_slice())?;
-        judging.judge_frame(frame, &played, None)?;
-    }
-    judging.end(awaited.as_slice())
+fn run_task(
+    alloc: Global,
+    keeps: bool,
+    case: &Case,
+    job: &Job,
+    compared: &Compared,
+    awaited: &mut [Awaited],
+) -> Result<Verdict> {
+    let mut judging = Judging::new(alloc, case, keeps, compared);
+    judge_job(alloc, job, case.frames, awaited, &mut judging)?;
+    Ok(judging.verdict())
 }
 
 /// What makes the golden sums of a case, if they are made.
@@ -171,18 +214,134 @@ fn recorder_of(
     alloc: Global,
     wanted: &Wanted<'_>,
     case: &Case,
-    job: &Job,
+    region: Region,
 ) -> Result<Option<Recorder>> {
     if !wanted.updates || case.sums.is_none() {
         return Ok(None);
     }
-    match Recorder::new(alloc, job.region, case.frames) {
+    match Recorder::new(alloc, region, case.frames) {
         Ok(recorder) => Ok(Some(recorder)),
         Err(_) => bail!("no memory"),
     }
 }
 
+/// What a run has beside its machines: its golden film, and what makes its golden sums.
+#[derive(Drop)]
+struct Beside<F: Read + Drop> {
+    film: Option<Film<F>>,
+    recorder: Option<Recorder>,
+}
+
+impl<F: Read + Drop> Beside<F> {
+    /// Takes the next frame, and judges it.
+    fn judge_frame(
+        &mut self,
+        frame: u32,
+        played: &Played,
+        judging: &mut Judging<'_>,
+    ) -> Result<()> {
+        if let Some(sums) = &mut self.recorder {
+            let emitted = played.emitted();
+            sums.take(emitted.picture.as_slice(), emitted.sound.as_slice());
+        }
+        match &mut self.film {
+            Some(film) => {
+                film.next(frame)?;
+                judging.judge_frame(frame, played, Some(film.picture.as_slice()))
+            }
+            None => judging.judge_frame(frame, played, None),
+        }
+    }
+
+    /// Runs the frames of a case, and judges them.
+    fn judge_frames(
+        &mut self,
+        played: &mut Played,
+        frames: u32,
+        awaited: &mut [Awaited],
+        judging: &mut Judging<'_>,
+    ) -> Result<()> {
+        for frame in 0..frames {
+            played.next_frame(awaited)?;
+            self.judge_frame(frame, played, judging)?;
+        }
+        judging.end(awaited)
+    }
+
+    /// Runs the job of a case, and judges its frames.
+    fn judge_job(
+        &mut self,
+        alloc: Global,
+        job: &Job,
+        frames: u32,
+        awaited: &mut [Awaited],
+        judging: &mut Judging<'_>,
+    ) -> Result<()> {
+        let mut played = Played::new(alloc, job)?;
+        self.judge_frames(&mut played, frames, awaited, judging)
+    }
+}
+
+/// What the run of a case has beside its machines.
+fn beside_of<R: Files + AllocGlobal>(
+    rt: &R,
+    wanted: &Wanted<'_>,
+    case: &Case,
+    region: Region,
+) -> Result<Beside<R::File>> {
+    let film = film_of(rt, wanted, case)?;
+    let recorder = recorder_of(rt.alloc(), wanted, case, region)?;
+    Ok(Beside { film, recorder })
+}
+
+/// Runs a case beside its golden film, or to make its golden sums, and judges it. Returns what made the sums, too.
+fn run_beside<R: Files + Print + AllocGlobal>(
+    rt: &R,
+    wanted: &Wanted<'_>,
+    case: &Case,
+    job: &Job,
+    awaited: &mut [Awaited],
+    judging: &mut Judging<'_>,
+) -> Result<Option<Recorder>> {
+    let mut beside = beside_of(rt, wanted, case, job.region)?;
+    beside.judge_job(rt.alloc(), job, case.frames, awaited, judging)?;
+    Ok(beside.recorder)
+}
+
+/// Writes the golden sums of a case that made them, and notes it.
+fn write_sums<R: Files + Print>(
+    shelf: &mut FileShelf<'_, R>,
+    alloc: Global,
+    wanted: &Wanted<'_>,
+    case: &Case,
+    sums: Recorder,
+    judging: &mut Judging<'_>,
+) -> Result<()> {
+    let Some(path) = sums_path(alloc, wanted, case)? else {
+        return Ok(());
+    };
+    sums.write(shelf, path.as_str())?;
+    let note = format!(in alloc; "wrote {path}")?;
+    judging.note(note)
+}
+
 /// Runs a case beside its golden film, or to make its golden sums, and judges it.
+fn judge_with_files<R: Files + Print + AllocGlobal>(
+    rt: &R,
+    shelf: &mut FileShelf<'_, R>,
+    wanted: &Wanted<'_>,
+    case: &Case,
+    job: &Job,
+    awaited: &mut [Awaited],
+    judging: &mut Judging<'_>,
+) -> Result<()> {
+    match run_beside(rt, wanted, case, job, awaited, judging)? {
+        Some(sums) => write_sums(shelf, rt.alloc(), wanted, case, sums, judging),
+        None => Ok(()),
+    }
+}
+
+/// Runs a case beside its golden film, or to make its golden sums, and returns the verdict on it.
 fn run_with_files<R: Files + Print + AllocGlobal>(
     rt: &R,
     shelf: &mut FileShelf<'_, R>,
@@ -190,40 +349,16 @@ fn run_with_files<R: Files + Print + AllocGlobal>(
     case: &Case,
     task: Task,
 ) -> Result<Verdict> {
-    let alloc = rt.alloc();
     let Task {
         job,
-        golden,
-        pngs,
-        places,
+        compared,
         mut awaited,
     } = task;
-    let mut film = film_of(rt, wanted, case)?;
-    let mut recorder = recorder_of(alloc, wanted, case, &job)?;
-    let mut judging = Judging::new(alloc, case, wanted.keeps, golden, pngs.as_slice(), places);
-    let mut played = Played::new(alloc, &job)?;
-    for frame in 0..case.frames {
-        played.next_frame(awaited.as_mut_slice())?;
-        if let Some(sums) = &mut recorder {
-            let emitted = played.emitted();
-            sums.take(emitted.picture.as_slice(), emitted.sound.as_slice());
-        }
-        match &mut film {
-            Some(film) => {
-                film.next(frame)?;
-                judging.judge_frame(frame, &played, Some(film.picture.as_slice()))?;
-            }
-            None => judging.judge_frame(frame, &played, None)?,
-        }
-    }
-    let mut verdict = judging.end(awaited.as_slice())?;
-    if let (Some(sums), Some(path)) = (recorder, sums_path(alloc, wanted, case)?) {
-        sums.write(shelf, path.as_str())?;
-        verdict.notes.push(format!(in alloc; "wrote {path}")?)?;
-    }
-    Ok(verdict)
+    let awaited = awaited.as_mut_slice();
+    let mut judging = Judging::new(rt.alloc(), case, wanted.keeps, &compared);
+    judge_with_files(rt, shelf, wanted, case, &job, awaited, &mut judging)?;
+    Ok(judging.verdict())
 }
-
 /// Compares why a cartridge is refused with what is expected.
 fn judge_refusal(alloc: Global, case: &Case, cause: &str) -> Result<Verdict> {
     let mut verdict = Verdict::new(alloc);
@@ -242,29 +377,45 @@ fn accepted(alloc: Global) -> Result<Verdict> {
     Ok(verdict)
 }
 
+/// Reads what the run of a case needs, and makes the run at once if it reads or writes files.
+fn ready_to_run<R: Files + Print + AllocGlobal>(
+    rt: &R,
+    shelf: &mut FileShelf<'_, R>,
+    wanted: &Wanted<'_>,
+    case: &Case,
+    job: Job,
+) -> Result<Ready> {
+    let task = task_of(shelf, rt.alloc(), wanted, case, job)?;
+    if case.film.is_some() || (wanted.updates && case.sums.is_some()) {
+        let verdict = run_with_files(rt, shelf, wanted, case, task)?;
+        return Ok(Ready::Ended(verdict));
+    }
+    Ok(Ready::Runs(task))
+}
+
+/// Reads a case with this shelf.
+fn ready_by<R: Files + Print + AllocGlobal>(
+    rt: &R,
+    shelf: &mut FileShelf<'_, R>,
+    wanted: &Wanted<'_>,
+    case: &Case,
+) -> Result<Ready> {
+    let alloc = rt.alloc();
+    match input_of(shelf, alloc, wanted.folder, case)? {
+        Input::Refused(cause) => { Ok(Ready::Ended(judge_refusal(alloc, case, cause.as_str())?)) }
+        Input::Runs(_) if case.refused.is_some() => Ok(Ready::Ended(accepted(alloc)?)),
+        Input::Runs(job) => ready_to_run(rt, shelf, wanted, case, job),
+    }
+}
+
 /// Reads a case. What can't be read is an error.
 fn try_ready<R: Files + Print + AllocGlobal>(
     rt: &R,
     wanted: &Wanted<'_>,
     case: &Case,
 ) -> Result<Ready> {
-    let alloc = rt.alloc();
     let mut shelf = FileShelf::new(rt);
-    let job = match input_of(&mut shelf, alloc, wanted.folder, case)? {
-        Input::Refused(cause) => {
-            return Ok(Ready::Ended(judge_refusal(alloc, case, cause.as_str())?));
-        }
-        Input::Runs(job) => job,
-    };
-    if case.refused.is_some() {
-        return Ok(Ready::Ended(accepted(alloc)?));
-    }
-    let task = task_of(&mut shelf, alloc, wanted, case, job)?;
-    if case.film.is_some() || (wanted.updates && case.sums.is_some()) {
-        let verdict = run_with_files(rt, &mut shelf, wanted, case, task)?;
-        return Ok(Ready::Ended(verdict));
-    }
-    Ok(Ready::Runs(task))
+    ready_by(rt, &mut shelf, wanted, case)
 }
 
 /// Reads a case. If it can't be read, its verdict says so.
@@ -275,11 +426,14 @@ pub fn ready_case<R: Files + Print + AllocGlobal>(
 ) -> Result<Ready, AllocError> {
     match try_ready(rt, wanted, case) {
         Ok(ready) => Ok(ready),
-        Err(error) => {
-            let reason = format!(in rt.alloc(); "{error:#}")?;
-            Ok(Ready::Ended(Verdict::fault(rt.alloc(), reason)?))
-        }
+        Err(error) => Ok(Ready::Ended(fault_for(rt.alloc(), &error)?)),
     }
+}
+
+/// The verdict on a case that could not be run, for this error.
+fn fault_for(alloc: Global, error: &Error) -> Result<Verdict, AllocError> {
+    let reason = format!(in alloc; "{error:#}")?;
+    Verdict::fault(alloc, reason)
 }
 
 /// Runs a case that has been read, and returns the verdict on it.
@@ -289,8 +443,13 @@ pub fn judge_task(
     case: &Case,
     task: Task,
 ) -> Result<Verdict, AllocError> {
-    match run_task(alloc, keeps, case, task) {
+    let Task {
+        job,
+        compared,
+        mut awaited,
+    } = task;
+    match run_task(alloc, keeps, case, &job, &compared, awaited.as_mut_slice()) {
         Ok(verdict) => Ok(verdict),
-        Err(error) => Verdict::fault(alloc, format!(in alloc; "{error:#}")?),
+        Err(error) => fault_for(alloc, &error),
     }
 }

@@ -136,6 +136,31 @@ fn script_of<R: Files + Print>(
     Ok(script)
 }
 
+/// What a job has beside its cartridge.
+#[derive(Drop)]
+struct Inputs {
+    boot: [u8; 64],
+    table: Table,
+    script: Spans,
+}
+
+/// Reads what a job has beside its cartridge.
+fn inputs_of<R: Files + Print>(
+    shelf: &mut FileShelf<'_, R>,
+    alloc: Global,
+    folder: &str,
+    case: &Case,
+) -> Result<Inputs> {
+    let boot = boot_of(shelf, alloc, folder, case)?;
+    let table = table_of(shelf, alloc, folder, case)?;
+    let script = script_of(shelf, alloc, folder, case)?;
+    Ok(Inputs {
+        boot,
+        table,
+        script,
+    })
+}
+
 /// The job of a cartridge.
 fn job_of<R: Files + Print>(
     shelf: &mut FileShelf<'_, R>,
@@ -144,9 +169,11 @@ fn job_of<R: Files + Print>(
     case: &Case,
     cart: Cart,
 ) -> Result<Job> {
-    let boot = boot_of(shelf, alloc, folder, case)?;
-    let table = table_of(shelf, alloc, folder, case)?;
-    let script = script_of(shelf, alloc, folder, case)?;
+    let Inputs {
+        boot,
+        table,
+        script,
+    } = inputs_of(shelf, alloc, folder, case)?;
     let region = script.region();
     Ok(Job {
         cart,
@@ -158,6 +185,17 @@ fn job_of<R: Files + Print>(
     })
 }
 
+/// Reads the file of a case's cartridge.
+fn cart_bytes<R: Files + Print>(
+    shelf: &mut FileShelf<'_, R>,
+    alloc: Global,
+    folder: &str,
+    case: &Case,
+) -> Result<Vec<u8>> {
+    let name = name_in(alloc, folder, case.cart.as_str())?;
+    load(shelf, alloc, name.as_str(), CART)
+}
+
 /// Reads what a case runs.
 pub fn input_of<R: Files + Print>(
     shelf: &mut FileShelf<'_, R>,
@@ -165,9 +203,7 @@ pub fn input_of<R: Files + Print>(
     folder: &str,
     case: &Case,
 ) -> Result<Input> {
-    let name = name_in(alloc, folder, case.cart.as_str())?;
-    let bytes = load(shelf, alloc, name.as_str(), CART)?;
-    match accept(bytes) {
+    match accept(cart_bytes(shelf, alloc, folder, case)?) {
         Ok(cart) => Ok(Input::Runs(job_of(shelf, alloc, folder, case, cart)?)),
         Err(CartEnd::NoMemory) => bail!("no memory"),
         Err(CartEnd::Refused(cause)) => Ok(Input::Refused(words_of(alloc, cause)?)),

@@ -88,6 +88,15 @@ impl Crew {
     }
 }
 
+/// Runs a case that is dealt to a worker. The pictures and the sound of one that is as expected are dropped.
+fn judge(alloc: Global, keeps: bool, case: &Case, task: Task) -> Result<Verdict, AllocError> {
+    let mut verdict = judge_task(alloc, keeps, case, task)?;
+    if verdict.end() == End::Passed {
+        verdict.forget();
+    }
+    Ok(verdict)
+}
+
 /// Runs the cases that are dealt to a worker.
 fn work(
     alloc: Global,
@@ -99,10 +108,7 @@ fn work(
     for dealt in hand {
         let Dealt { place, task } = dealt;
         if let Some(case) = wave.get(place) {
-            let mut verdict = judge_task(alloc, keeps, case, task)?;
-            if verdict.end() == End::Passed {
-                verdict.forget();
-            }
+            let verdict = judge(alloc, keeps, case, task)?;
             done.push(Judged { place, verdict })?;
         }
     }
@@ -149,6 +155,67 @@ fn put_in(
     Ok(())
 }
 
+/// Deals what the run of the case at a place needs to a worker. If it has ended without a run, its verdict is noted.
+fn deal(
+    ready: Ready,
+    place: usize,
+    hands: &mut [Vec<Dealt>],
+    found: &mut Vec<Option<Verdict>>,
+) -> Result<(), AllocError> {
+    match ready {
+        Ready::Ended(verdict) => Ok(found.push(Some(verdict))?),
+        Ready::Runs(task) => {
+            let workers = hands.len().max(1);
+            if let Some(hand) = hands.get_mut(place % workers) {
+                hand.push(Dealt { place, task })?;
+            }
+            Ok(found.push(None)?)
+        }
+    }
+}
+
+/// Reads the cases of a wave, and deals what their runs need to so many workers.
+fn deal_wave<R: Files + Print + AllocGlobal>(
+    rt: &R,
+    wanted: &Wanted<'_>,
+    wave: &[Case],
+    hands: &mut [Vec<Dealt>],
+    found: &mut Vec<Option<Verdict>>,
+) -> Result<()> {
+    for (place, case) in wave.iter().enumerate() {
+        let ready = ready_case(rt, wanted, case)?;
+        deal(ready, place, hands, found)?;
+    }
+    Ok(())
+}
+
+/// Deals the cases of a wave to so many workers, and lets them run. Returns what each has judged. A case that has ended
+/// without a run has its verdict in `found`, and any other one nothing.
+fn run_wave<R: Files + Print + AllocGlobal + Threads + Sync>(
+    rt: &R,
+    wanted: &Wanted<'_>,
+    workers: usize,
+    wave: &[Case],
+    found: &mut Vec<Option<Verdict>>,
+) -> Result<Vec<Result<Vec<Judged>, AllocError>>> {
+    let (alloc, keeps) = (rt.alloc(), wanted.keeps);
+    let mut hands = empty_hands(alloc, workers)?;
+    deal_wave(rt, wanted, wave, hands.as_mut_slice(), found)?;
+    Ok(thread::map_vec(rt, hands, &|hand| work(alloc, keeps, wave, hand))?)
+}
+
+/// Judges the cases of a wave into `found`, at the places of the cases.
+fn judge_into<R: Files + Print + AllocGlobal + Threads + Sync>(
+    rt: &R,
+    wanted: &Wanted<'_>,
+    workers: usize,
+    wave: &[Case],
+    found: &mut Vec<Option<Verdict>>,
+) -> Result<()> {
+    let lists = run_wave(rt, wanted, workers, wave, found)?;
+    Ok(put_in(found, lists)?)
+}
+
 /// Judges the cases of a wave. The verdicts are in the order of the cases. `before` is how many cases are before it.
 pub fn judge_wave<R: Files + Print + Eprint + AllocGlobal + Threads + Sync>(
     rt: &R,
@@ -157,24 +224,10 @@ pub fn judge_wave<R: Files + Print + Eprint + AllocGlobal + Threads + Sync>(
     before: usize,
     wave: &[Case],
 ) -> Result<Vec<Verdict>> {
-    let (alloc, keeps) = (rt.alloc(), wanted.keeps);
     crew.show(rt, before, wave);
     let workers = crew.workers.min(wave.len()).max(1);
-    let mut hands = empty_hands(alloc, workers)?;
-    let mut found = Vec::new(alloc);
-    for (place, case) in wave.iter().enumerate() {
-        match ready_case(rt, wanted, case)? {
-            Ready::Ended(verdict) => found.push(Some(verdict))?,
-            Ready::Runs(task) => {
-                found.push(None)?;
-                if let Some(hand) = hands.get_mut(place % workers) {
-                    hand.push(Dealt { place, task })?;
-                }
-            }
-        }
-    }
-    let lists = thread::map_vec(rt, hands, &|hand| work(alloc, keeps, wave, hand))?;
+    let mut found = Vec::new(rt.alloc());
+    judge_into(rt, wanted, workers, wave, &mut found)?;
     crew.hide(rt);
-    put_in(&mut found, lists)?;
-    Ok(in_order(alloc, found)?)
+    Ok(in_order(rt.alloc(), found)?)
 }

@@ -35,6 +35,28 @@ impl Differing {
     }
 }
 
+/// What the run of a case is compared with, beside what the case says itself.
+#[derive(Drop)]
+pub struct Compared {
+    /// The golden sums, if there are some.
+    pub golden: Option<SumsFile>,
+    /// The golden PNGs.
+    pub pngs: Vec<GoldenPng>,
+    /// Where each memory check looks.
+    pub places: Vec<u32>,
+}
+
+impl Compared {
+    /// Nothing so far.
+    pub fn new(alloc: Global) -> Compared {
+        Compared {
+            golden: None,
+            pngs: Vec::new(alloc),
+            places: Vec::new(alloc),
+        }
+    }
+}
+
 /// A case while it is judged.
 #[derive(Drop)]
 pub struct Judging<'a> {
@@ -42,10 +64,7 @@ pub struct Judging<'a> {
     case: &'a Case,
     /// Whether pictures and samples are kept for a page.
     keeps: bool,
-    golden: Option<SumsFile>,
-    pngs: &'a [GoldenPng],
-    /// Where each memory check looks.
-    places: Vec<u32>,
+    compared: &'a Compared,
     verdict: Verdict,
     /// All pictures and all samples so far, if there are golden sums.
     pictures: Sha256,
@@ -103,21 +122,12 @@ fn other_sum(
 
 impl<'a> Judging<'a> {
     /// Returns a case before its run.
-    pub fn new(
-        alloc: Global,
-        case: &'a Case,
-        keeps: bool,
-        golden: Option<SumsFile>,
-        pngs: &'a [GoldenPng],
-        places: Vec<u32>,
-    ) -> Judging<'a> {
+    pub fn new(alloc: Global, case: &'a Case, keeps: bool, compared: &'a Compared) -> Judging<'a> {
         Judging {
             alloc,
             case,
             keeps,
-            golden,
-            pngs,
-            places,
+            compared,
             verdict: Verdict::new(alloc),
             pictures: Sha256::new(),
             sounds: Sha256::new(),
@@ -162,8 +172,8 @@ impl<'a> Judging<'a> {
 
     /// Compares the picture of a frame with its golden PNGs.
     fn check_pngs(&mut self, frame: u32, picture: &[u8]) -> Result<()> {
-        let (alloc, pngs) = (self.alloc, self.pngs);
-        for png in pngs {
+        let (alloc, compared) = (self.alloc, self.compared);
+        for png in compared.pngs.as_slice() {
             if png.at == frame {
                 let found = png.compare(alloc, picture)?;
                 if let Some(place) = found.place {
@@ -180,7 +190,7 @@ impl<'a> Judging<'a> {
 
     /// Compares the sums of a frame with the golden ones. Returns whether they are the same.
     fn compare_golden(&mut self, frame: u32, sums: &SumPair) -> bool {
-        let Some(expected) = golden_pair(&self.golden, frame) else {
+        let Some(expected) = golden_pair(&self.compared.golden, frame) else {
             return true;
         };
         let pictures_same = expected.picture == sums.picture;
@@ -215,7 +225,7 @@ impl<'a> Judging<'a> {
         let case = self.case;
         let mut sums = None;
         let mut is_same = true;
-        if self.golden.is_some() {
+        if self.compared.golden.is_some() {
             self.pictures.update(emitted.picture.as_slice());
             self.sounds.update(emitted.sound.as_slice());
             let pair = sums_of(emitted);
@@ -251,7 +261,7 @@ impl<'a> Judging<'a> {
         let case = self.case;
         let mut is_same = true;
         for (number, check) in case.memory_checks.as_slice().iter().enumerate() {
-            let place = self.places.as_slice().get(number).copied();
+            let place = self.compared.places.as_slice().get(number).copied();
             if let Some(place) = place {
                 if check.at == frame {
                     is_same = self.check_memory(played, check, place)? && is_same;
@@ -310,7 +320,7 @@ impl<'a> Judging<'a> {
     /// Compares the number of frames and the sums of the whole run with the golden ones.
     fn judge_whole(&mut self, name: &str) -> Result<()> {
         let (alloc, frames) = (self.alloc, self.case.frames);
-        let Some(golden) = &self.golden else {
+        let Some(golden) = &self.compared.golden else {
             return Ok(());
         };
         let (count, all) = (golden.frames(), golden.all());
@@ -358,8 +368,8 @@ impl<'a> Judging<'a> {
         Ok(())
     }
 
-    /// Returns the verdict after the run.
-    pub fn end(mut self, awaited: &[Awaited]) -> Result<Verdict> {
+    /// Judges the whole run after its last frame.
+    pub fn end(&mut self, awaited: &[Awaited]) -> Result<()> {
         let case = self.case;
         let sums = text_or_empty(&case.sums);
         let film = text_or_empty(&case.film);
@@ -370,7 +380,16 @@ impl<'a> Judging<'a> {
         self.judge_whole(sums)?;
         self.tell_differing("pictures", film, film_pictures)?;
         self.judge_sound()?;
-        self.judge_reaches(awaited)?;
-        Ok(self.verdict)
+        self.judge_reaches(awaited)
+    }
+
+    /// Notes what else was done: a line.
+    pub fn note(&mut self, line: String) -> Result<()> {
+        Ok(self.verdict.notes.push(line)?)
+    }
+
+    /// Returns the verdict.
+    pub fn verdict(self) -> Verdict {
+        self.verdict
     }
 }

@@ -61,31 +61,64 @@ fn chosen(alloc: Global, name: Option<&str>, all: Vec<Case>) -> Result<Vec<Case>
     Ok(list)
 }
 
+/// How the cases are run and told.
+#[derive(Clone, Copy)]
+struct Told<'a> {
+    wanted: Wanted<'a>,
+    crew: Crew,
+    /// Whether what is printed is TAP.
+    is_tap: bool,
+}
+
+/// Prints what is known of a case, the `number`th, and adds it to the page, if there is one.
+fn tell_case<R: Files + Print + AllocGlobal>(
+    rt: &R,
+    is_tap: bool,
+    number: usize,
+    case: &Case,
+    verdict: &Verdict,
+    page: &mut Option<Page<'_>>,
+) -> Result<()> {
+    print_case(rt, is_tap, number, case, verdict)?;
+    match page {
+        Some(page) => page.add(rt, case, verdict),
+        None => Ok(()),
+    }
+}
+
+/// Tells the verdicts on the cases of a wave, and keeps them without their pictures and sound.
+fn tell_wave<R: Files + Print + AllocGlobal>(
+    rt: &R,
+    is_tap: bool,
+    wave: &[Case],
+    judged: Vec<Verdict>,
+    page: &mut Option<Page<'_>>,
+    verdicts: &mut Vec<Verdict>,
+) -> Result<()> {
+    for (case, verdict) in wave.iter().zip(judged) {
+        let mut verdict = verdict;
+        let number = verdicts.len().saturating_add(1);
+        tell_case(rt, is_tap, number, case, &verdict, page)?;
+        verdict.forget();
+        verdicts.push(verdict)?;
+    }
+    Ok(())
+}
+
 /// Runs the cases, prints what is known of each, and adds it to the page, if there is one.
 fn run_cases<R: Files + Print + Eprint + AllocGlobal + Threads + Sync>(
     rt: &R,
-    wanted: &Wanted<'_>,
-    crew: Crew,
-    is_tap: bool,
+    told: &Told<'_>,
     cases: &[Case],
     page: &mut Option<Page<'_>>,
-) -> Result<Vec<Verdict>> {
-    let mut verdicts = Vec::new(rt.alloc());
-    let mut number = 0usize;
+    verdicts: &mut Vec<Verdict>,
+) -> Result<()> {
+    let crew = told.crew;
     for wave in cases.chunks(crew.wave()) {
-        let judged = judge_wave(rt, wanted, crew, number, wave)?;
-        for (case, verdict) in wave.iter().zip(judged) {
-            let mut verdict = verdict;
-            number = number.saturating_add(1);
-            print_case(rt, is_tap, number, case, &verdict)?;
-            if let Some(page) = page {
-                page.add(rt, case, &verdict)?;
-            }
-            verdict.forget();
-            verdicts.push(verdict)?;
-        }
+        let judged = judge_wave(rt, &told.wanted, crew, verdicts.len(), wave)?;
+        tell_wave(rt, told.is_tap, wave, judged, page, verdicts)?;
     }
-    Ok(verdicts)
+    Ok(())
 }
 
 /// The exit status: that of a fault if a case could not be run, else that of a no if one failed.
@@ -122,45 +155,104 @@ fn page_of<'a, R: Files + AllocGlobal>(
     }
 }
 
+/// The cases of the file of this name that are run.
+fn cases_of<R: Files + AllocGlobal>(
+    rt: &R,
+    name: &str,
+    chosen_name: Option<&str>,
+) -> Result<Vec<Case>> {
+    let text = fs::read_to_string(rt, name).context(format_args!("cannot read {name}"))?;
+    let all = read_cases(rt.alloc(), name, text.as_str())?;
+    chosen(rt.alloc(), chosen_name, all)
+}
+
+/// Writes JUnit's XML, if the command line asks for it.
+fn write_junit<R: Files + AllocGlobal>(
+    rt: &R,
+    words: &ArgMatches<'_>,
+    name: &str,
+    counts: &Counts,
+    cases: &[Case],
+    verdicts: &[Verdict],
+) -> Result<()> {
+    let Some(out) = words.get_str("junit") else {
+        return Ok(());
+    };
+    let text = junit_text(rt.alloc(), name, counts, cases, verdicts)?;
+    fs::write(rt, out, text.as_bytes()).context(format_args!("cannot write {out}"))
+}
+
+/// Writes the page, if there is one.
+fn write_page<R: Files + AllocGlobal>(
+    rt: &R,
+    page: Option<Page<'_>>,
+    count: usize,
+    passed: usize,
+) -> Result<()> {
+    let Some(page) = page else {
+        return Ok(());
+    };
+    let line = format!(in rt.alloc(); "{passed} of {count} cases are as expected.")?;
+    page.write(rt, line.as_str())
+}
+
+/// Runs the cases, and adds them to the page, if there is one. Writes the reports but for the page.
+fn report_cases<R: Files + Print + Eprint + AllocGlobal + Threads + Sync>(
+    rt: &R,
+    words: &ArgMatches<'_>,
+    name: &str,
+    told: &Told<'_>,
+    cases: &[Case],
+    page: &mut Option<Page<'_>>,
+    verdicts: &mut Vec<Verdict>,
+) -> Result<Counts> {
+    if told.is_tap {
+        println!(rt; "TAP version 13\n1..{}", cases.len())?;
+    }
+    run_cases(rt, told, cases, page, verdicts)?;
+    let counts = counts_in(rt, verdicts.as_slice())?;
+    if !told.is_tap {
+        print_counts(rt, cases.len(), &counts)?;
+    }
+    write_junit(rt, words, name, &counts, cases, verdicts.as_slice())?;
+    Ok(counts)
+}
+
+/// Runs the cases of the file of this name, writes the reports, and returns the status.
+fn judge_cases<R: Files + Print + Eprint + AllocGlobal + Threads + Sync>(
+    rt: &R,
+    words: &ArgMatches<'_>,
+    name: &str,
+    shows: bool,
+    cases: &[Case],
+) -> Result<u8> {
+    let out = words.get_str("out");
+    let jobs = words.get_one::<u32>("jobs").unwrap_or(1);
+    let told = Told {
+        wanted: Wanted {
+            folder: folder_of(name),
+            keeps: out.is_some(),
+            updates: words.get_flag("update"),
+        },
+        crew: Crew::new(jobs, shows, cases.len()),
+        is_tap: words.get_flag("tap"),
+    };
+    let mut page = page_of(rt, out, name)?;
+    let mut verdicts = Vec::new(rt.alloc());
+    let counts = report_cases(rt, words, name, &told, cases, &mut page, &mut verdicts)?;
+    write_page(rt, page, cases.len(), counts.passed)?;
+    Ok(status_of(&counts))
+}
+
 /// Runs the file that the words name, and returns the status.
 fn run_file<R: Files + Print + Eprint + AllocGlobal + Threads + Sync>(
     rt: &R,
     words: &ArgMatches<'_>,
     shows: bool,
 ) -> Result<u8> {
-    let alloc = rt.alloc();
     let name = words.get_str("FILE").unwrap_or("");
-    let text = fs::read_to_string(rt, name).context(format_args!("cannot read {name}"))?;
-    let all = read_cases(alloc, name, text.as_str())?;
-    let cases = chosen(alloc, words.get_str("case"), all)?;
-    let is_tap = words.get_flag("tap");
-    let out = words.get_str("out");
-    let wanted = Wanted {
-        folder: folder_of(name),
-        keeps: out.is_some(),
-        updates: words.get_flag("update"),
-    };
-    let mut page = page_of(rt, out, name)?;
-    if is_tap {
-        println!(rt; "TAP version 13\n1..{}", cases.len())?;
-    }
-    let jobs = words.get_one::<u32>("jobs").unwrap_or(1);
-    let crew = Crew::new(jobs, shows, cases.len());
-    let verdicts = run_cases(rt, &wanted, crew, is_tap, cases.as_slice(), &mut page)?;
-    let counts = counts_in(rt, verdicts.as_slice())?;
-    if !is_tap {
-        print_counts(rt, cases.len(), &counts)?;
-    }
-    if let Some(out) = words.get_str("junit") {
-        let text = junit_text(alloc, name, &counts, cases.as_slice(), verdicts.as_slice())?;
-        fs::write(rt, out, text.as_bytes()).context(format_args!("cannot write {out}"))?;
-    }
-    if let Some(page) = page {
-        let (count, passed) = (cases.len(), counts.passed);
-        let line = format!(in alloc; "{passed} of {count} cases are as expected.")?;
-        page.write(rt, line.as_str())?;
-    }
-    Ok(status_of(&counts))
+    let cases = cases_of(rt, name, words.get_str("case"))?;
+    judge_cases(rt, words, name, shows, cases.as_slice())
 }
 
 /// Reads the command line, and does what it asks for.

@@ -24,28 +24,50 @@ pub struct GoldenPng {
     golden: Golden,
 }
 
+/// Reads the file of a golden PNG.
+fn file_of<R: Files + Print>(
+    shelf: &mut FileShelf<'_, R>,
+    alloc: Global,
+    folder: &str,
+    name: &str,
+) -> Result<(Vec<u8>, Golden)> {
+    let path = name_in(alloc, folder, name)?;
+    let file = load(shelf, alloc, path.as_str(), PNG)?;
+    let golden = Golden::read(alloc, path.as_str(), file.as_slice())?;
+    Ok((file, golden))
+}
+
+/// Reads the golden PNG of a frame.
+fn png_of<R: Files + Print>(
+    shelf: &mut FileShelf<'_, R>,
+    alloc: Global,
+    folder: &str,
+    at: u32,
+    name: &str,
+) -> Result<GoldenPng> {
+    let (file, golden) = file_of(shelf, alloc, folder, name)?;
+    Ok(GoldenPng {
+        at,
+        name: String::from_str(alloc, name)?,
+        file,
+        golden,
+    })
+}
+
 /// Reads the golden PNGs of a case.
-pub fn pngs_of<R: Files + Print>(
+pub fn read_pngs<R: Files + Print>(
     shelf: &mut FileShelf<'_, R>,
     alloc: Global,
     folder: &str,
     case: &Case,
-) -> Result<Vec<GoldenPng>> {
-    let mut pngs = Vec::new(alloc);
+    pngs: &mut Vec<GoldenPng>,
+) -> Result<()> {
     for check in case.frame_checks.as_slice() {
         if let Some(name) = &check.png {
-            let path = name_in(alloc, folder, name.as_str())?;
-            let file = load(shelf, alloc, path.as_str(), PNG)?;
-            let golden = Golden::read(alloc, path.as_str(), file.as_slice())?;
-            pngs.push(GoldenPng {
-                at: check.at,
-                name: String::from_str(alloc, name.as_str())?,
-                file,
-                golden,
-            })?;
+            pngs.push(png_of(shelf, alloc, folder, check.at, name.as_str())?)?;
         }
     }
-    Ok(pngs)
+    Ok(())
 }
 
 impl GoldenPng {

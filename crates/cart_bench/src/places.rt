@@ -94,6 +94,38 @@ fn other_bytes(
     )
 }
 
+/// Says what these bytes are, which are not as expected. `place` is what reports call theirs.
+fn other_value(
+    alloc: Global,
+    check: &MemoryCheck,
+    first: u32,
+    place: &str,
+    came: &[u8],
+) -> Result<String, AllocError> {
+    if came.len() < check.expected.size() {
+        return format!(in alloc; "{place} is not all memory");
+    }
+    match &check.expected {
+        Expected::Byte(least, most) | Expected::Word(least, most) => {
+            other_number(alloc, place, number_of(came), *least, *most)
+        }
+        Expected::Bytes(bytes) => other_bytes(alloc, check, first, came, bytes.as_slice()),
+    }
+}
+
+/// Says what is not as expected: these bytes.
+fn line_of(
+    alloc: Global,
+    check: &MemoryCheck,
+    first: u32,
+    came: &[u8],
+) -> Result<String, AllocError> {
+    let place = place_text(alloc, check, first)?;
+    let what = other_value(alloc, check, first, place.as_str(), came)?;
+    let frame = check.at;
+    format!(in alloc; "frame {frame}: {}", what.as_str())
+}
+
 /// Compares a memory with what is expected of it, from this offset or address on. Returns what is not as expected.
 pub fn compare_memory(
     alloc: Global,
@@ -101,25 +133,9 @@ pub fn compare_memory(
     check: &MemoryCheck,
     first: u32,
 ) -> Result<Option<String>, AllocError> {
-    let count = check.expected.size();
-    let came = bytes_at(alloc, played, check, first, count)?;
+    let came = bytes_at(alloc, played, check, first, check.expected.size())?;
     if check.expected.is_met(came.as_slice()) {
         return Ok(None);
     }
-    let frame = check.at;
-    let place = place_text(alloc, check, first)?;
-    let what = if came.len() < count {
-        format!(in alloc; "{} is not all memory", place.as_str())?
-    } else {
-        match &check.expected {
-            Expected::Byte(least, most) | Expected::Word(least, most) => {
-                let number = number_of(came.as_slice());
-                other_number(alloc, place.as_str(), number, *least, *most)?
-            }
-            Expected::Bytes(bytes) => {
-                other_bytes(alloc, check, first, came.as_slice(), bytes.as_slice())?
-            }
-        }
-    };
-    Ok(Some(format!(in alloc; "frame {frame}: {}", what.as_str())?))
+    Ok(Some(line_of(alloc, check, first, came.as_slice())?))
 }
