@@ -14,7 +14,7 @@ use Rattle.snes_program.specs.Command.{Command, never}
 
 -- the words: a sound file and a table, samples, and an output
 abbrev pub play_form : FormValue
-play_form = record { numbered = false; inputs = Spc ∷ (Table ∷ []); optional = []; count = Some Samples; outputs = Sound ∷ [] }
+play_form = record { numbered = false; inputs = Spc ∷ (Table ∷ []); optional = []; count = Some Samples; settings = []; outputs = Sound ∷ [] }
 
 -- what the sound file holds and the table are those of the inputs, as far as they are told
 pub record ShowsSound (told : Input → Option (List ℕ)) (image : Image) (table : List ℕ) : Type 0 where

@@ -39,6 +39,7 @@ impl Performs for Play {
             inputs: &INPUTS,
             optional: &[],
             count: Some(Count::Samples),
+            settings: &[],
             outputs: &OUTPUTS,
         }
     }
