@@ -70,13 +70,14 @@ fn last_step(stamp: u64) -> u64
 
 impl Player {
     /// Takes one step as `turn` does. If it makes a sample, returns the four bytes that it would emit for a stem.
+    #[tactic(auto, using(serial_console::proofs::Taken::taken_got))]
     fn turn_apart(&mut self, stem: u16) -> [u8; 4]
         requires room { length (waiting_of self.old) + 4 ≤ 4096 }
         requires early { stamp_of self.old ≤ 2 ^ 62 }
         ensures next { (w : Playing) → IsPlaying self.old w → IsPlaying self.new (stepped w) }
         ensures emits { (w : Playing) → IsPlaying self.old w → waiting_of self.new ≡ waiting_of self.old ++ step_emits w }
         ensures stem { (w : Playing) → IsPlaying self.old w → IsTrue (is_sampling w.sound.clock.cycle) → result ≡ stem_emitted stem w.sound }
-        ensures rises_at_most { stamp_of self.new ≤ stamp_of self.old + 225280 }
+        ensures rises { stamp_of self.new ≡ stamp_of self.old + 118125 }
         ensures emits_at_most { length (waiting_of self.new) ≤ length (waiting_of self.old) + 4 }
     {
         let act = self.side.act();
