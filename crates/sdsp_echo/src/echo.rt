@@ -389,4 +389,32 @@ impl Echo {
             self.mix_heard(voices, sums, ram)
         }
     }
+
+    /// Returns the two numbers that `mix` would, left and right, and changes neither the echo nor RAM.
+    #[tactic(auto, unfolding(crate::specs::Echo::left_out, crate::specs::Echo::right_out))]
+    #[inline(always)]
+    pub fn peek(&self, voices: &Voices, sums: Sums, ram: &[u8]) -> (i16, i16)
+        requires { length ram.now ≡ 65536 }
+        ensures left { result.0 ≡ left_out voices.now sums ram.now self.now }
+        ensures right { result.1 ≡ right_out voices.now sums ram.now self.now }
+    {
+        let left = filter(voices, &self.next_left(voices, ram));
+        let right = filter(voices, &self.next_right(voices, ram));
+        (
+            out(
+                voices,
+                sums.left,
+                voices.kept(0x0C),
+                left,
+                voices.kept(0x2C),
+            ),
+            out(
+                voices,
+                sums.right,
+                voices.kept(0x1C),
+                right,
+                voices.kept(0x3C),
+            ),
+        )
+    }
 }
