@@ -11,8 +11,8 @@ use Rattle.sdsp_voice.specs.Signed.{clamped_16, signed_byte}
 use Rattle.sdsp_voice.specs.declared.voices.Voices.{Voices}
 use Rattle.audio_side.specs.SoundLaws.{by_test}
 use Rattle.audio_side.specs.Stem.{silenced, silenced_below, stem_voices}
-use Rattle.stem_laws.specs.Parts.{IsUnheld, eight, left_alone, left_below, left_part, right_alone, right_below, right_part}
-use Rattle.stem_laws.proofs.Alike.{IsAlike, is_volume, left_more, left_volume, prepared_alike, right_more, right_volume, stem_alike, volume_written}
+use Rattle.stem_player_laws.specs.Parts.{IsUnheld, eight, left_alone, left_below, left_part, right_alone, right_below, right_part}
+use Rattle.stem_player_laws.proofs.Alike.{IsAlike, is_volume, left_more, left_volume, prepared_alike, right_more, right_volume, stem_alike, volume_written}
 
 -- ---- sums that are held
 

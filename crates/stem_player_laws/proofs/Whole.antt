@@ -19,7 +19,7 @@ use Rattle.spc_player.proofs.Pairs.{one_more}
 use Rattle.spc_player.proofs.Steps.{cycle_after, cycle_of, silent}
 use Rattle.stem_player.specs.Heard.{at_level, heard_pairs, heard_sample, level}
 use Rattle.stem_player.specs.declared.heard.Heard.{Heard}
-use Rattle.stem_laws.proofs.Levels.{full_level}
+use Rattle.stem_player_laws.proofs.Levels.{full_level}
 
 -- all nine parts, without a fade
 abbrev pub all : Heard

@@ -1,7 +1,7 @@
 ghost use Rattle.std.specs.Prelude.{◌≡◌, ℕ, List};
 ghost use Rattle.sdsp_voice.specs.Sample.{sums_of};
 ghost use Rattle.sdsp_voice.specs.declared.voices.Voices.{Voices};
-ghost use Rattle.stem_laws.specs.Parts.{IsUnheld, eight, left_alone, right_alone};
+ghost use Rattle.stem_player_laws.specs.Parts.{IsUnheld, eight, left_alone, right_alone};
 
 /// States that the voices add up: the sums of a sample are those of the eight stems of one voice each, added. This is
 /// before the main volume and the echo. No sum and no voice may be held at the ends of 16 bits.

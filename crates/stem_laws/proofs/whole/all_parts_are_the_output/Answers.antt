@@ -1,5 +1,0 @@
-use Rattle.stem_laws.proofs.Whole.{whole}
-use Rattle.stem_laws.proofs.whole.all_parts_are_the_output.Goals as goal
-
-pub returns : goal.returns
-returns c = whole
