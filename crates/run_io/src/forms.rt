@@ -123,7 +123,10 @@ fn has_pairs(form: &Form, pairs: &[Word]) -> bool
     let counts = if form.count.is_some() { 1 } else { 0 };
     let inputs = count_named(pairs, form.optional, form.inputs);
     let settings = count_set(pairs, form.settings);
-    pairs.len() % 2 == 0 && pairs.len() / 2 == inputs + form.outputs.len() + counts + settings
+    let count = pairs.len() / 2;
+    pairs.len() % 2 == 0
+        && settings <= count
+        && count - settings == inputs + form.outputs.len() + counts
 }
 
 /// How many of these inputs are not left out.
