@@ -39,6 +39,3 @@ pub use screen::{Screen, backdrop_rule, unset_rule};
 pub use sound::{key_off_rule, key_on_rule, selector_rule};
 pub use transfers::{channel_rule, enable_rule, transfer_rule};
 pub use written::Written;
-
-#[cfg(test)]
-mod tests;

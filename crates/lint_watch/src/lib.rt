@@ -23,6 +23,3 @@ pub use allowed::{Allowed, remaining};
 pub use header::{check_file, checksum_of, front_of, no_header, other_map_byte};
 pub use names::Sources;
 pub use run::{WatchedRun, watch_job};
-
-#[cfg(test)]
-mod tests;

@@ -1,6 +1,6 @@
 //! What no clause says: the names, and the table of findings.
 
-use crate::{
+use lint_rules::{
     Cause, Echo, EndxPolls, Finding, Findings, MapPlace, Moment, Object, Polls, RULES, Rule,
     Screen, Unit, Written, backdrop_rule, edge_rule, flip_rule, map_rule, rule_named, speed_rule,
     status_rule, unset_rule,
