@@ -7,3 +7,4 @@ pub mod BootOver
 pub mod Runs
 pub mod Talks
 pub mod Follows
+pub mod Apart

@@ -10,3 +10,4 @@ pub mod Kept
 pub mod Runs
 pub mod Talks
 pub mod Follows
+pub mod Stem

@@ -66,14 +66,15 @@ pub fn cleared(byte: u8) -> u8
 
 /// The low byte of a number.
 #[inline(always)]
-fn low(number: i16) -> u8
+pub fn low(number: i16) -> u8
     ensures { result ≡ low_byte (cast_unsigned w16 number) }
 {
     (number.cast_unsigned() % 256) as u8
 }
 
+/// The high byte of a number.
 #[inline(always)]
-fn high(number: i16) -> u8
+pub fn high(number: i16) -> u8
     ensures { result ≡ high_byte (cast_unsigned w16 number) }
 {
     (number.cast_unsigned() / 256) as u8

@@ -6,6 +6,7 @@
 //! step reads a port, the caller passes it the incoming byte. The other side's bytes are not part of this machine.
 #![tactic(auto)]
 
+mod apart;
 mod clock;
 mod from_parts;
 mod hardware;

@@ -389,4 +389,71 @@ impl Echo {
             self.mix_heard(voices, sums, ram)
         }
     }
+
+    /// The left history's number, filtered.
+    #[inline(always)]
+    fn left_filter(&self, voices: &Voices, ram: &[u8]) -> i16
+        requires { length ram.now ≡ 65536 }
+        ensures { result ≡ filtered voices.now (left_history voices.now ram.now self.now) }
+    {
+        let history = self.next_left(voices, ram);
+        filter(voices, &history)
+    }
+
+    /// The right history's number, filtered.
+    #[inline(always)]
+    fn right_filter(&self, voices: &Voices, ram: &[u8]) -> i16
+        requires { length ram.now ≡ 65536 }
+        ensures { result ≡ filtered voices.now (right_history voices.now ram.now self.now) }
+    {
+        let history = self.next_right(voices, ram);
+        filter(voices, &history)
+    }
+
+    /// The left number of a sample.
+    #[tactic(auto, unfolding(crate::specs::Echo::left_out))]
+    #[inline(always)]
+    fn left_number(&self, voices: &Voices, sums: Sums, ram: &[u8]) -> i16
+        requires { length ram.now ≡ 65536 }
+        ensures { result ≡ left_out voices.now sums ram.now self.now }
+    {
+        let filter = self.left_filter(voices, ram);
+        out(
+            voices,
+            sums.left,
+            voices.kept(0x0C),
+            filter,
+            voices.kept(0x2C),
+        )
+    }
+
+    /// The right number of a sample.
+    #[tactic(auto, unfolding(crate::specs::Echo::right_out))]
+    #[inline(always)]
+    fn right_number(&self, voices: &Voices, sums: Sums, ram: &[u8]) -> i16
+        requires { length ram.now ≡ 65536 }
+        ensures { result ≡ right_out voices.now sums ram.now self.now }
+    {
+        let filter = self.right_filter(voices, ram);
+        out(
+            voices,
+            sums.right,
+            voices.kept(0x1C),
+            filter,
+            voices.kept(0x3C),
+        )
+    }
+
+    /// Returns the two numbers that `mix` would, left and right, and changes neither the echo nor RAM.
+    #[inline(always)]
+    pub fn peek(&self, voices: &Voices, sums: Sums, ram: &[u8]) -> (i16, i16)
+        requires { length ram.now ≡ 65536 }
+        ensures left { result.0 ≡ left_out voices.now sums ram.now self.now }
+        ensures right { result.1 ≡ right_out voices.now sums ram.now self.now }
+    {
+        (
+            self.left_number(voices, sums, ram),
+            self.right_number(voices, sums, ram),
+        )
+    }
 }

@@ -427,6 +427,7 @@ impl Voices {
     }
 
     /// Makes sample `s`: keys, noise, and then each voice's output, envelope and position. Returns the sums.
+    #[inline(always)]
     pub fn sample(&mut self, ram: &[u8], table: &Table, s: u64) -> Sums
         requires { length ram.now ≡ 65536 }
         ensures after { self.new ≡ after_sample ram.now table.now s self.old }

@@ -1,3 +1,4 @@
 pub mod SoundFile
 pub mod Play
 pub mod Player
+pub mod Apart

@@ -7,6 +7,7 @@
 //! `docs/use/SPC-FILES.md` has the format and what a file leaves out.
 #![tactic(auto)]
 
+mod apart;
 mod image;
 mod play;
 mod player;

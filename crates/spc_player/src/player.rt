@@ -19,7 +19,7 @@ const SAMPLE_STAMPS: u64 = 32 * SOUND_RATE;
 pub struct Player {
     pub(crate) side: AudioSide,
     /// The bytes at the incoming ports.
-    ports: [u8; 4],
+    pub(crate) ports: [u8; 4],
 }
 
 impl Model for Player {

@@ -1,0 +1,4 @@
+pub mod Levels
+pub mod Whole
+pub mod Alike
+pub mod Alone
