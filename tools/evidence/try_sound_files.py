@@ -7,10 +7,19 @@ SNES is the program. Each number from FROM to before TO (0 and 200) makes a boot
 PAL. The boot ROM writes bytes of RAM, registers of the S-DSP that make no sound, and the timers, sets the registers of the
 SPC700, and then stays in a loop, or stops. The cartridge writes the ports. Which bytes the file has to have is worked out here,
 by nothing of the sources: also in which cycle it has to be taken, from the cycles of the instructions, and so what the timers
-have counted. A file is played for 1,000 samples, which are silence. The status is 1 where a byte differs.
+have counted. A file is played for 1,000 samples, which are silence. Every second file has tags at random, whose bytes are
+worked out here too; if ffprobe is there, it has to read the texts in them as they were given.
+
+Each number also makes a sound file with voices at random. `play --voices` has to write what `play` writes of the same file with
+the volumes of the other parts put to 0 in it, which is the same, since nothing in the file writes a register. `play --fade` has
+to write the samples of `play` by the products of the level, and `--seconds` those of `--samples`. The status is 1 where a byte
+differs.
 """
+import array
+import json
 import os
 import random
+import shutil
 import subprocess
 import sys
 import tempfile
@@ -20,6 +29,136 @@ REGIONS = {"ntsc": (2012696576, 118125), "pal": (43578163200, 2128137)}
 # The registers of the S-DSP that read what was written, and make no sound.
 QUIET = [v * 16 + r for v in range(8) for r in range(8)] + [0x0C, 0x1C, 0x2C, 0x3C, 0x0D, 0x2D, 0x3D, 0x4D, 0x5D, 0x6D, 0x7D] + [v * 16 + 15 for v in range(8)]
 SAMPLES = 1000
+# The tags: the offset of each, its bytes, and whether it is a number.
+TAGS = {
+    "title": (0x2E, 32, False), "game": (0x4E, 32, False), "comment": (0x7E, 32, False),
+    "length": (0xA9, 3, True), "fade": (0xAC, 5, True), "artist": (0xB1, 32, False),
+}
+# What ffprobe calls those that it reads.
+NAMES = {"title": "song", "game": "game", "artist": "author", "comment": "comment"}
+
+
+def tags_at_random(r):
+    """Some tags: their words, and what they are."""
+    tags = {}
+    for name in r.sample(list(TAGS), r.randrange(1, 7)):
+        _, size, number = TAGS[name]
+        letters = "0123456789" if number else "".join(map(chr, range(0x20, 0x7F)))
+        # libgme shows no spaces at the ends, nor the 32nd letter of an artist.
+        tags[name] = "".join(r.choices(letters, k=r.randrange(1, size + 1)))
+    return tags
+
+
+def tagged(file, tags):
+    """The file with these tags."""
+    file = bytearray(file)
+    file[0x23] = 0x1A
+    file[0x2E:0x100] = bytes(0xD2)
+    for name, word in tags.items():
+        at, size, number = TAGS[name]
+        word = word.rjust(size, "0") if number else word.ljust(size, "\0")
+        file[at:at + size] = word.encode()
+    return bytes(file)
+
+
+def words_of(tags):
+    return [it for name, word in tags.items() for it in (f"--{name}", word)]
+
+
+def read_otherwise(path, tags):
+    """The tags that ffprobe reads otherwise."""
+    said = subprocess.run(["ffprobe", "-v", "quiet", "-of", "json", "-show_entries", "format_tags", path], capture_output=True)
+    if said.returncode:
+        return []
+    read = json.loads(said.stdout).get("format", {}).get("tags", {})
+    read = {name.lower(): text for name, text in read.items()}
+    same = lambda name: read.get(NAMES[name], "").strip() in (tags[name].strip(), tags[name][:31].strip())
+    return [name for name in tags if name in NAMES and NAMES[name] in read and not same(name)]
+
+
+class Tune:
+    """A sound file with voices at random, whose processor has halted."""
+
+    def __init__(self, seed):
+        self.r = r = random.Random(f"tune {seed}")
+        ram, dsp = bytearray(r.randbytes(0x10000)), bytearray(128)
+        ram[0xF0:0x100] = bytes(16)
+        # the end flag is rare, so that voices last; the directory at 300
+        for at in range(0x400, 0xF000, 9):
+            ram[at] = ram[at] & 0xFC | r.choice([0, 0, 0, 0, 0, 2, 3])
+        for source in range(64):
+            for half in (0, 2):
+                at = 0x400 + 9 * r.randrange(5000)
+                ram[0x300 + 4 * source + half:0x302 + 4 * source + half] = at.to_bytes(2, "little")
+        ram[0x200] = r.choice([0xEF, 0xFF])
+        for voice in range(8):
+            pitch = r.randrange(0x100, 0x2000)
+            dsp[16 * voice:16 * voice + 8] = bytes([
+                r.randrange(256), r.randrange(256), pitch & 255, pitch >> 8, r.randrange(64), r.choice([0, 0x8F, 0xFF]), r.randrange(256), r.randrange(128)])
+        for register in (0x0C, 0x1C, 0x2C, 0x3C, 0x0D, *range(0x0F, 0x80, 16)):
+            dsp[register] = r.randrange(256)
+        self.echo_of = 0 if r.randrange(2) else r.randrange(256)
+        dsp[0x4C], dsp[0x5D], dsp[0x4D] = r.randrange(1, 256), 3, self.echo_of
+        dsp[0x2D], dsp[0x3D] = r.choice([0, r.randrange(256)]), r.choice([0, r.randrange(256)])
+        dsp[0x6D], dsp[0x7D] = 0xF0, r.randrange(2)
+        dsp[0x6C] = r.choice([0x00, 0x20]) | r.randrange(0x20)
+        self.ram, self.dsp = bytes(ram), bytes(dsp)
+
+    def file(self, parts=range(9)):
+        """The file, with the volumes of all other parts put to 0. What a voice gives to the echo goes by its volume too."""
+        dsp = bytearray(self.dsp)
+        for voice in range(8):
+            if voice not in parts:
+                dsp[16 * voice] = dsp[16 * voice + 1] = 0
+        if 8 not in parts:
+            dsp[0x2C] = dsp[0x3C] = 0
+        head = b"SNES-SPC700 Sound File Data v0.30\x1A\x1A\x1B\x1E\0\2"
+        return head.ljust(256, b"\0") + self.ram + bytes(dsp) + bytes(128)
+
+    def parts(self):
+        """Parts at random. With voices in the echo the echo can't be told apart by the file alone."""
+        parts = self.r.sample(range(9), self.r.randrange(1, 9))
+        return [it for it in parts if it != 8] or [0] if self.echo_of else parts
+
+
+def faded(samples, fade):
+    """Samples of two numbers, of which the last ones fade out."""
+    numbers = array.array("h", samples)
+    count = len(numbers) // 2
+    for k in range(count):
+        left = count - k
+        level = 65536 if fade <= left else 65536 * left // fade
+        for at in (2 * k, 2 * k + 1):
+            numbers[at] = numbers[at] * level >> 16
+    return numbers.tobytes()
+
+
+def tune_faults(snes, seed, name):
+    """What is wrong with the voices of a tune, its fade, and its seconds."""
+    tune = Tune(seed)
+    parts, fade, count = tune.parts(), tune.r.randrange(0, 100), tune.r.randrange(0, 3000)
+    for what, data in (("tune", tune.file()), ("few", tune.file(parts)), ("table", b"".join(min(2047, 4 * it).to_bytes(2, "little") for it in range(512)))):
+        with open(name(what), "wb") as file:
+            file.write(data)
+
+    def heard(what, *words, length=("--samples", str(count))):
+        return made(snes, ["play", "--spc", name(what), "--table", name("table"), *length, *words, "--audio"], name("audio"))
+
+    whole, few = heard("tune"), heard("few")
+    voices = ",".join("echo" if it == 8 else str(it) for it in parts)
+    everything = ",".join(tune.r.sample("01234567", 8)) + ",echo"
+    if heard("tune", "--voices", voices) != few:
+        yield f"voices {voices}"
+    if heard("tune", "--voices", everything) != whole:
+        yield "all voices"
+    if heard("tune", "--fade", str(fade)) != faded(whole, 32 * fade):
+        yield f"a fade of {fade}"
+    if heard("tune", "--fade", str(fade), "--voices", voices) != faded(few, 32 * fade):
+        yield f"voices {voices} with a fade of {fade}"
+    if seed % 20 == 0 and heard("tune", length=("--seconds", "1")) != heard("tune", length=("--samples", "32000")):
+        yield "seconds"
+    if any(whole):
+        yield None
 
 
 class Job:
@@ -145,7 +284,8 @@ def main():
         sys.exit(__doc__)
     snes = sys.argv[1]
     first, last = map(int, sys.argv[2:4]) if len(sys.argv) == 4 else (0, 200)
-    bad = halted = late = 0
+    bad = halted = late = loud = wrong = read = 0
+    ffprobe = shutil.which("ffprobe")
     with tempfile.TemporaryDirectory() as folder:
         name = lambda it: os.path.join(folder, it)
         for seed in range(first, last):
@@ -156,14 +296,29 @@ def main():
                 with open(name(what), "wb") as file:
                     file.write(data)
             files = [it for what in ("cart", "boot", "table", "script") for it in (f"--{what}", name(what))]
-            got, wanted = made(snes, ["spc", *files, "--frames", str(job.frames), "--spc"], name("tune")), job.file()
+            tags = tags_at_random(job.r) if seed % 2 else {}
+            got, wanted = made(snes, ["spc", *files, "--frames", str(job.frames), *words_of(tags), "--spc"], name("tune")), job.file()
+            if tags:
+                wanted = tagged(wanted, tags)
+                other = read_otherwise(name("tune"), tags) if ffprobe else []
+                read += len(tags)
+                if other:
+                    bad += 1
+                    print(f"{seed}: ffprobe reads {', '.join(other)} otherwise: {tags}")
             faults = [at for at in range(max(len(got), len(wanted))) if got[at:at + 1] != wanted[at:at + 1]]
             heard = made(snes, ["play", "--spc", name("tune"), "--table", name("table"), "--samples", str(SAMPLES), "--audio"], name("audio"))
             if faults or heard != bytes(4 * SAMPLES):
                 bad += 1
                 print(f"{seed}: {len(faults)} bytes differ, the first at {faults[0]:x}" if faults else f"{seed}: no silence")
+            for fault in tune_faults(snes, seed, name):
+                if fault is None:
+                    loud += 1
+                else:
+                    wrong += 1
+                    print(f"{seed}: {fault} differ")
+    print(f"{read} tags, {last - first} tunes ({loud} that are heard), {wrong} differences of voices, fades and seconds")
     print(f"{last - first} sound files ({halted} of a halted processor, {late} after 100,000 cycles), {bad} with bytes that differ")
-    sys.exit(bad > 0)
+    sys.exit(bad + wrong > 0)
 
 
 if __name__ == "__main__":

@@ -5,4 +5,6 @@ pub mod Lists
 pub mod Mistakes
 pub mod Number
 pub mod Options
+pub mod Settings
+pub mod Stems
 pub mod Words

@@ -1,5 +1,5 @@
--- The options of the command line: those of inputs, of outputs, and of numbers.
-use Rattle.std.specs.Prelude.{ℕ, Bool, List, [], codes}
+-- The options of the command line: those of inputs, of outputs, of numbers, and of settings.
+use Rattle.std.specs.Prelude.{ℕ, Bool, true, false, List, [], codes}
 use Rattle.std.specs.List.{list_any}
 use Rattle.std.specs.Str.{bytes_eq}
 use Rattle.shelf.specs.declared.shelves.Input.{Input}
@@ -8,6 +8,8 @@ use Rattle.shelf.specs.declared.shelves.Out.{Out}
 use Rattle.shelf.specs.declared.shelves.Out.TheVariants as out
 use Rattle.run_io.specs.declared.options.Count.{Count}
 use Rattle.run_io.specs.declared.options.Count.TheVariants as count
+use Rattle.run_io.specs.declared.options.Setting.{Setting}
+use Rattle.run_io.specs.declared.options.Setting.TheVariants as setting
 
 -- the option of an input
 abbrev pub input_option : Input → List ℕ
@@ -45,3 +47,21 @@ digits_of count.Samples = 8
 abbrev pub most_of : Count → ℕ
 most_of count.Frames = 36000
 most_of count.Samples = 19200000
+
+-- a number that may be given in seconds too
+abbrev pub takes_seconds : Count → Bool
+takes_seconds count.Frames = false
+takes_seconds count.Samples = true
+
+abbrev pub seconds_option : List ℕ
+seconds_option = codes "--seconds"
+
+-- the option of a setting
+abbrev pub setting_option : Setting → List ℕ
+setting_option setting.Title = codes "--title"
+setting_option setting.Game = codes "--game"
+setting_option setting.Artist = codes "--artist"
+setting_option setting.Comment = codes "--comment"
+setting_option setting.Length = codes "--length"
+setting_option setting.Fade = codes "--fade"
+setting_option setting.Voices = codes "--voices"

@@ -4,10 +4,12 @@ ghost use Rattle.std.specs.Str.{bytes_eq};
 ghost use Rattle.run_io.specs.Options.{most_of};
 ghost use Rattle.run_io.specs.Words.{is_value, input_name, output_name};
 ghost use Rattle.run_io.specs.Lists.{AllOf};
-ghost use Rattle.run_io.specs.Form.{number_first, count_in, count_options, is_left_out, count_named, has_pairs, differ, has_values, order_in, form_by, order_by, IsName, Fits};
+ghost use Rattle.run_io.specs.Settings.{IsTaken};
+ghost use Rattle.run_io.specs.Form.{number_first, in_seconds, count_in, count_options, is_left_out, count_named, has_pairs, differ, has_values, order_in, form_by, order_by, IsName, Fits};
 
-use crate::options::{Count, is_optional};
+use crate::options::{Count, Setting, is_optional, option_of_seconds};
 use crate::pairs::{input_name, is_value, number_in, output_name, word_behind};
+use crate::settings::{are_taken, count_set};
 use crate::words::Word;
 use shelf::{Input, Out};
 
@@ -22,6 +24,8 @@ pub struct Form {
     pub optional: &'static [Input],
     /// The number that is the value of an option, if there is one.
     pub count: Option<Count>,
+    /// The settings, each with its option. Each may be left out.
+    pub settings: &'static [Setting],
     /// The outputs, each with its option, in the order in which they are created.
     pub outputs: &'static [Out],
 }
@@ -40,8 +44,9 @@ pub struct Asked<'a> {
 /// Reads the arguments after a command's name, if they have its form.
 ///
 /// First comes a number, if the form has one. Then come pairs of an option and its value, each option of the form once,
-/// in any order. Options of inputs that are left out are missing. A value has 1 to 4,096 bytes and does not begin with a
-/// dash. No two outputs have the same name.
+/// in any order. Options of inputs that are left out are missing, and so are those of settings that are unset. The name
+/// of a file has 1 to 4,096 bytes and does not begin with a dash. No two outputs have the same name. A setting takes its
+/// value.
 #[tactic(auto, unfolding(crate::specs::Form::order_in))]
 pub fn read_form<'a>(form: &Form, words: &'a [Word]) -> Option<Asked<'a>>
     ensures order { MatchOption result (order_in (form_by form.now) words.now ≡ None) (λ asked. order_in (form_by form.now) words.now ≡ Some (order_by asked)) }
@@ -79,6 +84,10 @@ fn count_of(count: Option<Count>, pairs: &[Word]) -> Option<u32>
     let Some(count) = count else {
         return Some(0);
     };
+    if in_seconds(count, pairs) {
+        let seconds = number_in(word_behind(pairs, option_of_seconds()), 3, 600)?;
+        return Some(32_000 * seconds);
+    }
     number_in(
         word_behind(pairs, count.option()),
         count.digits(),
@@ -86,25 +95,38 @@ fn count_of(count: Option<Count>, pairs: &[Word]) -> Option<u32>
     )
 }
 
-/// Whether there are as many pairs as the form has options, each input and output has a value, and no two outputs have
-/// the same name. Inputs that are left out do not count.
+/// Whether a number is given in seconds: it may be, and its own option is missing.
+pub(crate) fn in_seconds(count: Count, pairs: &[Word]) -> bool
+    ensures { result ≡ in_seconds count pairs.now }
+{
+    count.takes_seconds() && word_behind(pairs, count.option()).is_empty()
+}
+
+/// Whether there are as many pairs as the form has options, each input and output has a value, no two outputs have the
+/// same name, and each setting takes its value. Inputs that are left out do not count, nor do settings that are unset.
 fn has_values(form: &Form, pairs: &[Word]) -> bool
     ensures test { result ≡ has_values (form_by form.now) pairs.now }
     ensures names { result ≡ true → AllOf (λ out. IsName (output_name pairs.now out)) form.now.outputs.now }
+    ensures taken { result ≡ true → AllOf (IsTaken pairs.now) form.now.settings.now }
 {
     has_pairs(form, pairs)
         && are_inputs_named(pairs, form.optional, form.inputs)
         && are_outputs_named(pairs, form.outputs)
         && differ(pairs, form.outputs)
+        && are_taken(pairs, form.settings)
 }
 
-/// Whether there are as many pairs as the form has options, but for inputs that are left out.
+/// Whether there are as many pairs as the form has options, but for inputs that are left out and settings that are unset.
 fn has_pairs(form: &Form, pairs: &[Word]) -> bool
     ensures { result ≡ has_pairs (form_by form.now) pairs.now }
 {
     let counts = if form.count.is_some() { 1 } else { 0 };
     let inputs = count_named(pairs, form.optional, form.inputs);
-    pairs.len() % 2 == 0 && pairs.len() / 2 == inputs + form.outputs.len() + counts
+    let settings = count_set(pairs, form.settings);
+    let count = pairs.len() / 2;
+    pairs.len() % 2 == 0
+        && settings <= count
+        && count - settings == inputs + form.outputs.len() + counts
 }
 
 /// How many of these inputs are not left out.

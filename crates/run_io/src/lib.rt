@@ -11,6 +11,8 @@ mod lines;
 mod mistakes;
 mod options;
 mod pairs;
+mod settings;
+mod stems;
 mod words;
 
 pub use forms::{Asked, Form, read_form};
@@ -22,6 +24,7 @@ pub use lines::{
     spc_too_long_line, spc_too_short_line, sums_refused_line, table_refused_line, usage_line,
 };
 pub use mistakes::{Fault, Mistake, mistake_in};
-pub use options::Count;
+pub use options::{Count, Setting};
 pub use pairs::{input_given, input_name, output_given, output_name};
+pub use settings::{count_set, is_unset, number_set, setting_value, stem_set};
 pub use words::{Argv, Word};

@@ -1,12 +1,12 @@
 ghost use Rattle.std.specs.Prelude.{◌≡◌, ◌≤◌, length, IfSome};
 ghost use Rattle.std.specs.List.{list_any};
 ghost use Rattle.std.specs.Str.{bytes_eq};
-ghost use Rattle.run_io.specs.Options.{input_option, output_option};
+ghost use Rattle.run_io.specs.Options.{input_option, output_option, setting_option};
 ghost use Rattle.run_io.specs.Form.{form_by};
-ghost use Rattle.run_io.specs.Mistakes.{is_option, is_count_option, IsAtFault, IsMistake};
+ghost use Rattle.run_io.specs.Mistakes.{is_option, is_count_option, refuses, IsAtFault, IsMistake};
 
-use crate::forms::Form;
-use crate::options::{is_optional, option_of_input, option_of_output};
+use crate::forms::{Form, in_seconds};
+use crate::options::{Count, is_optional, option_of_input, option_of_output, option_of_seconds};
 use crate::pairs::{is_value, number_in, output_name, word_behind};
 use crate::words::Word;
 use shelf::Out;
@@ -27,6 +27,8 @@ pub enum Fault {
     NotAnOption,
     /// An option is given twice.
     Twice,
+    /// A number is given in seconds too.
+    TwoNumbers,
     /// Nothing follows an option.
     NoValue,
     /// What follows an option is empty, longer than 4,096 bytes, or begins with a dash.
@@ -35,6 +37,10 @@ pub enum Fault {
     Missing,
     /// What follows an option is not a number that it takes.
     NotItsNumber,
+    /// What follows `--seconds` is not a number of at most 600.
+    NotItsSeconds,
+    /// What follows the option of a setting is not what it takes.
+    NotItsSetting,
     /// Two outputs have the same name.
     SameName,
     /// The arguments do not have the form of the command.
@@ -93,6 +99,9 @@ fn mistake_in_pairs<'a>(form: &Form, pairs: &'a [Word]) -> Mistake<'a>
     if let Some(option) = missing_option(form, pairs) {
         return Mistake::of(Fault::Missing, option, "");
     }
+    if let Some(mistake) = two_numbers(form, pairs) {
+        return mistake;
+    }
     if let Some(mistake) = wrong_number(form, pairs) {
         return mistake;
     }
@@ -116,26 +125,44 @@ fn wrong_pair<'a>(form: &Form, pairs: &'a [Word]) -> Option<Mistake<'a>>
         if !is_option(form, option) {
             return Some(Mistake::of(Fault::NotAnOption, "", option));
         }
-        if stands_in(&pairs[..at], option) {
+        if is_given(&pairs[..at], option) {
             return Some(Mistake::of(Fault::Twice, option, ""));
         }
         if at + 1 == pairs.len() {
             return Some(Mistake::of(Fault::NoValue, option, ""));
         }
-        let value = pairs[at + 1].text();
-        if !is_value(value) {
-            return Some(Mistake::of(Fault::NotAValue, option, value));
+        if let Some(mistake) = wrong_value(form, option, pairs[at + 1].text()) {
+            return Some(mistake);
         }
         at += 2;
     }
     None
 }
 
+/// Returns the mistake in the value of an option of the form, if it is no name of a file and no value of a setting.
+fn wrong_value<'a>(form: &Form, option: &'a str, value: &'a str) -> Option<Mistake<'a>>
+    ensures { IfSome result (IsMistake (form_by form.now)) }
+{
+    if is_setting_option(form, option) {
+        if refuses(form, option, value) {
+            return Some(Mistake::of(Fault::NotItsSetting, option, value));
+        }
+        return None;
+    }
+    if is_value(value) {
+        return None;
+    }
+    Some(Mistake::of(Fault::NotAValue, option, value))
+}
+
 /// Whether a word is an option of the form.
 fn is_option(form: &Form, word: &str) -> bool
     ensures { result ≡ is_option (form_by form.now) word.now }
 {
-    is_input_option(form, word) || is_output_option(form, word) || is_count_option(form, word)
+    is_input_option(form, word)
+        || is_output_option(form, word)
+        || is_count_option(form, word)
+        || is_setting_option(form, word)
 }
 
 fn is_input_option(form: &Form, word: &str) -> bool
@@ -158,34 +185,72 @@ fn is_count_option(form: &Form, word: &str) -> bool
     ensures { result ≡ is_count_option form.now.count word.now }
 {
     match form.count {
-        Some(count) => count.option() == word,
+        Some(count) => {
+            count.option() == word || count.takes_seconds() && option_of_seconds() == word
+        }
         None => false,
     }
 }
 
-/// Whether a word is one of these.
-fn stands_in(words: &[Word], word: &str) -> bool
-    ensures { result ≡ list_any (λ one. bytes_eq one word.now) words.now }
+fn is_setting_option(form: &Form, word: &str) -> bool
+    ensures { result ≡ list_any (λ setting. bytes_eq (setting_option setting) word.now) form.now.settings.now }
 {
-    words.iter().any(|one| one.text() == word)
+    form.settings.iter().any(|setting| setting.option() == word)
+}
+
+/// Whether the setting of an option does not take a word.
+fn refuses(form: &Form, option: &str, word: &str) -> bool
+    ensures { result ≡ refuses (form_by form.now) option.now word.now }
+{
+    form.settings.iter().any(|setting| setting.option() == option && !setting.accepts(word))
+}
+
+/// Whether an option is one of those in pairs of an option and its value.
+fn is_given(pairs: &[Word], option: &str) -> bool {
+    let Some((name, rest)) = pairs.split_first() else {
+        return false;
+    };
+    if name.text() == option {
+        return true;
+    }
+    match rest.split_first() {
+        Some((_value, rest)) => is_given(rest, option),
+        None => false,
+    }
 }
 
 /// Returns the first option of the form that is missing and may not be left out.
 fn missing_option(form: &Form, pairs: &[Word]) -> Option<&'static str> {
     for input in form.inputs {
-        if !is_optional(form.optional, *input) && !stands_in(pairs, option_of_input(*input)) {
+        if !is_optional(form.optional, *input) && !is_given(pairs, option_of_input(*input)) {
             return Some(option_of_input(*input));
         }
     }
     if let Some(count) = form.count {
-        if !stands_in(pairs, count.option()) {
+        if !is_count_given(count, pairs) {
             return Some(count.option());
         }
     }
     for out in form.outputs {
-        if !stands_in(pairs, option_of_output(*out)) {
+        if !is_given(pairs, option_of_output(*out)) {
             return Some(option_of_output(*out));
         }
+    }
+    None
+}
+
+/// Whether the option of a number is given, or that of seconds in its place.
+fn is_count_given(count: Count, pairs: &[Word]) -> bool {
+    is_given(pairs, count.option()) || count.takes_seconds() && is_given(pairs, option_of_seconds())
+}
+
+/// Returns the mistake of a number that is given twice: by its own option, and in seconds.
+fn two_numbers(form: &Form, pairs: &[Word]) -> Option<Mistake<'static>>
+    ensures { IfSome result (IsMistake (form_by form.now)) }
+{
+    let count = form.count?;
+    if is_given(pairs, count.option()) && is_given(pairs, option_of_seconds()) {
+        return Some(Mistake::of(Fault::TwoNumbers, option_of_seconds(), count.option()));
     }
     None
 }
@@ -195,6 +260,13 @@ fn wrong_number<'a>(form: &Form, pairs: &'a [Word]) -> Option<Mistake<'a>>
     ensures { IfSome result (IsMistake (form_by form.now)) }
 {
     let count = form.count?;
+    if in_seconds(count, pairs) {
+        let word = word_behind(pairs, option_of_seconds());
+        if number_in(word, 3, 600).is_some() {
+            return None;
+        }
+        return Some(Mistake::of(Fault::NotItsSeconds, option_of_seconds(), word));
+    }
     let word = word_behind(pairs, count.option());
     if number_in(word, count.digits(), count.most()).is_some() {
         return None;
@@ -219,6 +291,14 @@ fn taken_by(option: &str) -> &'static str {
     match option {
         "--frames" => "a number of at most 36000",
         "--samples" => "a number of at most 19200000",
+        "--seconds" => "a number of at most 600",
+        "--title" => "a text of at most 32 printable characters",
+        "--game" => "a text of at most 32 printable characters",
+        "--artist" => "a text of at most 32 printable characters",
+        "--comment" => "a text of at most 32 printable characters",
+        "--length" => "a number of seconds of at most 3 digits",
+        "--fade" => "a number of milliseconds of at most 5 digits",
+        "--voices" => "a list like 0,3,echo",
         _ => "a file",
     }
 }
@@ -234,10 +314,13 @@ impl Display for Mistake<'_> {
             Fault::NotTheNumber => write!(f, "{word:?} is not a number of at most 4294967295"),
             Fault::NotAnOption => write!(f, "{word:?} is not an option of this command"),
             Fault::Twice => write!(f, "{option} is given twice"),
+            Fault::TwoNumbers => write!(f, "{option} and {word} are both given"),
             Fault::NoValue => write!(f, "{option} needs {}", taken_by(option)),
             Fault::NotAValue => write!(f, "{option} needs {}, not {word:?}", taken_by(option)),
             Fault::Missing => write!(f, "{option} is missing"),
-            Fault::NotItsNumber => write!(f, "{option} needs {}, not {word:?}", taken_by(option)),
+            Fault::NotItsNumber | Fault::NotItsSeconds | Fault::NotItsSetting => {
+                write!(f, "{option} needs {}, not {word:?}", taken_by(option))
+            }
             Fault::SameName => write!(f, "{option} names the output {word:?} again"),
             Fault::Formless => f.write_str("the arguments do not fit the command"),
         }

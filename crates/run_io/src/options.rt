@@ -1,5 +1,5 @@
 ghost use Rattle.std.specs.Prelude.{◌≡◌};
-ghost use Rattle.run_io.specs.Options.{is_optional, input_option, output_option, count_option, digits_of, most_of};
+ghost use Rattle.run_io.specs.Options.{is_optional, input_option, output_option, count_option, digits_of, most_of, takes_seconds, seconds_option, setting_option};
 
 use shelf::{Input, Out};
 
@@ -8,8 +8,34 @@ use shelf::{Input, Out};
 pub enum Count {
     /// Frames of a run: 1 to 5 decimal digits, at most 36,000.
     Frames,
-    /// Samples of a sound file: 1 to 8 decimal digits, at most 19,200,000.
+    /// Samples of a sound file: 1 to 8 decimal digits, at most 19,200,000. Or seconds: 1 to 3 digits, at most 600.
     Samples,
+}
+
+/// The kinds of setting: what an option takes that may be left out, besides an input.
+#[derive(Clone, Copy, Debug, PartialEq, Eq)]
+pub enum Setting {
+    /// The title of a tune: 1 to 32 characters from 20 to 7E.
+    Title,
+    /// The game that it is from: a text like the title.
+    Game,
+    /// Its composer: a text like the title.
+    Artist,
+    /// A comment: a text like the title.
+    Comment,
+    /// How many seconds it is played before it fades: 1 to 3 decimal digits.
+    Length,
+    /// For how many milliseconds it fades: 1 to 5 decimal digits.
+    Fade,
+    /// The parts of the sound that are heard: voices 0 to 7 and the word `echo`, separated by commas.
+    Voices,
+}
+
+/// The option of a number of samples that is given in seconds.
+pub(crate) fn option_of_seconds() -> &'static str
+    ensures { result.now ≡ seconds_option }
+{
+    "--seconds"
 }
 
 /// The option of an input.
@@ -79,6 +105,33 @@ impl Count {
         match self {
             Count::Frames => 36_000,
             Count::Samples => 19_200_000,
+        }
+    }
+
+    /// Whether the number may be given in seconds.
+    pub(crate) fn takes_seconds(self) -> bool
+        ensures { result ≡ takes_seconds self }
+    {
+        match self {
+            Count::Frames => false,
+            Count::Samples => true,
+        }
+    }
+}
+
+impl Setting {
+    /// The option of this setting.
+    pub(crate) fn option(self) -> &'static str
+        ensures { result.now ≡ setting_option self }
+    {
+        match self {
+            Setting::Title => "--title",
+            Setting::Game => "--game",
+            Setting::Artist => "--artist",
+            Setting::Comment => "--comment",
+            Setting::Length => "--length",
+            Setting::Fade => "--fade",
+            Setting::Voices => "--voices",
         }
     }
 }

@@ -90,12 +90,12 @@ pub fn output_given(words: &[Word], out: Out) -> &str {
     word_after(words, option_of_output(out))
 }
 
-/// Returns the word after the first one that is this option; empty if there is none.
+/// Returns the value of an option in a command line; empty if there is none. The pairs of an option and its value follow
+/// the name of the command, or a number after it.
 fn word_after<'a>(words: &'a [Word], option: &str) -> &'a str {
-    for at in 1..words.len() {
-        if words[at - 1].text() == option {
-            return words[at].text();
-        }
+    let first = 2 - words.len() % 2;
+    if first > words.len() {
+        return "";
     }
-    ""
+    word_behind(&words[first..], option)
 }

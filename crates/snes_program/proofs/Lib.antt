@@ -19,3 +19,4 @@ pub mod RunLemmas
 pub mod SoundFileLemmas
 pub mod SpcLemmas
 pub mod SumsRunLemmas
+pub mod TaggingLemmas

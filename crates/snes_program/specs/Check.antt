@@ -24,6 +24,7 @@ check_form = record {
   inputs = Cart ∷ (Boot ∷ (Table ∷ (Script ∷ (Sums ∷ []))));
   optional = Boot ∷ (Table ∷ (Script ∷ []));
   count = Some Frames;
+  settings = [];
   outputs = [];
 }
 

@@ -15,7 +15,7 @@ use Rattle.snes_program.specs.Command.{Command, never}
 
 -- the words: a number, and frames. It loads and creates nothing.
 abbrev pub demo_form : FormValue
-demo_form = record { numbered = true; inputs = []; optional = []; count = Some Frames; outputs = [] }
+demo_form = record { numbered = true; inputs = []; optional = []; count = Some Frames; settings = []; outputs = [] }
 
 -- the job of a demo: the cartridge that is read of the image of a number, the demo's boot ROM, a table
 -- whose entry i is 2 i, and the empty script, in Ntsc

@@ -17,6 +17,7 @@ dump_form = record {
   inputs = Cart ∷ (Boot ∷ (Table ∷ (Script ∷ [])));
   optional = Boot ∷ (Table ∷ (Script ∷ []));
   count = Some Frames;
+  settings = [];
   outputs = State ∷ [];
 }
 

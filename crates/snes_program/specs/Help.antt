@@ -8,7 +8,7 @@ use Rattle.snes_program.specs.Command.{Command, never}
 
 -- the words: none behind the name; nothing is loaded, and no output is created
 abbrev pub text_form : FormValue
-text_form = record { numbered = false; inputs = []; optional = []; count = None; outputs = [] }
+text_form = record { numbered = false; inputs = []; optional = []; count = None; settings = []; outputs = [] }
 
 -- what is printed is the text
 pub record MakesText (text : List ℕ) (order : Order) (told : Input → Option (List ℕ)) (contents : Out → List ℕ) (line : List ℕ) : Type 0 where

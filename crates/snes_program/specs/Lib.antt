@@ -20,3 +20,4 @@ pub mod SoundOut
 pub mod Status
 pub mod Sums
 pub mod SumsRun
+pub mod Tagging

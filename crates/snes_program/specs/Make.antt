@@ -10,7 +10,7 @@ use Rattle.snes_program.specs.Command.{Command, never}
 
 -- the words: a number, and an output
 abbrev pub make_form : FormValue
-make_form = record { numbered = true; inputs = []; optional = []; count = None; outputs = Image ∷ [] }
+make_form = record { numbered = true; inputs = []; optional = []; count = None; settings = []; outputs = Image ∷ [] }
 
 -- the 524,288 bytes of the cartridge that a number makes
 pub record IsImage (number : ℕ) (bytes : List ℕ) : Type 0 where

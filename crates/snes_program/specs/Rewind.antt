@@ -23,6 +23,7 @@ rewind_form = record {
   inputs = Cart ∷ (Boot ∷ (Table ∷ (Plan ∷ [])));
   optional = [];
   count = None;
+  settings = [];
   outputs = Video ∷ (Sound ∷ []);
 }
 

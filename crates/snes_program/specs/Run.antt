@@ -17,6 +17,7 @@ run_form = record {
   inputs = Cart ∷ (Boot ∷ (Table ∷ (Script ∷ [])));
   optional = [];
   count = Some Frames;
+  settings = [];
   outputs = Video ∷ (Sound ∷ []);
 }
 

@@ -18,6 +18,7 @@ sums_form = record {
   inputs = Cart ∷ (Boot ∷ (Table ∷ (Script ∷ [])));
   optional = Boot ∷ (Table ∷ (Script ∷ []));
   count = Some Frames;
+  settings = [];
   outputs = Sums ∷ [];
 }
 

@@ -86,6 +86,7 @@ impl<P: Player> Performs for Check<P> {
             inputs: &INPUTS,
             optional: &OPTIONAL,
             count: Some(Count::Frames),
+            settings: &[],
             outputs: &[],
         }
     }

@@ -69,6 +69,7 @@ impl<P: Player> Performs for Demo<P> {
             inputs: &[],
             optional: &[],
             count: Some(Count::Frames),
+            settings: &[],
             outputs: &[],
         }
     }

@@ -58,6 +58,7 @@ impl<P: StatePlayer> Performs for Dump<P> {
             inputs: &INPUTS,
             optional: &OPTIONAL,
             count: Some(Count::Frames),
+            settings: &[],
             outputs: &OUTPUTS,
         }
     }

@@ -25,6 +25,7 @@ fn no_words() -> Form
         inputs: &[],
         optional: &[],
         count: None,
+        settings: &[],
         outputs: &[],
     }
 }

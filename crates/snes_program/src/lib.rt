@@ -39,6 +39,7 @@ mod sums;
 mod sums_file;
 mod sums_run;
 mod table;
+mod tagging;
 mod top;
 
 pub use mistakes::explain;

@@ -30,6 +30,7 @@ impl Performs for Make {
             inputs: &[],
             optional: &[],
             count: None,
+            settings: &[],
             outputs: &OUTPUTS,
         }
     }

@@ -120,6 +120,7 @@ impl<P: PlanPlayer> Performs for Rewind<P> {
             inputs: &INPUTS,
             optional: &[],
             count: None,
+            settings: &[],
             outputs: &OUTPUTS,
         }
     }

@@ -101,6 +101,7 @@ impl<P: Player> Performs for Run<P> {
             inputs: &INPUTS,
             optional: &[],
             count: Some(Count::Frames),
+            settings: &[],
             outputs: &OUTPUTS,
         }
     }

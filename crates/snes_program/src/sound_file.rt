@@ -1,6 +1,7 @@
 use crate::command::Performs;
 use crate::job::{JobFiles, job_of, line_of_run};
 use crate::loads::Loads;
+use crate::tagging::{TAG_SETTINGS, tag};
 use port_wire::Gate;
 use run_drive::StatePlayer;
 use run_io::{Asked, Count, Form, Line};
@@ -10,7 +11,7 @@ use std::alloc::Global;
 use std::marker::PhantomData;
 use std::thread::Threads;
 
-/// The command `spc`: the job that four inputs make is run, and the sound side at its end becomes a sound file.
+/// The command `spc`: the job that four inputs make is run, and the sound side at its end becomes a sound file, with tags.
 #[derive(Drop)]
 pub(crate) struct SoundFile<Z> {
     player: PhantomData<Z>,
@@ -58,6 +59,7 @@ impl<Z: StatePlayer> Performs for SoundFile<Z> {
             inputs: &INPUTS,
             optional: &OPTIONAL,
             count: Some(Count::Frames),
+            settings: &TAG_SETTINGS,
             outputs: &OUTPUTS,
         }
     }
@@ -82,12 +84,13 @@ impl<Z: StatePlayer> Performs for SoundFile<Z> {
         &self,
         _rt: &R,
         _gate: &dyn Gate,
-        _asked: &Asked<'_>,
+        asked: &Asked<'_>,
         ready: ReadySoundFile<Z::Machines>,
         shelf: &mut H,
     ) -> Result<Line, Out> {
         let ReadySoundFile { machines, line } = ready;
-        let bytes = Z::play_state(machines);
+        let mut bytes = Z::play_state(machines);
+        tag(asked.pairs, bytes.as_mut_slice());
         match shelf.put(Out::Spc, bytes.as_slice()) {
             Ok(()) => Ok(line),
             Err(Failed) => Err(Out::Spc),

@@ -6,11 +6,13 @@ ghost use Rattle.shelf.specs.Shown.{OnlyPuts};
 ghost use Rattle.run_drive.specs.Run.{Adds, AddsSome};
 ghost use Rattle.spc_player.specs.Play.{Playing};
 ghost use Rattle.spc_player.specs.Player.{IsPlaying, TookPairs, TookSome, stamp_of, waiting_of};
+ghost use Rattle.stem_player.specs.Heard.{heard_pairs};
 
 use run_drive::Sink;
 use shelf::{Failed, Out, Shelf};
 use snes_defs::Side;
 use spc_player::Player;
+use stem_player::{Heard, play_heard};
 
 /// The sound output: it takes the sound side's bytes, and ignores the console side's. So no other output is touched.
 #[derive(Drop)]
@@ -64,4 +66,22 @@ pub(crate) fn play_sound<H: Shelf>(
 {
     let mut sink = SoundOut { shelf };
     player.play(samples, &mut sink)
+}
+
+/// Plays what is heard of the given number of samples into the sound output. Touches no other output.
+pub(crate) fn play_parts<H: Shelf>(
+    player: &mut Player,
+    heard: &Heard,
+    samples: u32,
+    shelf: &mut H,
+) -> Result<(), Failed>
+    requires early { stamp_of player.old ≡ 0 }
+    requires empty { waiting_of player.old ≡ [] }
+    ensures whole { OnOk result ((w : Playing) → IsPlaying player.old w → Adds (Holds ((H.shown shelf.old).written Out.Sound)) (Holds ((H.shown shelf.new).written Out.Sound)) (heard_pairs heard.now w samples samples)) }
+    ensures first { (w : Playing) → IsPlaying player.old w → AddsSome (Holds ((H.shown shelf.old).written Out.Sound)) (Holds ((H.shown shelf.new).written Out.Sound)) (heard_pairs heard.now w samples samples) }
+    ensures failed { OnErr result (HasRisen ((H.shown shelf.old).write_faults Out.Sound) ((H.shown shelf.new).write_faults Out.Sound)) }
+    ensures only { OnlyPuts (H.shown shelf.old) (H.shown shelf.new) Out.Sound }
+{
+    let mut sink = SoundOut { shelf };
+    play_heard(player, heard, samples, &mut sink)
 }

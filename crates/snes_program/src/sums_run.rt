@@ -61,6 +61,7 @@ impl<P: Player> Performs for SumsRun<P> {
             inputs: &INPUTS,
             optional: &OPTIONAL,
             count: Some(Count::Frames),
+            settings: &[],
             outputs: &OUTPUTS,
         }
     }
