@@ -7,4 +7,4 @@ pub mod BootOver
 pub mod Runs
 pub mod Talks
 pub mod Follows
-pub mod Apart
+pub mod Stems

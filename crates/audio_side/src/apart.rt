@@ -67,7 +67,7 @@ impl Hardware {
     }
 
     /// The four bytes for a stem of a cycle that makes a sample, and zeros in any other. Changes nothing.
-    #[tactic(auto, using(crate::proofs::Apart::timed_sample), unfolding(crate::specs::Effect::emitted))]
+    #[tactic(auto, using(crate::proofs::Stems::timed_sample), unfolding(crate::specs::Effect::emitted))]
     fn stem_bytes(&self, cycle: u64, stem: u16) -> [u8; 4]
         ensures { IsTrue (is_sampling cycle) → result ≡ emitted cycle (stem_hardware stem self.now) }
     {

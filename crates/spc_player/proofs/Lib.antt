@@ -1,3 +1,3 @@
 pub mod Steps
 pub mod Pairs
-pub mod Apart
+pub mod StemSteps

@@ -87,8 +87,8 @@ hearing_stops h now gathered before after later w n k le i some =
     let rest = heard_begin h w n k d in
     let begins : (i.handed ++ gathered) ++ rest.0 ≡ heard_pairs h w n n = ap (λ (l : List ℕ). l ++ rest.0) i.whole ∙ rest.1 ∙ ap (heard_pairs h w n) e in
     λ had held.
-        let p = some (had ++ i.handed) (i.taken had held) in (
-          length (i.handed ++ take p.0 gathered),
-          first_held (λ (l : List ℕ). later (had ++ l)) i.handed gathered rest.0 (heard_pairs h w n n) p.0 begins
-              (subst later (append_assoc had i.handed (take p.0 gathered)) p.1),
-        )
+    let p = some (had ++ i.handed) (i.taken had held) in (
+      length (i.handed ++ take p.0 gathered),
+      first_held (λ (l : List ℕ). later (had ++ l)) i.handed gathered rest.0 (heard_pairs h w n n) p.0 begins
+          (subst later (append_assoc had i.handed (take p.0 gathered)) p.1),
+    )

@@ -1,6 +1,6 @@
 -- Voices whose volumes differ and nothing else: their voices go on alike.
-use Rattle.std.proofs.Common.{◌≡◌, ◌≢◌, ◌∙◌, ◌×◌, ℕ, ℤ, zero, suc, Bool, true, false, ◌+◌, ◌*◌, ◌%◌, ◌<◌, ◌==◌, ◌||◌, if◌then◌else◌, List, slice_index_or, slice_set, absurd, refl, ap, sym, arith}
-use Rattle.std.proofs.lemmas.Bool.{ne_eqb}
+use Rattle.std.proofs.Common.{◌≡◌, ◌≢◌, ◌∙◌, ℕ, ℤ, zero, suc, Bool, true, false, ◌+◌, ◌*◌, ◌%◌, ◌<◌, ◌==◌, ◌||◌, if◌then◌else◌, List, slice_index_or, slice_set, refl, ap, sym, arith}
+use Rattle.std.proofs.lemmas.Bool.{false≢true}
 use Rattle.std.proofs.lemmas.List.{get_or-set_other}
 use Rattle.sdsp_voice.specs.Envelope.{after_attack, after_decay, after_envelope, after_gain, after_phase, after_sustain}
 use Rattle.sdsp_voice.specs.Keys.{after_keys, keyed, keyed_below}
@@ -48,9 +48,9 @@ volume_written d reg byte is =
     rw (ended, level, shown, key) refl
 
 no_volume : (reg other : ℕ) → is_volume reg ≡ true → is_volume other ≡ false → other ≢ reg
-no_volume reg other is none = λ e. absurd (sym (ap is_volume e ∙ is) ∙ none)
+no_volume reg other is none = λ e. false≢true (sym none ∙ ap is_volume e ∙ is)
 
-written_alike : (d : Voices) (reg byte : ℕ) → is_volume reg ≡ true → IsAlike d (written d reg byte)
+pub written_alike : (d : Voices) (reg byte : ℕ) → is_volume reg ≡ true → IsAlike d (written d reg byte)
 written_alike d reg byte is =
     rw (volume_written d reg byte is) (record {
       voices_same = refl;
@@ -93,9 +93,18 @@ module _ (d d' : Voices) (same : IsAlike d d') where
   pub setting_same : (v : ℕ) → v < 8 → setting d' v ≡ record (setting d v) { left = (setting d' v).left; right = (setting d' v).right }
   unfolding setting
   setting_same v near =
-      rw (same.kept_same (16 * v + 2) (other_of v 2 near (omega arith) (omega arith)), same.kept_same (16 * v + 3) (other_of v 3 near (omega arith) (omega arith)), source_same v near,
-      same.kept_same (16 * v + 5) (other_of v 5 near (omega arith) (omega arith)), same.kept_same (16 * v + 6) (other_of v 6 near (omega arith) (omega arith)), same.kept_same (16 * v + 7) (other_of v 7 near (omega arith) (omega arith)),
-      same.kept_same 0x5D refl, same.kept_same 0x2D refl, same.kept_same 0x3D refl, same.kept_same 0x4D refl) refl
+      rw (
+        same.kept_same (16 * v + 2) (other_of v 2 near (omega arith) (omega arith)),
+        same.kept_same (16 * v + 3) (other_of v 3 near (omega arith) (omega arith)),
+        source_same v near,
+        same.kept_same (16 * v + 5) (other_of v 5 near (omega arith) (omega arith)),
+        same.kept_same (16 * v + 6) (other_of v 6 near (omega arith) (omega arith)),
+        same.kept_same (16 * v + 7) (other_of v 7 near (omega arith) (omega arith)),
+        same.kept_same 0x5D refl,
+        same.kept_same 0x2D refl,
+        same.kept_same 0x3D refl,
+        same.kept_same 0x4D refl,
+      ) refl
 
   keyed_same : (ram : List ℕ) (v : ℕ) (w : Voice) → v < 8 → keyed ram d' v w ≡ keyed ram d v w
   unfolding keyed setting
@@ -162,7 +171,18 @@ module _ (ram table : List ℕ) (s : ℕ) (d d' : Voices) (same : IsAlike d d') 
       let l = (setting d' v).left in
       let r = (setting d' v).right in
       let w = slice_index_or p.voices v resting_voice in
-      rw (setting_same d d' same v near, same.noise_same, voices, before, output_same t l r table d.noise w, gone_on_same t l r ram s p.before (output table d.noise t w) w) refl
+      let out = output table d.noise t w in
+      let made : Setting → ℕ → List Voice → ℤ → Pass =
+      λ u noise xs b.
+      let x = slice_index_or xs v resting_voice in
+      let o = output table noise u x in
+      record { voices = slice_set xs v (gone_on ram u s b o x); sums = mixed p'.sums o u; before = o } in
+      ap (λ (u : Setting). made u d'.noise p'.voices p'.before) (setting_same d d' same v near)
+      ∙ ap (λ (n : ℕ). made (louder t l r) n p'.voices p'.before) same.noise_same
+      ∙ ap (λ (xs : List Voice). made (louder t l r) d.noise xs p'.before) voices
+      ∙ ap (λ (b : ℤ). made (louder t l r) d.noise p.voices b) before
+      ∙ ap (λ (o : ℤ). record { voices = slice_set p.voices v (gone_on ram (louder t l r) s p.before o w); sums = mixed p'.sums o (louder t l r); before = o }) (output_same t l r table d.noise w)
+      ∙ ap (λ (x : Voice). record { voices = slice_set p.voices v x; sums = mixed p'.sums out (louder t l r); before = out }) (gone_on_same t l r ram s p.before out w)
 
   pub turns_alike : (n : ℕ) → n < 9 → IsTurn n
   unfolding turns

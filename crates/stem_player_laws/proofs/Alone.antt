@@ -1,5 +1,6 @@
 -- One voice by itself, and the eight of them.
-use Rattle.std.proofs.Common.{◌≡◌, ◌≢◌, ◌∙◌, ℕ, ℤ, pos, zero, suc, Bool, true, false, not, ◌+◌, ◌*◌, ◌^◌, ◌<◌, ◌≤◌, ◌==◌, ◌||◌, ◌+ℤ◌, nat_lt, List, [], ◌∷◌, absurd, slice_index, slice_set, refl, ap, sym, arith}
+use Rattle.std.proofs.Common.{◌≡◌, ◌≢◌, ◌∙◌, ℕ, ℤ, pos, zero, suc, Bool, true, false, not, ◌+◌, ◌-◌, ◌*◌, ◌^◌, ◌<◌, ◌≤◌, ◌==◌, ◌||◌, ◌+ℤ◌, nat_lt, List, [], ◌∷◌, slice_index, slice_set, refl, ap, sym, ⊎_elim, arith}
+use Rattle.std.proofs.lemmas.Bool.{cases_eq}
 use Rattle.std.proofs.Math.IntN.{*ℤ-zero}
 use Rattle.std.proofs.lemmas.Int.{clamps, ints}
 use Rattle.std.proofs.lemmas.List.{get_or-set_other}
@@ -37,6 +38,7 @@ added_first out volume =
 module _ (f out volume : ℕ → ℤ) (v : ℕ) (near : v < 8) (none : f 0 ≡ pos 0) (more : (u : ℕ) → u < 8 → f (suc u) ≡ added (f u) (out u) (volume u))
     (silent : (u : ℕ) → u < 8 → u ≢ v → volume u ≡ pos 0) where
   stays_none : (n : ℕ) → n ≤ v → f n ≡ pos 0
+  unfolding clamped_16
   stays_none zero le = none
   stays_none (suc u) le =
       more u (omega (arith, le, near)) ∙ ap (λ (z : ℤ). added (f u) (out u) z) (silent u (omega (arith, le, near)) (λ e. omega (arith, e, le)))
@@ -88,7 +90,7 @@ below_eight P a b c d e f g h (suc (suc (suc (suc zero)))) lt = e
 below_eight P a b c d e f g h (suc (suc (suc (suc (suc zero))))) lt = f
 below_eight P a b c d e f g h (suc (suc (suc (suc (suc (suc zero)))))) lt = g
 below_eight P a b c d e f g h (suc (suc (suc (suc (suc (suc (suc zero))))))) lt = h
-below_eight P a b c d e f g h (suc (suc (suc (suc (suc (suc (suc (suc n)))))))) lt = absurd lt
+below_eight P a b c d e f g h (suc (suc (suc (suc (suc (suc (suc (suc n)))))))) lt = absurd (omega (arith, lt))
 
 -- its own bit is set, and no other
 own_bit : (v : ℕ) → v < 8 → bit (2 ^ v) v ≡ true
@@ -111,10 +113,10 @@ other_bit = below_eight (λ v. (u : ℕ) → u < 8 → IsOther v u)
 -- ---- the volumes of a stem
 
 by_equal : {P : Type 0} (u v : ℕ) → (u ≡ v → P) → (u ≢ v → P) → P
-by_equal u v f g = by_test (u == v) (λ e. f (omega (arith, e))) (λ e. g (λ i. omega (arith, e, i)))
+by_equal u v f g = ⊎_elim f g (cases_eq u v)
 
 below_other : (u v : ℕ) → u < suc v → u ≢ v → u < v
-below_other u v lt ne = by_test (nat_lt u v) (λ e. omega (arith, e)) (λ e. absurd (ne (omega (arith, e, lt))))
+below_other u v lt ne = omega (arith, lt, ne)
 
 zero_there : (xs : List ℕ) (i : ℕ) → slice_index (slice_set xs i 0) i ≡ 0
 zero_there [] i = refl
@@ -162,7 +164,7 @@ module _ (stem : ℕ) (d : Voices) (u : ℕ) where
       by_equal u v
       (λ e. silenced_left stem v (16 * v) (16 * v + 1) (16 * u) (left_volume v) (right_volume v) (silenced_below stem v d) (ap (bit stem) (sym e) ∙ lacks) (ap (λ (k : ℕ). 16 * k) e) (λ i. omega (arith, i)))
       (λ ne. silenced_apart stem v (16 * v) (16 * v + 1) (16 * u) (left_volume v) (right_volume v) (silenced_below stem v d) (λ e. ne (omega (arith, e))) (λ e. omega (arith, e))
-          ∙ left_without lacks v (below_other u v lt ne))
+      ∙ left_without lacks v (below_other u v lt ne))
 
   right_with : bit stem u ≡ true → (n : ℕ) → kept (silenced_below stem n d) (16 * u + 1) ≡ kept d (16 * u + 1)
   unfolding silenced_below
@@ -179,7 +181,7 @@ module _ (stem : ℕ) (d : Voices) (u : ℕ) where
       by_equal u v
       (λ e. silenced_right stem v (16 * v) (16 * v + 1) (16 * u + 1) (left_volume v) (right_volume v) (silenced_below stem v d) (ap (bit stem) (sym e) ∙ lacks) (ap (λ (k : ℕ). 16 * k + 1) e))
       (λ ne. silenced_apart stem v (16 * v) (16 * v + 1) (16 * u + 1) (left_volume v) (right_volume v) (silenced_below stem v d) (λ e. omega (arith, e)) (λ e. ne (omega (arith, e)))
-          ∙ right_without lacks v (below_other u v lt ne))
+      ∙ right_without lacks v (below_other u v lt ne))
 
   -- behind the echo's volumes too
   whole_left : kept (stem_voices stem d) (16 * u) ≡ kept (silenced_below stem 8 d) (16 * u)

@@ -1,4 +1,4 @@
 pub mod Levels
-pub mod Whole
+pub mod AllParts
 pub mod Alike
 pub mod Alone

@@ -14,7 +14,7 @@ use Rattle.audio_side.specs.SoundLaws.{by_test}
 use Rattle.audio_side.specs.Stem.{silenced, silenced_below, stem_emitted, stem_hardware, stem_voices}
 use Rattle.spc_player.specs.Apart.{stem_sample}
 use Rattle.spc_player.specs.Play.{Playing, after_steps, output, step_emits, steps_of, to_sample}
-use Rattle.spc_player.proofs.Apart.{before}
+use Rattle.spc_player.proofs.StemSteps.{before}
 use Rattle.spc_player.proofs.Pairs.{one_more}
 use Rattle.spc_player.proofs.Steps.{cycle_after, cycle_of, silent}
 use Rattle.stem_player.specs.Heard.{at_level, heard_pairs, heard_sample, level}

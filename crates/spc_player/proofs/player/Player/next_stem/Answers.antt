@@ -1,8 +1,8 @@
 use Rattle.std.proofs.Common.{subst}
 use Rattle.spc_player.specs.Play.{Playing}
 use Rattle.spc_player.specs.Player.{IsPlaying}
-use Rattle.spc_player.proofs.Apart.{last_step_is, last_step_samples}
-use Rattle.spc_player.proofs.apart.Player.next_stem.Goals as goal
+use Rattle.spc_player.proofs.StemSteps.{last_step_is, last_step_samples}
+use Rattle.spc_player.proofs.player.Player.next_stem.Goals as goal
 
 pub returns-clause-next : goal.returns-clause-next
 returns-clause-next c = λ w h.

@@ -1,8 +1,8 @@
 use Rattle.std.proofs.Common.{◌≡◌, ◌-◌, []}
 use Rattle.spc_player.specs.Play.{Playing}
 use Rattle.spc_player.specs.Player.{IsPlaying, stamp_of, waiting_of}
-use Rattle.spc_player.proofs.Apart.{IsBefore}
-use Rattle.spc_player.proofs.apart.Player.to_last_step.Given as goal
+use Rattle.spc_player.proofs.StemSteps.{IsBefore}
+use Rattle.spc_player.proofs.player.Player.to_last_step.Given as goal
 
 abbrev pub invariant-loop-self : goal.invariant-loop-self
 invariant-loop-self l = record {

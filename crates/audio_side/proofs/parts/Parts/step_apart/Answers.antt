@@ -3,9 +3,9 @@ use Rattle.audio_side.specs.HardwareState.{HardwareState}
 use Rattle.audio_side.specs.Effect.{emitted, passed}
 use Rattle.audio_side.specs.Parts.{value_of}
 use Rattle.audio_side.specs.Stem.{stem_hardware}
-use Rattle.audio_side.proofs.Apart.{sampling_is, stem_is}
+use Rattle.audio_side.proofs.Stems.{sampling_is, stem_is}
 use Rattle.audio_side.proofs.Moves.{bytes_emitted, next_stands}
-use Rattle.audio_side.proofs.apart.Parts.step_apart.Goals as goal
+use Rattle.audio_side.proofs.parts.Parts.step_apart.Goals as goal
 
 pub returns-clause-next : goal.returns-clause-next
 returns-clause-next c =

@@ -2,9 +2,9 @@ use Rattle.std.proofs.Common.{◌≡◌, ◌∙◌, ◌<◌, ◌≤◌, ap, sym,
 use Rattle.std.proofs.lemmas.List.{nil_from_length}
 use Rattle.snes_defs.specs.declared.region.Region.TheVariants.{Ntsc}
 use Rattle.spc_player.specs.Player.{PlayerValue, stamp_of}
-use Rattle.spc_player.proofs.Apart.{before_arrives, before_emits_none, before_goes_on, before_late}
+use Rattle.spc_player.proofs.StemSteps.{before_arrives, before_emits_none, before_goes_on, before_late}
 use Rattle.spc_player.proofs.Steps.{bound_by_place, cycle_of, start_is}
-use Rattle.spc_player.proofs.apart.Player.to_last_step.Goals as goal
+use Rattle.spc_player.proofs.player.Player.to_last_step.Goals as goal
 
 pub loop-self-preserved : goal.loop-self-preserved
 loop-self-preserved c =
@@ -16,9 +16,12 @@ loop-self-preserved c =
     record {
       way = λ w h. before_goes_on c.args.self.now c.loop-self.self w c.last_step-last.result ntsc h (c.loop-self.invariant.way w h) (c.last_step-last.ensures.whole (cycle_of w) (start_is c.stamp.result c.args.self.now w ntsc h began))
           c.turn.new.self before c.turn.ensures.next;
-      empty = nil_from_length _ (omega (arith, bound_by_place c.self.inside.side c.args.self.now _ 0 (ap (λ (p : PlayerValue). p.side) view) c.stamp.ensures.stands
-          (λ w h. before_emits_none c.args.self.now c.loop-self.self w c.last_step-last.result ntsc h (c.loop-self.invariant.way w h) (c.last_step-last.ensures.whole (cycle_of w) (start_is c.stamp.result c.args.self.now w ntsc h began))
-          c.turn.new.self before c.loop-self.invariant.empty c.turn.ensures.emits)));
+      empty = nil_from_length _ (omega (
+        arith,
+        bound_by_place c.self.inside.side c.args.self.now _ 0 (ap (λ (p : PlayerValue). p.side) view) c.stamp.ensures.stands
+            (λ w h. before_emits_none c.args.self.now c.loop-self.self w c.last_step-last.result ntsc h (c.loop-self.invariant.way w h) (c.last_step-last.ensures.whole (cycle_of w) (start_is c.stamp.result c.args.self.now w ntsc h began))
+            c.turn.new.self before c.loop-self.invariant.empty c.turn.ensures.emits),
+      ));
     }
 
 pub returns-clause-next : goal.returns-clause-next
