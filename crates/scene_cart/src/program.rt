@@ -72,11 +72,13 @@ static PICTURE: [(u16, u8); 22] = [
 
 /// Registers of the PPU that the scene leaves at 0, and how often each is written: a console has anything there at power on.
 /// The scene that speed is measured by leaves them out.
-static CLEARED: [(u16, u8); 7] = [
+static CLEARED: [(u16, u8); 9] = [
     (0x2106, 1), // MOSAIC
     (0x210d, 2), // BG1HOFS
     (0x210f, 2), // BG2HOFS
     (0x2111, 2), // BG3HOFS
+    (0x2126, 1), // WH0
+    (0x2127, 1), // WH1
     (0x212e, 1), // TMW
     (0x212f, 1), // TSW
     (0x2133, 1), // SETINI
