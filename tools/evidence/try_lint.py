@@ -138,8 +138,8 @@ class Code:
         return self.fill(0x18, byte, 2 * words, name)
 
     def oam(self, byte):
-        """All of OAM with a byte."""
-        return self.store(0x2102, 0).store(0x2103, 0).fill(0x04, byte, 544, "oam")
+        """Small objects, all bytes of which are the same."""
+        return self.store(0x2102, 0).store(0x2103, 0).fill(0x04, byte, 512, "low").fill(0x04, 0, 32, "high")
 
     def end(self):
         return self(0x80, 0xFE)
@@ -617,7 +617,7 @@ def another_background_without_its_map():
 
 def masked(select, without, masks=1):
     """BG1 masked by windows, by 2123, without a register of them."""
-    code = begin().vram(0, 0x8000).registers(without).store(0x212C, 1).store(0x212E, masks)
+    code = begin().vram(0, 0x8000).registers(without).store(0x212C, 1).store(0x212E, masks).vblank()
     code = code if without == 0x2123 else code.store(0x2123, select)
     return code.lda(0x0F).label("it").store(0x2100).end()
 
@@ -658,7 +658,7 @@ SEEN = 29 * 32
 
 def background(code, tiles=0, mode=0):
     """BG1 shown, its map at 0, its tiles at TILES * 1000h."""
-    code.registers().store(0x212C, 1).store(0x210B, tiles).store(0x2105, mode)
+    code.registers().store(0x212C, 1).store(0x210B, tiles).store(0x2105, mode).vblank()
     return code.lda(0x0F).label("it").store(0x2100).end()
 
 
@@ -723,7 +723,7 @@ def plane_of_mode_7_that_was_written():
 
 
 def objects(code, sizes=0):
-    code.registers().store(0x2101, sizes).store(0x212C, 0x10)
+    code.registers().store(0x2101, sizes).store(0x212C, 0x10).vblank()
     return code.lda(0x0F).label("it").store(0x2100).end()
 
 
@@ -750,7 +750,7 @@ def objects_below_the_picture():
 @case("oam-shown-before-write", found("oam-shown-before-write", "it", 2))
 def last_object_that_nothing_has_written():
     code = begin().store(0x2102, 0).store(0x2103, 0).fill(0x04, 0xE0, 508, "low")
-    return objects(code.store(0x2102, 0).store(0x2103, 1).fill(0x04, 0, 32, "high"))
+    return objects(code.store(0x2103, 1).fill(0x04, 0, 32, "high"))
 
 
 @case("oam-shown-before-write", {})
@@ -848,7 +848,8 @@ def reads_213e():
 
 
 def flipped(sizes, attributes, y=0):
-    code = begin().registers().store(0x2101, sizes).store(0x212C, 0x10).store(0x2102, 0).store(0x2103, 0)
+    code = begin().vram(0, 0x8000).registers().oam(0xE0).vblank()
+    code.store(0x2101, sizes).store(0x212C, 0x10).store(0x2102, 0).store(0x2103, 0)
     code.store(0x2104, 0).store(0x2104, y).store(0x2104, 0).lda(attributes)
     return code.label("it").store(0x2104).store(0x2100, 0x0F).end()
 

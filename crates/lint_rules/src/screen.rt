@@ -78,7 +78,7 @@ impl Screen {
     }
 
     /// Returns how many backgrounds of their own the mode has: mode 7 has none, its plane is another matter.
-    fn layers_of(&self) -> u8
+    pub(crate) fn layers_of(&self) -> u8
         ensures { result ≡ layers_of self.now.mode }
     {
         match self.mode {

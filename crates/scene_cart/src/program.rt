@@ -72,11 +72,12 @@ static PICTURE: [(u16, u8); 22] = [
 
 /// Registers of the PPU that the scene leaves at 0, and how often each is written: a console has anything there at power on.
 /// The scene that speed is measured by leaves them out.
-static CLEARED: [(u16, u8); 9] = [
+static CLEARED: [(u16, u8); 10] = [
     (0x2106, 1), // MOSAIC
     (0x210d, 2), // BG1HOFS
     (0x210f, 2), // BG2HOFS
     (0x2111, 2), // BG3HOFS
+    (0x2121, 1), // CGADD
     (0x2126, 1), // WH0
     (0x2127, 1), // WH1
     (0x212e, 1), // TMW
@@ -173,7 +174,9 @@ fn start(code: &mut Code, clears: bool) {
         aim(code, 0, 1, 0x18, VIDEO + 0x8000 * u32::from(half)); // VMDATA
         move_bytes(code, 0x8000);
     }
-    set(code, 0x2121, 0); // CGADD
+    if !clears {
+        set(code, 0x2121, 0); // CGADD
+    }
     aim(code, 0, 0, 0x22, COLOURS); // CGDATA
     move_bytes(code, 0x200);
     to_work_ram(code, MOVED, OBJECTS, 0x220);
