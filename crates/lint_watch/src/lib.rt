@@ -15,6 +15,8 @@ mod names;
 mod ports;
 mod run;
 mod seen;
+mod shown;
+mod shown_line;
 mod sound_watch;
 mod steps;
 mod watch;
