@@ -1,5 +1,5 @@
 -- The steps before the one that makes the next sample, and that one for a stem.
-use Rattle.std.proofs.Common.{◌≡◌, ◌∙◌, ℕ, suc, ◌+◌, ◌-◌, ◌*◌, ◌/◌, ◌%◌, ◌<◌, ◌≤◌, ◌==◌, IsTrue, tt, List, [], ◌++◌, length, ap, sym, subst, arith}
+use Rattle.std.proofs.Common.{◌≡◌, ◌∙◌, ℕ, suc, ◌+◌, ◌-◌, ◌*◌, ◌/◌, ◌%◌, ◌<◌, ◌≤◌, ◌==◌, IsTrue, refl, List, [], ◌++◌, length, ap, sym, subst, arith}
 use Rattle.snes_defs.specs.declared.region.Region.{Region}
 use Rattle.snes_defs.specs.declared.region.Region.TheVariants.{Ntsc}
 use Rattle.audio_side.specs.Clock.{Clock}
@@ -67,4 +67,4 @@ last_step_is w =
 pub last_step_samples : (w : Playing) → IsTrue (is_sampling (cycle_of (after_steps w (before w))))
 last_step_samples w =
     let e : cycle_of (after_steps w (before w)) % 32 ≡ 31 = omega (arith, cycle_after w (before w)) in
-    subst (λ (n : ℕ). IsTrue (n == 31)) (sym e) tt
+    subst (λ (n : ℕ). IsTrue (n == 31)) (sym e) refl
