@@ -1,5 +1,5 @@
 -- What is put to the output for sound is what `play` makes.
-use Rattle.std.proofs.Common.{◌≡◌, ℕ, Bool, true, false, nat_eq, List, [], ◌∷◌, Option, MatchBool, refl, sym, subst}
+use Rattle.std.proofs.Common.{◌≡◌, ℕ, Bool, true, false, nat_eq, List, [], ◌∷◌, Option, MatchBool, Result, Ok, Err, OnOk, refl, sym, subst}
 use Rattle.shelf.specs.declared.shelves.Input.{Input}
 use Rattle.shelf.specs.declared.shelves.Out.TheVariants.{Sound}
 use Rattle.shelf.specs.Told.{Holds}
@@ -12,6 +12,7 @@ use Rattle.run_drive.specs.Run.{Adds, AddsSome}
 use Rattle.run_io.specs.Settings.{count_set}
 use Rattle.spc_player.specs.Play.{Playing, AreFirstPairs, play_start}
 use Rattle.spc_player.specs.Player.{TookPairs, TookSome}
+use Rattle.stem_player.specs.declared.heard.Heard.{Heard}
 use Rattle.stem_player.specs.Heard.{heard_pairs}
 use Rattle.spc_player.proofs.Pairs.{pairs_of, are_first}
 use Rattle.snes_program.specs.Command.{CanMake, HoldsWhole, HoldsFirst}
@@ -49,11 +50,25 @@ module _ (order : Order) (w : Playing) (before after : List ℕ → Type 0) wher
   pub took_plain_first : nat_eq (count_set order.pairs play_settings) 0 ≡ true → TookSome w order.count before after → TookSoundFirst order w before after
   took_plain_first none h = record { bytes = h.bytes; sound = plain_sound order w h.bytes none h.first; taken = h.taken }
 
-  pub took_heard : nat_eq (count_set order.pairs play_settings) 0 ≡ false → Adds before after (heard_pairs (heard_in order.pairs) w order.count order.count) → TookSound order w before after
-  took_heard some h = record { bytes = _; sound = heard_sound order w some; taken = h }
+  module _ (heard : Heard) (is : heard ≡ heard_in order.pairs) where
+    pub took_heard : nat_eq (count_set order.pairs play_settings) 0 ≡ false → Adds before after (heard_pairs heard w order.count order.count) → TookSound order w before after
+    took_heard some h = record {
+      bytes = heard_pairs (heard_in order.pairs) w order.count order.count;
+      sound = heard_sound order w some;
+      taken = subst (λ (x : Heard). Adds before after (heard_pairs x w order.count order.count)) is h;
+    }
 
-  pub took_heard_first : nat_eq (count_set order.pairs play_settings) 0 ≡ false → AddsSome before after (heard_pairs (heard_in order.pairs) w order.count order.count) → TookSoundFirst order w before after
-  took_heard_first some h = record { bytes = _; sound = heard_sound order w some; taken = h }
+    pub took_heard_first : nat_eq (count_set order.pairs play_settings) 0 ≡ false → AddsSome before after (heard_pairs heard w order.count order.count) → TookSoundFirst order w before after
+    took_heard_first some h = record {
+      bytes = heard_pairs (heard_in order.pairs) w order.count order.count;
+      sound = heard_sound order w some;
+      taken = subst (λ (x : Heard). AddsSome before after (heard_pairs x w order.count order.count)) is h;
+    }
+
+-- what follows from a call that was done
+pub on_ok : {A B : Type 0} (result : Result A B) (P Q : Type 0) → (P → Q) → OnOk result P → OnOk result Q
+on_ok (Ok x) P Q f h = f h
+on_ok (Err e) P Q f h = tt
 
 module _ (order : Order) (told : Input → Option (List ℕ)) (image : Image) (table : List ℕ) (shows : ShowsSound told image table) where
   pub play_can : CanMake play order told

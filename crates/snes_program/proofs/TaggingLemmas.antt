@@ -1,5 +1,5 @@
 -- What a setting takes is not refused as the content of the field of its name.
-use Rattle.std.proofs.Common.{◌≡◌, ℕ, Bool, true, false, not, ◌&&◌, ◌||◌, nat_le, nat_lt, ◌==◌, if◌then◌else◌, List, length, None, refl, sym, ◌∙◌, subst, arith}
+use Rattle.std.proofs.Common.{◌≡◌, ℕ, Bool, true, false, not, ◌&&◌, ◌||◌, nat_le, nat_lt, ◌==◌, if◌then◌else◌, List, length, Some, None, refl, sym, ◌∙◌, subst, arith}
 use Rattle.std.specs.List.{list_all}
 use Rattle.std.proofs.lemmas.Bool.{leb-true, le-ltb, ne_eqb}
 use Rattle.std.specs.Char.{is_ascii_digit}
@@ -10,6 +10,7 @@ use Rattle.sound_tags.specs.declared.field.Field.{Field}
 use Rattle.sound_tags.specs.declared.field.Field.TheVariants as field
 use Rattle.sound_tags.specs.declared.field.Form.TheVariants.{Text}
 use Rattle.sound_tags.specs.Fields.{size_of, is_number as is_number_field}
+use Rattle.sound_tags.specs.declared.area.FieldRefused.{FieldRefused}
 use Rattle.sound_tags.specs.Put.{refusal_of}
 use Rattle.snes_program.specs.Tagging.{sets}
 
@@ -62,7 +63,7 @@ number_taken digits text field kind size h =
     let more = both (nat_le (length text) digits) (list_all is_ascii_digit text) parts.1 in
     let fits : nat_lt (size_of Text field) (length text) ≡ false = subst (λ (n : ℕ). nat_lt n (length text) ≡ false) (sym size) (short digits text more.0) in
     let spelled : (length text == 0) || not (list_all is_ascii_digit text) ≡ false =
-        neither (length text == 0) (not (list_all is_ascii_digit text)) (some text parts.0) (negated (list_all is_ascii_digit text) more.1) in
+    neither (length text == 0) (not (list_all is_ascii_digit text)) (some text parts.0) (negated (list_all is_ascii_digit text) more.1) in
     first (is_number_field field) _ _ kind
     ∙ second ((length text == 0) || not (list_all is_ascii_digit text)) _ _ spelled
     ∙ second (nat_lt (size_of Text field) (length text)) _ _ fits
@@ -77,6 +78,14 @@ unrefused text setting.Length field.Length named h = number_taken 3 text field.L
 unrefused text setting.Fade field.Fade named h = number_taken 5 text field.Fade refl refl h
 unrefused text _ _ named h = absurd cc
 
-pub fits : (pairs : List (List ℕ)) (setting : Setting) (field : Field) → sets setting field ≡ true → IsTaken pairs setting → is_unset pairs setting ≡ false → refusal_of field (setting_value pairs setting) ≡ None
+fits : (pairs : List (List ℕ)) (setting : Setting) (field : Field) → sets setting field ≡ true → IsTaken pairs setting → is_unset pairs setting ≡ false → refusal_of field (setting_value pairs setting) ≡ None
 fits pairs setting field named taken set =
     unrefused (setting_value pairs setting) setting field named (other (is_unset pairs setting) (accepts setting (setting_value pairs setting)) taken set)
+
+-- so no text of a setting that takes it is refused
+pub never : (pairs : List (List ℕ)) (setting : Setting) (field : Field) (text : List ℕ) (why : FieldRefused)
+    → text ≡ setting_value pairs setting → sets setting field ≡ true → IsTaken pairs setting → is_unset pairs setting ≡ false → refusal_of field text ≡ Some why → ⊥
+never pairs setting field text why is named taken set refused =
+    let none : refusal_of field text ≡ None = subst (λ (t : List ℕ). refusal_of field t ≡ None) (sym is) (fits pairs setting field named taken set) in
+    let both : None ≡ Some why = sym none ∙ refused in
+    cc

@@ -18,7 +18,7 @@ pub(crate) static TAG_SETTINGS: [Setting; 6] = [
 ];
 
 /// Sets a field to what the setting of its name is set to; changes nothing if it is unset.
-#[tactic(auto, using(crate::proofs::TaggingLemmas::fits), unfolding(crate::specs::Tagging::then_set))]
+#[tactic(auto, unfolding(crate::specs::Tagging::then_set))]
 fn set_field(tags: &mut Tags, pairs: &[Word], setting: Setting, field: Field)
     requires named { sets setting field ≡ true }
     requires taken { IsTaken pairs.now setting }
