@@ -271,8 +271,9 @@ impl ShownMemories {
         }
     }
 
-    /// Shows an object of which OAM's bytes for its place have been written.
-    fn show_placed(&mut self, line: &Line<'_>, object: &Object, at: usize) {
+    /// Shows an object, by its number, of which OAM's bytes for its place have been written.
+    fn show_placed(&mut self, line: &Line<'_>, object: &Object, number: u8) {
+        let at = 4 * usize::from(number % 128);
         let mut is_shown = false;
         for column in 0u8..8 {
             is_shown = is_shown || object.has_column(column);
@@ -310,7 +311,7 @@ impl ShownMemories {
                 let _is_known = self.oam.show(high);
             }
         } else if object.has_row(line.row) {
-            self.show_placed(line, &object, at);
+            self.show_placed(line, &object, number);
         }
     }
 
