@@ -1,7 +1,7 @@
 use crate::command::Performs;
 use crate::job::{JobFiles, job_of, line_of_run};
 use crate::loads::Loads;
-use crate::tagging::{TAG_SETTINGS, tag};
+use crate::tagging::{TAG_SETTINGS, tagged};
 use port_wire::Gate;
 use run_drive::StatePlayer;
 use run_io::{Asked, Count, Form, Line};
@@ -89,8 +89,8 @@ impl<Z: StatePlayer> Performs for SoundFile<Z> {
         shelf: &mut H,
     ) -> Result<Line, Out> {
         let ReadySoundFile { machines, line } = ready;
-        let mut bytes = Z::play_state(machines);
-        tag(asked.pairs, bytes.as_mut_slice());
+        let file = Z::play_state(machines);
+        let bytes = tagged(asked.pairs, file);
         match shelf.put(Out::Spc, bytes.as_slice()) {
             Ok(()) => Ok(line),
             Err(Failed) => Err(Out::Spc),

@@ -50,7 +50,7 @@ fn tags_of(pairs: &[Word]) -> Tags
 
 /// Writes the tags that the arguments set into a sound file. Changes nothing if they set none.
 #[tactic(auto, unfolding(crate::specs::Tagging::tagged_by))]
-pub(crate) fn tag(pairs: &[Word], file: &mut [u8])
+fn tag(pairs: &[Word], file: &mut [u8])
     requires { AllOf (IsTaken pairs.now) tag_settings }
     ensures { file.new ≡ tagged_by pairs.now file.old }
 {
@@ -58,4 +58,14 @@ pub(crate) fn tag(pairs: &[Word], file: &mut [u8])
         return;
     }
     put_tags(&tags_of(pairs), file);
+}
+
+/// Returns a sound file with the tags that the arguments set; the file as it is if they set none.
+pub(crate) fn tagged(pairs: &[Word], file: Vec<u8>) -> Vec<u8>
+    requires { AllOf (IsTaken pairs.now) tag_settings }
+    ensures { result.items ≡ tagged_by pairs.now file.items }
+{
+    let mut bytes = file;
+    tag(pairs, bytes.as_mut_slice());
+    bytes
 }

@@ -6,15 +6,15 @@ use Rattle.snes_program.specs.Loads.{told_in}
 use Rattle.snes_program.proofs.SoundFileLemmas.{taken, spc_whole, spc_first, spc_all}
 use Rattle.snes_program.proofs.sound_file.SoundFilePerforms.fill.Goals as goal
 
-pub tag-requires : goal.tag-requires
-tag-requires g c = taken (order_by c.args.asked.now) c.requires.fits
+pub tagged-bytes-requires : goal.tagged-bytes-requires
+tagged-bytes-requires g c = taken (order_by c.args.asked.now) c.requires.fits
 
 pub returns-in-Ok-clause-whole : goal.returns-in-Ok-clause-whole
 returns-in-Ok-clause-whole g c =
     let a = g.H.Shelf.shown c.args.shelf.now in
     let b = g.H.Shelf.shown c.put.new.self in
     let r = c.requires.ready in
-    spc_whole g.Z.StatePlayer.leaves (order_by c.args.asked.now) (told_in a c.args.asked.now.pairs.now) r.0 r.1 c.play_state-bytes.result.items (c.play_state-bytes.ensures r.0 r.2) c.tag.new.file c.tag.ensures a b c.requires.created.0 _ r.4
+    spc_whole g.Z.StatePlayer.leaves (order_by c.args.asked.now) (told_in a c.args.asked.now.pairs.now) r.0 r.1 c.play_state-file.result.items (c.play_state-file.ensures r.0 r.2) c.tagged-bytes.result.items c.tagged-bytes.ensures a b c.requires.created.0 _ r.4
     (subst (λ (bytes : List ℕ). Appends (a.written Spc) (b.written Spc) bytes) c.as_slice.ensures.value c.in-Ok.ensures.appended)
 
 pub returns-in-Ok-clause-first : goal.returns-in-Ok-clause-first
@@ -22,7 +22,7 @@ returns-in-Ok-clause-first g c =
     let a = g.H.Shelf.shown c.args.shelf.now in
     let b = g.H.Shelf.shown c.put.new.self in
     let r = c.requires.ready in
-    spc_all g.Z.StatePlayer.leaves (order_by c.args.asked.now) (told_in a c.args.asked.now.pairs.now) r.0 r.1 c.play_state-bytes.result.items (c.play_state-bytes.ensures r.0 r.2) c.tag.new.file c.tag.ensures a b c.requires.created.0
+    spc_all g.Z.StatePlayer.leaves (order_by c.args.asked.now) (told_in a c.args.asked.now.pairs.now) r.0 r.1 c.play_state-file.result.items (c.play_state-file.ensures r.0 r.2) c.tagged-bytes.result.items c.tagged-bytes.ensures a b c.requires.created.0
     (subst (λ (bytes : List ℕ). Appends (a.written Spc) (b.written Spc) bytes) c.as_slice.ensures.value c.in-Ok.ensures.appended)
 
 pub returns-clause-first : goal.returns-clause-first
@@ -30,5 +30,5 @@ returns-clause-first g c =
     let a = g.H.Shelf.shown c.args.shelf.now in
     let b = g.H.Shelf.shown c.put.new.self in
     let r = c.requires.ready in
-    spc_first g.Z.StatePlayer.leaves (order_by c.args.asked.now) (told_in a c.args.asked.now.pairs.now) r.0 r.1 c.play_state-bytes.result.items (c.play_state-bytes.ensures r.0 r.2) c.tag.new.file c.tag.ensures a b c.requires.created.0
+    spc_first g.Z.StatePlayer.leaves (order_by c.args.asked.now) (told_in a c.args.asked.now.pairs.now) r.0 r.1 c.play_state-file.result.items (c.play_state-file.ensures r.0 r.2) c.tagged-bytes.result.items c.tagged-bytes.ensures a b c.requires.created.0
     (subst (λ (bytes : List ℕ). AppendsSome (a.written Spc) (b.written Spc) bytes) c.as_slice.ensures.value c.in-Err.ensures.prefix)
