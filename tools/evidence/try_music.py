@@ -36,13 +36,14 @@ import sys
 import tempfile
 import wave
 from array import array
+from itertools import accumulate
 from operator import sub
 
 from tunes import tune_of
 
 TOP = os.path.dirname(os.path.dirname(os.path.dirname(os.path.realpath(__file__))))
 PAGE = os.path.join(TOP, "docs/use/SPC-FILES.md")
-RATE, WINDOW = 32000, 640
+RATE, WINDOW, MOVED = 32000, 640, 64
 GAIN, BASS = 358, 8
 PARTS = [f"voice{v}" for v in range(8)] + ["echo"]
 HAS = {name: shutil.which(name) is not None for name in ("ffmpeg", "ffprobe", "file")}
@@ -131,10 +132,12 @@ def check_tags(path, tags):
         read_there = {theirs[name]: value for name, value in probed["tags"].items() if name in theirs}
         wanted = {name: tags[name] for name in theirs.values()}
         check(f"{path}: ffprobe has {read_there}, not {wanted}", read_there == wanted)
+        check(f"{path}: ffprobe's length {probed['duration']}", float(probed["duration"]) == int(tags["length"]))
     if HAS["file"]:
         described = said("file", "-b", path).strip()
-        check(f"{path}: file says {described}", described.startswith("SNES SPC700 sound file, version 0.30, with ID666 tag"))
-    check(f"{path}: look tags", said("./look", "tags", path) == "header: text\n" + "".join(f"{name}: {value}\n" for name, value in tags.items()))
+        wanted = f'SNES SPC700 sound file, version 0.30, with ID666 tag, song "{tags["title"]}", game "{tags["game"]}"'
+        check(f"{path}: file says {described}, not {wanted}", described == wanted)
+    check(f"{path}: look tags", said("./look", "tags", path) == "header: text\n" + "".join(f"{name}: {value}\n" for name, value in tags.items()).replace("\\", "\\\\"))
 
 
 # The laws of the stems.
@@ -192,6 +195,12 @@ def level(samples):
     return math.sqrt(sum(it * it for it in samples) / max(1, len(samples)))
 
 
+def levels_of(samples):
+    """The level of the window that begins at a sample."""
+    sums = list(accumulate((it * it for it in samples), initial=0))
+    return lambda at: math.sqrt((sums[at + WINDOW] - sums[at]) / WINDOW)
+
+
 def shift_of(ours, theirs):
     """How far theirs is shifted: by the first sound, and then by the best correlation near it."""
     a, b = first_sound(ours), first_sound(theirs)
@@ -232,8 +241,8 @@ class Comparison:
     """What was found beside libgme, over all tunes."""
 
     def __init__(self):
-        self.windows = self.together = self.voices = self.pitches = 0
-        self.levels, self.cents, self.of_note = [], [], []
+        self.windows = self.moved = self.voices = self.pitches = 0
+        self.levels, self.cents, self.of_note, self.apart = [], [], [], []
 
     def add(self, name, tune, voice, elapsed, ours, theirs):
         """Compares a voice alone: windows by level, and notes by pitch."""
@@ -247,10 +256,15 @@ class Comparison:
         last = min(len(ours), len(theirs) - shift)
         theirs = theirs[first + shift:last + shift]
         ours = ours[first:last]
-        for at in range(0, len(ours) - WINDOW + 1, WINDOW):
-            a, b = level(ours[at:at + WINDOW]), level(theirs[at:at + WINDOW])
+        squares, others = levels_of(ours), levels_of(theirs)
+        for at in range(MOVED, len(ours) - WINDOW - MOVED, WINDOW):
+            a, b = squares(at), others(at)
+            near = [squares(at + moved) for moved in range(-MOVED, MOVED + 1, 4)]
             self.windows += 1
-            self.together += (a >= 30) == (b >= 30) or abs(a - b) < 15
+            held = 0.97 * min(near) - 3 <= b <= 1.03 * max(near) + 3
+            self.moved += held
+            if not held:
+                self.apart.append((name, voice, (at + first) / RATE, a, b))
             if a >= 30 and b >= 30:
                 self.levels.append(20 * math.log10(b / a))
         if voice not in tune.noise and voice not in tune.modulated:
@@ -273,7 +287,9 @@ class Comparison:
         if not levels:
             return
         at = lambda them, share: them[min(len(them) - 1, int(share * len(them)))]
-        print(f"libgme: {self.voices} voices, {self.windows} windows, {self.together} of which sound in both or in none")
+        print(f"libgme: {self.voices} voices, {self.windows} windows, {self.windows - self.moved} of which are not within 3 % of ours at most {MOVED} samples away")
+        for one in self.apart[:20]:
+            print("        %s, voice %d at %.2f s: ours %.0f, libgme's %.0f" % one)
         print(f"libgme: levels apart, in dB: half of {len(levels)} windows to {at(levels, 0.5):.3f}, 99 % to {at(levels, 0.99):.3f}, the last {levels[-1]:.2f}")
         if cents:
             print(f"libgme: pitches apart, in cents: half of {len(cents)} notes to {at(cents, 0.5):.2f}, the last {cents[-1]:.2f}; ours from the note's, the last {of_note[-1]:.2f}")
