@@ -1,11 +1,11 @@
 #!/usr/bin/env python3
 """Makes music out of cartridges as docs/use/SPC-FILES.md tells a user to, and compares what comes out with another player's.
 
-    tools/evidence/try_music.py [--snes PROGRAM] [--look PROGRAM] [--scene PROGRAM] [--count N] [--first N] [--seconds N]
+    tools/evidence/try_music.py [--snes PROGRAM] [--look PROGRAM] [--scene PROGRAM] [--count N] [--first N] [--seconds N] [--long N]
 
 The commands are read from the page, below "A cartridge's music", and are run by a shell: for the game, for the scene, and for N (50) cartridges
-with a tune at random (tunes.py), each in a folder of its own. Of these the files have --seconds (12) instead of two minutes, and each has tags of
-its own. Of every cartridge it is tried that
+with a tune at random (tunes.py). Of these the files have --seconds (6) instead of two minutes, and each has tags of its own; --long is for the
+game and the scene. Of every cartridge it is tried that
 
 - the WAVs have the length that was asked for, by Python's reader, by `file` and by ffprobe, and `file` and ffprobe read the sound file and the
   tags as they were given;
@@ -18,8 +18,9 @@ Of the tunes at random, of which tunes.py knows what sounds when, it is also tri
   what it gives for a file without the echo's volume;
 - ffmpeg (libgme) plays each voice, by such files, when the stem has it, as loud, and at the same pitch.
 
-libgme puts all through a gain of 1.4 (358 of 256) and a high-pass; the same is done to ours before levels are compared. It leaves out silence in front,
-so a voice is shifted to its first sound. Windows have 20 milliseconds. What needs ffmpeg, ffprobe or `file` is left out where these are not there.
+libgme has a gain of 1.4 (358 of 256); the same is done to ours before levels are compared. It leaves out silence in front, so a voice is shifted to
+its first sound. Windows have 20 milliseconds; the level of one has to be that of ours at most 5 milliseconds away, but for one window in a
+thousand. Noise is compared as a whole, since its numbers differ. docs/lab/LAST-RUNS.md says which rules make the rest of the difference. What needs ffmpeg, ffprobe or `file` is left out where these are not there.
 Last, ./stems takes the length of the tags, refuses what it can't take, and keeps what it has if the disk is full. The status is 1 if something
 failed.
 """
@@ -43,8 +44,8 @@ from tunes import tune_of
 
 TOP = os.path.dirname(os.path.dirname(os.path.dirname(os.path.realpath(__file__))))
 PAGE = os.path.join(TOP, "docs/use/SPC-FILES.md")
-RATE, WINDOW, MOVED = 32000, 640, 64
-GAIN, BASS = 358, 8
+RATE, WINDOW, MOVED = 32000, 640, 160
+GAIN = 358
 PARTS = [f"voice{v}" for v in range(8)] + ["echo"]
 HAS = {name: shutil.which(name) is not None for name in ("ffmpeg", "ffprobe", "file")}
 faults = []
@@ -178,13 +179,8 @@ def by_libgme(file, samples):
 
 
 def as_libgme(samples):
-    """Ours, through its gain and its high-pass."""
-    out, before, total = array("h"), 0, 0
-    for it in samples:
-        now = 4 * it
-        total, before, value = total + (now - before) * GAIN - (total >> BASS), now, total >> 10
-        out.append(max(-32768, min(32767, value)))
-    return out
+    """Ours, with its gain."""
+    return array("h", (max(-32768, min(32767, it * GAIN >> 8)) for it in samples))
 
 
 def first_sound(samples):
@@ -242,7 +238,7 @@ class Comparison:
 
     def __init__(self):
         self.windows = self.moved = self.voices = self.pitches = 0
-        self.levels, self.cents, self.of_note, self.apart = [], [], [], []
+        self.levels, self.noises, self.cents, self.of_note, self.apart = [], [], [], [], []
 
     def add(self, name, tune, voice, elapsed, ours, theirs):
         """Compares a voice alone: windows by level, and notes by pitch."""
@@ -256,6 +252,9 @@ class Comparison:
         last = min(len(ours), len(theirs) - shift)
         theirs = theirs[first + shift:last + shift]
         ours = ours[first:last]
+        if voice in tune.noise:
+            self.noises.append(20 * math.log10(level(theirs) / level(ours)))
+            return
         squares, others = levels_of(ours), levels_of(theirs)
         for at in range(MOVED, len(ours) - WINDOW - MOVED, WINDOW):
             a, b = squares(at), others(at)
@@ -267,7 +266,7 @@ class Comparison:
                 self.apart.append((name, voice, (at + first) / RATE, a, b))
             if a >= 30 and b >= 30:
                 self.levels.append(20 * math.log10(b / a))
-        if voice not in tune.noise and voice not in tune.modulated:
+        if voice not in tune.modulated:
             self.add_pitches(tune.tones(voice, elapsed, last), ours, theirs, first)
 
     def add_pitches(self, tones, ours, theirs, first):
@@ -290,8 +289,13 @@ class Comparison:
         print(f"libgme: {self.voices} voices, {self.windows} windows, {self.windows - self.moved} of which are not within 3 % of ours at most {MOVED} samples away")
         for one in self.apart[:20]:
             print("        %s, voice %d at %.2f s: ours %.0f, libgme's %.0f" % one)
+        check("libgme: more than one window in a thousand", 1000 * (self.windows - self.moved) <= self.windows)
         print(f"libgme: levels apart, in dB: half of {len(levels)} windows to {at(levels, 0.5):.3f}, 99 % to {at(levels, 0.99):.3f}, the last {levels[-1]:.2f}")
+        if self.noises:
+            check("libgme: noise", max(map(abs, self.noises)) < 0.5)
+            print(f"libgme: whole levels of {len(self.noises)} voices of noise apart, in dB: to {max(map(abs, self.noises)):.2f}")
         if cents:
+            check("libgme: pitches", cents[-1] < 1 and of_note[-1] < 5)
             print(f"libgme: pitches apart, in cents: half of {len(cents)} notes to {at(cents, 0.5):.2f}, the last {cents[-1]:.2f}; ours from the note's, the last {of_note[-1]:.2f}")
 
 
@@ -387,7 +391,7 @@ def main():
     words = argparse.ArgumentParser(description=__doc__.split("\n")[0])
     for name, crate in (("snes", "snes_run"), ("look", "frame_look"), ("scene", "scene_cart")):
         words.add_argument(f"--{name}", default=os.path.join(TOP, f"crates/{crate}/out/{crate}"))
-    for name, value in (("count", 50), ("first", 0), ("seconds", 12)):
+    for name, value in (("count", 50), ("first", 0), ("seconds", 6), ("long", 120)):
         words.add_argument(f"--{name}", type=int, default=value)
     words = words.parse_args()
     programs, comparison, samples, worst = Programs(words), Comparison(), 0, 0
@@ -396,7 +400,7 @@ def main():
         programs.put(".")
         of_page = {"title": "The title", "game": "The game", "artist": "Somebody", "comment": "taken after 600 frames", "length": "110", "fade": "10000"}
         for name in ("game", "scene"):
-            music = Music(programs, name, f"out/{name}.sfc", 120, 600, of_page)
+            music = Music(programs, name, f"out/{name}.sfc", words.long, 600, of_page)
             music.follow_the_page()
             tried, apart = music.look_at_it()
             samples, worst = samples + tried, max(worst, apart)

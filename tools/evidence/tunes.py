@@ -54,9 +54,10 @@ def looped(rng):
 
 
 def ended(rng):
-    """A sample that ends: a few blocks by all filters."""
+    """A sample that ends: a few blocks by all filters, the first one by none, as encoders begin."""
     count = rng.randrange(20, 120)
-    return b"".join(block([rng.randrange(-4, 5) for _ in range(16)], rng.choice([8, 9]), rng.randrange(4), n == count - 1) for n in range(count))
+    filters = [0] + [rng.randrange(4) for _ in range(count - 1)]
+    return b"".join(block([rng.randrange(-4, 5) for _ in range(16)], rng.choice([8, 9]), it, n == count - 1) for n, it in enumerate(filters))
 
 
 class Note:
