@@ -81,11 +81,13 @@ for name in "${names[@]}"; do install -m 755 "$(program_of "$name")" "$usr/lib/s
 install -m 755 tools/package/run.sh "$usr/bin/snes"
 for name in "${names[@]:1}"; do ln -s snes "$usr/bin/$name"; done
 install -m 644 tools/with_progress.sh "$usr/lib/snes"
+install -m 755 tools/stems.sh "$usr/lib/snes"
+ln -s snes "$usr/bin/snes-stems"
 printf 'snes %s\ncommit %s\n%s\n' "$version" "$commit" "$shown" >"$usr/lib/snes/about"
 
 programs=()
 for name in snes-look snes-trace snes-lint snes-scene snes-bench; do programs+=("$(program_of "$name")"); done
-tools/package/texts.py "$usr/share" "${programs[@]}" "$version" "$(date -d "@$SOURCE_DATE_EPOCH" +%F)" ||
+tools/package/texts.py "$usr/share" "${programs[@]}" tools/stems.sh "$version" "$(date -d "@$SOURCE_DATE_EPOCH" +%F)" ||
   give_up 'the man pages were not made'
 
 mkdir -p "$usr/share/lintian/overrides"
@@ -182,7 +184,8 @@ Description: Super Nintendo emulator without a window, for checks and archives
  .
  With it come snes-look (pictures, sounds, sums), snes-trace (each step of a
  run), snes-lint (warnings of what fails on a console), snes-bench (cases for
- CI) and snes-scene (free cartridges and the files that a run needs).
+ CI), snes-stems (the voices of a tune apart) and snes-scene (free cartridges
+ and the files that a run needs).
 TEXT
 (cd "$tree" && find usr -type f -print0 | sort -z | xargs -0 md5sum) >"$tree/DEBIAN/md5sums"
 find "$tree" -type d -exec chmod 755 {} +

@@ -16,6 +16,7 @@
 #     lint         each rule of ./lint, its formats and arguments, and the planted faults, if ca65 is there (try_lint.py); its logs of
 #                  SARIF are validated if SARIF_SCHEMA names the schema (try_lint.py says how to get it)
 #     tags         the tags that ./look prints of sound files at random (try_tags.py)
+#     music        the commands of a cartridge's music, and what they make beside ffmpeg's player, if it is there (try_music.py)
 #     states       what snes dump and snes spc write of cartridges at random (try_states.py, try_sound_files.py)
 #     edges        the cases of try_edges.py by the built programs; 10,000 hostile inputs and command lines (try_hostile.py);
 #                  each fault of tools/evidence/edges is told (try_edge_faults.sh)
@@ -46,7 +47,7 @@ watched=${CONSOLE_ROWS:-$top/crates/console_rows/out/console_rows}
 commit=$(git -C "$top" rev-parse --short HEAD) || exit 2
 read -r kit _ < <(rt version) || exit 2
 parts=("$@")
-[ $# -gt 0 ] || parts=(edits device ends bench lint tags states edges allocations soak rows workers bodies)
+[ $# -gt 0 ] || parts=(edits device ends bench lint tags music states edges allocations soak rows workers bodies)
 
 # A full device, a device that takes everything, a name that can't be made: what the program says and its status.
 device() {
@@ -159,6 +160,12 @@ tags() {
     "$top/tools/evidence/try_tags.py" --look "$program"
 }
 
+music() {
+  local look=$top/crates/frame_look/out/frame_look scene=$top/crates/scene_cart/out/scene_cart
+  ! command -v ffmpeg >/dev/null || item page "$(sum_of "$snes" "$look" "$scene" "$top"/{docs/use/SPC-FILES.md,tools/stems.sh,tools/evidence/{try_music,tunes}.py})" \
+    "$top/tools/evidence/try_music.py" --snes "$snes" --look "$look" --scene "$scene"
+}
+
 states() {
   local scene=$top/crates/scene_cart/out/scene_cart
   item random "$(sum_of "$snes" "$scene" "$top/tools/evidence/try_states.py")" "$top/tools/evidence/try_states.py" "$snes" "$scene"
@@ -253,7 +260,7 @@ for part in "${parts[@]}"; do
   started=$(date +%s) items=0 noted=0 bad=0 only=
   [[ $part != *:* ]] || { only=${part#*:} && part=${part%%:*}; }
   case $part in
-    edits | ends | bench | lint | states | edges | allocations | soak | rows | workers | bodies) $part ;;
+    edits | ends | bench | lint | tags | music | states | edges | allocations | soak | rows | workers | bodies) $part ;;
     device) item all now device ;;
     *) echo "no part of this name: $part" ;;
   esac

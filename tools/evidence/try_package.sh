@@ -69,6 +69,10 @@ check 'serial: whole frames' "$(stat -c %s "$root/tmp/try/serial.video")" $((60 
 check 'spc: its line' "$(run snes spc $files --frames 60 --spc taken.spc)" 'frames 60 samples 31947'
 check 'look tags: a file without tags' "$(run snes-look tags taken.spc)" 'header: no tags'
 check 'play: the file is taken' "$(run snes play --spc taken.spc --table s/table.bin --samples 320 --audio taken.audio)" 'samples 320'
+check 'stems --mix: its line' "$(run snes-stems --mix --seconds 1 taken.spc music)" 'mix.wav sound'
+check 'stems --mix: as play and look' "$(run 'snes play --spc taken.spc --table s/table.bin --samples 32000 --audio mix.raw >/dev/null && snes-look wav mix.raw mix.wav && cmp mix.wav music/mix.wav && echo same')" same
+check 'stems: its lines' "$(run 'snes-stems --seconds 1 taken.spc music | sort | cut -d " " -f 1 | tr "\\n" " "')" 'echo.wav voice0.wav voice1.wav voice2.wav voice3.wav voice4.wav voice5.wav voice6.wav voice7.wav '
+check 'stems: files alone' "$(ls -A "$root/tmp/try/music" | wc -l) of $(cat "$root"/tmp/try/music/voice*.wav | wc -c) bytes" "10 of $((8 * 128044)) bytes"
 run snes-look png serial.video 59 frame.png >/dev/null
 run snes-look wav serial.audio sound.wav >/dev/null
 python3 - "$root/tmp/try" >"$work/read" <<'P'
@@ -122,7 +126,7 @@ version=$(sed -n '1s/^snes //p' "$work/tree/usr/lib/snes/about")
 # In a package whose programs aren't shown to be proved, the program may say so itself (tools/run_unproved.sh builds it so).
 unproved='s/^$//'
 [[ $package != *~unproved_* ]] || unproved='1s/ (not proved)$//'
-for name in snes snes-look snes-trace snes-lint snes-scene snes-bench; do
+for name in snes snes-look snes-trace snes-lint snes-scene snes-bench snes-stems; do
   check "$name --version" "$(run $name --version | sed "$unproved")" "$name $version
 $(sed 1d "$work/tree/usr/lib/snes/about")"
 done
@@ -135,7 +139,7 @@ pages() {
   done
 }
 check 'the man pages: no warning' "$(pages)" ''
-check 'the man pages: seven' "$(ls "$work"/tree/usr/share/man/man*/*.gz | wc -l)" 7
+check 'the man pages: eight' "$(ls "$work"/tree/usr/share/man/man*/*.gz | wc -l)" 8
 # The help, read from the sources: ./snes would have to be built first.
 help_of_sources() {
   python3 - "$top/crates/run_io/src/help.rt" <<'P'
@@ -180,6 +184,7 @@ done
 check 'completion: commands' "$(inside bash -c '. /usr/share/bash-completion/completions/snes; COMP_WORDS=(snes se); COMP_CWORD=1; _snes; echo "${COMPREPLY[@]}"')" serial
 check 'completion: options' "$(inside bash -c '. /usr/share/bash-completion/completions/snes-trace; COMP_WORDS=(snes-trace --ins); COMP_CWORD=1; _snes_trace; echo "${COMPREPLY[@]}"')" --instructions
 check 'completion: formats' "$(inside bash -c '. /usr/share/bash-completion/completions/snes-lint; COMP_WORDS=(snes-lint a --format s); COMP_CWORD=3; _snes_lint; echo "${COMPREPLY[@]}"')" sarif
+check 'completion: stems' "$(inside bash -c '. /usr/share/bash-completion/completions/snes-stems; COMP_WORDS=(snes-stems --m); COMP_CWORD=1; _snes_stems; echo "${COMPREPLY[@]}"')" --mix
 check 'completion: values' "$(inside bash -c '. /usr/share/bash-completion/completions/snes-look; COMP_WORDS=(snes-look avi --region p); COMP_CWORD=3; _snes_look; echo "${COMPREPLY[@]}"')" pal
 check 'the sums of PROVED' "$(inside sh -c 'cd /usr && grep -E "^[0-9a-f]{64} " share/doc/snes/PROVED | sha256sum -c --quiet && echo hold')" hold
 

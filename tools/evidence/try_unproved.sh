@@ -1,5 +1,5 @@
 #!/usr/bin/env bash
-# Tries `--unproved` of ./snes, ./look, ./trace, ./lint, ./scene and ./bench: whether the programs that it builds put out what the proved
+# Tries `--unproved` of ./snes, ./look, ./trace, ./lint, ./scene, ./bench and ./stems: whether the programs that it builds put out what the proved
 # ones do, and whether each of them says that it is not proved.
 #
 #     tools/evidence/try_unproved.sh [FOLDER]
@@ -40,7 +40,7 @@ work=$(mktemp -d) || exit 2
 trap 'rm -rf "$work"' EXIT
 cd "$work" && mkdir proved unproved || exit 2
 # --version of a tool keeps what its program was built from, where that isn't kept yet.
-for tool in snes look trace lint scene bench; do "$top/$tool" --version >/dev/null; done
+for tool in snes look trace lint scene bench stems; do "$top/$tool" --version >/dev/null; done
 list_built() { (cd "$top" && find crates/*/out -printf '%p %s %T@\n' 2>/dev/null | sort); }
 list_built >built_before
 
@@ -108,6 +108,15 @@ alike dump snes snes_run dump "${files[@]}" --frames 20 --state state.bin
 alike spc snes snes_run spc "${files[@]}" --frames 40 --spc taken.spc
 check 'spc: a whole file' "$(stat -c %s unproved/taken.spc)" 66048
 alike 'look tags' look frame_look tags taken.spc
+# ./stems is a script over three programs, each of which says that it is not proved.
+(cd proved && "$top/tools/stems.sh" "${folder:-$top/crates/snes_run/out}/snes_run" "${folder:-$top/crates/frame_look/out}/frame_look" \
+  "${folder:-$top/crates/scene_cart/out}/scene_cart" --seconds 1 taken.spc stems >line 2>faults; echo $? >status)
+(cd unproved && "$top/stems" --unproved --seconds 1 taken.spc stems >line 2>faults; echo $? >status)
+check 'stems: status' "$(cat unproved/status)" 0
+check 'stems: say that they are not proved' "$(grep -cE "^(snes|look|scene): $note$" unproved/faults)" 3
+rm -f {proved,unproved}/faults
+check 'stems: output' "$(diff -qr proved unproved)" ''
+check 'stems: files' "$(ls unproved/stems | wc -l)" 9
 alike 'refused' snes snes_run serial "${files[@]/scene.sfc/boot.bin}" --script s/script.txt --frames 1 --video v --audio a
 check 'refused: status' "$(cat unproved/status)" 3
 alike 'look png' look frame_look png video.serial 39 frame.png
@@ -124,7 +133,7 @@ check 'bench: sums' "$(wc -l <unproved/sums.csv)" 4
 
 check 'version: of the wrapper' "$("$top/snes" --unproved --version 2>/dev/null | head -n 1)" "$(proved snes_run --version) (not proved)"
 version=$(proved snes_run --version)
-for tool in snes look trace lint scene bench; do
+for tool in snes look trace lint scene bench stems; do
   check "version: $tool --unproved" "$("$top/$tool" --unproved --version 2>/dev/null | sed -n '1p;3p' | tr '\n' ',')" "${version/snes/$tool} (not proved),$note,"
   check "version: $tool" "$("$top/$tool" --version | sed -n '1p;2s/ .*//p' | tr '\n' ',')" "${version/snes/$tool},commit,"
 done

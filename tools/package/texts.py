@@ -1,10 +1,10 @@
 #!/usr/bin/env python3
 """Writes the man pages and the completions of an installed snes, of the texts by which its programs help.
 
-    tools/package/texts.py OUT LOOK TRACE LINT SCENE BENCH VERSION DATE
+    tools/package/texts.py OUT LOOK TRACE LINT SCENE BENCH STEMS VERSION DATE
 
 OUT is a folder, as `usr/share` of a package. LOOK, TRACE, LINT, SCENE and BENCH are the programs frame_look, snes_trace, cart_lint,
-scene_cart and cart_bench, whose --help is read. The help of snes is in crates/run_io/src/help.rt, the formats are in
+scene_cart and cart_bench, and STEMS is the script tools/stems.sh; of each the --help is read. The help of snes is in crates/run_io/src/help.rt, the formats are in
 docs/use/COMMANDS.md, the file of cases in docs/use/BENCH.md, and the rules of lint in docs/use/LINT.md.
 So an option that a program has is in its page and in its completions, and none is that it has not. DATE is 2026-11-29, for one.
 """
@@ -214,7 +214,7 @@ def snes_page(version, date):
             meaning = "the program was not found"
         page += [".TP", f"\\fB{number}\\fR", escaped(meaning) + "."]
     page += [".SH FILES", ".TP", "\\fI/usr/share/doc/snes/PROVED\\fR", "By which commit and toolchain the programs were made, whether they were proved, and the checksum of each file."]
-    others = [("snes-bench", 1), ("snes-lint", 1), ("snes-look", 1), ("snes-scene", 1), ("snes-trace", 1), ("snes", 5)]
+    others = [("snes-bench", 1), ("snes-lint", 1), ("snes-look", 1), ("snes-scene", 1), ("snes-stems", 1), ("snes-trace", 1), ("snes", 5)]
     return page + list(ending(others))
 
 
@@ -394,21 +394,23 @@ def write(out, name, lines):
 
 
 def main():
-    if len(sys.argv) != 9:
+    if len(sys.argv) != 10:
         sys.exit(__doc__)
-    out, look, trace, lint, scene, bench, version, date = sys.argv[1:]
+    out, look, trace, lint, scene, bench, stems, version, date = sys.argv[1:]
     commands, _, _ = snes_help()
     look_text, look_commands = look_page(look, version, date)
     trace_text, trace_whole = trace_page(trace, version, date)
     scene_text, scene_whole = plain_page("snes-scene", "free cartridges and the files that a run of snes needs", scene, version, date)
     bench_text, bench_whole = bench_page(bench, version, date)
     lint_text, lint_whole = lint_page(lint, version, date)
+    stems_text, stems_whole = plain_page("snes-stems", "the voices of a sound file apart, as WAV files", stems, version, date)
     write(out, "man/man1/snes.1", snes_page(version, date))
     write(out, "man/man1/snes-look.1", look_text)
     write(out, "man/man1/snes-trace.1", trace_text)
     write(out, "man/man1/snes-scene.1", scene_text)
     write(out, "man/man1/snes-bench.1", bench_text)
     write(out, "man/man1/snes-lint.1", lint_text)
+    write(out, "man/man1/snes-stems.1", stems_text)
     write(out, "man/man5/snes.5", formats_page(version, date))
     programs = {
         "snes": (commands, ["--help", "--version", "--quiet"]),
@@ -417,6 +419,7 @@ def main():
         "snes-scene": ([scene_whole], ["--version"]),
         "snes-bench": ([bench_whole], ["--version"]),
         "snes-lint": ([lint_whole], ["--version"]),
+        "snes-stems": ([stems_whole], ["--version"]),
     }
     for name, (known, first) in programs.items():
         write(out, f"bash-completion/completions/{name}", bash(name, known, first))
