@@ -16,7 +16,7 @@
 #     lint         each rule of ./lint, its formats and arguments, and the planted faults, if ca65 is there (try_lint.py); its logs of
 #                  SARIF are validated if SARIF_SCHEMA names the schema (try_lint.py says how to get it)
 #     tags         the tags that ./look prints of sound files at random (try_tags.py)
-#     music        the commands of a cartridge's music, and what they make beside ffmpeg's player, if it is there (try_music.py)
+#     music        the commands that take music out of a cartridge; voices beside ffmpeg's player, if it is there (try_music.py)
 #     states       what snes dump and snes spc write of cartridges at random (try_states.py, try_sound_files.py)
 #     edges        the cases of try_edges.py by the built programs; 10,000 hostile inputs and command lines (try_hostile.py);
 #                  each fault of tools/evidence/edges is told (try_edge_faults.sh)
@@ -162,7 +162,9 @@ tags() {
 
 music() {
   local look=$top/crates/frame_look/out/frame_look scene=$top/crates/scene_cart/out/scene_cart
-  ! command -v ffmpeg >/dev/null || item page "$(sum_of "$snes" "$look" "$scene" "$top"/{docs/use/SPC-FILES.md,tools/stems.sh,tools/evidence/{try_music,tunes}.py})" \
+  local name files=("$top"/{docs/use/SPC-FILES.md,tools/stems.sh,tools/evidence/{try_music,tunes}.py}) others
+  others=$(for name in ffmpeg ffprobe file; do ! command -v $name >/dev/null || echo $name; done)
+  item page "$(sum_of "$snes" "$look" "$scene" "${files[@]}" "$others")" \
     "$top/tools/evidence/try_music.py" --snes "$snes" --look "$look" --scene "$scene"
 }
 
