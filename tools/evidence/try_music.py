@@ -383,8 +383,9 @@ def try_stems(music):
 
 
 def random_tags(r):
-    text = lambda: "".join(chr(r.randrange(0x21, 0x7F)) for _ in range(r.choice([1, 8, 20, 32])))
-    return {"title": text(), "game": text(), "artist": text(), "comment": text(), "length": str(r.randrange(1, 1000)), "fade": str(r.randrange(1, 100000))}
+    text = lambda most=32: "".join(chr(r.randrange(0x21, 0x7F)) for _ in range(r.choice([1, 8, 20, most])))
+    # Of an artist of 32 bytes libgme leaves out the last.
+    return {"title": text(), "game": text(), "artist": text(31), "comment": text(), "length": str(r.randrange(1, 1000)), "fade": str(r.randrange(1, 100000))}
 
 
 def main():
