@@ -83,6 +83,7 @@ else
   milliseconds=$((1000 * seconds))
 fi
 [ "$milliseconds" -le 600000 ] || fail "$((milliseconds / 1000)) seconds are too long: name --seconds, at most 600"
+[ "$fade" -le 99999 ] || fail "a fade of $fade milliseconds is too long: name --fade, at most 99999"
 
 mkdir -p "$folder" || fail "cannot make the folder $folder"
 for name in "${parts[@]}"; do
