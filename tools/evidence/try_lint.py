@@ -4,8 +4,8 @@
     tools/evidence/try_lint.py [--lint PROGRAM] [--only RULE] [--schema FILE]
 
 The cartridges are made here, instruction by instruction. Of each, the findings are compared with what is expected: each rule, the label of
-the instruction that caused it, and how often. So a finding too many counts as a failure, too. The other formats, --allow, --allowed and
---fail-on are tried with one cartridge. Of SARIF the parts that are written are checked against what its standard requires of them.
+the instruction that caused it, and how often. So a finding too many counts as a failure, too. The scene, the game and examples/hello have
+none in 600 frames. The other formats, --allow, --allowed and --fail-on are tried with one cartridge. Of SARIF the parts that are written are checked against what its standard requires of them.
 If ca65 is there (Debian: apt-get install cc65), lint/faults.s is assembled, and each of its five faults has to be found on its line, and
 nothing else. The last line is `N tried, M failed`, and the status is 1 if M is not 0.
 
@@ -86,8 +86,13 @@ class Code:
         """The beginning of the next vertical blank."""
         return self.until_clear(0x4212).until_set(0x4212)
 
+    def backdrop(self):
+        """Black as colour 0, which every picture shows."""
+        return self.store(0x2121, 0)(0x9C, word(0x2122), 0x9C, word(0x2122))
+
     def registers(self, without=None):
-        """Zeros in all registers of the picture, but for one."""
+        """Zeros in all registers of the picture, but for one, and in colour 0."""
+        self.backdrop()
         for register in [0x2101, *range(0x2105, 0x2115), *range(0x2105, 0x2115), *range(0x211A, 0x2121), *range(0x2123, 0x2134)]:
             if register != without:
                 self(0x9C, word(register))
@@ -121,6 +126,20 @@ class Code:
         self.store(0x4305, count % 256).store(0x4306, count // 256)
         self.lda(mask)
         return self.label(name).store(0x420B)
+
+    def fill(self, register, byte, count, name="filled"):
+        """Writes a byte so often to a register, or to it and the next one."""
+        self(0x80, 0x01, byte)
+        return self.dma(9 if register == 0x18 else 8, register, 0x7FFF + len(self.bytes), 0, count % 65536, name)
+
+    def vram(self, first, words, byte=0, name="filled"):
+        """Words of VRAM with a byte in both halves."""
+        self.store(0x2115, 0x80).store(0x2116, first % 256).store(0x2117, first // 256)
+        return self.fill(0x18, byte, 2 * words, name)
+
+    def oam(self, byte):
+        """Small objects, all bytes of which are the same."""
+        return self.store(0x2102, 0).store(0x2103, 0).fill(0x04, byte, 512, "low").fill(0x04, 0, 32, "high")
 
     def end(self):
         return self(0x80, 0xFE)
@@ -578,7 +597,7 @@ def reads_oam_that_it_wrote():
 # Registers of the picture. Six count in any mode: 2105, 212C, 212E, 2130, 2131 and 2133.
 @case("registers-unset", found("registers-unset", "it", 6))
 def screen_without_registers():
-    return begin().lda(0x0F).label("it").store(0x2100).end()
+    return begin().backdrop().lda(0x0F).label("it").store(0x2100).end()
 
 
 @case("registers-unset", {})
@@ -588,12 +607,178 @@ def forced_blank_without_registers():
 
 @case("registers-unset", found("registers-unset"))
 def background_without_its_map():
-    return begin().registers(0x2107).store(0x212C, 1).lda(0x0F).label("it").store(0x2100).end()
+    return begin().vram(0, 0x8000).registers(0x2107).store(0x212C, 1).lda(0x0F).label("it").store(0x2100).end()
 
 
 @case("registers-unset", {})
 def another_background_without_its_map():
-    return begin().registers(0x2107).store(0x212C, 2).store(0x2100, 0x0F).end()
+    return begin().vram(0, 0x8000).registers(0x2107).store(0x212C, 2).store(0x2100, 0x0F).end()
+
+
+def masked(select, without, masks=1):
+    """BG1 masked by windows, by 2123, without a register of them."""
+    code = begin().vram(0, 0x8000).registers(without).store(0x212C, 1).store(0x212E, masks).vblank()
+    code = code if without == 0x2123 else code.store(0x2123, select)
+    return code.lda(0x0F).label("it").store(0x2100).end()
+
+
+@case("registers-unset", found("registers-unset"))
+def windows_of_a_layer_unset():
+    return masked(0, 0x2123)
+
+
+@case("registers-unset", {})
+def windows_of_a_layer_that_is_not_masked():
+    return masked(0, 0x2123, 2)
+
+
+@case("registers-unset", found("registers-unset"))
+def place_of_a_window_unset():
+    return masked(2, 0x2127)
+
+
+@case("registers-unset", {})
+def place_of_another_window_unset():
+    return masked(2, 0x2129)
+
+
+@case("registers-unset", found("registers-unset"))
+def how_windows_are_joined_unset():
+    return masked(10, 0x212A)
+
+
+@case("registers-unset", {})
+def how_one_window_is_joined_unset():
+    return masked(8, 0x212A)
+
+
+# What a line shows, and nothing has written. The map of BG1 at 0 in 224 rows has 29 rows of 32 words, of which lines 1 to 224 are seen.
+SEEN = 29 * 32
+
+
+def background(code, tiles=0, mode=0):
+    """BG1 shown, its map at 0, its tiles at TILES * 1000h."""
+    code.registers().store(0x212C, 1).store(0x210B, tiles).store(0x2105, mode).vblank()
+    return code.lda(0x0F).label("it").store(0x2100).end()
+
+
+@case("vram-shown-before-write", found("vram-shown-before-write", "it", 2 * SEEN))
+def map_that_nothing_has_written():
+    return background(begin())
+
+
+@case("vram-shown-before-write", {})
+def vram_that_was_cleared():
+    return background(begin().vram(0, 0x8000), 1)
+
+
+@case("vram-shown-before-write", {})
+def map_that_was_written_as_far_as_it_is_seen():
+    return background(begin().vram(0, SEEN))
+
+
+@case("vram-shown-before-write", found("vram-shown-before-write", "it", 2))
+def map_without_its_last_word():
+    return background(begin().vram(0, SEEN - 1))
+
+
+@case("vram-shown-before-write", found("vram-shown-before-write", "it", 16))
+def tile_that_nothing_has_written():
+    return background(begin().vram(0, SEEN), 1)
+
+
+@case("vram-shown-before-write", {})
+def tile_that_was_written():
+    return background(begin().vram(0, SEEN).vram(0x1000, 8, 0, "again"), 1)
+
+
+@case("vram-shown-before-write", found("vram-shown-before-write", "it", 16))
+def tile_without_its_upper_planes():
+    return background(begin().vram(0, SEEN).vram(0x1000, 8, 0, "again"), 1, 1)
+
+
+@case("vram-shown-before-write", {})
+def map_of_another_background():
+    return begin().registers().store(0x212C, 8).store(0x2105, 1).store(0x2100, 0x0F).end()
+
+
+@case("vram-shown-before-write", {})
+def map_behind_forced_blank():
+    return begin().registers().store(0x212C, 1).store(0x2100, 0x8F).end()
+
+
+@case("vram-shown-before-write", found("vram-shown-before-write"))
+def plane_of_mode_7():
+    return background(begin(), 0, 7)
+
+
+@case("vram-shown-before-write", found("vram-shown-before-write"))
+def pixel_of_mode_7():
+    return background(begin().store(0x2118, 0), 0, 7)
+
+
+@case("vram-shown-before-write", {})
+def plane_of_mode_7_that_was_written():
+    return background(begin().vram(0, 1), 0, 7)
+
+
+def objects(code, sizes=0):
+    code.registers().store(0x2101, sizes).store(0x212C, 0x10).vblank()
+    return code.lda(0x0F).label("it").store(0x2100).end()
+
+
+@case("vram-shown-before-write", found("vram-shown-before-write", "it", 32))
+def tile_of_objects_that_nothing_has_written():
+    return objects(begin().oam(0))
+
+
+@case("vram-shown-before-write", {})
+def tile_of_objects_that_was_written():
+    return objects(begin().oam(0).vram(0, 16))
+
+
+@case("oam-shown-before-write", found("oam-shown-before-write", "it", 256))
+def objects_that_nothing_has_written():
+    return objects(begin())
+
+
+@case("oam-shown-before-write", {})
+def objects_below_the_picture():
+    return objects(begin().oam(0xE0))
+
+
+@case("oam-shown-before-write", found("oam-shown-before-write", "it", 2))
+def last_object_that_nothing_has_written():
+    code = begin().store(0x2102, 0).store(0x2103, 0).fill(0x04, 0xE0, 508, "low")
+    return objects(code.store(0x2103, 1).fill(0x04, 0, 32, "high"))
+
+
+@case("oam-shown-before-write", {})
+def objects_that_are_not_on_the_screen():
+    return begin().registers().store(0x2100, 0x0F).end()
+
+
+@case("cgram-shown-before-write", found("cgram-shown-before-write"))
+def colour_that_nothing_has_written():
+    return background(begin().vram(0, 0x8000, 0xFF))
+
+
+@case("cgram-shown-before-write", {})
+def colour_that_was_written():
+    return background(begin().vram(0, 0x8000, 0xFF).store(0x2121, 31).store(0x2122, 0).store(0x2122, 0))
+
+
+@case("cgram-shown-before-write", found("cgram-shown-before-write"))
+def another_colour_that_was_written():
+    return background(begin().vram(0, 0x8000, 0xFF).store(0x2121, 30).store(0x2122, 0).store(0x2122, 0))
+
+
+@case("cgram-shown-before-write", found("cgram-shown-before-write"))
+def backdrop_that_nothing_has_written():
+    code = begin()
+    for register in range(0x2123, 0x2134):
+        code(0x9C, word(register))
+    return code(0x9C, word(0x2105)).lda(0x0F).label("it").store(0x2100).end()
 
 
 # What the profile does otherwise.
@@ -663,7 +848,8 @@ def reads_213e():
 
 
 def flipped(sizes, attributes, y=0):
-    code = begin().registers().store(0x2101, sizes).store(0x212C, 0x10).store(0x2102, 0).store(0x2103, 0)
+    code = begin().vram(0, 0x8000).registers().oam(0xE0).vblank()
+    code.store(0x2101, sizes).store(0x212C, 0x10).store(0x2102, 0).store(0x2103, 0)
     code.store(0x2104, 0).store(0x2104, y).store(0x2104, 0).lda(attributes)
     return code.label("it").store(0x2104).store(0x2100, 0x0F).end()
 
@@ -934,6 +1120,14 @@ def planted(lint, folder):
     return "" if status == 1 and got == wanted else f"status {status}, {said}, {sorted(got ^ wanted, key=str)}"
 
 
+def free_cartridges(lint, folder):
+    """The free cartridges have no finding, not even a note."""
+    for name in ("scene", "game", "hello"):
+        path = os.path.join(TOP, "crates/cart_bench/data", f"{name}.sfc")
+        status, text, said = call(lint, folder, path, "--fail-on", "note")
+        yield f"no finding in {name}.sfc", "" if status == 0 else text + said
+
+
 def validated(lint, folder, validator):
     """Validates a log of each case with a finding, of a run without one, and of the planted faults; and has changed logs refused."""
     def log_of(*words):
@@ -977,7 +1171,7 @@ def main():
                     failed += 1
                     print(f"{rule}: {name}: {wrong}")
         if given.only is None:
-            more = list(words_and_formats(given.lint, folder))
+            more = [*words_and_formats(given.lint, folder), *free_cartridges(given.lint, folder)]
             if shutil.which("ca65"):
                 more.append(("five planted faults", planted(given.lint, folder)))
             if validator:

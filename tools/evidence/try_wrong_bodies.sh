@@ -3,8 +3,8 @@
 #
 #     tools/evidence/try_wrong_bodies.sh [--with-gate] [CRATE ..]
 #
-# They are of the same form as those in crates/CRATE/must-fail, which the gate tries: it has three of a crate at the most, for
-# its time; these are the others. With --with-gate those of the gate are tried too: an
+# They are of the same form as those in crates/CRATE/must-fail, which the gate tries: two or a few of each crate whose clauses no
+# proof above cites (docs/lab/DECISIONS.md); these are the others. With --with-gate those of the gate are tried too: an
 # edit that can't be compiled fails here, and not every toolchain's gate tells of it.
 #
 # Of a crate as many as change different functions are tried in one check (try_together.py), the others one by one.

@@ -23,6 +23,3 @@ pub fn text_of(alloc: Global, format: Format, report: &Report<'_>) -> Result<Vec
         Format::Tap => tap::text_of(alloc, report),
     }
 }
-
-#[cfg(test)]
-mod tests;

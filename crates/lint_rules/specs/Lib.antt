@@ -4,3 +4,6 @@ pub mod Places
 pub mod Sound
 pub mod Screens
 pub mod Memories
+pub mod Shown
+pub mod Slivers
+pub mod Turned

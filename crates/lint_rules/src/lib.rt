@@ -17,8 +17,12 @@ mod picture;
 mod profile;
 mod rule;
 mod screen;
+mod shown;
+mod slivers;
 mod sound;
 mod transfers;
+mod turned;
+mod windows;
 mod written;
 
 pub use addresses::{Access, At, address_rule, opcode_rule, stack_rule};
@@ -35,10 +39,10 @@ pub use pads::{Polls, pad_rule};
 pub use picture::{memory_of, picture_rule};
 pub use profile::{edge_rule, latch_rule, register_rule, status_rule, timer_rule};
 pub use rule::{RULES, Rule, Severity, rule_named};
-pub use screen::{Screen, backdrop_rule, unset_rule};
+pub use screen::{Masks, Screen, backdrop_rule, unset_rule};
+pub use shown::{Depth, Plane, Scroll, colour_of, depth_of, value_of};
+pub use slivers::ObjectTiles;
 pub use sound::{key_off_rule, key_on_rule, selector_rule};
 pub use transfers::{channel_rule, enable_rule, transfer_rule};
+pub use turned::{Turned, is_outside, turned_map_word, turned_tile_word};
 pub use written::Written;
-
-#[cfg(test)]
-mod tests;

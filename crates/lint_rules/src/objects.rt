@@ -16,7 +16,10 @@ pub struct Object {
     pub x: u16,
     /// Y.
     pub y: u8,
-    /// The attributes: bit 7 turns it over from top to bottom.
+    /// The number of its first tile.
+    pub tile: u8,
+    /// The attributes: bit 7 turns it over from top to bottom, bit 6 from left to right. Bits 3-1 are the palette, bit 0 the
+    /// table of tiles.
     pub attributes: u8,
 }
 

@@ -94,6 +94,12 @@ pub enum Rule {
     CgramBeforeWrite,
     /// A read of OAM that nothing has written.
     OamBeforeWrite,
+    /// A line is drawn from VRAM that nothing has written.
+    VramShownBeforeWrite,
+    /// A line is drawn with a colour of CGRAM that nothing has written.
+    CgramShownBeforeWrite,
+    /// A line may have an object that nothing has written to OAM.
+    OamShownBeforeWrite,
     /// A picture is shown that depends on a register that nothing has written.
     RegistersUnset,
     /// A register of the picture written while the dots of a line are drawn.
@@ -113,7 +119,7 @@ pub enum Rule {
 }
 
 /// All rules, in the order in which they are reported.
-pub static RULES: [Rule; 49] = [
+pub static RULES: [Rule; 52] = [
     Rule::VramOutsideBlank,
     Rule::CgramOutsideBlank,
     Rule::OamOutsideBlank,
@@ -155,6 +161,9 @@ pub static RULES: [Rule; 49] = [
     Rule::VramBeforeWrite,
     Rule::CgramBeforeWrite,
     Rule::OamBeforeWrite,
+    Rule::VramShownBeforeWrite,
+    Rule::CgramShownBeforeWrite,
+    Rule::OamShownBeforeWrite,
     Rule::RegistersUnset,
     Rule::RegisterInsideLine,
     Rule::TimerOnItsLine,
@@ -342,6 +351,18 @@ fn described(rule: Rule) -> Description {
         Rule::OamBeforeWrite => warning(
             "oam-before-write",
             "OAM is read that nothing has written: a console has anything there, this machine has zero",
+        ),
+        Rule::VramShownBeforeWrite => warning(
+            "vram-shown-before-write",
+            "VRAM is shown that nothing has written: a console has anything there, this machine has zero",
+        ),
+        Rule::CgramShownBeforeWrite => warning(
+            "cgram-shown-before-write",
+            "a colour of CGRAM is shown that nothing has written: a console has anything there, this machine has black",
+        ),
+        Rule::OamShownBeforeWrite => warning(
+            "oam-shown-before-write",
+            "objects are shown, and nothing has written a byte of OAM that may be on the screen: a console has anything there",
         ),
         Rule::RegistersUnset => warning(
             "registers-unset",

@@ -1,9 +1,24 @@
 //! The registers of the picture unit that a picture depends on, and the backdrop of high resolution.
 
 ghost use Rattle.std.specs.Prelude.{◌≡◌, ◌<◌};
-ghost use Rattle.lint_rules.specs.Screens.{has_bit, is_fine, takes_sub, shows, layers_of, shows_layer, shows_any, shows_seven, moves_columns, needs_map, needs_scroll, needs_register, unset_broken, backdrop_broken};
+ghost use Rattle.lint_rules.specs.Screens.{has_bit, is_fine, takes_sub, shows, layers_of, shows_layer, shows_any, shows_plane, shows_seven, moves_columns, needs_map, needs_scroll, needs_window, needs_register, unset_broken, backdrop_broken};
 
 use crate::rule::Rule;
+
+/// What the program has written to the registers that choose which layers have windows.
+#[derive(Clone, Copy)]
+pub struct Masks {
+    /// 212E TMW: the layers that windows mask on the main screen.
+    pub main: u8,
+    /// 212F TSW: the layers that windows mask on the sub screen.
+    pub sub: u8,
+    /// 2123 W12SEL: bits 3-0 for BG1, 7-4 for BG2. Bit 1 turns window 1 on, bit 3 window 2.
+    pub first: u8,
+    /// 2124 W34SEL: the same for BG3 and BG4.
+    pub second: u8,
+    /// 2125 WOBJSEL: the same for the objects and the colour window.
+    pub third: u8,
+}
 
 /// What the registers say that choose what is shown.
 #[derive(Clone, Copy)]
@@ -20,10 +35,12 @@ pub struct Screen {
     pub math: u8,
     /// 2133 SETINI.
     pub settings: u8,
+    /// The registers that choose which layers have windows.
+    pub masks: Masks,
 }
 
 /// Whether the bit of a weight is set.
-fn has_bit(byte: u8, weight: u8) -> bool
+pub(crate) fn has_bit(byte: u8, weight: u8) -> bool
     requires { 0 < weight }
     ensures { result ≡ has_bit byte weight }
 {
@@ -39,7 +56,7 @@ impl Screen {
     }
 
     /// Whether the sub screen is seen: by half-pixels, or by colour math that takes it.
-    fn takes_sub(&self) -> bool
+    pub(crate) fn takes_sub(&self) -> bool
         ensures { result ≡ takes_sub self.now }
     {
         self.is_fine() || has_bit(self.select, 2) && self.math % 64 != 0
@@ -61,7 +78,7 @@ impl Screen {
     }
 
     /// Returns how many backgrounds of their own the mode has: mode 7 has none, its plane is another matter.
-    fn layers_of(&self) -> u8
+    pub(crate) fn layers_of(&self) -> u8
         ensures { result ≡ layers_of self.now.mode }
     {
         match self.mode {
@@ -73,8 +90,8 @@ impl Screen {
         }
     }
 
-    /// Whether the background of a number from 0 to 3 is shown.
-    fn shows_layer(&self, layer: u8) -> bool
+    /// Whether the background of a number from 0 to 3 is shown, in modes 0 to 6.
+    pub fn shows_layer(&self, layer: u8) -> bool
         ensures { result ≡ shows_layer self.now layer }
     {
         layer < self.layers_of()
@@ -93,11 +110,22 @@ impl Screen {
         self.shows_layer(0) || self.shows_layer(1) || self.shows_layer(2) || self.shows_layer(3)
     }
 
+    /// Whether mode 7 would show its plane as BG1, or as BG2 of EXTBG.
+    pub fn shows_plane(&self, is_second: bool) -> bool
+        ensures { result ≡ shows_plane self.now is_second }
+    {
+        if is_second {
+            has_bit(self.settings, 64) && self.shows(2)
+        } else {
+            self.shows(1)
+        }
+    }
+
     /// Whether the plane of mode 7 is shown.
-    fn shows_seven(&self) -> bool
+    pub fn shows_seven(&self) -> bool
         ensures { result ≡ shows_seven self.now }
     {
-        self.mode == 7 && (self.shows(1) || has_bit(self.settings, 64) && self.shows(2))
+        self.mode == 7 && (self.shows_plane(false) || self.shows_plane(true))
     }
 
     /// Whether BG3's map has scrolls of columns that are shown (modes 2, 4 and 6).
@@ -121,7 +149,7 @@ impl Screen {
         self.needs_map(layer) || layer == 0 && self.shows_seven()
     }
 
-    /// Whether the picture depends on a register, as an offset from 2100. Of the windows only their masks count, 212E and 212F.
+    /// Whether the picture depends on a register, as an offset from 2100.
     fn needs_register(&self, register: u8) -> bool
         ensures { result ≡ needs_register self.now register }
     {
@@ -134,6 +162,7 @@ impl Screen {
             0x0c => self.shows_layer(2) || self.shows_layer(3),
             0x0d..=0x14 => self.needs_scroll((register - 0x0d) / 2),
             0x1a..=0x20 => self.shows_seven(),
+            0x23..=0x2b => self.needs_window(register),
             0x2d | 0x2f => self.takes_sub(),
             0x32 => self.math % 64 != 0,
             _ => false,

@@ -15,6 +15,8 @@ mod names;
 mod ports;
 mod run;
 mod seen;
+mod shown;
+mod shown_line;
 mod sound_watch;
 mod steps;
 mod watch;
@@ -23,6 +25,3 @@ pub use allowed::{Allowed, remaining};
 pub use header::{check_file, checksum_of, front_of, no_header, other_map_byte};
 pub use names::Sources;
 pub use run::{WatchedRun, watch_job};
-
-#[cfg(test)]
-mod tests;

@@ -3,7 +3,9 @@
 use crate::watch::{Now, Watch, tell};
 use clock_ratio::{CONSOLE_RATE, PAL_CONSOLE_RATE};
 use console_bus::Bus;
-use lint_rules::{Findings, Moment, Object, Rule, Screen, backdrop_rule, flip_rule, unset_rule};
+use lint_rules::{
+    Findings, Masks, Moment, Object, Rule, Screen, backdrop_rule, flip_rule, unset_rule,
+};
 use ppu_regs::Ppu;
 use snes_defs::Region;
 use std::alloc::AllocError;
@@ -23,7 +25,7 @@ pub struct PictureWrites {
     /// Whether one was written since the registers were checked.
     is_new: bool,
     /// The instructions that last turned the screen on, chose mode or half-pixels, and wrote OAM.
-    screen_by: u32,
+    pub(crate) screen_by: u32,
     mode_by: u32,
     oam_by: u32,
     /// The frame in which the backdrop was told last.
@@ -70,6 +72,13 @@ impl PictureWrites {
             select: self.bytes[0x30],
             math: self.bytes[0x31],
             settings: self.bytes[0x33],
+            masks: Masks {
+                main: self.bytes[0x2e],
+                sub: self.bytes[0x2f],
+                first: self.bytes[0x23],
+                second: self.bytes[0x24],
+                third: self.bytes[0x25],
+            },
         }
     }
 
@@ -88,7 +97,7 @@ impl PictureWrites {
 }
 
 /// Returns an object by its number from 0 to 127, with a size code.
-fn object_of(oam: &[u8; 544], number: u8, size: u8) -> Option<Object> {
+pub fn object_of(oam: &[u8; 544], number: u8, size: u8) -> Option<Object> {
     let at = 4 * usize::from(number);
     let high = *oam.get(512 + usize::from(number / 4))?;
     let bits = match number % 4 {
@@ -102,6 +111,7 @@ fn object_of(oam: &[u8; 544], number: u8, size: u8) -> Option<Object> {
         large: bits / 2 == 1,
         x: u16::from(*oam.get(at)?) + 256 * u16::from(bits % 2),
         y: *oam.get(at + 1)?,
+        tile: *oam.get(at + 2)?,
         attributes: *oam.get(at + 3)?,
     })
 }
@@ -178,7 +188,9 @@ impl Watch {
             return Ok(());
         }
         self.see_registers(findings, &screen, now)?;
-        self.see_backdrop(findings, &screen, picture.cgram()[0], now)
+        self.see_backdrop(findings, &screen, picture.cgram()[0], now)?;
+        let row = ((moment.line - 1) % 256) as u16;
+        self.see_memories(findings, picture, &screen, row, now)
     }
 
     /// Sees that the step of this time comes, before it is taken: the first of a line is looked at.

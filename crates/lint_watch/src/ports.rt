@@ -9,11 +9,11 @@ use ppu_regs::{CgramPort, OamPort, Registers, VramPort};
 use std::alloc::{AllocError, Global};
 
 /// The bytes of VRAM and OAM, and the colours of CGRAM.
-const VRAM: usize = 65_536;
+pub const VRAM: usize = 65_536;
 
-const OAM: usize = 544;
+pub const OAM: usize = 544;
 
-const CGRAM: usize = 256;
+pub const CGRAM: usize = 256;
 
 /// Where the three ports stand before a step.
 #[derive(Clone, Copy)]
@@ -56,7 +56,7 @@ fn remap(code: u8, address: u16) -> u16
 
 /// Returns the word of VRAM that its port reads or writes.
 #[tactic(auto, unfolding(ppu_regs::specs::Ports::vram_place))]
-fn vram_place(port: &VramPort) -> u16
+pub fn vram_place(port: &VramPort) -> u16
     ensures { result ≡ vram_place port.now }
 {
     remap(port.remap, port.address) % 32768
@@ -64,7 +64,7 @@ fn vram_place(port: &VramPort) -> u16
 
 /// Returns the place in OAM of a byte address.
 #[tactic(auto, unfolding(ppu_regs::specs::Ports::oam_place))]
-fn oam_place(address: u16) -> u16
+pub fn oam_place(address: u16) -> u16
     ensures { result ≡ oam_place address }
 {
     if address < 512 {

@@ -5,6 +5,7 @@ ghost use Rattle.lint_watch.specs.Times.{clocks_before, frame_at, line_at, clock
 
 use crate::lines::PictureWrites;
 use crate::ports::{PictureMemories, Ports};
+use crate::shown::ShownMemories;
 use cart_map::Place;
 use clock_ratio::{CONSOLE_RATE, PAL_CONSOLE_RATE};
 use console_bus::Bus;
@@ -181,8 +182,10 @@ pub struct Watch {
     pub(crate) port: u32,
     /// Which bytes of the cartridge's RAM have been written.
     pub(crate) sram: Written,
-    /// Which bytes of the picture unit's memories have been written, and its registers.
+    /// Which bytes of the picture unit's memories have been written, for reads of them and for lines that show them, and its
+    /// registers.
     pub(crate) pictures: PictureMemories,
+    pub(crate) shown: ShownMemories,
     pub(crate) writes: PictureWrites,
     /// The stamp at which the next line begins.
     pub(crate) line_end: u64,
@@ -208,6 +211,7 @@ impl Watch {
         let wram = Written::nothing(alloc, WRAM_SIZE as usize)?;
         let sram = Written::nothing(alloc, ram as usize)?;
         let pictures = PictureMemories::new(alloc)?;
+        let shown = ShownMemories::new(alloc)?;
         Ok(Watch {
             cycle: 0,
             asked: None,
@@ -228,6 +232,7 @@ impl Watch {
             port: 0,
             sram,
             pictures,
+            shown,
             writes: PictureWrites::new(),
             line_end: 0,
             map_byte: map_byte_of(cart),
@@ -321,6 +326,7 @@ impl Watch {
     pub fn note_b(&mut self, register: u8, byte: u8, by: u32, now: &Now) {
         self.write_port(register, byte);
         self.pictures.write(register, byte, &now.ports);
+        self.shown.write(register, &now.ports);
         self.writes.write(register, byte, by);
     }
 

@@ -16,6 +16,3 @@ pub use marks::{Coverage, Opcode, Use};
 pub use picture::picture_file;
 pub use record::record_file;
 pub use table::push_table;
-
-#[cfg(test)]
-mod tests;

@@ -70,6 +70,24 @@ static PICTURE: [(u16, u8); 22] = [
     (0x2100, 0x0f), // INIDISP: the picture on
 ];
 
+/// Registers of the PPU that the scene leaves at 0, and how often each is written: a console has anything there at power on.
+/// The scene that speed is measured by leaves them out.
+static CLEARED: [(u16, u8); 10] = [
+    (0x2106, 1), // MOSAIC
+    (0x210d, 2), // BG1HOFS
+    (0x210f, 2), // BG2HOFS
+    (0x2111, 2), // BG3HOFS
+    (0x2121, 1), // CGADD
+    (0x2126, 1), // WH0
+    (0x2127, 1), // WH1
+    (0x212e, 1), // TMW
+    (0x212f, 1), // TSW
+    (0x2133, 1), // SETINI
+];
+
+/// Words of work RAM that the program reads before it writes anything else there.
+static VARIABLES: [u8; 6] = [ROUNDS, FACTOR, MIXED, FRAME, ACROSS, DOWN];
+
 /// Writes code that sets a register to a byte.
 fn set(code: &mut Code, register: u16, byte: u8) {
     code.write(&[Lda(Byte(byte)), Sta(At(register))]);
@@ -117,8 +135,18 @@ fn show_objects(code: &mut Code) {
     move_bytes(code, 0x220);
 }
 
-/// Writes the start: native mode, memories, registers, HDMA, and the picture on.
-fn start(code: &mut Code) {
+/// Writes code that clears the variables.
+fn clear_variables(code: &mut Code) {
+    code.write(&[Rep(0x20)]);
+    for at in VARIABLES {
+        code.write(&[Stz(u16::from(at))]);
+    }
+    code.write(&[Sep(0x20)]);
+}
+
+/// Writes the start: native mode, memories, registers, HDMA, and the picture on. If `clears`, it writes all registers and
+/// variables that a console doesn't clear.
+fn start(code: &mut Code, clears: bool) {
     code.write(&[
         Run(Sei),
         Run(Clc),
@@ -129,7 +157,16 @@ fn start(code: &mut Code) {
         Sep(0x20),
     ]);
     set(code, 0x2100, 0x80); // INIDISP: forced blank
-    set(code, 0x420d, 1); // MEMSEL: fast ROM
+    if clears {
+        for (register, times) in CLEARED {
+            for _ in 0..times {
+                code.write(&[Stz(register)]);
+            }
+        }
+    } else {
+        // It changes nothing, since the program runs in banks that are always slow.
+        set(code, 0x420d, 1); // MEMSEL: fast ROM
+    }
     set(code, 0x2115, 0x80); // VMAIN: a step after the high byte
     for half in 0..2u8 {
         set(code, 0x2116, 0); // VMADD
@@ -137,7 +174,9 @@ fn start(code: &mut Code) {
         aim(code, 0, 1, 0x18, VIDEO + 0x8000 * u32::from(half)); // VMDATA
         move_bytes(code, 0x8000);
     }
-    set(code, 0x2121, 0); // CGADD
+    if !clears {
+        set(code, 0x2121, 0); // CGADD
+    }
     aim(code, 0, 0, 0x22, COLOURS); // CGDATA
     move_bytes(code, 0x200);
     to_work_ram(code, MOVED, OBJECTS, 0x220);
@@ -150,11 +189,16 @@ fn start(code: &mut Code) {
     for (register, byte) in PICTURE {
         set(code, register, byte);
     }
+    // The picture is on before: so it comes in the same row as in the scene that speed is measured by.
+    if clears {
+        clear_variables(code);
+    }
     set(code, 0x4200, 0x81); // NMITIMEN: NMI and the pads
 }
 
-/// Writes the game's endless work: sums over arrays with a call for each, a product, and port 0.
-fn work(code: &mut Code, mix: Label) {
+/// Writes the game's endless work: sums over arrays with a call for each, a product, and port 0. A console needs a third NOP
+/// before it has the product.
+fn work(code: &mut Code, mix: Label, waits: bool) {
     let round = code.here();
     code.write(&[Rep(0x30), Ldx(Word(0))]);
     let next = code.here();
@@ -175,6 +219,11 @@ fn work(code: &mut Code, mix: Label) {
         Sta(At(0x4203)), // WRMPYB
         Run(Nop),
         Run(Nop),
+    ]);
+    if waits {
+        code.write(&[Run(Nop)]);
+    }
+    code.write(&[
         Lda(At(0x4216)), // RDMPYL
         Sta(Direct(PRODUCT)),
         Lda(At(0x2140)), // APUIO0
@@ -354,7 +403,8 @@ fn interrupt(code: &mut Code, moves: &[Label]) -> Label {
     label
 }
 
-/// Writes the program, with its tune or without, and returns where a reset and an NMI begin.
+/// Writes the program, with its tune or without, and returns where a reset and an NMI begin. The one without a tune is that of
+/// the scene that speed is measured by, whose bytes stay as they are.
 pub fn write_program(code: &mut Code, with_tune: bool) -> (Label, Label) {
     let mix = mix(code);
     let bob = Path::of(DOWN, Table::LetterY, 3, 40);
@@ -367,11 +417,11 @@ pub fn write_program(code: &mut Code, with_tune: bool) -> (Label, Label) {
     let waves = bend_waves(code);
     let nmi = interrupt(code, &[letters, balls, glints, waves]);
     let reset = code.here();
-    start(code);
+    start(code, with_tune);
     // The frames are counted in each NMI by now, so the tune takes none of them.
     if with_tune {
         send_sound(code);
     }
-    work(code, mix);
+    work(code, mix, with_tune);
     (reset, nmi)
 }

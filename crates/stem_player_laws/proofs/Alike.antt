@@ -1,5 +1,5 @@
 -- Voices whose volumes differ and nothing else: their voices go on alike.
-use Rattle.std.proofs.Common.{◌≡◌, ◌≢◌, ◌∙◌, ℕ, ℤ, zero, suc, Bool, true, false, ◌+◌, ◌*◌, ◌%◌, ◌<◌, ◌==◌, ◌||◌, if◌then◌else◌, List, slice_index_or, slice_set, refl, ap, sym, arith}
+use Rattle.std.proofs.Common.{◌≡◌, ◌≢◌, ◌∙◌, ℕ, ℤ, zero, suc, Bool, true, false, ◌+◌, ◌*◌, ◌%◌, ◌<◌, ◌==◌, ◌||◌, List, slice_index_or, slice_set, refl, ap, sym, arith}
 use Rattle.std.proofs.lemmas.Bool.{false≢true}
 use Rattle.std.proofs.lemmas.List.{get_or-set_other}
 use Rattle.sdsp_voice.specs.Envelope.{after_attack, after_decay, after_envelope, after_gain, after_phase, after_sustain}

@@ -1,17 +1,16 @@
 -- All nine parts at the full level are what the sound side emits.
-use Rattle.std.proofs.Common.{◌≡◌, ◌∙◌, ℕ, ℤ, zero, suc, ◌+◌, ◌-◌, ◌/◌, ◌%◌, ◌<◌, ◌++◌, List, arith, refl, ap, sym}
+use Rattle.std.proofs.Common.{◌≡◌, ◌∙◌, ℕ, ℤ, zero, suc, ◌-◌, ◌%◌, ◌<◌, ◌++◌, List, arith, refl, ap, sym}
 use Rattle.std.specs.Int.{w16, cast_unsigned}
 use Rattle.std.proofs.lemmas.Int.{clamps, ints}
 use Rattle.sdsp_voice.specs.Signed.{clamped_16}
 use Rattle.sdsp_voice.specs.Registers.{bit, kept}
-use Rattle.sdsp_voice.specs.Sample.{after_sample, sums_of}
 use Rattle.sdsp_voice.specs.declared.voices.Voices.{Voices}
 use Rattle.sdsp_echo.specs.Echo.{heard_out, left_out, right_out}
-use Rattle.audio_side.specs.Effect.{emitted, sample_bytes, timed}
+use Rattle.audio_side.specs.Effect.{emitted, sample_bytes}
 use Rattle.audio_side.specs.HardwareState.{HardwareState}
 use Rattle.audio_side.specs.Sound.{SoundState, hardware_before_end}
 use Rattle.audio_side.specs.SoundLaws.{by_test}
-use Rattle.audio_side.specs.Stem.{silenced, silenced_below, stem_emitted, stem_hardware, stem_voices}
+use Rattle.audio_side.specs.Stem.{silenced, silenced_below, stem_emitted, stem_voices}
 use Rattle.spc_player.specs.Apart.{stem_sample}
 use Rattle.spc_player.specs.Play.{Playing, after_steps, output, step_emits, steps_of, to_sample}
 use Rattle.spc_player.proofs.StemSteps.{before}

@@ -1,8 +1,8 @@
 -- A sample at the full level is itself.
-use Rattle.std.proofs.Common.{◌≡◌, ◌∙◌, ℕ, ℤ, pos, negsuc, neg_ℤ, suc, ◌+◌, ◌*◌, ◌/◌, ◌%◌, ◌<◌, ◌≤◌, ◌^◌, ◌*ℤ◌, List, arith, refl, ap, sym}
-use Rattle.std.specs.Int.{w16, cast_signed, cast_unsigned, int_shr}
+use Rattle.std.proofs.Common.{◌≡◌, ◌∙◌, ℕ, ℤ, pos, negsuc, neg_ℤ, suc, ◌+◌, ◌*◌, ◌/◌, ◌%◌, ◌<◌, ◌*ℤ◌, arith, ap}
+use Rattle.std.specs.Int.{w16, cast_signed, cast_unsigned}
 use Rattle.std.proofs.Math.IntN.{pos-*ℤ-pos, negsuc-*ℤ-pos}
-use Rattle.std.proofs.lemmas.Int.{ints, of_z-to_z}
+use Rattle.std.proofs.lemmas.Int.{of_z-to_z}
 use Rattle.sdsp_voice.specs.Signed.{shifted}
 use Rattle.audio_side.specs.Effect.{pair_bytes}
 use Rattle.stem_player.specs.Heard.{at_level, faded}

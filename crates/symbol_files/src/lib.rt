@@ -16,6 +16,3 @@ mod symbols;
 pub use refused::Refused;
 pub use source_lines::{SourceLine, SourceLines};
 pub use symbols::{Found, Symbols};
-
-#[cfg(test)]
-mod tests;

@@ -1,9 +1,9 @@
-//! What no clause says: the names, and the table of findings.
+//! What no clause says: the names, and the table of findings. And rows by hand of definitions.
 
-use crate::{
-    Cause, Echo, EndxPolls, Finding, Findings, MapPlace, Moment, Object, Polls, RULES, Rule,
-    Screen, Unit, Written, backdrop_rule, edge_rule, flip_rule, map_rule, rule_named, speed_rule,
-    status_rule, unset_rule,
+use lint_rules::{
+    Cause, Depth, Echo, EndxPolls, Finding, Findings, MapPlace, Masks, Moment, Object, Plane,
+    Polls, RULES, Rule, Screen, Scroll, Unit, Written, backdrop_rule, colour_of, edge_rule,
+    flip_rule, map_rule, rule_named, speed_rule, status_rule, unset_rule, value_of,
 };
 use std::alloc::AllocError;
 
@@ -103,6 +103,15 @@ const PLAIN: Screen = Screen {
     select: 0,
     math: 0,
     settings: 0,
+    masks: NO_MASKS,
+};
+
+const NO_MASKS: Masks = Masks {
+    main: 0,
+    sub: 0,
+    first: 0,
+    second: 0,
+    third: 0,
 };
 
 /// Whether a picture depends on a register.
@@ -144,6 +153,62 @@ fn the_sub_screen_counts_if_it_is_seen(rt: HostRuntime) {
         ..PLAIN
     };
     assert!(rt; needs(&fine, 0x2d) && needs(&fine, 0x2f) && needs(&fine, 0x09));
+}
+
+#[test]
+fn a_window_has_its_registers(rt: HostRuntime) {
+    let masked = |main, first| Screen {
+        masks: Masks {
+            main,
+            first,
+            ..NO_MASKS
+        },
+        ..PLAIN
+    };
+    let one = masked(1, 2);
+    assert!(rt; needs(&one, 0x23) && needs(&one, 0x26) && needs(&one, 0x27));
+    assert!(rt; !needs(&one, 0x28) && !needs(&one, 0x2a) && !needs(&one, 0x25));
+    let both = masked(1, 0x0a);
+    assert!(rt; needs(&both, 0x28) && needs(&both, 0x2a) && !needs(&both, 0x2b));
+    assert!(rt; !needs(&masked(2, 0x22), 0x23) && !needs(&masked(1, 0x20), 0x26));
+    let colours = Screen {
+        select: 0x40,
+        masks: Masks {
+            third: 0x20,
+            ..NO_MASKS
+        },
+        ..PLAIN
+    };
+    assert!(rt; needs(&colours, 0x25) && needs(&colours, 0x27) && !needs(&colours, 0x24));
+    let unmixed = Screen {
+        select: 0x10,
+        ..colours
+    };
+    assert!(rt; !needs(&unmixed, 0x25));
+    assert!(rt; needs(&Screen { math: 1, ..unmixed }, 0x25));
+}
+
+#[test]
+fn a_pixel_has_its_words_and_colour(rt: HostRuntime) {
+    let plane = Plane {
+        depth: Depth::Four,
+        broad: true,
+        high: true,
+        map: 0x7c00,
+        wide: true,
+        tall: true,
+        tiles: 0x2000,
+    };
+    assert_eq!(rt; plane.map_word(17, 33), 0x7c41);
+    assert_eq!(rt; plane.map_word(512, 512), 0x0800);
+    assert_eq!(rt; plane.line_word(0x0102, 8, 9), 0x3131);
+    assert_eq!(rt; plane.line_word(0xc102, 8, 9), 0x3026);
+    assert_eq!(rt; value_of(&[0x0180, 0x8001, 0, 0xff00], 0), 0x89);
+    assert_eq!(rt; value_of(&[0x0180, 0x8001, 0, 0xff00], 7), 0x86);
+    assert_eq!(rt; colour_of(0, 2, Depth::Two, 0x1c00, 3), 95);
+    assert_eq!(rt; colour_of(1, 2, Depth::Two, 0x1c00, 3), 31);
+    let moved = Scroll { across: 5, down: 6 }.moved(4, 1, 0xc123, 0);
+    assert!(rt; moved.across == 5 && moved.down == 0x123);
 }
 
 #[test]
@@ -190,6 +255,7 @@ const TALL: Object = Object {
     large: false,
     x: 0,
     y: 0,
+    tile: 0,
     attributes: 0x80,
 };
 

@@ -1,6 +1,6 @@
 //! The four formats of one report.
 
-use crate::{Format, Report, Told, text_of};
+use lint_report::{Format, Report, Told, text_of};
 use lint_rules::{Cause, Finding, Moment, Rule, Unit};
 use std::alloc::AllocError;
 

@@ -1,6 +1,6 @@
 //! Symbol files made by ca65 and ld65 of Debian's cc65, and rows in the forms of other assemblers' manuals.
 
-use crate::{Found, Refused, Symbols};
+use symbol_files::{Found, Refused, Symbols};
 
 /// `ld65 -Ln`, as it was written for a program of three labels, two local ones of one name, and a variable.
 static VICE: &str = "al 018000 .far_away

@@ -1,8 +1,8 @@
 //! What no clause says: what may be broken, and where.
 
-use crate::{Allowed, Sources, remaining};
 use anyhow::Result;
 use lint_rules::{Cause, Finding, Findings, Moment, Rule, Unit};
+use lint_watch::{Allowed, Sources, remaining};
 
 const FIRST: Moment = Moment {
     frame: 3,

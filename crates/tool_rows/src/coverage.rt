@@ -1,6 +1,6 @@
 //! Rows worked by hand.
 
-use crate::{Coverage, Opcode, log_file, picture_file, push_table, record_file};
+use rom_coverage::{Coverage, Opcode, log_file, picture_file, push_table, record_file};
 use std::alloc::{AllocError, Global};
 use symbol_files::SourceLines;
 
