@@ -55,7 +55,7 @@ pub enum End {
 /// Returns the job that the inputs make, with the given number of frames. Its region is that of the script. The inputs
 /// are read in their order.
 #[tactic(auto, using(crate::proofs::Reading::reads))]
-pub(crate) fn job_in(alloc: Global, inputs: Inputs<'_>, frames: u32) -> Result<Job, End>
+pub fn job_in(alloc: Global, inputs: Inputs<'_>, frames: u32) -> Result<Job, End>
     ensures frames { IfOk result (λ job. job.frames ≡ frames) }
     ensures shows { IfOk result (ShowsJob (told_of inputs.entry.cart.now inputs.entry.boot.now inputs.entry.table.now inputs.entry.script.now) frames) }
     ensures ends { IfErr result (EndsInputs (told_of inputs.entry.cart.now inputs.entry.boot.now inputs.entry.table.now inputs.entry.script.now)) }

@@ -12,7 +12,7 @@ mod player;
 mod playing;
 mod slices;
 
-pub use inputs::{End, Inputs, Why};
+pub use inputs::{End, Inputs, Why, job_in};
 pub use player::SerialPlayer;
 pub use playing::play;
 pub use slices::Counts;

@@ -20,7 +20,7 @@ pub struct SnesAnswer {
 }
 
 /// Returns the status of an end: the exit status that the program has for it.
-fn status(end: End) -> u32
+pub(crate) fn status(end: End) -> u32
     ensures { result ≡ status_of end }
 {
     match end {
@@ -32,7 +32,7 @@ fn status(end: End) -> u32
 }
 
 /// Returns the number of a cause.
-fn cause(end: End) -> u32
+pub(crate) fn cause(end: End) -> u32
     ensures { result ≡ cause_of end }
 {
     match end {
@@ -52,7 +52,7 @@ fn cause(end: End) -> u32
 }
 
 /// Returns the place of a cause in its input.
-fn place(end: End) -> u32
+pub(crate) fn place(end: End) -> u32
     ensures { result ≡ place_of end }
 {
     match end {

@@ -1,8 +1,9 @@
-// The console for programs that are not written in Rattle: a static library with one call, `snes_play`.
+// The console for programs that are not written in Rattle: a static library.
 //
-// A thin layer over `memory_player`: a player that has both sides of the console, and no lock and no thread.
-// `embed/snes.h` declares the call for C. `docs/use/EMBEDDING.md` says what is proved of it, and which duties of a
-// caller nothing checks.
+// `snes_play` plays a whole job. It is a thin layer over `memory_player`: a player that has both sides of the console,
+// and no lock and no thread. `snes_begin`, `snes_frame`, `snes_keep`, `snes_back` and `snes_end` are for a console that
+// the caller holds between frames (`kept_frames`, `frame_player`). `embed/snes.h` declares the calls for C.
+// `docs/use/EMBEDDING.md` says what is proved of them, and which duties of a caller nothing checks.
 #![tactic(auto)]
 
 ghost use Rattle.std.specs.Prelude.{◌≡◌, ◌≢◌};
@@ -14,8 +15,12 @@ ghost use Rattle.snes_library.specs.Answer.{IsToldAs};
 
 mod answer;
 mod console;
+mod fault;
+mod holding;
 
 pub use answer::SnesAnswer;
+pub use fault::Fault;
+pub use holding::{snes_back, snes_begin, snes_end, snes_frame, snes_keep};
 use answer::told;
 use console::SerialConsole;
 use memory_player::{Inputs, play};

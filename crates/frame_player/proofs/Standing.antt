@@ -1,0 +1,139 @@
+-- The moves of a rewinder, by what its console was told.
+use Rattle.std.proofs.Common.{◌≡◌, ℕ, ◌+◌, ◌<◌, ◌≤◌, List, [], ◌∷◌, ◌++◌, length, refl, ap, sym, ◌∙◌, subst, arith, slice_index_or, slice_set, ⊎_elim}
+use Rattle.std.proofs.lemmas.Bool.{cases_order}
+use Rattle.std.proofs.lemmas.List.{length-set}
+use Rattle.snes_defs.specs.declared.cart.Job.{Job}
+use Rattle.snes_defs.specs.declared.ports.Side.{Side}
+use Rattle.snes_defs.specs.declared.script.Span.{Span}
+use Rattle.snes_defs.specs.Script.{frames_of}
+use Rattle.plan_drive.specs.Paths.{Paths, gone, kept, back}
+use Rattle.snapshot.specs.declared.rewind.Rewind.{Rewind}
+use Rattle.snapshot.specs.Positions.{IsRested, IsBeyond, slot_count}
+use Rattle.snapshot.specs.Handed.{Gave}
+use Rattle.frame_player.specs.Told.{Told, IsJobOf, gone_on, kept_in, back_to, spans_of}
+use Rattle.frame_player.specs.Frames.{StandsAt, WentOn}
+use Rattle.frame_player.proofs.Paths.{spans_more, spans_count, spans_frames, if_same, if_other, stored_same, stored_other}
+use Rattle.frame_player.proofs.Jobs.{same_beyond}
+
+abbrev Pads : Type 0
+Pads = ℕ × ℕ
+
+-- the present state is stored as the spare one
+pub saved : (told : Told) (other : List Pads) (r after : Rewind) (spare : ℕ) (h : StandsAt told other r) → spare ≡ length told.held
+    → ((job : Job) (n : ℕ) (paths : Paths) → IsRested job n paths r → IsRested job n (kept paths spare) after) → slot_count after ≡ slot_count r
+    → StandsAt told told.pads after
+saved told other r after spare h is keeps same = record {
+  job = h.job;
+  is = h.is;
+  paths = kept h.paths spare;
+  rested = keeps h.job told.most h.paths h.rested;
+  path_is = h.path_is;
+  held_are = λ k lt. if_other k spare h.paths.path (h.paths.held k) (λ e. omega (arith, e, lt, is)) ∙ h.held_are k lt;
+  spare_is = if_same (length told.held) spare h.paths.path (h.paths.held (length told.held)) (sym is) ∙ h.path_is;
+  slots = same ∙ h.slots;
+  slots_few = h.slots_few;
+  few = h.few;
+}
+
+-- or in a slot of the caller
+pub kept_so : (told : Told) (other : List Pads) (r after : Rewind) (slot : ℕ) (h : StandsAt told other r) → slot < length told.held
+    → ((job : Job) (n : ℕ) (paths : Paths) → IsRested job n paths r → IsRested job n (kept paths slot) after) → slot_count after ≡ slot_count r
+    → StandsAt (kept_in told slot) other after
+kept_so told other r after slot h lt keeps same =
+    let size : length (slice_set told.held slot told.pads) ≡ length told.held = length-set told.held slot told.pads in
+    record {
+      job = h.job;
+      is = record { cart = h.is.cart; boot = h.is.boot; table = h.is.table; region = h.is.region };
+      paths = kept h.paths slot;
+      rested = keeps h.job told.most h.paths h.rested;
+      path_is = h.path_is;
+      held_are = λ k within. ⊎_elim
+          (λ e. if_same k slot h.paths.path (h.paths.held k) e ∙ h.path_is ∙ ap spans_of (sym (stored_same told.held slot k told.pads e lt)))
+          (λ differ. let ne : ¬ (k ≡ slot) = λ e. ⊎_elim (λ l. omega (arith, l, e)) (λ g. omega (arith, g, e)) differ in
+            if_other k slot h.paths.path (h.paths.held k) ne ∙ h.held_are k (omega (arith, within, size))
+            ∙ ap spans_of (sym (stored_other told.held slot k told.pads ne)))
+          (cases_order k slot);
+      spare_is =
+          if_other (length (slice_set told.held slot told.pads)) slot h.paths.path (h.paths.held (length (slice_set told.held slot told.pads))) (λ e. omega (arith, e, lt, size))
+          ∙ ap h.paths.held size ∙ h.spare_is;
+      slots = same ∙ h.slots ∙ ap (λ n. n + 1) (sym size);
+      slots_few = let few = h.slots_few in omega (arith, few, size);
+      few = h.few;
+    }
+
+-- a slot's state becomes the present one
+pub back_so : (told : Told) (other : List Pads) (r after : Rewind) (slot : ℕ) (h : StandsAt told other r) → slot < length told.held
+    → ((job : Job) (n : ℕ) (paths : Paths) → IsRested job n paths r → IsRested job n (back paths slot) after) → slot_count after ≡ slot_count r
+    → StandsAt (back_to told slot) other after
+back_so told other r after slot h lt backs same = record {
+  job = h.job;
+  is = record { cart = h.is.cart; boot = h.is.boot; table = h.is.table; region = h.is.region };
+  paths = back h.paths slot;
+  rested = backs h.job told.most h.paths h.rested;
+  path_is = h.held_are slot lt;
+  held_are = h.held_are;
+  spare_is = h.spare_is;
+  slots = same ∙ h.slots;
+  slots_few = h.slots_few;
+  few = h.few;
+}
+
+-- or the spare one
+pub loaded : (told : Told) (other : List Pads) (r after : Rewind) (spare : ℕ) (h : StandsAt told other r) → spare ≡ length told.held
+    → ((job : Job) (n : ℕ) (paths : Paths) → IsRested job n paths r → IsRested job n (back paths spare) after) → slot_count after ≡ slot_count r
+    → StandsAt (record told { pads = other }) other after
+loaded told other r after spare h is backs same = record {
+  job = h.job;
+  is = record { cart = h.is.cart; boot = h.is.boot; table = h.is.table; region = h.is.region };
+  paths = back h.paths spare;
+  rested = backs h.job told.most h.paths h.rested;
+  path_is = ap h.paths.held is ∙ h.spare_is;
+  held_are = h.held_are;
+  spare_is = h.spare_is;
+  slots = same ∙ h.slots;
+  slots_few = h.slots_few;
+  few = h.few;
+}
+
+-- nothing was handed out before a frame
+abbrev pub no_bytes : Side → List ℕ
+no_bytes side = []
+
+-- what a rewinder has to be for a frame
+pub can_go : (told : Told) (other : List Pads) (r : Rewind) (span : Span) (h : StandsAt told other r) → span.count ≡ 1 → length told.pads < told.most
+    → (length h.paths.path < told.most) × (frames_of h.paths.path + span.count ≤ 36000)
+can_go told other r span h one lt =
+    let count = ap length h.path_is ∙ spans_count told.pads in
+    let frames = ap frames_of h.path_is ∙ spans_frames told.pads in
+    let few = h.few in (omega (arith, count, lt), omega (arith, frames, lt, few, one))
+
+-- a frame was played
+pub went : (told : Told) (other : List Pads) (r after : Rewind) (span : Span) (holds : Side → List ℕ → Type 0) (h : StandsAt told other r) → span.count ≡ 1
+    → Gave h.job told.most (gone h.paths span) h.paths.path no_bytes holds after → slot_count after ≡ slot_count r
+    → WentOn told other span.pad1 span.pad2 holds after
+went told other r after span holds h one gave same =
+    let before = h.path_is in
+    let longer : h.paths.path ++ span ∷ [] ≡ spans_of (told.pads ++ (span.pad1, span.pad2) ∷ []) =
+    ap (λ c. h.paths.path ++ record { count = c; pad1 = span.pad1; pad2 = span.pad2 } ∷ []) one
+    ∙ ap (λ p. p ++ record { count = 1; pad1 = span.pad1; pad2 = span.pad2 } ∷ []) before ∙ sym (spans_more told.pads (span.pad1, span.pad2)) in
+    record {
+      picture = gave.video;
+      samples = gave.audio;
+      is = λ job is. same_beyond told h.job job told.most (spans_of told.pads) (spans_of (told.pads ++ (span.pad1, span.pad2) ∷ [])) gave.video gave.audio h.is is
+          (subst (λ b. IsBeyond h.job told.most b (spans_of (told.pads ++ (span.pad1, span.pad2) ∷ [])) gave.video gave.audio) before
+          (subst (λ p. IsBeyond h.job told.most h.paths.path p gave.video gave.audio) longer gave.beyond));
+      picture_taken = gave.video_taken;
+      samples_taken = gave.audio_taken;
+      stands = record {
+        job = h.job;
+        is = record { cart = h.is.cart; boot = h.is.boot; table = h.is.table; region = h.is.region };
+        paths = gone h.paths span;
+        rested = gave.rested;
+        path_is = longer;
+        held_are = h.held_are;
+        spare_is = h.spare_is;
+        slots = same ∙ h.slots;
+        slots_few = h.slots_few;
+        few = h.few;
+      };
+    }

@@ -1,0 +1,4 @@
+pub mod FrameBytes
+pub mod FrameLaws
+pub mod Told
+pub mod Frames

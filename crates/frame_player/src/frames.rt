@@ -1,0 +1,119 @@
+ghost use Rattle.std.specs.Prelude.{◌≡◌, ◌<◌, ◌≤◌, ℕ, List, length, min, vec_len, IfOk, IfErr, IfSome, IsNone, IsTrue, IsFalse};
+ghost use Rattle.snes_defs.specs.declared.ports.Side.{Side};
+ghost use Rattle.memory_player.specs.Filled.{in_front};
+ghost use Rattle.frame_player.specs.Told.{Told, gone_on, kept_in, back_to, word_of};
+ghost use Rattle.frame_player.specs.FrameBytes.{TakesOf, side_of};
+ghost use Rattle.frame_player.specs.Frames.{IsFramesOf, FramePlayed, EndsFrame, room_of, most_of};
+
+use crate::frame_bytes::FrameBytes;
+use crate::moves::{go, go_back, keep_in, load, save};
+use memory_player::Counts;
+use snapshot::Rewind;
+use snes_defs::{Side, Span};
+
+/// The reason why no frame was played.
+#[derive(Clone, Copy, Debug, PartialEq, Eq)]
+pub enum FrameEnd {
+    /// The path lasts as many frames as it may.
+    Frames,
+    /// The room for this side is too short for the frame.
+    TooShort(Side),
+}
+
+/// A console between two frames, and its save states.
+#[derive(Drop)]
+pub struct Frames {
+    pub(crate) rewind: Rewind,
+    pub(crate) buffer: Vec<u8>,
+    pub(crate) bytes: FrameBytes,
+    /// How many frames a path may last.
+    pub(crate) most: u32,
+    /// How many slots the caller has. The rewinder has one more: where a frame begins is stored there while it is played.
+    pub(crate) slots: u8,
+    ghost drains: { 1024 ≤ vec_len buffer },
+    ghost picture_fits: { vec_len bytes.video.bytes ≡ 244736 },
+    ghost samples_fit: { vec_len bytes.sound.bytes ≡ 2560 },
+}
+
+impl Frames {
+    /// Plays a frame with these pads, and copies its picture and its samples to the front of both rooms.
+    ///
+    /// The low four bits of a pad count as 0, as in a script. At every other answer the console and both rooms are as
+    /// they were.
+    pub fn frame(&mut self, pad1: u16, pad2: u16, video: &mut [u8], sound: &mut [u8]) -> Result<Counts, FrameEnd>
+        requires told { (told : Told) × IsFramesOf told self.old }
+        ensures played { (told : Told) → IsFramesOf told self.old → IfOk result (λ counts. FramePlayed told (word_of pad1) (word_of pad2) video.old sound.old video.new sound.new counts.video counts.sound) }
+        ensures on { (told : Told) → IsFramesOf told self.old → IfOk result (λ counts. IsFramesOf (gone_on told (word_of pad1) (word_of pad2)) self.new) }
+        ensures ends { (told : Told) → IsFramesOf told self.old → IfErr result (EndsFrame told (word_of pad1) (word_of pad2) video.old sound.old video.new sound.new) }
+        ensures stays { (told : Told) → IsFramesOf told self.old → IfErr result (λ end. IsFramesOf told self.new) }
+    {
+        if self.rewind.frames() >= self.most {
+            return Err(FrameEnd::Frames);
+        }
+        save(&mut self.rewind, self.slots);
+        let span = Span {
+            count: 1,
+            pad1: pad1 / 16 * 16,
+            pad2: pad2 / 16 * 16,
+        };
+        go(&mut self.rewind, span, self.buffer.as_mut_slice(), &mut self.bytes);
+        if let Some(side) = self.longer(video.len(), sound.len()) {
+            load(&mut self.rewind, self.slots);
+            return Err(FrameEnd::TooShort(side));
+        }
+        Ok(self.hand_out(video, sound))
+    }
+
+    /// Returns the side whose bytes of the last frame are longer than a room, if there is one, the console's first.
+    fn longer(&self, video_room: usize, sound_room: usize) -> Option<Side>
+        ensures none { IsNone result → (self.now.bytes.video.count ≤ min video_room 244736) × (self.now.bytes.sound.count ≤ min sound_room 2560) }
+        ensures some { IfSome result (λ side. min (room_of video_room sound_room side) (most_of side) < (side_of self.now.bytes side).count) }
+    {
+        if self.bytes.video.is_beyond(video_room) {
+            return Some(Side::Console);
+        }
+        if self.bytes.sound.is_beyond(sound_room) {
+            return Some(Side::Sound);
+        }
+        None
+    }
+
+    /// Copies the bytes of the last frame to the rooms of the caller.
+    fn hand_out(&self, video: &mut [u8], sound: &mut [u8]) -> Counts
+        requires picture { self.now.bytes.video.count ≤ min (length video.old) 244736 }
+        requires samples { self.now.bytes.sound.count ≤ min (length sound.old) 2560 }
+        ensures picture { (bytes : List ℕ) → TakesOf self.now.bytes Side.Console bytes → (video.new ≡ in_front bytes video.old) × (result.video ≡ length bytes) }
+        ensures samples { (bytes : List ℕ) → TakesOf self.now.bytes Side.Sound bytes → (sound.new ≡ in_front bytes sound.old) × (result.sound ≡ length bytes) }
+    {
+        Counts {
+            video: self.bytes.video.copy_to(video),
+            sound: self.bytes.sound.copy_to(sound),
+        }
+    }
+
+    /// Stores the present state in a slot. Returns false, and leaves all as it was, if there is no such slot.
+    pub fn keep(&mut self, slot: u32) -> bool
+        requires told { (told : Told) × IsFramesOf told self.old }
+        ensures kept { (told : Told) → IsFramesOf told self.old → IsTrue result → (slot < length told.held) × IsFramesOf (kept_in told slot) self.new }
+        ensures none { (told : Told) → IsFramesOf told self.old → IsFalse result → (length told.held ≤ slot) × IsFramesOf told self.new }
+    {
+        if slot >= u32::from(self.slots) {
+            return false;
+        }
+        keep_in(&mut self.rewind, slot as u8);
+        true
+    }
+
+    /// Returns to the state that a slot holds. Returns false, and leaves all as it was, if there is no such slot.
+    pub fn back(&mut self, slot: u32) -> bool
+        requires told { (told : Told) × IsFramesOf told self.old }
+        ensures back { (told : Told) → IsFramesOf told self.old → IsTrue result → (slot < length told.held) × IsFramesOf (back_to told slot) self.new }
+        ensures none { (told : Told) → IsFramesOf told self.old → IsFalse result → (length told.held ≤ slot) × IsFramesOf told self.new }
+    {
+        if slot >= u32::from(self.slots) {
+            return false;
+        }
+        go_back(&mut self.rewind, slot as u8);
+        true
+    }
+}
