@@ -1,1 +1,5 @@
+pub mod Begins
+pub mod Jobs
+pub mod Paths
 pub mod Puts
+pub mod Standing

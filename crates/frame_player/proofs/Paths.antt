@@ -41,4 +41,4 @@ pub stored_same : (held : List (List Pads)) (slot k : ℕ) (path : List Pads) �
 stored_same held slot k path e lt = ap (λ n. slice_index_or (slice_set held slot path) n []) e ∙ get_or-set_same held slot path [] lt
 
 pub stored_other : (held : List (List Pads)) (slot k : ℕ) (path : List Pads) → ¬ (k ≡ slot) → slice_index_or (slice_set held slot path) k [] ≡ slice_index_or held k []
-stored_other held slot k path e = get_or-set_other held slot k path [] (λ same. e (sym same))
+stored_other held slot k path e = get_or-set_other held slot k path [] e

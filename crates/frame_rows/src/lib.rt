@@ -1,0 +1,11 @@
+//! Rows of the console that is played a frame at a time, worked by hand.
+//!
+//! The cartridge has a program of 35 bytes (`door.rt`): the screen is red until START is held, and then green for ever.
+//! The rows ask for the first dot of pictures, for the number of samples, and for each answer but want of memory. The
+//! crate has tests alone.
+#![tactic(auto)]
+
+#[cfg(test)]
+mod door;
+#[cfg(test)]
+mod rows;

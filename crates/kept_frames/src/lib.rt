@@ -1,0 +1,5 @@
+#![tactic(auto)]
+mod console;
+mod kept;
+pub use console::SnesConsole;
+pub use kept::KeptFrames;
