@@ -55,4 +55,5 @@ begun cart boot table region most slots job f is rested count most_is slots_is f
     }
 
 pub ruleset jobs = (job_told)
+
 pub ruleset begins = (begun)

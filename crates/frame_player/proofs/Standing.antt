@@ -50,8 +50,8 @@ kept_so told other r after slot h lt keeps same =
       held_are = λ k within. ⊎_elim
           (λ e. if_same k slot h.paths.path (h.paths.held k) e ∙ h.path_is ∙ ap spans_of (sym (stored_same told.held slot k told.pads e lt)))
           (λ differ. let ne : ¬ (k ≡ slot) = λ e. ⊎_elim (λ l. omega (arith, l, e)) (λ g. omega (arith, g, e)) differ in
-            if_other k slot h.paths.path (h.paths.held k) ne ∙ h.held_are k (omega (arith, within, size))
-            ∙ ap spans_of (sym (stored_other told.held slot k told.pads ne)))
+          if_other k slot h.paths.path (h.paths.held k) ne ∙ h.held_are k (omega (arith, within, size))
+          ∙ ap spans_of (sym (stored_other told.held slot k told.pads ne)))
           (cases_order k slot);
       spare_is =
           if_other (length (slice_set told.held slot told.pads)) slot h.paths.path (h.paths.held (length (slice_set told.held slot told.pads))) (λ e. omega (arith, e, lt, size))

@@ -98,7 +98,10 @@ fn in_region(alloc: Global, job: Job, region: Region) -> Job
     ensures script { result.script ≡ script_in region 0 [] }
 {
     let Job {
-        cart, boot, table, ..
+        cart,
+        boot,
+        table,
+        ..
     } = job;
     Job {
         cart,

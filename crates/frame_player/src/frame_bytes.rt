@@ -111,8 +111,16 @@ impl Sink for FrameBytes {
     #[tactic(auto, using(crate::proofs::Puts::sides))]
     fn take(&mut self, side: Side, bytes: &[u8]) -> Result<(), Failed> {
         match side {
-            Side::Console => put_more(self.video.bytes.as_mut_slice(), &mut self.video.count, bytes),
-            Side::Sound => put_more(self.sound.bytes.as_mut_slice(), &mut self.sound.count, bytes),
+            Side::Console => put_more(
+                self.video.bytes.as_mut_slice(),
+                &mut self.video.count,
+                bytes,
+            ),
+            Side::Sound => put_more(
+                self.sound.bytes.as_mut_slice(),
+                &mut self.sound.count,
+                bytes,
+            ),
         }
         Ok(())
     }

@@ -40,7 +40,13 @@ impl Frames {
     ///
     /// The low four bits of a pad count as 0, as in a script. At every other answer the console and both rooms are as
     /// they were.
-    pub fn frame(&mut self, pad1: u16, pad2: u16, video: &mut [u8], sound: &mut [u8]) -> Result<Counts, FrameEnd>
+    pub fn frame(
+        &mut self,
+        pad1: u16,
+        pad2: u16,
+        video: &mut [u8],
+        sound: &mut [u8],
+    ) -> Result<Counts, FrameEnd>
         requires told { (told : Told) × IsFramesOf told self.old }
         ensures played { (told : Told) → IsFramesOf told self.old → IfOk result (λ counts. FramePlayed told (word_of pad1) (word_of pad2) video.old sound.old video.new sound.new counts.video counts.sound) }
         ensures on { (told : Told) → IsFramesOf told self.old → IfOk result (λ counts. IsFramesOf (gone_on told (word_of pad1) (word_of pad2)) self.new) }
@@ -56,7 +62,12 @@ impl Frames {
             pad1: pad1 / 16 * 16,
             pad2: pad2 / 16 * 16,
         };
-        go(&mut self.rewind, span, self.buffer.as_mut_slice(), &mut self.bytes);
+        go(
+            &mut self.rewind,
+            span,
+            self.buffer.as_mut_slice(),
+            &mut self.bytes,
+        );
         if let Some(side) = self.longer(video.len(), sound.len()) {
             load(&mut self.rewind, self.slots);
             return Err(FrameEnd::TooShort(side));

@@ -1,14 +1,14 @@
 -- The clocks of a step that pass for a console and for one whose script goes on: the two differ in the script, and
 -- from the first clock of the frame in which the shorter script ends on in the pads' words.
-use Rattle.std.proofs.Common.{◌≡◌, ℕ, ◌+◌, ◌-◌, ◌*◌, ◌<◌, ◌≤◌, ◌==◌, ◌&&◌, ◌||◌, Bool, true, false, List, [], ◌∷◌, ◌++◌, refl, sym, ap, subst, ◌∙◌, ⊎_elim, arith, if◌then◌else◌}
+use Rattle.std.proofs.Common.{◌≡◌, ℕ, ◌+◌, ◌-◌, ◌<◌, ◌≤◌, ◌==◌, ◌&&◌, ◌||◌, Bool, true, false, List, [], ◌∷◌, ◌++◌, refl, sym, ap, subst, ◌∙◌, ⊎_elim, arith, if◌then◌else◌}
 use Rattle.std.proofs.lemmas.Bool.{cases_lt}
 use Rattle.std.proofs.lemmas.Bool.Decides.{nat_tests}
-use Rattle.snes_defs.specs.declared.region.Region.TheVariants.{Ntsc}
+use Rattle.snes_defs.specs.declared.region.Region.{Region}
 use Rattle.snes_defs.specs.Script.{Script, pads_at, is_reset}
 use Rattle.beam.specs.declared.events.Event.{Event}
 use Rattle.beam.specs.declared.events.Event.TheVariants.{Line, Blank, HdmaFrame, Refresh, Draw, HdmaLine, Timer}
 use Rattle.beam.specs.declared.events.Happens.{Happens}
-use Rattle.beam.specs.Events.{BeamValue, one_if, events_of, happens_at, happens_next, beam_next, next_h, next_v, is_blank_line}
+use Rattle.beam.specs.Events.{BeamValue, one_if, events_of, happens_at, happens_next, beam_next, lines_of, next_h, next_v, is_blank_line}
 use Rattle.io_math.specs.declared.registers.IoRegisters.{IoRegisters}
 use Rattle.io_math.specs.Registers.{framed, blanked, timed, nmi_level, irq_level}
 use Rattle.io_math.specs.Words.{with_words}
@@ -19,6 +19,7 @@ use Rattle.console_bus.specs.Happenings.{happened, emitted_at, frame_begun, blan
 use Rattle.console_steps.specs.ConsoleState.{ConsoleState, after_event, after_events, bytes_of_events, with_interrupt_levels}
 use Rattle.console_steps.proofs.Beams.{happened_beam}
 use Rattle.console_steps.proofs.EventLists.{events_joined}
+use Rattle.snapshot.proofs.Numbers.{clock_at}
 
 -- ---- another script, and another value of the processor's registers that no event but a frame's start and vertical blank sees
 
@@ -266,10 +267,10 @@ module _ (f : ℕ) (small : f < 65535) (s t : Script) (agree : Agree f s t) wher
 
 -- ---- the clock, the frame and the place of the beam
 
-pub record IsTimed (w : ConsoleState) : Type 0 where
-  pub region : w.rest.beam.region ≡ Ntsc
-  pub clock : w.clock ≡ 357368 * w.rest.frame + 1364 * w.rest.beam.v + w.rest.beam.h
-  pub line : w.rest.beam.v < 262
+pub record IsTimed (own : Region) (w : ConsoleState) : Type 0 where
+  pub region : w.rest.beam.region ≡ own
+  pub clock : w.clock ≡ clock_at own w.rest.frame w.rest.beam.v w.rest.beam.h
+  pub line : w.rest.beam.v < lines_of own
   pub dot : w.rest.beam.h < 1364
 
 not_a_line : (b : Bool) (e : Event) → NoLine (e ∷ []) → NoLine (one_if b e)
@@ -325,9 +326,9 @@ pub next_line_clock : (h : ℕ) → next_h h ≡ (if h == 1363 then 0 else h + 1
 unfolding next_h
 next_line_clock h = refl
 
-pub next_line : (v h : ℕ) → next_v Ntsc v h ≡ (if h == 1363 then (if v + 1 == 262 then 0 else v + 1) else v)
+pub next_line : (region : Region) (v h : ℕ) → next_v region v h ≡ (if h == 1363 then (if v + 1 == lines_of region then 0 else v + 1) else v)
 unfolding next_v
-next_line v h = refl
+next_line region v h = refl
 
 pub beam_line : (o : Bool) (b : BeamValue) → (beam_next o b).v ≡ next_v b.region b.v b.h
 unfolding beam_next
@@ -348,11 +349,3 @@ begins_line o b = refl
 pub begins_blank : (o : Bool) (b : BeamValue) → (happens_next o b).blank ≡ (next_h b.h == 0 && is_blank_line o b.blank (next_v b.region b.v b.h))
 unfolding happens_next happens_at
 begins_blank o b = refl
-
--- what the clock counts
-pub timed_so : (frame v h frame' v' h' clock : ℕ) → clock ≡ 357368 * frame + 1364 * v + h → v < 262 → h < 1364 → frame < 65535
-    → h' ≡ (if h == 1363 then 0 else h + 1) → v' ≡ (if h == 1363 then (if v + 1 == 262 then 0 else v + 1) else v)
-    → frame' ≡ (if h' == 0 then (if v' == 0 then frame + 1 else frame) else frame)
-    → (clock + 1 ≡ 357368 * frame' + 1364 * v' + h') × (v' < 262) × (h' < 1364)
-timed_so frame v h frame' v' h' clock is line dot few dot_is line_is frame_is =
-    (grind (arith, nat_tests), grind (arith, nat_tests), grind (arith, nat_tests))

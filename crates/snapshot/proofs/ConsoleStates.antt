@@ -2,10 +2,11 @@
 use Rattle.std.proofs.Common.{◌≡◌, ℕ, zero, suc, ◌+◌, ◌*◌, ◌<◌, ◌≤◌, ◌==◌, ◌&&◌, Bool, true, false, List, [], ◌∷◌, ◌++◌, drop, refl, sym, ap, subst, ◌∙◌, ⊎_elim, arith, if◌then◌else◌}
 use Rattle.std.proofs.lemmas.Bool.{cases_lt}
 use Rattle.std.proofs.lemmas.Bool.Decides.{nat_tests}
+use Rattle.snes_defs.specs.declared.region.Region.{Region}
 use Rattle.snes_defs.specs.Script.{Script, pads_at}
 use Rattle.beam.specs.declared.events.Event.{Event}
 use Rattle.beam.specs.declared.events.Event.TheVariants.{Line, Blank, HdmaFrame, Refresh, Draw, HdmaLine, Timer}
-use Rattle.beam.specs.Events.{BeamValue, one_if, events_of, happens_next, beam_next, next_h, next_v, is_blank_line}
+use Rattle.beam.specs.Events.{BeamValue, one_if, events_of, happens_next, beam_next, lines_of, next_h, next_v, is_blank_line}
 use Rattle.cpu65816.specs.Instruction.{CpuState, moved_on}
 use Rattle.dma_hdma.specs.declared.moves.Move.TheVariants.{ToB, ToA, Load}
 use Rattle.console_bus.specs.declared.cart_board.CartBoard.{CartBoard}
@@ -15,7 +16,8 @@ use Rattle.console_steps.specs.ConsoleState.{ConsoleState, Due, Resets, Refreshe
 use Rattle.cart_map.specs.declared.places.Place.TheVariants.{BBus}
 use Rattle.console_machine.specs.Keeping.{effect_beam}
 use Rattle.snapshot.proofs.Effects.{rom_of, effect_keeps, with_script, effect_told, byte_told, taken_told}
-use Rattle.snapshot.proofs.Clocks.{IsTimed, timed_so, place_frame, frame_if, events_beam, events_clock, beam_line, beam_dot, beam_region, begins_line, begins_blank, next_line, next_line_clock, console_put, Agree, Alike, Fits, events_alike, fits_joined, fits_one, line_frame}
+use Rattle.snapshot.proofs.Numbers.{frame_clocks, clock_at, timed_so, begun_so, begun_still, few_frames}
+use Rattle.snapshot.proofs.Clocks.{IsTimed, place_frame, frame_if, events_beam, events_clock, beam_line, beam_dot, beam_region, begins_line, begins_blank, next_line, next_line_clock, console_put, Agree, Alike, Fits, events_alike, fits_joined, fits_one, line_frame}
 
 -- ---- what events leave alone
 
@@ -89,53 +91,50 @@ next_frame_is n lt = grind (arith, nat_tests)
 abbrev after_one : ConsoleState → ConsoleState
 after_one w = after_events (moved w) (events_next w)
 
-pub one_timed : (w : ConsoleState) → IsTimed w → w.rest.frame < 65535 → IsTimed (after_one w)
-one_timed w t few =
+pub one_timed : (own : Region) (w : ConsoleState) → IsTimed own w → w.rest.frame < 65535 → IsTimed own (after_one w)
+one_timed own w t few =
     let o = overscan_of w in
     let b = w.rest.beam in
     let n = after_one w in
     let beam = events_beam (moved w) (events_next w) in
     let dot : n.rest.beam.h ≡ next_h b.h = ap (λ x. x.h) beam ∙ beam_dot o b in
-    let line : n.rest.beam.v ≡ (if b.h == 1363 then (if b.v + 1 == 262 then 0 else b.v + 1) else b.v) =
-    ap (λ x. x.v) beam ∙ beam_line o b ∙ ap (λ r. next_v r b.v b.h) t.region ∙ next_line b.v b.h in
+    let line : n.rest.beam.v ≡ (if b.h == 1363 then (if b.v + 1 == lines_of own then 0 else b.v + 1) else b.v) =
+    ap (λ x. x.v) beam ∙ beam_line o b ∙ ap (λ r. next_v r b.v b.h) t.region ∙ next_line own b.v b.h in
     let frame : n.rest.frame ≡ (if n.rest.beam.h == 0 then (if n.rest.beam.v == 0 then w.rest.frame + 1 else w.rest.frame) else w.rest.frame) =
     place_frame (moved w) (happens_next o b)
     ∙ ap (λ l. if l then (if (beam_next o b).v == 0 then next_frame w.rest.frame else w.rest.frame) else w.rest.frame) (begins_line o b)
     ∙ ap (λ h. if h == 0 then (if (beam_next o b).v == 0 then next_frame w.rest.frame else w.rest.frame) else w.rest.frame) (sym dot)
     ∙ ap (λ (x : BeamValue). if n.rest.beam.h == 0 then (if x.v == 0 then next_frame w.rest.frame else w.rest.frame) else w.rest.frame) (sym beam)
     ∙ ap (λ m. if n.rest.beam.h == 0 then (if n.rest.beam.v == 0 then m else w.rest.frame) else w.rest.frame) (next_frame_is w.rest.frame few) in
-    let so = timed_so w.rest.frame b.v b.h n.rest.frame n.rest.beam.v n.rest.beam.h w.clock t.clock t.line t.dot few (dot ∙ next_line_clock b.h) line frame in
+    let so = timed_so own w.rest.frame b.v b.h n.rest.frame n.rest.beam.v n.rest.beam.h w.clock t.clock t.line t.dot few (dot ∙ next_line_clock b.h) line frame in
     record { region = ap (λ x. x.region) beam ∙ beam_region o b ∙ t.region; clock = events_clock (moved w) (events_next w) ∙ so.0; line = so.1; dot = so.2 }
 
 one_later : (w : ConsoleState) → (after_one w).clock ≡ w.clock + 1
 one_later w = events_clock (moved w) (events_next w)
 
-few_frames : (frame v h clock : ℕ) → clock ≡ 357368 * frame + 1364 * v + h → clock < 357368 * 65535 → frame < 65535
-few_frames frame v h clock is small = omega (arith, is, small)
-
-pub clocks_timed : (k : ℕ) (w : ConsoleState) → IsTimed w → w.clock + k < 357368 * 65535 → IsTimed (after_clocks w k)
+pub clocks_timed : (own : Region) (k : ℕ) (w : ConsoleState) → IsTimed own w → w.clock + k < frame_clocks own * 65535 → IsTimed own (after_clocks w k)
 unfolding after_clocks
-clocks_timed zero w t small = t
-clocks_timed (suc k) w t small =
+clocks_timed own zero w t small = t
+clocks_timed own (suc k) w t small =
     let one = one_later w in
-    clocks_timed k (after_one w) (one_timed w t (few_frames w.rest.frame w.rest.beam.v w.rest.beam.h w.clock t.clock (omega (arith, small)))) (omega (arith, small, one))
+    clocks_timed own k (after_one w) (one_timed own w t (few_frames own w.rest.frame w.rest.beam.v w.rest.beam.h w.clock t.clock (omega (arith, small)))) (omega (arith, small, one))
 
-pub effect_timed : (w : ConsoleState) (d : Due) (got : ℕ) → IsTimed w → IsTimed (effect w d got)
-effect_timed w d got t =
+pub effect_timed : (own : Region) (w : ConsoleState) (d : Due) (got : ℕ) → IsTimed own w → IsTimed own (effect w d got)
+effect_timed own w d got t =
     let k = effect_keeps w.rest d got in
     let b = effect_beam w.rest d got in
     record {
       region = b.region ∙ t.region;
-      clock = t.clock ∙ ap (λ n. 357368 * n + 1364 * w.rest.beam.v + w.rest.beam.h) (sym k.frame)
-          ∙ ap (λ n. 357368 * (rest_after w.rest d got).frame + 1364 * n + w.rest.beam.h) (sym k.line)
-          ∙ ap (λ n. 357368 * (rest_after w.rest d got).frame + 1364 * (rest_after w.rest d got).beam.v + n) (sym b.clock);
-      line = subst (λ n. n < 262) (sym k.line) t.line;
+      clock = t.clock ∙ ap (λ n. clock_at own n w.rest.beam.v w.rest.beam.h) (sym k.frame)
+          ∙ ap (λ n. clock_at own (rest_after w.rest d got).frame n w.rest.beam.h) (sym k.line)
+          ∙ ap (λ n. clock_at own (rest_after w.rest d got).frame (rest_after w.rest d got).beam.v n) (sym b.clock);
+      line = subst (λ n. n < lines_of own) (sym k.line) t.line;
       dot = subst (λ n. n < 1364) (sym b.clock) t.dot;
     }
 
 -- ---- under a script that goes on
 
-module _ (f : ℕ) (small : f < 65535) (s t : Script) (agree : Agree f s t) where
+module _ (own : Region) (f : ℕ) (small : f < 65535) (s t : Script) (agree : Agree f s t) where
   abbrev Near : ConsoleState → ℕ → Type 0
   Near w k = w.rest.frame ≡ f → (w.rest.beam.v ≡ 0) × (w.rest.beam.h + k < 1364)
 
@@ -220,32 +219,31 @@ module _ (f : ℕ) (small : f < 65535) (s t : Script) (agree : Agree f s t) wher
               zero_is false e = ap (λ c. if c then next_frame w.rest.frame else w.rest.frame) e
 
   -- frame f has begun with the last clock, or a clock ago
-  next_near : (w : ConsoleState) (k : ℕ) → suc k ≤ 40 → IsTimed w → w.rest.frame < 65535 → Near w (suc k) → w.rest.frame ≤ f → Near (after_one w) k
+  next_near : (w : ConsoleState) (k : ℕ) → suc k ≤ 40 → IsTimed own w → w.rest.frame < 65535 → Near w (suc k) → w.rest.frame ≤ f → Near (after_one w) k
   next_near w k few t fewer near within is =
       let n = after_one w in
-      let one = one_timed w t fewer in
+      let one = one_timed own w t fewer in
       let b = w.rest.beam in
-      let beam = events_beam (moved w) (events_next w) in
-      let dot : n.rest.beam.h ≡ (if b.h == 1363 then 0 else b.h + 1) = ap (λ x. x.h) beam ∙ beam_dot (overscan_of w) b ∙ next_line_clock b.h in
-      let clock = one.clock in
-      let before = t.clock in
-      let later = one_later w in
+      let clock = sym (one_later w) ∙ one.clock in
       ⊎_elim
-      (λ lt. (grind (arith, nat_tests), grind (arith, nat_tests)))
-      (λ ge. let was = near (omega (arith, ge, within)) in (grind (arith, nat_tests), grind (arith, nat_tests)))
+      (λ lt. begun_so own f w.rest.frame b.v b.h n.rest.frame n.rest.beam.v n.rest.beam.h w.clock k t.clock clock t.line t.dot one.dot few lt is)
+      (λ ge. (
+      let there : w.rest.frame ≡ f = omega (arith, ge, within) in
+      let was = near there in
+      begun_still own f w.rest.frame b.v b.h n.rest.frame n.rest.beam.v n.rest.beam.h w.clock k t.clock clock was.0 was.1 there is))
       (cases_lt w.rest.frame f)
 
-  pub clocks_alike : (k : ℕ) (w x : ConsoleState) → k ≤ 40 → IsTimed w → w.clock + k < 357368 * 65535 → w.rest.script ≡ s → Near w k → Alike f t w x
+  pub clocks_alike : (k : ℕ) (w x : ConsoleState) → k ≤ 40 → IsTimed own w → w.clock + k < frame_clocks own * 65535 → w.rest.script ≡ s → Near w k → Alike f t w x
       → Alike f t (after_clocks w k) (after_clocks x k) × (bytes_in x k ≡ bytes_in w k)
   unfolding after_clocks bytes_in
   clocks_alike zero w x few timed early is near h = (h, refl)
   clocks_alike (suc k) w x few timed early is near h =
-      let fewer = few_frames w.rest.frame w.rest.beam.v w.rest.beam.h w.clock timed.clock (omega (arith, early)) in
+      let fewer = few_frames own w.rest.frame w.rest.beam.v w.rest.beam.h w.clock timed.clock (omega (arith, early)) in
       let fits = next_fits w k near h.within is in
       let events : events_next x ≡ events_next w = same_events w x h in
       let one = events_alike f small s t agree (events_next w) (moved w) (moved x) fits (moved_alike w x h) in
       let later = one_later w in
-      let rest = clocks_alike k (after_one w) (after_events (moved x) (events_next w)) (omega (arith, few)) (one_timed w timed fewer) (omega (arith, early, later))
+      let rest = clocks_alike k (after_one w) (after_events (moved x) (events_next w)) (omega (arith, few)) (one_timed own w timed fewer) (omega (arith, early, later))
       (ap (λ v. v.script) (events_body (moved w) (events_next w)) ∙ is) (next_near w k few timed fewer near h.within) one.0 in (
         subst (λ es. Alike f t (after_clocks (after_one w) k) (after_clocks (after_events (moved x) es) k)) (sym events) rest.0,
         ap (λ es. bytes_of_events (moved x) es ++ bytes_in (after_events (moved x) es) k) events
@@ -278,7 +276,7 @@ module _ (f : ℕ) (small : f < 65535) (s t : Script) (agree : Agree f s t) wher
   pub step_act : (w : ConsoleState) → act_of (with_script t w.rest) (due_of (console_put t (λ io. io) w)) ≡ act_of w.rest (due_of w)
   step_act w = act_told w.rest (due_of w)
 
-  pub step_alike : (w : ConsoleState) (got : ℕ) → due_clocks (due_of w) w.rest.io.fast ≤ 40 → IsTimed w → w.clock + 40 < 357368 * 65535 → w.rest.script ≡ s → w.rest.frame < f
+  pub step_alike : (w : ConsoleState) (got : ℕ) → due_clocks (due_of w) w.rest.io.fast ≤ 40 → IsTimed own w → w.clock + 40 < frame_clocks own * 65535 → w.rest.script ≡ s → w.rest.frame < f
       → Alike f t (console_after w (due_of w) got) (console_after (console_put t (λ io. io) w) (due_of w) got)
       × (bytes_after (console_put t (λ io. io) w) (due_of w) got ≡ bytes_after w (due_of w) got)
   step_alike w got few timed early is before =
@@ -292,7 +290,7 @@ module _ (f : ℕ) (small : f < 65535) (s t : Script) (agree : Agree f s t) wher
         begun = λ there. absurd (omega (arith, there, before, same));
         within = omega (arith, same, before);
       } in
-      let all = clocks_alike n e (console_put t (λ io. io) e) few (effect_timed w d got timed) (omega (arith, early, few)) (k.script ∙ is) (λ there. absurd (omega (arith, there, before, same))) alike in (
+      let all = clocks_alike n e (console_put t (λ io. io) e) few (effect_timed own w d got timed) (omega (arith, early, few)) (k.script ∙ is) (λ there. absurd (omega (arith, there, before, same))) alike in (
         subst (λ y. Alike f t (after_clocks e n) (after_clocks y n)) (sym (effect_alike w d got is before)) all.0,
         ap (λ y. bytes_in y n) (effect_alike w d got is before) ∙ all.1,
       )

@@ -5,25 +5,30 @@ use Rattle.std.proofs.lemmas.Bool.{cases_eq}
 use Rattle.std.proofs.lemmas.Bool.Decides.{nat_tests}
 use Rattle.snes_defs.specs.declared.cart.Job.{Job}
 use Rattle.snes_defs.specs.declared.script.Span.{Span}
+use Rattle.snes_defs.specs.Script.{frames_of}
 use Rattle.console_bus.specs.BusState.{BusState, board_of}
 use Rattle.console_machine.specs.Playing.{rest_with_room}
 use Rattle.audio_side.specs.HardwareState.{table_of}
 use Rattle.snapshot.specs.declared.run.Run.{Run}
-use Rattle.plan_drive.specs.Paths.{Paths, path_script, kept, back}
-use Rattle.snapshot.specs.Path.{start_of, end_of_path}
+use Rattle.plan_drive.specs.Paths.{Paths, kept, back}
+use Rattle.snapshot.specs.Path.{script_in, start_of, end_of_path}
 use Rattle.snapshot.specs.declared.rewind.Rewind.{Rewind}
 use Rattle.snapshot.specs.Positions.{IsDone, IsRested, CanCopy, HoldsPath, copy_of}
 use Rattle.snapshot.proofs.Effects.{rom_of}
+use Rattle.snapshot.proofs.Numbers.{ends_within}
 use Rattle.snapshot.proofs.Runs.{own_at, starts_own, turns_keep}
 
 pub done_own : (job : Job) (n : ℕ) (path : List Span) (r : Run) (video audio : List ℕ) (d : IsDone job n path r video audio) → own_at job n path d.at
 done_own job n path r video audio d =
-    let few = d.few in
     subst (λ w. own_at job n path w) d.underway.now_is
-    (turns_keep (board_of job.cart) (path_script n path) job.cart.rom job.boot (table_of job.table) (end_of_path path) (start_of job n path) d.underway.turns (omega (arith, few)) (starts_own job n path) d.underway.not_past)
+    (turns_keep job.region (board_of job.cart) (script_in job.region n path) job.cart.rom job.boot (table_of job.table) (end_of_path job.region path) (start_of job n path) d.underway.turns (ends_within job.region (frames_of path) d.few) (starts_own job n path) d.underway.not_past)
 
-pub done_script : (job : Job) (n : ℕ) (path : List Span) (r : Run) (video audio : List ℕ) → IsDone job n path r video audio → r.serial.console.rest.script ≡ path_script n path
+pub done_script : (job : Job) (n : ℕ) (path : List Span) (r : Run) (video audio : List ℕ) → IsDone job n path r video audio → r.serial.console.rest.script ≡ script_in job.region n path
 done_script job n path r video audio d = ap (λ q. q.script) d.stands.console.at.rest ∙ (done_own job n path r video audio d).own.script_is
+
+-- the machines are of the region of the job
+pub done_region : (job : Job) (n : ℕ) (path : List Span) (r : Run) (video audio : List ℕ) → IsDone job n path r video audio → r.serial.console.region ≡ job.region
+done_region job n path r video audio d = sym d.stands.console.console.region ∙ (done_own job n path r video audio d).timed.region
 
 -- a value that stands for a console state has its cartridge and script
 module _ (job : Job) (n : ℕ) (p q : List Span) (a b : Run) (va aa vb ab : List ℕ) (x : IsDone job n p a va aa) (y : IsDone job n q b vb ab) where
@@ -60,7 +65,7 @@ module _ (job : Job) (n : ℕ) (p q : List Span) (a b : Run) (va aa vb ab : List
         none_there_either = ap (λ m. m.resets) sound_b.clock ∙ own_b.no_resets;
       }
 
-  same_room : (r : BusState) → r.script ≡ path_script n p → rest_with_room r n ≡ r
+  same_room : (r : BusState) → r.script ≡ script_in job.region n p → rest_with_room r n ≡ r
   same_room r is = ap (λ m. rest_with_room r m) (sym (ap (λ s. s.room) is))
 
   room_b : b.serial.console.rest.script.room ≡ n

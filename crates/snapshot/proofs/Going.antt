@@ -5,6 +5,7 @@ use Rattle.std.proofs.lemmas.List.{append-nil}
 use Rattle.snes_defs.specs.declared.cart.Job.{Job}
 use Rattle.snes_defs.specs.declared.script.Span.{Span}
 use Rattle.snes_defs.specs.Script.{frames_of}
+use Rattle.clock_ratio.specs.Stamp.{frame_of, end_stamp_of}
 use Rattle.side_law.specs.Moves.{Moves}
 use Rattle.side_law.specs.Serial.{SerialState, got_of, console_step, sound_step, turn, console_emits, sound_emits}
 use Rattle.side_law.specs.SerialRun.{IsPast, IsUnderway}
@@ -25,7 +26,7 @@ use Rattle.plan_drive.specs.Paths.{Paths, gone}
 use Rattle.snapshot.specs.Path.{start_of, end_of_path}
 use Rattle.snapshot.specs.Positions.{IsRested, IsGoing}
 use Rattle.snapshot.proofs.Runs.{goes_on, frames_more}
-use Rattle.snapshot.proofs.Copying.{done_script}
+use Rattle.snapshot.proofs.Copying.{done_script, done_region}
 
 -- a run that has not gone ahead
 lead_at : {C S : Type 0} (cm : Moves C) (sm : Moves S) (end : ℕ) (from at : SerialState C S) (video audio all_video all_audio : List ℕ)
@@ -54,7 +55,7 @@ pub begun : (job : Job) (n : ℕ) (paths : Paths) (r : Rewind) (span : Span) (x 
     → ((w : ConsoleState) → console_side.StandsAt r.run.serial.console w → console_side.StandsAt x (console_played w span)) → x.waiting ≡ r.run.serial.console.waiting
     → IsRested job n paths r
     → IsGoing job n (gone paths span) paths.path [] []
-    (record { run = record { serial = record { console = x; sound = r.run.serial.sound; to_sound = r.run.serial.to_sound; to_console = r.run.serial.to_console }; end = r.run.end + 2012696576 * span.count; stepped = r.run.stepped }; slots = r.slots })
+    (record { run = record { serial = record { console = x; sound = r.run.serial.sound; to_sound = r.run.serial.to_sound; to_console = r.run.serial.to_console }; end = r.run.end + frame_of r.run.serial.console.region * span.count; stepped = r.run.stepped }; slots = r.slots })
 begun job n paths r span x room few stands waits h =
     let (video, audio, d) = h.now in
     let script = done_script job n paths.path r.run video audio d in
@@ -63,18 +64,19 @@ begun job n paths r span x room few stands waits h =
     let more = frames_more paths.path span in
     let size = length-append paths.path (span ∷ []) in
     let end = d.end_is in
+    let later = ap (end_stamp_of job.region) more in
     record {
       first_video = video;
       first_audio = audio;
-      first = run_is_over console_moves sound_moves (start_of job n paths.path) (end_of_path paths.path) d.at video audio d.underway d.past;
+      first = run_is_over console_moves sound_moves (start_of job n paths.path) (end_of_path job.region paths.path) d.at video audio d.underway d.past;
       led = record {
         at = record d.at { console = console_played d.at.console span };
         stands = record { console = stands d.at.console d.stands.console; sound = d.stands.sound; to_sound = d.stands.to_sound; to_console = d.stands.to_console };
-        lead = lead_at console_moves sound_moves (end_of_path (gone paths span).path) (start_of job n (gone paths span).path) (record d.at { console = console_played d.at.console span }) video audio
+        lead = lead_at console_moves sound_moves (end_of_path job.region (gone paths span).path) (start_of job n (gone paths span).path) (record d.at { console = console_played d.at.console span }) video audio
             ((video ++ []) ++ x.waiting) ((audio ++ []) ++ r.run.serial.sound.waiting)
             (goes_on job n paths.path span d.at video audio fits d.underway d.past) (still video x.waiting (waits ∙ d.no_video)) (still audio r.run.serial.sound.waiting d.no_audio);
       };
-      end_is = omega (arith, end, more);
+      end_is = ap (λ g. r.run.end + frame_of g * span.count) (done_region job n paths.path r.run video audio d) ∙ omega (arith, end, later);
       few = omega (arith, more, fits);
       room = omega (arith, size, short);
       slots = h.slots;
@@ -130,11 +132,11 @@ turned job n paths before video audio r after short turns console_out sound_out 
       led = record {
         at = turn console_moves sound_moves at;
         stands = turns at here;
-        lead = subst (λ x. IsLead console_moves sound_moves (end_of_path paths.path) (start_of job n paths.path) (turn console_moves sound_moves at) x (a ++ after.serial.sound.waiting))
+        lead = subst (λ x. IsLead console_moves sound_moves (end_of_path job.region paths.path) (start_of job n paths.path) (turn console_moves sound_moves at) x (a ++ after.serial.sound.waiting))
             (append_assoc v r.run.serial.console.waiting _ ∙ ap (λ x. v ++ x) (sym (console_out at here)))
-            (subst (λ x. IsLead console_moves sound_moves (end_of_path paths.path) (start_of job n paths.path) (turn console_moves sound_moves at) ((v ++ r.run.serial.console.waiting) ++ console_emits console_moves sound_moves at) x)
+            (subst (λ x. IsLead console_moves sound_moves (end_of_path job.region paths.path) (start_of job n paths.path) (turn console_moves sound_moves at) ((v ++ r.run.serial.console.waiting) ++ console_emits console_moves sound_moves at) x)
             (append_assoc a r.run.serial.sound.waiting _ ∙ ap (λ x. a ++ x) (sym (sound_out at here)))
-            (lead_turn (end_of_path paths.path) (start_of job n paths.path) at (v ++ r.run.serial.console.waiting) (a ++ r.run.serial.sound.waiting) h.led.lead not_past));
+            (lead_turn (end_of_path job.region paths.path) (start_of job n paths.path) at (v ++ r.run.serial.console.waiting) (a ++ r.run.serial.sound.waiting) h.led.lead not_past));
       };
       end_is = same ∙ h.end_is;
       few = h.few;

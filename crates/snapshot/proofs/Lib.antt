@@ -1,3 +1,4 @@
+pub mod Numbers
 pub mod Effects
 pub mod Clocks
 pub mod ConsoleStates

@@ -1,5 +1,5 @@
 -- Bytes that are handed out on the way, and the end of a path.
-use Rattle.std.proofs.Common.{◌≡◌, ℕ, ◌≤◌, List, [], ◌++◌, take, drop, refl, ap, sym, ◌∙◌, subst, append_assoc, arith}
+use Rattle.std.proofs.Common.{◌≡◌, ℕ, ◌≤◌, List, [], ◌++◌, take, drop, ap, sym, ◌∙◌, subst, append_assoc, arith}
 use Rattle.std.proofs.lemmas.List.{append-nil, take-append-drop}
 use Rattle.snes_defs.specs.declared.cart.Job.{Job}
 use Rattle.snes_defs.specs.declared.ports.Side.{Side}
@@ -21,17 +21,10 @@ use Rattle.snapshot.specs.declared.rewind.Rewind.{Rewind}
 use Rattle.plan_drive.specs.Paths.{Paths}
 use Rattle.snapshot.specs.Path.{start_of, end_of_path}
 use Rattle.snapshot.specs.Positions.{IsRested, IsGoing, IsBeyond}
-use Rattle.snes_defs.specs.declared.region.Region.TheVariants.{Ntsc}
 use Rattle.side_law.specs.SerialRun.{IsOutput}
-use Rattle.side_law.proofs.SerialRuns.{run_ends}
-use Rattle.side_law.proofs.SerialKeeps.{serving_at_first}
-use Rattle.console_machine.specs.Side.{IsConsoleOf}
-use Rattle.console_machine.specs.SideLaws.{console_is_lawful}
-use Rattle.audio_side.specs.Sound.{IsSound}
-use Rattle.audio_side.specs.SoundLaws.{sound_is_lawful}
 use Rattle.run_drive.specs.Run.{TookFirst}
 use Rattle.snapshot.specs.Path.{console_of_path, sound_of_path}
-use Rattle.snapshot.specs.Driven.{Since, TookOn, Ends, by_side}
+use Rattle.snapshot.specs.Driven.{Since, TookOn, by_side}
 use Rattle.snapshot.specs.Handed.{Gave, GaveSome}
 use Rattle.snapshot.proofs.Arrives.{lead_arrives}
 
@@ -41,7 +34,7 @@ pub arrived : (job : Job) (n : ℕ) (paths : Paths) (before : List Span) (video 
     → r.run.serial.console.waiting ≡ [] → r.run.serial.sound.waiting ≡ []
     → IsGoing job n paths before video audio r → IsRested job n paths r × IsBeyond job n before paths.path video audio
 arrived job n paths before video audio r console sound no_video no_audio h =
-    let end = end_of_path paths.path in
+    let end = end_of_path job.region paths.path in
     let from = start_of job n paths.path in
     let at = h.led.at in
     let console_is = console_stamp r.run.serial.console at.console h.led.stands.console in
@@ -77,7 +70,7 @@ video_handed job n paths before video audio r x k same left h = record {
   led = record {
     at = h.led.at;
     stands = record { console = same h.led.at.console h.led.stands.console; sound = h.led.stands.sound; to_sound = h.led.stands.to_sound; to_console = h.led.stands.to_console };
-    lead = subst (λ v. IsLead console_moves sound_moves (end_of_path paths.path) (start_of job n paths.path) h.led.at v ((h.first_audio ++ audio) ++ r.run.serial.sound.waiting))
+    lead = subst (λ v. IsLead console_moves sound_moves (end_of_path job.region paths.path) (start_of job n paths.path) h.led.at v ((h.first_audio ++ audio) ++ r.run.serial.sound.waiting))
         (handed h.first_video video r.run.serial.console.waiting k ∙ ap (λ w. (h.first_video ++ (video ++ take k r.run.serial.console.waiting)) ++ w) (sym left)) h.led.lead;
   };
   end_is = h.end_is;
@@ -98,7 +91,7 @@ audio_handed job n paths before video audio r x k same left h = record {
   led = record {
     at = h.led.at;
     stands = record { console = h.led.stands.console; sound = same h.led.at.sound h.led.stands.sound; to_sound = h.led.stands.to_sound; to_console = h.led.stands.to_console };
-    lead = subst (λ a. IsLead console_moves sound_moves (end_of_path paths.path) (start_of job n paths.path) h.led.at ((h.first_video ++ video) ++ r.run.serial.console.waiting) a)
+    lead = subst (λ a. IsLead console_moves sound_moves (end_of_path job.region paths.path) (start_of job n paths.path) h.led.at ((h.first_video ++ video) ++ r.run.serial.console.waiting) a)
         (handed h.first_audio audio r.run.serial.sound.waiting k ∙ ap (λ w. (h.first_audio ++ (audio ++ take k r.run.serial.sound.waiting)) ++ w) (sym left)) h.led.lead;
   };
   end_is = h.end_is;
@@ -108,11 +101,6 @@ audio_handed job n paths before video audio r x k same left h = record {
 }
 
 -- ---- a whole span
-
-pub path_ends : (job : Job) (n : ℕ) (path : List Span) (end : ℕ) → Ends console_moves sound_moves (console_of_path job.cart n path) (sound_of_path job.boot job.table) end
-path_ends job n path end =
-    run_ends Ntsc (IsConsoleOf Ntsc) (IsSound Ntsc) 1024 4 console_moves sound_moves (console_is_lawful Ntsc) (sound_is_lawful Ntsc) (start_of job n path) end
-    (serving_at_first (IsConsoleOf Ntsc) (IsSound Ntsc) (console_of_path job.cart n path) (sound_of_path job.boot job.table) (record { region = refl; line = omega arith }) refl)
 
 -- nothing waited, and nothing waits
 none_between : (f w more x : List ℕ) → w ≡ [] → x ≡ [] → ((f ++ []) ++ w) ++ more ≡ (f ++ more) ++ x
@@ -131,14 +119,14 @@ pub drove : (job : Job) (n : ℕ) (paths : Paths) (before : List Span) (r : Rewi
     → r.run.end ≤ after.serial.console.stamp → r.run.end ≤ stamp_now after.serial.sound.clock → after.serial.console.waiting ≡ [] → after.serial.sound.waiting ≡ []
     → after.end ≡ r.run.end
     → (h : IsGoing job n paths before [] [] r)
-    → TookOn console_moves sound_moves console_side.StandsAt sound_side.StandsAt (console_of_path job.cart n paths.path) (sound_of_path job.boot job.table) r.run.end after.serial (Since holds base (emitted_of job n paths before r h))
+    → TookOn console_moves sound_moves console_side.StandsAt sound_side.StandsAt (console_of_path job.region job.cart n paths.path) (sound_of_path job.region job.boot job.table) r.run.end after.serial (Since holds base (emitted_of job n paths before r h))
     → Gave job n paths before base holds (record { run = after; slots = r.slots })
 drove job n paths before r after base holds no_video no_audio console sound none_video none_audio same h took =
     let (video, video_is, video_held) = took.video_taken in
     let (audio, audio_is, audio_held) = took.audio_taken in
     let new : Rewind = record { run = after; slots = r.slots } in
     let s = after.serial in
-    let end = end_of_path paths.path in
+    let end = end_of_path job.region paths.path in
     let from = start_of job n paths.path in
     let going : IsGoing job n paths before video audio new = record {
       first_video = h.first_video;
@@ -160,7 +148,7 @@ drove job n paths before r after base holds no_video no_audio console sound none
 pub drove_some : (job : Job) (n : ℕ) (paths : Paths) (before : List Span) (r : Rewind) (base : Side → List ℕ) (holds : Side → List ℕ → Type 0)
     → r.run.serial.console.waiting ≡ [] → r.run.serial.sound.waiting ≡ []
     → (h : IsGoing job n paths before [] [] r)
-    → TookFirst console_moves sound_moves (console_of_path job.cart n paths.path) (sound_of_path job.boot job.table) r.run.end (Since holds base (emitted_of job n paths before r h))
+    → TookFirst console_moves sound_moves (console_of_path job.region job.cart n paths.path) (sound_of_path job.region job.boot job.table) r.run.end (Since holds base (emitted_of job n paths before r h))
     → GaveSome job n paths before base holds
 drove_some job n paths before r base holds no_video no_audio h took =
     let (video, video_is, video_held) = took.video_taken in

@@ -2,6 +2,7 @@
 use Rattle.std.proofs.Common.{ℕ, ◌≤◌, List, refl, ap, sym, ◌∙◌, arith}
 use Rattle.snes_defs.specs.declared.cart.Cart.{Cart}
 use Rattle.snes_defs.specs.declared.cart.Job.{Job}
+use Rattle.snes_defs.specs.declared.region.Region.{Region}
 use Rattle.snes_defs.specs.declared.script.Span.{Span}
 use Rattle.snes_defs.specs.Script.{frames_of, pads_at}
 use Rattle.side_law.specs.Serial.{SerialState}
@@ -11,18 +12,17 @@ use Rattle.console_bus.specs.BusState.{board_of}
 use Rattle.console_steps.specs.ConsoleState.{ConsoleState, console_moves}
 use Rattle.audio_side.specs.HardwareState.{table_of}
 use Rattle.audio_side.specs.Sound.{SoundState, sound_moves}
-use Rattle.plan_drive.specs.Paths.{path_script}
-use Rattle.snapshot.specs.Path.{PathEmits, start_of, console_of_path}
+use Rattle.snapshot.specs.Path.{PathEmits, script_in, start_of, console_of_path}
 use Rattle.snapshot.proofs.Clocks.{Agree, Alike}
 use Rattle.snapshot.proofs.Runs.{SameRun, same_runs, alike_stamp, starts_own, words_twice}
 
-rooms_agree : (n m : ℕ) (path : List Span) → Agree (frames_of path) (path_script n path) (path_script m path)
-rooms_agree n m path = record { pads = λ k lt. refl; resets = refl }
+rooms_agree : (region : Region) (n m : ℕ) (path : List Span) → Agree (frames_of path) (script_in region n path) (script_in region m path)
+rooms_agree region n m path = record { pads = λ k lt. refl; resets = refl }
 
-starts_roomy : (cart : Cart) (n m : ℕ) (path : List Span) → Alike (frames_of path) (path_script m path) (console_of_path cart n path) (console_of_path cart m path)
-starts_roomy cart n m path =
-    let t = path_script m path in
-    let w = console_of_path cart n path in
+starts_roomy : (region : Region) (cart : Cart) (n m : ℕ) (path : List Span) → Alike (frames_of path) (script_in region m path) (console_of_path region cart n path) (console_of_path region cart m path)
+starts_roomy region cart n m path =
+    let t = script_in region m path in
+    let w = console_of_path region cart n path in
     let f = frames_of path in
     record {
       before = λ lt. refl;
@@ -33,17 +33,18 @@ starts_roomy cart n m path =
 
 pub room_unseen : (job : Job) (n m : ℕ) (path : List Span) (video audio : List ℕ) → frames_of path ≤ 36000 → PathEmits job n path video audio → PathEmits job m path video audio
 room_unseen job n m path video audio few h =
+    let region = job.region in
     let f = frames_of path in
-    let s = path_script n path in
-    let t = path_script m path in
-    let agree = rooms_agree n m path in
+    let s = script_in region n path in
+    let t = script_in region m path in
+    let agree = rooms_agree region n m path in
     let a = start_of job n path in
     let b = start_of job m path in
-    let start : SameRun f few s t agree a b = record { console = starts_roomy job.cart n m path; else_same = refl } in
+    let start : SameRun region f few s t agree a b = record { console = starts_roomy region job.cart n m path; else_same = refl } in
     let same = λ (k : ℕ) (le : k ≤ h.turns).
-    same_runs f few s t agree (board_of job.cart) job.cart.rom job.boot (table_of job.table) a b k (starts_own job n path) start (λ j lt. h.runs.first j (omega (arith, lt, le))) in
+    same_runs region f few s t agree (board_of job.cart) job.cart.rom job.boot (table_of job.table) a b k (starts_own job n path) start (λ j lt. h.runs.first j (omega (arith, lt, le))) in
     let runs = same h.turns (omega arith) in
-    let stamp = alike_stamp f few s t agree (after_turns console_moves sound_moves a h.turns).console (after_turns console_moves sound_moves b h.turns).console runs.now.console in
+    let stamp = alike_stamp region f few s t agree (after_turns console_moves sound_moves a h.turns).console (after_turns console_moves sound_moves b h.turns).console runs.now.console in
     let sound = ap (λ (x : SerialState ConsoleState SoundState). sound_moves.stamp x.sound) runs.now.else_same in
     let console_past = h.runs.past.console in
     let sound_past = h.runs.past.sound in
@@ -53,7 +54,7 @@ room_unseen job n m path video audio few h =
         past = record { console = omega (arith, console_past, stamp); sound = omega (arith, sound_past, sound) };
         first = λ k lt later.
             let r = same k (omega (arith, lt)) in
-            let then = alike_stamp f few s t agree (after_turns console_moves sound_moves a k).console (after_turns console_moves sound_moves b k).console r.now.console in
+            let then = alike_stamp region f few s t agree (after_turns console_moves sound_moves a k).console (after_turns console_moves sound_moves b k).console r.now.console in
             let heard = ap (λ (x : SerialState ConsoleState SoundState). sound_moves.stamp x.sound) r.now.else_same in
             h.runs.first k lt (record { console = omega (arith, later.console, then); sound = omega (arith, later.sound, heard) });
       };

@@ -5,7 +5,8 @@ use Rattle.std.proofs.lemmas.Bool.{cases_lt}
 use Rattle.std.proofs.lemmas.Bool.Decides.{nat_tests}
 use Rattle.snes_defs.specs.declared.ports.Act.{Act}
 use Rattle.snes_defs.specs.declared.ports.Side.TheVariants.{Console}
-use Rattle.clock_ratio.specs.Stamp.{rate_of}
+use Rattle.snes_defs.specs.declared.region.Region.{Region}
+use Rattle.clock_ratio.specs.Stamp.{rate_of, end_stamp_of}
 use Rattle.snes_defs.specs.declared.cart.Job.{Job}
 use Rattle.snes_defs.specs.declared.script.Span.{Span}
 use Rattle.snes_defs.specs.Script.{Script, frames_of, pads_at}
@@ -25,48 +26,44 @@ use Rattle.console_machine.specs.Playing.{console_played}
 use Rattle.audio_side.specs.HardwareState.{table_of, hardware_at_start}
 use Rattle.audio_side.specs.Clock.{reset_frames}
 use Rattle.audio_side.specs.Sound.{SoundState, sound_moves}
-use Rattle.plan_drive.specs.Paths.{path_script}
-use Rattle.snapshot.specs.Path.{start_of, end_of_path, console_of_path}
+use Rattle.snapshot.specs.Path.{script_in, start_of, end_of_path, console_of_path}
+use Rattle.snapshot.proofs.Numbers.{longest, some_lines, early_clock, frame_before, frame_from, ends_within}
 use Rattle.snapshot.proofs.Clocks.{IsTimed, Agree, Alike, console_put, words_of}
 use Rattle.snapshot.proofs.ConsoleStates.{IsOwn, step_own, step_alike, step_act, clocks_timed, effect_timed}
 use Rattle.snapshot.proofs.Sounding.{step_roms}
 
 -- ---- what a serial run keeps
 
-pub record IsOf (board : CartBoard) (script : Script) (rom boot table : List ℕ) (w : SerialState ConsoleState SoundState) : Type 0 where
+pub record IsOf (region : Region) (board : CartBoard) (script : Script) (rom boot table : List ℕ) (w : SerialState ConsoleState SoundState) : Type 0 where
   pub own : IsOwn board script rom w.console.rest
-  pub timed : IsTimed w.console
+  pub timed : IsTimed region w.console
   pub boot_is : w.sound.hardware.boot ≡ boot
   pub table_is : w.sound.hardware.table ≡ table
   pub no_resets : w.sound.clock.resets ≡ []
 
--- the clock of a console whose stamp is not past the longest run's
-early_clock : (clock : ℕ) → 5632 * clock < 2012696576 * 36000 → clock + 40 < 357368 * 65535
-early_clock clock lt = omega (arith, lt)
+stamp_is : (region : Region) (w : ConsoleState) → IsTimed region w → console_moves.stamp w ≡ rate_of region Console * w.clock
+stamp_is region w t = ap (λ r. rate_of r Console * w.clock) t.region
 
-stamp_is : (w : ConsoleState) → IsTimed w → console_moves.stamp w ≡ 5632 * w.clock
-stamp_is w t = ap (λ r. rate_of r Console * w.clock) t.region
-
-step_timed : (w : ConsoleState) (got : ℕ) → IsTimed w → 5632 * w.clock < 2012696576 * 36000 → IsTimed (console_after w (due_of w) got)
-step_timed w got t lt =
+step_timed : (region : Region) (w : ConsoleState) (got : ℕ) → IsTimed region w → rate_of region Console * w.clock < longest region → IsTimed region (console_after w (due_of w) got)
+step_timed region w got t lt =
     let few = (due_step (due_of w) w.rest.io.fast).most in
-    let early = early_clock w.clock lt in
-    clocks_timed (due_clocks (due_of w) w.rest.io.fast) _ (effect_timed w (due_of w) got t) (omega (arith, few, early))
+    let early = early_clock region w.clock lt in
+    clocks_timed region (due_clocks (due_of w) w.rest.io.fast) _ (effect_timed region w (due_of w) got t) (omega (arith, few, early))
 
-module _ (board : CartBoard) (script : Script) (rom boot table : List ℕ) where
-  console_of : (w : SerialState ConsoleState SoundState) → IsOf board script rom boot table w → 5632 * w.console.clock < 2012696576 * 36000
-      → IsOf board script rom boot table (console_step console_moves sound_moves w)
+module _ (region : Region) (board : CartBoard) (script : Script) (rom boot table : List ℕ) where
+  console_of : (w : SerialState ConsoleState SoundState) → IsOf region board script rom boot table w → rate_of region Console * w.console.clock < longest region
+      → IsOf region board script rom boot table (console_step console_moves sound_moves w)
   console_of w h lt =
       let got = got_of (act_of w.console.rest (due_of w.console)) w.to_console in
       record {
         own = step_own board script rom w.console (due_of w.console) got h.own;
-        timed = step_timed w.console got h.timed lt;
+        timed = step_timed region w.console got h.timed lt;
         boot_is = h.boot_is;
         table_is = h.table_is;
         no_resets = h.no_resets;
       }
 
-  sound_of : (w : SerialState ConsoleState SoundState) → IsOf board script rom boot table w → IsOf board script rom boot table (sound_step console_moves sound_moves w)
+  sound_of : (w : SerialState ConsoleState SoundState) → IsOf region board script rom boot table w → IsOf region board script rom boot table (sound_step console_moves sound_moves w)
   sound_of w h =
       let k = step_roms w.sound (got_of (sound_moves.act w.sound) w.to_sound) in
       record { own = h.own; timed = h.timed; boot_is = k.boot ∙ h.boot_is; table_is = k.table ∙ h.table_is; no_resets = h.no_resets }
@@ -76,27 +73,27 @@ module _ (board : CartBoard) (script : Script) (rom boot table : List ℕ) where
   console_early end w short le =
       ⊎_elim (λ lt. lt) (λ ge. absurd (short (record { console = ge; sound = omega (arith, ge, le) }))) (cases_lt (console_moves.stamp w.console) end)
 
-  pub turn_keeps : (end : ℕ) (w : SerialState ConsoleState SoundState) → end ≤ 2012696576 * 36000 → IsOf board script rom boot table w → ¬ IsPast console_moves sound_moves end w
-      → IsOf board script rom boot table (turn console_moves sound_moves w)
+  pub turn_keeps : (end : ℕ) (w : SerialState ConsoleState SoundState) → end ≤ longest region → IsOf region board script rom boot table w → ¬ IsPast console_moves sound_moves end w
+      → IsOf region board script rom boot table (turn console_moves sound_moves w)
   turn_keeps end w few h short = go (turn_of console_moves sound_moves w)
     where
-      go : TurnOf console_moves sound_moves w → IsOf board script rom boot table (turn console_moves sound_moves w)
+      go : TurnOf console_moves sound_moves w → IsOf region board script rom boot table (turn console_moves sound_moves w)
       go (by_console le e) =
           let early = console_early end w short le in
-          let is = stamp_is w.console h.timed in
-          subst (IsOf board script rom boot table) (sym (turn_console console_moves sound_moves w e)) (console_of w h (omega (arith, early, is, few)))
-      go (by_sound lt e) = subst (IsOf board script rom boot table) (sym (turn_sound console_moves sound_moves w e)) (sound_of w h)
+          let is = stamp_is region w.console h.timed in
+          subst (IsOf region board script rom boot table) (sym (turn_console console_moves sound_moves w e)) (console_of w h (omega (arith, early, is, few)))
+      go (by_sound lt e) = subst (IsOf region board script rom boot table) (sym (turn_sound console_moves sound_moves w e)) (sound_of w h)
 
-  pub turns_keep : (end : ℕ) (w : SerialState ConsoleState SoundState) (n : ℕ) → end ≤ 2012696576 * 36000 → IsOf board script rom boot table w
+  pub turns_keep : (end : ℕ) (w : SerialState ConsoleState SoundState) (n : ℕ) → end ≤ longest region → IsOf region board script rom boot table w
       → ((k : ℕ) → k < n → ¬ IsPast console_moves sound_moves end (after_turns console_moves sound_moves w k))
-      → IsOf board script rom boot table (after_turns console_moves sound_moves w n)
+      → IsOf region board script rom boot table (after_turns console_moves sound_moves w n)
   turns_keep end w zero few h short = h
   turns_keep end w (suc n) few h short =
       turn_keeps end (after_turns console_moves sound_moves w n) few (turns_keep end w n few h (λ k lt. short k (omega (arith, lt)))) (short n (omega arith))
 
 -- ---- two serial consoles, of which the second plays a script that goes on
 
-module _ (f : ℕ) (small : f ≤ 36000) (s t : Script) (agree : Agree f s t) where
+module _ (region : Region) (f : ℕ) (small : f ≤ 36000) (s t : Script) (agree : Agree f s t) where
   fewer : f < 65535
   fewer = omega (arith, small)
 
@@ -109,24 +106,26 @@ module _ (f : ℕ) (small : f ≤ 36000) (s t : Script) (agree : Agree f s t) wh
       ⊎_elim (λ lt. ap console_moves.stamp (h.before lt)) (λ ge. ap console_moves.stamp (h.begun (omega (arith, ge, h.within)))) (cases_lt w.rest.frame f)
 
   -- frame f begins at the end
-  pub frame_early : (w : ConsoleState) → IsTimed w → console_moves.stamp w < 2012696576 * f → w.rest.frame < f
-  frame_early w timed lt = let is = stamp_is w timed in let clock = timed.clock in omega (arith, is, clock, lt)
+  pub frame_early : (w : ConsoleState) → IsTimed region w → console_moves.stamp w < end_stamp_of region f → w.rest.frame < f
+  frame_early w timed lt =
+      let is = stamp_is region w timed in
+      frame_before region f w.rest.frame w.rest.beam.v w.rest.beam.h w.clock timed.clock (omega (arith, is, lt))
 
-  console_case : (a : SerialState ConsoleState SoundState) → IsTimed a.console → a.console.rest.script ≡ s → a.console.rest.frame < f → 5632 * a.console.clock < 2012696576 * 36000
+  console_case : (a : SerialState ConsoleState SoundState) → IsTimed region a.console → a.console.rest.script ≡ s → a.console.rest.frame < f → rate_of region Console * a.console.clock < longest region
       → SameRun (console_step console_moves sound_moves a) (console_step console_moves sound_moves (record a { console = console_put t (λ io. io) a.console }))
       × (bytes_after (console_put t (λ io. io) a.console) (due_of a.console) (got_of (act_of a.console.rest (due_of a.console)) a.to_console) ≡ bytes_after a.console (due_of a.console) (got_of (act_of a.console.rest (due_of a.console)) a.to_console))
   console_case a timed is early lt =
       let c = console_put t (λ io. io) a.console in
       let act = act_of a.console.rest (due_of a.console) in
       let got = got_of act a.to_console in
-      let all = step_alike f fewer s t agree a.console got ((due_step (due_of a.console) a.console.rest.io.fast).most) timed (early_clock a.console.clock lt) is early in
+      let all = step_alike region f fewer s t agree a.console got ((due_step (due_of a.console) a.console.rest.io.fast).most) timed (early_clock region a.console.clock lt) is early in
       let step : Act → SerialState ConsoleState SoundState = λ x. record {
         console = console_after c (due_of a.console) (got_of x a.to_console);
         sound = a.sound;
         to_sound = outgoing_after x a.to_sound;
         to_console = incoming_after x a.to_console;
       } in
-      let so : console_step console_moves sound_moves (record a { console = c }) ≡ step act = ap step (step_act f fewer s t agree a.console) in (
+      let so : console_step console_moves sound_moves (record a { console = c }) ≡ step act = ap step (step_act region f fewer s t agree a.console) in (
         subst (λ y. SameRun (console_step console_moves sound_moves a) y) (sym so) (record { console = all.0; else_same = refl }),
         all.1,
       )
@@ -151,13 +150,13 @@ module _ (f : ℕ) (small : f ≤ 36000) (s t : Script) (agree : Agree f s t) wh
     λ is. ap (λ b. if b then console_moves.bytes a.console (got_of (console_moves.act a.console) a.to_console) else []) (e ∙ is),
   )
 
-  by_the_console : (a : SerialState ConsoleState SoundState) → IsTimed a.console → a.console.rest.script ≡ s → a.console.rest.frame < f → 5632 * a.console.clock < 2012696576 * 36000
+  by_the_console : (a : SerialState ConsoleState SoundState) → IsTimed region a.console → a.console.rest.script ≡ s → a.console.rest.frame < f → rate_of region Console * a.console.clock < longest region
       → is_console_first console_moves sound_moves a ≡ true → SameTurn a (record a { console = console_put t (λ io. io) a.console })
   by_the_console a timed is early lt e =
       let c = console_put t (λ io. io) a.console in
       let b : SerialState ConsoleState SoundState = record a { console = c } in
       let all = console_case a timed is early lt in
-      let act = step_act f fewer s t agree a.console in
+      let act = step_act region f fewer s t agree a.console in
       record {
         after = subst (λ x. SameRun x (turn console_moves sound_moves b)) (sym (turn_console console_moves sound_moves a e))
             (subst (λ y. SameRun (console_step console_moves sound_moves a) y) (sym (turn_console console_moves sound_moves b e)) all.0);
@@ -176,18 +175,19 @@ module _ (f : ℕ) (small : f ≤ 36000) (s t : Script) (agree : Agree f s t) wh
         audio = ap (λ c. if c then [] else sound_moves.bytes a.sound (got_of (sound_moves.act a.sound) a.to_sound)) (g ∙ sym e);
       }
 
-  pub same_turn : (board : CartBoard) (rom boot table : List ℕ) (a b : SerialState ConsoleState SoundState) → IsOf board s rom boot table a → SameRun a b
-      → ¬ IsPast console_moves sound_moves (2012696576 * f) a → SameTurn a b
+  pub same_turn : (board : CartBoard) (rom boot table : List ℕ) (a b : SerialState ConsoleState SoundState) → IsOf region board s rom boot table a → SameRun a b
+      → ¬ IsPast console_moves sound_moves (end_stamp_of region f) a → SameTurn a b
   same_turn board rom boot table a b own h short =
       subst (SameTurn a) (sym h.else_same) (go (turn_of console_moves sound_moves a))
     where
       go : TurnOf console_moves sound_moves a → SameTurn a (record a { console = b.console })
       go (by_console le e) =
-          let before = console_early board s rom boot table (2012696576 * f) a short le in
-          let is = stamp_is a.console own.timed in
+          let before = console_early region board s rom boot table (end_stamp_of region f) a short le in
+          let is = stamp_is region a.console own.timed in
+          let within = ends_within region f small in
           let early = frame_early a.console own.timed before in
           subst (λ c. SameTurn a (record a { console = c })) (sym (h.console.before early))
-          (by_the_console a own.timed own.own.script_is early (omega (arith, before, is, small)) e)
+          (by_the_console a own.timed own.own.script_is early (omega (arith, before, is, within)) e)
       go (by_sound lt e) =
           by_the_sound a b.console h.console e (ap (λ n. nat_le n (sound_moves.stamp a.sound)) (alike_stamp a.console b.console h.console) ∙ e)
 
@@ -197,13 +197,13 @@ module _ (f : ℕ) (small : f ≤ 36000) (s t : Script) (agree : Agree f s t) wh
     pub video : console_output console_moves sound_moves b n ≡ console_output console_moves sound_moves a n
     pub audio : sound_output console_moves sound_moves b n ≡ sound_output console_moves sound_moves a n
 
-  pub same_runs : (board : CartBoard) (rom boot table : List ℕ) (a b : SerialState ConsoleState SoundState) (n : ℕ) → IsOf board s rom boot table a → SameRun a b
-      → ((k : ℕ) → k < n → ¬ IsPast console_moves sound_moves (2012696576 * f) (after_turns console_moves sound_moves a k)) → SameRuns a b n
+  pub same_runs : (board : CartBoard) (rom boot table : List ℕ) (a b : SerialState ConsoleState SoundState) (n : ℕ) → IsOf region board s rom boot table a → SameRun a b
+      → ((k : ℕ) → k < n → ¬ IsPast console_moves sound_moves (end_stamp_of region f) (after_turns console_moves sound_moves a k)) → SameRuns a b n
   same_runs board rom boot table a b zero own h short = record { now = h; video = refl; audio = refl }
   same_runs board rom boot table a b (suc n) own h short =
       let earlier = λ (k : ℕ) (lt : k < n). short k (omega (arith, lt)) in
       let r = same_runs board rom boot table a b n own h earlier in
-      let o = turns_keep board s rom boot table (2012696576 * f) a n (omega (arith, small)) own earlier in
+      let o = turns_keep region board s rom boot table (end_stamp_of region f) a n (ends_within region f small) own earlier in
       let one = same_turn board rom boot table _ _ o r.now (short n (omega arith)) in
       record {
         now = one.after;
@@ -225,13 +225,13 @@ pads_before (p ∷ path) span n lt = go (ltb n p.count) refl (λ ge. pads_before
     go true e more = refl
     go false e more = more (grind (arith, nat_tests))
 
-pub goes_agree : (n : ℕ) (path : List Span) (span : Span) → Agree (frames_of path) (path_script n path) (path_script n (path ++ span ∷ []))
-goes_agree n path span = record { pads = pads_before path span; resets = refl }
+pub goes_agree : (region : Region) (n : ℕ) (path : List Span) (span : Span) → Agree (frames_of path) (script_in region n path) (script_in region n (path ++ span ∷ []))
+goes_agree region n path span = record { pads = pads_before path span; resets = refl }
 
 -- ---- a run that was finished goes on under the longer path
 
 abbrev pub own_at : Job → ℕ → List Span → SerialState ConsoleState SoundState → Type 0
-own_at job n path w = IsOf (board_of job.cart) (path_script n path) job.cart.rom job.boot (table_of job.table) w
+own_at job n path w = IsOf job.region (board_of job.cart) (script_in job.region n path) job.cart.rom job.boot (table_of job.table) w
 
 no_reset_frames : (n : ℕ) → reset_frames [] n ≡ []
 unfolding reset_frames
@@ -253,7 +253,7 @@ board_roms boot table = (refl, refl)
 pub starts_own : (job : Job) (n : ℕ) (path : List Span) → own_at job n path (start_of job n path)
 starts_own job n path = record {
   own = record { board_is = refl; script_is = refl; rom_is = rom_at_start job.cart.ram job.cart.rom; port = lit< tt };
-  timed = record { region = refl; clock = refl; line = lit< tt; dot = lit< tt };
+  timed = record { region = refl; clock = omega arith; line = some_lines job.region; dot = lit< tt };
   boot_is = (board_roms job.boot job.table).0;
   table_is = (board_roms job.boot job.table).1;
   no_resets = no_reset_frames 36001;
@@ -264,11 +264,11 @@ unfolding framed
 words_twice io a b c d = refl
 
 -- at the start
-pub starts_alike : (cart : Cart) (n : ℕ) (path : List Span) (span : Span) → Alike (frames_of path) (path_script n (path ++ span ∷ [])) (console_of_path cart n path) (console_of_path cart n (path ++ span ∷ []))
-starts_alike cart n path span =
-    let s = path_script n path in
-    let t = path_script n (path ++ span ∷ []) in
-    let w = console_of_path cart n path in
+pub starts_alike : (region : Region) (cart : Cart) (n : ℕ) (path : List Span) (span : Span) → Alike (frames_of path) (script_in region n (path ++ span ∷ [])) (console_of_path region cart n path) (console_of_path region cart n (path ++ span ∷ []))
+starts_alike region cart n path span =
+    let s = script_in region n path in
+    let t = script_in region n (path ++ span ∷ []) in
+    let w = console_of_path region cart n path in
     let word = (pads_at s.spans 0).0 in
     record {
       before = λ lt. ap (λ p. record w { rest = record w.rest { script = t; io = framed registers_start p.0 p.1 } }) (pads_before path span 0 lt);
@@ -282,42 +282,40 @@ frames_more [] span = omega arith
 frames_more (p ∷ path) span = omega (arith, frames_more path span)
 
 -- the frame at the end of the path
-ended_frame : (f : ℕ) (w : ConsoleState) → IsTimed w → 2012696576 * f ≤ console_moves.stamp w → f ≤ w.rest.frame
-ended_frame f w t past =
-    let is = stamp_is w t in
-    let clock = t.clock in
-    let line = t.line in
-    let dot = t.dot in
-    omega (arith, is, clock, line, dot, past)
+ended_frame : (region : Region) (f : ℕ) (w : ConsoleState) → IsTimed region w → end_stamp_of region f ≤ console_moves.stamp w → f ≤ w.rest.frame
+ended_frame region f w t past =
+    let is = stamp_is region w t in
+    frame_from region f w.rest.frame w.rest.beam.v w.rest.beam.h w.clock t.clock t.line t.dot (omega (arith, is, past))
 
 pub goes_on : (job : Job) (n : ℕ) (path : List Span) (span : Span) (w : SerialState ConsoleState SoundState) (video audio : List ℕ) → frames_of path + span.count ≤ 36000
-    → IsUnderway console_moves sound_moves (start_of job n path) (end_of_path path) w video audio → IsPast console_moves sound_moves (end_of_path path) w
-    → IsUnderway console_moves sound_moves (start_of job n (path ++ span ∷ [])) (end_of_path (path ++ span ∷ [])) (record w { console = console_played w.console span }) video audio
+    → IsUnderway console_moves sound_moves (start_of job n path) (end_of_path job.region path) w video audio → IsPast console_moves sound_moves (end_of_path job.region path) w
+    → IsUnderway console_moves sound_moves (start_of job n (path ++ span ∷ [])) (end_of_path job.region (path ++ span ∷ [])) (record w { console = console_played w.console span }) video audio
 goes_on job n path span w video audio few under past =
+    let region = job.region in
     let f = frames_of path in
-    let s = path_script n path in
-    let t = path_script n (path ++ span ∷ []) in
+    let s = script_in region n path in
+    let t = script_in region n (path ++ span ∷ []) in
     let a = start_of job n path in
     let b = start_of job n (path ++ span ∷ []) in
     let small : f ≤ 36000 = omega (arith, few) in
     let own = starts_own job n path in
-    let agree = goes_agree n path span in
-    let runs = same_runs f small s t agree (board_of job.cart) job.cart.rom job.boot (table_of job.table) a b under.turns own (record { console = starts_alike job.cart n path span; else_same = refl }) under.not_past in
-    let kept = turns_keep (board_of job.cart) s job.cart.rom job.boot (table_of job.table) (end_of_path path) a under.turns (omega (arith, small)) own under.not_past in
-    let timed = subst (λ x. IsTimed x.console) under.now_is kept.timed in
+    let agree = goes_agree region n path span in
+    let runs = same_runs region f small s t agree (board_of job.cart) job.cart.rom job.boot (table_of job.table) a b under.turns own (record { console = starts_alike region job.cart n path span; else_same = refl }) under.not_past in
+    let kept = turns_keep region (board_of job.cart) s job.cart.rom job.boot (table_of job.table) (end_of_path region path) a under.turns (ends_within region f small) own under.not_past in
+    let timed = subst (λ x. IsTimed region x.console) under.now_is kept.timed in
     let script = subst (λ x. x.console.rest.script ≡ s) under.now_is kept.own.script_is in
     let alike = subst (λ x. Alike f t x.console (after_turns console_moves sound_moves b under.turns).console) under.now_is runs.now.console in
-    let there : w.console.rest.frame ≡ f = (let ended = ended_frame f w.console timed past.console in omega (arith, ended, alike.within)) in
+    let there : w.console.rest.frame ≡ f = (let ended = ended_frame region f w.console timed past.console in omega (arith, ended, alike.within)) in
     let told_is : console_put t (words_of t f) w.console ≡ console_played w.console span =
     ap (λ m. console_put t (words_of t m) w.console) (sym there) ∙ ap (λ v. console_put (lengthened v span) (words_of (lengthened v span) w.console.rest.frame) w.console) (sym script) in
-    let more = frames_more path span in
+    let more = ap (end_stamp_of region) (frames_more path span) in
     record {
       turns = under.turns;
       now_is = runs.now.else_same ∙ ap (λ (x : SerialState ConsoleState SoundState). record x { console = (after_turns console_moves sound_moves b under.turns).console }) under.now_is
           ∙ ap (λ (c : ConsoleState). record w { console = c }) (alike.begun there ∙ told_is);
       not_past = λ k lt later.
-          let r = same_runs f small s t agree (board_of job.cart) job.cart.rom job.boot (table_of job.table) a b k own (record { console = starts_alike job.cart n path span; else_same = refl }) (λ j l. under.not_past j (omega (arith, l, lt))) in
-          let stamp = alike_stamp f small s t agree (after_turns console_moves sound_moves a k).console (after_turns console_moves sound_moves b k).console r.now.console in
+          let r = same_runs region f small s t agree (board_of job.cart) job.cart.rom job.boot (table_of job.table) a b k own (record { console = starts_alike region job.cart n path span; else_same = refl }) (λ j l. under.not_past j (omega (arith, l, lt))) in
+          let stamp = alike_stamp region f small s t agree (after_turns console_moves sound_moves a k).console (after_turns console_moves sound_moves b k).console r.now.console in
           let sound = ap (λ (x : SerialState ConsoleState SoundState). sound_moves.stamp x.sound) r.now.else_same in
           under.not_past k lt (record { console = omega (arith, later.console, stamp, more); sound = omega (arith, later.sound, sound, more) });
       video_is = runs.video ∙ under.video_is;

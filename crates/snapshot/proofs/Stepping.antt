@@ -62,7 +62,7 @@ module _ (job : Job) (n : ℕ) where
   ends_at : (path : List Span) (r : Run) (video audio : List ℕ) (d : IsDone job n path r video audio) → EndsAt job n path (console_moves.stamp d.at.console) (sound_moves.stamp d.at.sound)
   ends_at path r video audio d = record {
     turns = d.underway.turns;
-    runs = record { past = subst (IsPast console_moves sound_moves (end_of_path path)) (sym d.underway.now_is) d.past; first = d.underway.not_past };
+    runs = record { past = subst (IsPast console_moves sound_moves (end_of_path job.region path)) (sym d.underway.now_is) d.past; first = d.underway.not_past };
     console_is = ap (λ (w : SerialState ConsoleState SoundState). console_moves.stamp w.console) d.underway.now_is;
     sound_is = ap (λ (w : SerialState ConsoleState SoundState). sound_moves.stamp w.sound) d.underway.now_is;
   }

@@ -21,13 +21,13 @@ use Rattle.plan_drive.specs.Joins.{Joins}
 use Rattle.snapshot.specs.declared.rewind.Rewind.{Rewind}
 use Rattle.snapshot.specs.Path.{PathEmits, start_of, end_of_path}
 use Rattle.snapshot.specs.Positions.{IsRested, IsBeyond, StandsIn}
+use Rattle.snapshot.specs.PathLaws.{cancel, path_emits}
 use Rattle.snapshot.specs.Driven.{by_side}
 use Rattle.snapshot.specs.Handed.{Gave, GaveSome}
 use Rattle.snapshot.specs.Stepped.{StepsNone, StepsOn, StepsByGoes, stepped_of}
 use Rattle.console_machine.specs.Playing.{console_played}
 use Rattle.snapshot.proofs.Stepping.{HasStepped, stepped_first, stepped_go, stepped_none, stepped_whole, go_lasts}
 use Rattle.snapshot.proofs.Runs.{frames_more, goes_on}
-use Rattle.snapshot.proofs.Over.{path_ends}
 
 -- ---- what a longer path has beyond a shorter one
 
@@ -50,8 +50,8 @@ module _ (job : Job) (n : ℕ) where
       → PathEmits job n path video audio → PathEmits job n (path ++ span ∷ []) all_video all_audio
       → ((rest : List ℕ) × (video ++ rest ≡ all_video)) × ((rest : List ℕ) × (audio ++ rest ≡ all_audio))
   longer_begins path span video audio all_video all_audio few short long =
-      let e = ended (start_of job n path) (end_of_path path) video audio short in
-      output_begins console_moves sound_moves (start_of job n (path ++ span ∷ [])) (end_of_path (path ++ span ∷ [])) _ video audio all_video all_audio
+      let e = ended (start_of job n path) (end_of_path job.region path) video audio short in
+      output_begins console_moves sound_moves (start_of job n (path ++ span ∷ [])) (end_of_path job.region (path ++ span ∷ [])) _ video audio all_video all_audio
       (goes_on job n path span e.now video audio few e.underway e.past) long
 
   pub record More (path longer : List Span) : Type 0 where
@@ -61,8 +61,8 @@ module _ (job : Job) (n : ℕ) where
 
   pub goes_further : (path : List Span) (span : Span) → frames_of path + span.count ≤ 36000 → More path (path ++ span ∷ [])
   goes_further path span few =
-      let (video, audio, short) = path_ends job n path (end_of_path path) in
-      let (all_video, all_audio, long) = path_ends job n (path ++ span ∷ []) (end_of_path (path ++ span ∷ [])) in
+      let (video, audio, short) = path_emits job n path in
+      let (all_video, all_audio, long) = path_emits job n (path ++ span ∷ []) in
       let begins = longer_begins path span video audio all_video all_audio few short long in
       record {
         video = begins.0.0;
@@ -171,10 +171,6 @@ reached_first job n steps holds r rested video audio few = record {
 }
 
 -- f ++ g is a beginning of f ++ p, so g is one of p
-cancel : (f g p : List ℕ) → f ++ g ≡ f ++ p → g ≡ p
-cancel [] g p e = e
-cancel (x ∷ f) g p e = cancel f g p (ap (drop 1) e)
-
 begins : (f g w p : List ℕ) (k : ℕ) → f ++ g ≡ take k w → f ++ p ≡ w → g ++ drop k w ≡ p
 begins f g w p k first whole =
     cancel f (g ++ drop k w) p (sym (append_assoc f g (drop k w)) ∙ ap (λ x. x ++ drop k w) first ∙ take-append-drop {A = ℕ} k w ∙ sym whole)

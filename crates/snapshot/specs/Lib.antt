@@ -3,3 +3,4 @@ pub mod Positions
 pub mod Stepped
 pub mod Driven
 pub mod Handed
+pub mod PathLaws

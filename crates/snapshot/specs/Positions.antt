@@ -26,11 +26,11 @@ use Rattle.snapshot.specs.Path.{PathEmits, start_of, end_of_path}
 pub record IsDone (job : Job) (n : ℕ) (path : List Span) (r : Run) (video audio : List ℕ) : Type 0 where
   pub at : SerialState ConsoleState SoundState
   pub stands : IsAt console_side.StandsAt sound_side.StandsAt r.serial at
-  pub underway : IsUnderway console_moves sound_moves (start_of job n path) (end_of_path path) at video audio
-  pub past : IsPast console_moves sound_moves (end_of_path path) at
+  pub underway : IsUnderway console_moves sound_moves (start_of job n path) (end_of_path job.region path) at video audio
+  pub past : IsPast console_moves sound_moves (end_of_path job.region path) at
   pub no_video : r.serial.console.waiting ≡ []
   pub no_audio : r.serial.sound.waiting ≡ []
-  pub end_is : r.end ≡ end_of_path path
+  pub end_is : r.end ≡ end_of_path job.region path
   pub few : frames_of path ≤ 36000
   pub room : length path ≤ n
 
@@ -98,9 +98,9 @@ pub record IsGoing (job : Job) (n : ℕ) (paths : Paths) (before : List Span) (v
   pub first_video : List ℕ
   pub first_audio : List ℕ
   pub first : PathEmits job n before first_video first_audio
-  pub led : IsLed console_moves sound_moves console_side.StandsAt sound_side.StandsAt (end_of_path paths.path) (start_of job n paths.path) r.run.serial
+  pub led : IsLed console_moves sound_moves console_side.StandsAt sound_side.StandsAt (end_of_path job.region paths.path) (start_of job n paths.path) r.run.serial
       ((first_video ++ video) ++ r.run.serial.console.waiting) ((first_audio ++ audio) ++ r.run.serial.sound.waiting)
-  pub end_is : r.run.end ≡ end_of_path paths.path
+  pub end_is : r.run.end ≡ end_of_path job.region paths.path
   pub few : frames_of paths.path ≤ 36000
   pub room : length paths.path ≤ n
   pub slots : AreHeld job n paths r

@@ -49,7 +49,7 @@ module _ (job : Job) (n : ℕ) where
   -- the serial run of a path's job, from its start to its end, leaves both sides at these stamps
   pub record EndsAt (path : List Span) (console sound : ℕ) : Type 0 where
     pub turns : ℕ
-    pub runs : RunsFor console_moves sound_moves (start_of job n path) (end_of_path path) turns
+    pub runs : RunsFor console_moves sound_moves (start_of job n path) (end_of_path job.region path) turns
     pub console_is : console_moves.stamp (after_turns console_moves sound_moves (start_of job n path) turns).console ≡ console
     pub sound_is : sound_moves.stamp (after_turns console_moves sound_moves (start_of job n path) turns).sound ≡ sound
 

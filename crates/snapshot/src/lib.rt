@@ -7,7 +7,7 @@
 //! was.
 //!
 //! A caller begins a span, then steps and takes the bytes until both stamps have reached the end. It keeps or goes
-//! back only there. `docs/use/REWIND.md` has the rules. Only `Rewind::new` allocates.
+//! back only there. `docs/use/REWIND.md` has the rules. Only `Rewind::with_room` and `Rewind::new` allocate.
 #![tactic(auto)]
 
 mod driving;

@@ -1,8 +1,8 @@
-// How much memory a plan needs, and the runs that take it.
+// How much memory a plan needs, and runs at their start.
 ghost use Rattle.std.specs.Prelude.{◌≡◌, ◌<◌, ℕ, [], length, max, slice_index_or, IfOk};
-ghost use Rattle.snes_defs.specs.declared.region.Region.TheVariants.{Ntsc};
 ghost use Rattle.snapshot.specs.declared.run.Run.{Run};
-ghost use Rattle.plan_drive.specs.Paths.{path_script, goes_of, slots_of};
+ghost use Rattle.plan_drive.specs.Paths.{goes_of, slots_of};
+ghost use Rattle.snapshot.specs.Path.{script_in};
 ghost use Rattle.snapshot.specs.Positions.{HoldsPath};
 
 use crate::run::{Run, first_run};
@@ -40,15 +40,14 @@ pub fn count_slots(steps: &[PlanStep]) -> usize
     count
 }
 
-/// Returns `spans` runs of an NTSC job at its start. Fails only if allocation fails.
+/// Returns `count` runs of a job at its start, each with memory for `spans` spans. Fails only if allocation fails.
 pub fn first_runs(
     alloc: Global,
     job: &Job,
     spans: usize,
     count: usize,
 ) -> Result<Vec<Run>, NoMemory>
-    requires script { job.now.script ≡ path_script job.now.script.room [] }
-    requires region { job.now.region ≡ Ntsc }
+    requires { job.now.script ≡ script_in job.now.region job.now.script.room [] }
     ensures count { IfOk result (λ runs. length runs.items ≡ count) }
     ensures starts { IfOk result (λ runs. (k : ℕ) (other : Run) → k < length runs.items → HoldsPath job.now (max job.now.script.room spans) [] (slice_index_or runs.items k other)) }
 {

@@ -1,16 +1,15 @@
 ghost use Rattle.std.specs.Prelude.{◌≡◌, ◌+◌, ◌<◌, ◌≤◌, ◌↔◌, ℕ, List, [], length, max, OnOk, IfOk, IfSome, IsSome, IsNone};
 ghost use Rattle.snes_defs.specs.declared.cart.Job.{Job};
 ghost use Rattle.snes_defs.specs.declared.script.Span.{Span};
-ghost use Rattle.snes_defs.specs.declared.region.Region.TheVariants.{Ntsc};
 ghost use Rattle.snes_defs.specs.Script.{frames_of};
-ghost use Rattle.plan_drive.specs.Paths.{Paths, no_paths, gone, kept, back, path_script, goes_of, slots_of};
+ghost use Rattle.plan_drive.specs.Paths.{Paths, no_paths, gone, kept, back, goes_of, slots_of};
 ghost use Rattle.side_law.specs.Serial.{SerialState, turn};
 ghost use Rattle.console_steps.specs.ConsoleState.{ConsoleState, console_moves};
 ghost use Rattle.console_machine.specs.Playing.{console_played};
 ghost use Rattle.audio_side.specs.Sound.{SoundState, sound_moves};
 ghost use Rattle.run_drive.specs.Played.{IsPlayable};
 ghost use Rattle.plan_drive.specs.Joins.{Joins};
-ghost use Rattle.snapshot.specs.Path.{PathEmits};
+ghost use Rattle.snapshot.specs.Path.{PathEmits, script_in};
 ghost use Rattle.snapshot.specs.Positions.{IsRested, IsGoing, StandsIn, HasEnded, next_side, slot_count, video_waiting, audio_waiting};
 ghost use Rattle.snapshot.specs.Stepped.{stepped_of, StepsNone, StepsOn};
 
@@ -31,22 +30,47 @@ pub struct Rewind {
 }
 
 impl Rewind {
-    /// Returns the machines of an NTSC job with an empty script, at its start, and the slots of a plan, which hold
-    /// the start too.
+    /// Returns the machines of a job with an empty script, at its start, and `slots` slots, which hold the start too.
+    /// A path may have `spans` spans, or as many as the script has memory for.
+    ///
+    /// Allocates all memory for these, and fails only if allocation fails.
+    pub fn with_room(
+        alloc: Global,
+        job: &Job,
+        spans: usize,
+        slots: usize,
+    ) -> Result<Rewind, NoMemory>
+        requires script { job.now.script ≡ script_in job.now.region job.now.script.room [] }
+        ensures rested { IfOk result (λ r. IsRested job.now (max job.now.script.room spans) no_paths r) }
+        ensures slots { IfOk result (λ r. slot_count r ≡ slots) }
+        ensures stepped { IfOk result (λ r. stepped_of r ≡ 0) }
+    {
+        let run = first_run(alloc, job, spans)?;
+        let held = first_runs(alloc, job, spans, slots)?;
+        Ok(Rewind { run, slots: held })
+    }
+
+    /// Returns the machines of a job with an empty script, at its start, and the slots of a plan, which hold the start
+    /// too.
     ///
     /// Allocates all memory that the plan needs, and fails only if allocation fails.
     pub fn new(alloc: Global, job: &Job, plan: &Plan) -> Result<Rewind, NoMemory>
-        requires script { job.now.script ≡ path_script job.now.script.room [] }
-        requires region { job.now.region ≡ Ntsc }
+        requires script { job.now.script ≡ script_in job.now.region job.now.script.room [] }
         ensures rested { IfOk result (λ r. IsRested job.now (max job.now.script.room (goes_of plan.now)) no_paths r) }
         ensures slots { IfOk result (λ r. slot_count r ≡ slots_of plan.now) }
         ensures stepped { IfOk result (λ r. stepped_of r ≡ 0) }
         ensures ends { OnOk result (IsPlayable (Joins (PathEmits job.now (max job.now.script.room (goes_of plan.now))) plan.now no_paths)) }
     {
         let goes = count_goes(plan.steps());
-        let run = first_run(alloc, job, goes)?;
-        let slots = first_runs(alloc, job, goes, count_slots(plan.steps()))?;
-        Ok(Rewind { run, slots })
+        let slots = count_slots(plan.steps());
+        Rewind::with_room(alloc, job, goes, slots)
+    }
+
+    /// The number of frames that the path lasts.
+    pub fn frames(&self) -> u32
+        ensures { (job : Job) (n : ℕ) (paths : Paths) → IsRested job n paths self.now → result ≡ frames_of paths.path }
+    {
+        self.run.frames()
     }
 
     /// The number of slots.
@@ -56,7 +80,7 @@ impl Rewind {
         self.slots.len()
     }
 
-    /// The stamps by which the two machines were stepped since `new`, added up. It stays at its highest number.
+    /// The stamps by which the two machines were stepped since `with_room`, added up. It stays at its highest number.
     pub fn stepped(&self) -> u64
         ensures { result ≡ stepped_of self.now }
     {

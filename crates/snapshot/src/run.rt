@@ -2,8 +2,8 @@
 // shows how far its machines were stepped.
 ghost use Rattle.std.specs.Prelude.{◌≡◌, ◌+◌, ◌*◌, ◌^◌, ◌<◌, ◌≤◌, ◌++◌, ◌↔◌, ℕ, List, [], length, max, min, take, drop, IsTrue, IfOk, IfErr, OnOk, OnErr};
 ghost use Rattle.snes_defs.specs.declared.ports.Side.{Side};
-ghost use Rattle.snes_defs.specs.declared.region.Region.TheVariants.{Ntsc};
 ghost use Rattle.snes_defs.specs.Script.{frames_of};
+ghost use Rattle.clock_ratio.specs.Stamp.{frame_of, end_stamp_of};
 ghost use Rattle.side_law.specs.Serial.{SerialState, serial_of, turn, console_emits, sound_emits};
 ghost use Rattle.side_law.specs.SerialRun.{IsPast};
 ghost use Rattle.serial_console.specs.Serial.{IsAt, earlier_side};
@@ -14,20 +14,20 @@ ghost use Rattle.console_machine.specs.Playing.{console_played, value_played};
 ghost use Rattle.audio_side.specs.Sound as sound_side;
 ghost use Rattle.audio_side.specs.Sound.{SoundState, sound_moves};
 ghost use Rattle.audio_side.specs.Clock.{stamp_now};
-ghost use Rattle.plan_drive.specs.Paths.{path_script};
 ghost use Rattle.run_drive.specs.Run.{TookFirst};
+ghost use Rattle.snapshot.specs.Path.{script_in};
 ghost use Rattle.snapshot.specs.Driven.{Since, TookOn, Ends};
 ghost use Rattle.snapshot.specs.Positions.{CanCopy, IsDone, copy_of};
 ghost use Rattle.snapshot.specs.Stepped.{counted, rise_from, rise_of};
 
 use crate::driving::drive;
 use audio_side::AudioSide;
-use clock_ratio::FRAME_STAMPS;
+use clock_ratio::{FRAME_STAMPS, PAL_FRAME_STAMPS, end_stamp_in};
 use console_machine::ConsoleSide;
 use run_drive::Sink;
 use serial_console::Serial;
 use side_law::Machine;
-use snes_defs::{Job, NoMemory, Side, Span};
+use snes_defs::{Job, MOST_FRAMES, NoMemory, Region, Side, Span};
 use std::alloc::Global;
 
 /// The two machines of a path's job, the stamp at which the path ends, and a count of how far they were stepped.
@@ -40,11 +40,10 @@ pub struct Run {
     stepped: u64,
 }
 
-/// Returns the machines of an NTSC job at their start, with an empty path and memory for `spans` spans. Fails only if
+/// Returns the machines of a job at their start, with an empty path and memory for `spans` spans. Fails only if
 /// allocation fails.
 pub fn first_run(alloc: Global, job: &Job, spans: usize) -> Result<Run, NoMemory>
-    requires script { job.now.script ≡ path_script job.now.script.room [] }
-    requires region { job.now.region ≡ Ntsc }
+    requires { job.now.script ≡ script_in job.now.region job.now.script.room [] }
     ensures done { IfOk result (λ r. IsDone job.now (max job.now.script.room spans) [] r [] []) }
     ensures stepped { IfOk result (λ r. r.stepped ≡ 0) }
 {
@@ -70,6 +69,17 @@ pub fn copy_run(from: &Run, into: &mut Run)
     let (to_sound, to_console) = from.serial.ports();
     into.serial.set_ports(to_sound, to_console);
     into.end = from.end;
+}
+
+/// Returns how many frames of a region end by a stamp, of those that a job may have.
+fn count_frames(region: Region, end: u64) -> u32
+    ensures { (frames : ℕ) → frames ≤ 36000 → end ≡ end_stamp_of region frames → result ≡ frames }
+{
+    let frames = match region {
+        Region::Ntsc => end / FRAME_STAMPS,
+        Region::Pal => end / PAL_FRAME_STAMPS,
+    };
+    frames.min(MOST_FRAMES as u64) as u32
 }
 
 impl Run {
@@ -100,16 +110,27 @@ impl Run {
             .saturating_add(later_sound.saturating_sub(sound));
     }
 
-    /// Puts a span at the end of the path. Nothing is allocated.
+    /// Puts a span at the end of the path, whose end moves on by the span's frames of the machines' region. Nothing is
+    /// allocated.
     pub fn play(&mut self, span: Span)
         requires room { length self.old.serial.console.rest.script.spans < self.old.serial.console.rest.script.room }
         requires frames { frames_of self.old.serial.console.rest.script.spans + span.count ≤ 36000 }
-        requires early { self.old.end + 2012696576 * span.count ≤ 2 ^ 62 }
-        ensures played { self.new ≡ record self.old { serial = record self.old.serial { console = value_played self.old.serial.console span }; end = self.old.end + 2012696576 * span.count } }
+        requires early { self.old.end + frame_of self.old.serial.console.region * span.count ≤ 2 ^ 62 }
+        ensures played { self.new ≡ record self.old { serial = record self.old.serial { console = value_played self.old.serial.console span }; end = self.old.end + frame_of self.old.serial.console.region * span.count } }
         ensures stands { (w : ConsoleState) → console_side.StandsAt self.old.serial.console w → console_side.StandsAt self.new.serial.console (console_played w span) }
     {
+        let (console, _) = self.serial.machines();
+        let region = console.region();
         self.serial.console().play(span);
-        self.end += FRAME_STAMPS * span.count as u64;
+        self.end += end_stamp_in(region, span.count);
+    }
+
+    /// The number of frames that the path lasts.
+    pub fn frames(&self) -> u32
+        ensures { (frames : ℕ) → frames ≤ 36000 → self.now.end ≡ end_stamp_of self.now.serial.console.region frames → result ≡ frames }
+    {
+        let (console, _) = self.serial.machines();
+        count_frames(console.region(), self.end)
     }
 
     /// Whether both stamps have reached the end of the path.

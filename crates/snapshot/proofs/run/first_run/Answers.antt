@@ -6,7 +6,7 @@ use Rattle.snapshot.proofs.run.first_run.Goals as goal
 
 pub returns-clause-done : goal.returns-clause-done
 returns-clause-done c =
-    first_done c.args.job.now c.args.spans c.new-3.result c.in_ok-console.console c.reserve.new.self c.in_ok-sound.sound c.requires.script c.requires.region
+    first_done c.args.job.now c.args.spans c.new-3.result c.in_ok-console.console c.reserve.new.self c.in_ok-sound.sound c.requires
     c.in_ok-console.ensures.starts c.in_ok-reserve.ensures.stands c.in_ok-sound.ensures.starts c.new-3.ensures.starts
     (ap (λ (v : ConsoleValue). v.waiting) c.new-3.ensures.console ∙ ap (λ (v : ConsoleValue). v.waiting) c.in_ok-reserve.ensures.ok ∙ c.in_ok-console.ensures.empty)
     (ap (λ (v : AudioValue). v.waiting) c.new-3.ensures.sound ∙ c.in_ok-sound.ensures.empty)

@@ -1,5 +1,6 @@
 use Rattle.std.proofs.Common.{◌≡◌, ◌≤◌, vec_len, arith}
 use Rattle.snes_defs.specs.declared.cart.Job.{Job}
+use Rattle.snes_defs.specs.declared.region.Region.TheVariants.{Ntsc}
 use Rattle.run_drive.specs.Played.{PlayedWhole}
 use Rattle.plan_drive.specs.Paths.{no_paths, goes_of, slots_of}
 use Rattle.plan_drive.specs.Joins.{PlanEmits}
@@ -11,7 +12,7 @@ use Rattle.job_player.proofs.planned.ConsolePlanPlayer.play_plan.Goals as goal
 pub play-requires-clause-rested : goal.play-requires-clause-rested
 play-requires-clause-rested g c =
     let h = c.requires.at_start in
-    (h.0, goes_of c.args.plan.now, h.1.0, omega arith)
+    (record h.0 { region = Ntsc }, goes_of c.args.plan.now, h.1.0, omega arith)
 
 pub play-requires-clause-slots : goal.play-requires-clause-slots
 play-requires-clause-slots g c = c.requires.at_start.1.1
@@ -20,8 +21,8 @@ pub returns-clause-whole : goal.returns-clause-whole
 returns-clause-whole g c =
     let steps = c.args.plan.now in
     let r = c.args.planned.rewind in
-    on_ok {Q = (job : Job) → (IsRested job (goes_of steps) no_paths r × (slots_of steps ≤ slot_count r) × (vec_len c.args.planned.buffer ≡ 65536)) → PlayedWhole (PlanEmits Emits job steps) (g.K.Sink.holds c.play.new.sink)}
-    _ c.play.ensures.whole (λ whole job h. whole job (goes_of steps) h.0)
+    on_ok {Q = (job : Job) → (IsRested (record job { region = Ntsc }) (goes_of steps) no_paths r × (slots_of steps ≤ slot_count r) × (vec_len c.args.planned.buffer ≡ 65536)) → PlayedWhole (PlanEmits Emits job steps) (g.K.Sink.holds c.play.new.sink)}
+    _ c.play.ensures.whole (λ whole job h. whole (record job { region = Ntsc }) (goes_of steps) h.0)
 
 pub returns-clause-first : goal.returns-clause-first
-returns-clause-first g c = λ job h. c.play.ensures.first job (goes_of c.args.plan.now) h.0
+returns-clause-first g c = λ job h. c.play.ensures.first (record job { region = Ntsc }) (goes_of c.args.plan.now) h.0

@@ -1,18 +1,23 @@
 use Rattle.std.proofs.Common.{◌≡◌, ◌≤◌, ℕ, max, ap, subst, ◌∙◌, rules, arith}
+use Rattle.snes_defs.specs.declared.region.Region.{Region}
 use Rattle.run_drive.specs.Played.{IsPlayable}
 use Rattle.plan_drive.specs.Paths.{no_paths, goes_of, slots_of}
 use Rattle.plan_drive.specs.Joins.{Joins}
 use Rattle.snapshot.specs.Path.{PathEmits}
 use Rattle.snapshot.specs.Positions.{IsRested, slot_count}
-use Rattle.job_player.proofs.Planning.{room_for}
+use Rattle.job_player.proofs.Planning.{room_for, own_script}
 use Rattle.job_player.proofs.planned.ConsolePlanPlayer.ready_plan.Goals as goal
+
+pub new-requires : goal.new-requires
+new-requires c = own_script c.args.job.now c.requires.script c.requires.region
 
 pub returns-clause-starts : goal.returns-clause-starts
 returns-clause-starts c =
     let job = c.args.job.now in
     let steps = c.args.plan.now in
     let slots = c.in_ok-rewind.ensures.slots in (
-      subst (λ (n : ℕ). IsRested job n no_paths c.in_ok-rewind.rewind) (room_for job steps c.requires.script) c.in_ok-rewind.ensures.rested,
+      subst (λ (r : Region). IsRested (record job { region = r }) (goes_of steps) no_paths c.in_ok-rewind.rewind) c.requires.region
+          (subst (λ (n : ℕ). IsRested job n no_paths c.in_ok-rewind.rewind) (room_for job steps c.requires.script) c.in_ok-rewind.ensures.rested),
       omega (arith, slots),
       search rules,
     )
@@ -21,4 +26,5 @@ pub returns-clause-ends : goal.returns-clause-ends
 returns-clause-ends c =
     let job = c.args.job.now in
     let steps = c.args.plan.now in
-    subst (λ (n : ℕ). IsPlayable (Joins (PathEmits job n) steps no_paths)) (room_for job steps c.requires.script) c.in_ok-rewind.ensures.ends
+    subst (λ (r : Region). IsPlayable (Joins (PathEmits (record job { region = r }) (goes_of steps)) steps no_paths)) c.requires.region
+    (subst (λ (n : ℕ). IsPlayable (Joins (PathEmits job n) steps no_paths)) (room_for job steps c.requires.script) c.in_ok-rewind.ensures.ends)

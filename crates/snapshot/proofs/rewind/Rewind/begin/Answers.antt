@@ -1,12 +1,14 @@
-use Rattle.std.proofs.Common.{◌≡◌, ◌+◌, ◌≤◌, ◌<◌, [], length, refl, ap, sym, subst, arith}
+use Rattle.std.proofs.Common.{◌≡◌, ◌+◌, ◌*◌, ◌^◌, ◌≤◌, ◌<◌, [], length, refl, ap, sym, subst, arith}
 use Rattle.snes_defs.specs.Script.{Script, frames_of}
+use Rattle.clock_ratio.specs.Stamp.{frame_of}
 use Rattle.console_steps.specs.ConsoleState.{ConsoleState}
 use Rattle.console_machine.specs.Side.{StandsAt}
 use Rattle.console_machine.specs.Playing.{console_played, value_played}
 use Rattle.snapshot.specs.declared.run.Run.{Run}
 use Rattle.snapshot.specs.Positions.{IsGoing}
 use Rattle.plan_drive.specs.Paths.{gone}
-use Rattle.snapshot.proofs.Copying.{done_script}
+use Rattle.snapshot.proofs.Numbers.{ends_early}
+use Rattle.snapshot.proofs.Copying.{done_script, done_region}
 use Rattle.snapshot.proofs.Going.{begun}
 use Rattle.snapshot.proofs.Stepping.{console_stands}
 use Rattle.snapshot.proofs.rewind.Rewind.begin.Goals as goal
@@ -17,10 +19,12 @@ play-requires c =
     let (video, audio, d) = rested.now in
     let script = done_script job n paths.path c.args.self.now.run video audio d in
     let end = d.end_is in
+    let early = ends_early job.region (frames_of paths.path + c.args.span.count) few in
     record {
       room = subst (λ (s : Script). length s.spans < s.room) (sym script) short;
       frames = subst (λ (s : Script). frames_of s.spans + c.args.span.count ≤ 36000) (sym script) few;
-      early = omega (arith, end, few);
+      early = subst (λ g. c.args.self.now.run.end + frame_of g * c.args.span.count ≤ 2 ^ 62) (sym (done_region job n paths.path c.args.self.now.run video audio d))
+          (omega (arith, end, early));
     }
 
 pub returns-clause-going : goal.returns-clause-going
