@@ -1,5 +1,5 @@
 -- A console at its beginning.
-use Rattle.std.proofs.Common.{◌≡◌, ℕ, ◌+◌, ◌<◌, ◌≤◌, List, [], length, replicate, refl, ap, sym, ◌∙◌, subst, arith, slice_index_or}
+use Rattle.std.proofs.Common.{◌≡◌, ℕ, ◌+◌, ◌≤◌, List, [], length, refl, ap, sym, ◌∙◌, subst, arith}
 use Rattle.std.proofs.lemmas.List.{get_or-replicate, length-replicate}
 use Rattle.snes_defs.specs.declared.cart.Job.{Job}
 use Rattle.snes_defs.specs.declared.region.Region.{Region}
@@ -10,9 +10,9 @@ use Rattle.snapshot.specs.Positions.{IsRested, slot_count}
 use Rattle.snes_program.specs.Job.{ShowsJob}
 use Rattle.snes_program.specs.Kinds.{IsCartIn}
 use Rattle.memory_player.specs.Inputs.{told_of}
-use Rattle.frame_player.specs.declared.frames.Frames.{Frames}
-use Rattle.frame_player.specs.Told.{Told, told_first, IsJobOf, boot_of, table_of, region_of, region_number, spans_of}
-use Rattle.frame_player.specs.Frames.{IsFramesOf, StandsAt}
+use Rattle.frame_player.specs.declared.console.Frames.{Frames}
+use Rattle.frame_player.specs.Told.{told_first, IsJobOf, boot_of, table_of, region_of, region_number, spans_of}
+use Rattle.frame_player.specs.Frames.{IsFramesOf}
 
 -- a region's number names it
 numbered : (region : Region) → region ≡ region_of (region_number region)
@@ -35,7 +35,8 @@ pub begun : (cart boot table : List ℕ) (region most slots : ℕ) (job : Job) (
     → IsRested job most no_paths f.rewind → slot_count f.rewind ≡ slots + 1 → f.most ≡ most → f.slots ≡ slots → most ≤ 36000 → slots ≤ 64
     → IsFramesOf (told_first cart boot table region most slots) f
 begun cart boot table region most slots job f is rested count most_is slots_is few slots_few =
-    let size : length (replicate slots {A = List (ℕ × ℕ)} []) ≡ slots = length-replicate slots [] in
+    let told = told_first cart boot table region most slots in
+    let size : length told.held ≡ slots = length-replicate slots [] in
     record {
       spare = [];
       stands = record {

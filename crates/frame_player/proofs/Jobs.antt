@@ -1,7 +1,10 @@
 -- What was told names one job, as far as its machines go.
-use Rattle.std.proofs.Common.{◌≡◌, ℕ, ◌+◌, ◌<◌, List, [], ◌∷◌, ◌++◌, length, slice_index, slice_index_or, refl, ap, sym, ◌∙◌, subst, arith, Ok, Result}
+use Rattle.std.proofs.Common.{◌≡◌, ℕ, ◌<◌, List, length, ap, sym, ◌∙◌, subst, arith, Ok, Err, Result}
 use Rattle.std.proofs.Math.Bridge.{le_prop}
 use Rattle.std.proofs.lemmas.List.{ext_get_or}
+use Rattle.cart_map.specs.Accept.{verdict}
+use Rattle.cart_map.specs.declared.header.Header.{Header}
+use Rattle.cart_map.specs.declared.refused.CartRefused.{CartRefused}
 use Rattle.snes_defs.specs.declared.cart.Cart.{Cart}
 use Rattle.snes_defs.specs.declared.cart.Job.{Job}
 use Rattle.snes_defs.specs.declared.cart.MapKind.{MapKind}
@@ -20,11 +23,17 @@ cart_same c d map rom ram =
     ∙ ap (λ (h : 0 < length c.rom). record { map = d.map; rom = c.rom; ram = d.ram; has_rom = h }) (le_prop c.has_rom has)) d.has_rom
 
 -- what is read of a cartridge's header
-abbrev map_in : Result _ _ → _
-map_in (Ok h) = h.map
+abbrev header_in : Header → Result Header CartRefused → Header
+header_in none (Ok h) = h
+header_in none (Err cause) = none
+
+one_header : (r : Result Header CartRefused) (a b : Header) → r ≡ Ok a → r ≡ Ok b → a ≡ b
+one_header r a b one other = ap (header_in a) (sym one ∙ other)
 
 pub one_cart : (bytes : List ℕ) (c d : Cart) → IsCartIn bytes c → IsCartIn bytes d → c ≡ d
-one_cart bytes c d one other = cart_same c d (search (one.header, other.header)) (one.rom ∙ sym other.rom) (search (one.header, other.header))
+one_cart bytes c d one other =
+    let same = one_header (verdict bytes) (record { map = c.map; ram = c.ram }) (record { map = d.map; ram = d.ram }) one.header other.header in
+    cart_same c d (ap (λ (h : Header). h.map) same) (one.rom ∙ sym other.rom) (ap (λ (h : Header). h.ram) same)
 
 pub one_table : (file a b : List ℕ) → IsTableFile file a → IsTableFile file b → a ≡ b
 one_table file a b one other =

@@ -1,5 +1,5 @@
 -- Bytes that are put into a room behind those that were put before, as far as they fit.
-use Rattle.std.proofs.Common.{◌≡◌, ◌≢◌, ℕ, ◌+◌, ◌-◌, ◌≤◌, ◌<◌, min, List, [], ◌++◌, length, take, drop, refl, ap, sym, ◌∙◌, subst, append_assoc, length-append, length-take-le, length-drop, take_all, arith}
+use Rattle.std.proofs.Common.{◌≡◌, ◌≢◌, ℕ, ◌+◌, ◌-◌, ◌≤◌, ◌<◌, List, [], ◌++◌, length, take, drop, refl, ap, sym, ◌∙◌, subst, append_assoc, length-append, length-take-le, length-drop, take_all, arith}
 use Rattle.std.proofs.lemmas.List.{take-append-le}
 use Rattle.std.proofs.Math.Seq.{take-append-add}
 use Rattle.std.proofs.lemmas.Slice.{take-put_mid}
@@ -26,6 +26,10 @@ had_front : (s had : List ℕ) (c : ℕ) → c ≤ length s → Takes s c had �
 had_front s had c le h =
     let held = held_count s had c le h in
     ap (λ n. take n s) (sym held) ∙ h.front ∙ take_all (length s) had (omega (arith, held, le))
+
+-- at first nothing was put
+pub takes_nothing : (s : List ℕ) (c : ℕ) → c ≡ 0 → Takes s c []
+takes_nothing s c none = record { count_is = omega (arith, none); front = sym (take_all (length s) [] (omega arith)) }
 
 -- all of them fit
 pub takes_all : (s bytes new had : List ℕ) (c k : ℕ) → new ≡ bytes → k ≡ length bytes → c + length bytes ≤ length s
@@ -88,6 +92,10 @@ whole_count s bytes c le h = sym (held_count s bytes c le h)
 
 pub whole_front : (s bytes : List ℕ) (c : ℕ) → c ≤ length s → Takes s c bytes → take c s ≡ bytes
 whole_front s bytes c le h = had_front s bytes c le h
+
+-- no more are counted than came
+pub few_counted : (s bytes : List ℕ) (c : ℕ) → Takes s c bytes → c ≤ length bytes
+few_counted s bytes c h = let is = h.count_is in omega (arith, is)
 
 pub ruleset copies = (whole_count, whole_front)
 

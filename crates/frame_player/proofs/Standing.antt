@@ -1,17 +1,21 @@
 -- The moves of a rewinder, by what its console was told.
-use Rattle.std.proofs.Common.{◌≡◌, ℕ, ◌+◌, ◌<◌, ◌≤◌, List, [], ◌∷◌, ◌++◌, length, refl, ap, sym, ◌∙◌, subst, arith, slice_index_or, slice_set, ⊎_elim}
+use Rattle.std.proofs.Common.{◌≡◌, ℕ, ◌+◌, ◌<◌, ◌≤◌, min, List, [], ◌∷◌, ◌++◌, length, ap, sym, ◌∙◌, subst, arith, slice_set, ⊎_elim}
 use Rattle.std.proofs.lemmas.Bool.{cases_order}
 use Rattle.std.proofs.lemmas.List.{length-set}
 use Rattle.snes_defs.specs.declared.cart.Job.{Job}
 use Rattle.snes_defs.specs.declared.ports.Side.{Side}
+use Rattle.snes_defs.specs.declared.ports.Side.TheVariants.{Console, Sound}
 use Rattle.snes_defs.specs.declared.script.Span.{Span}
 use Rattle.snes_defs.specs.Script.{frames_of}
 use Rattle.plan_drive.specs.Paths.{Paths, gone, kept, back}
 use Rattle.snapshot.specs.declared.rewind.Rewind.{Rewind}
 use Rattle.snapshot.specs.Positions.{IsRested, IsBeyond, slot_count}
 use Rattle.snapshot.specs.Handed.{Gave}
-use Rattle.frame_player.specs.Told.{Told, IsJobOf, gone_on, kept_in, back_to, spans_of}
-use Rattle.frame_player.specs.Frames.{StandsAt, WentOn}
+use Rattle.frame_player.specs.Told.{Told, kept_in, back_to, spans_of}
+use Rattle.frame_player.specs.declared.frame_bytes.FrameBytes.{FrameBytes}
+use Rattle.frame_player.specs.FrameBytes.{TakesOf, side_of}
+use Rattle.frame_player.specs.Frames.{StandsAt, WentOn, room_of, most_of, bytes_of}
+use Rattle.frame_player.proofs.Puts.{few_counted}
 use Rattle.frame_player.proofs.Paths.{spans_more, spans_count, spans_frames, if_same, if_other, stored_same, stored_other}
 use Rattle.frame_player.proofs.Jobs.{same_beyond}
 
@@ -137,3 +141,20 @@ went told other r after span holds h one gave same =
         few = h.few;
       };
     }
+
+-- ---- a console
+
+-- a path has as many frames as pads
+pub frames_are : (told : Told) (other : List Pads) (r : Rewind) (h : StandsAt told other r) → frames_of h.paths.path ≡ length told.pads
+frames_are told other r h = ap frames_of h.path_is ∙ spans_frames told.pads
+
+-- how many frames were played, by what the rewinder says
+pub played_are : (told : Told) (other : List Pads) (r : Rewind) (result : ℕ) → StandsAt told other r
+    → ((job : Job) (n : ℕ) (paths : Paths) → IsRested job n paths r → result ≡ frames_of paths.path) → result ≡ length told.pads
+played_are told other r result h says = says h.job told.most h.paths h.rested ∙ frames_are told other r h
+
+-- bytes that are counted beyond a room are longer than it
+pub is_longer : (f : FrameBytes) (picture samples : List ℕ) (v s : ℕ) (side : Side) → TakesOf f Console picture → TakesOf f Sound samples
+    → min (room_of v s side) (most_of side) < (side_of f side).count → min (room_of v s side) (most_of side) < length (bytes_of picture samples side)
+is_longer f picture samples v s Console video sound lt = let few = few_counted f.video.bytes.items picture f.video.count video in omega (arith, lt, few)
+is_longer f picture samples v s Sound video sound lt = let few = few_counted f.sound.bytes.items samples f.sound.count sound in omega (arith, lt, few)

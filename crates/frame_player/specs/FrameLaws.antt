@@ -1,5 +1,5 @@
 -- Rooms that are as large as before stay so.
-use Rattle.std.proofs.Common.{◌≡◌, refl, ◌∙◌}
+use Rattle.std.proofs.Common.{refl, ◌∙◌}
 use Rattle.frame_player.specs.declared.frame_bytes.FrameBytes.{FrameBytes}
 use Rattle.frame_player.specs.FrameBytes.{SameRooms}
 

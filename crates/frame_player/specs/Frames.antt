@@ -9,12 +9,11 @@ use Rattle.snapshot.specs.Positions.{IsRested, IsBeyond, slot_count}
 use Rattle.memory_player.specs.declared.inputs.End.TheVariants as end
 use Rattle.memory_player.specs.Filled.{in_front}
 use Rattle.memory_player.specs.Inputs.{told_of, EndsInputs}
-use Rattle.frame_player.specs.declared.begin.BeginEnd.{BeginEnd}
-use Rattle.frame_player.specs.declared.begin.BeginEnd.TheVariants as begin
-use Rattle.frame_player.specs.declared.frames.FrameEnd.{FrameEnd}
-use Rattle.frame_player.specs.declared.frames.FrameEnd.TheVariants as frame
-use Rattle.frame_player.specs.declared.frames.Frames.{Frames}
-use Rattle.frame_player.specs.FrameBytes.{TakesOf}
+use Rattle.frame_player.specs.declared.ends.BeginEnd.{BeginEnd}
+use Rattle.frame_player.specs.declared.ends.BeginEnd.TheVariants as begin
+use Rattle.frame_player.specs.declared.ends.FrameEnd.{FrameEnd}
+use Rattle.frame_player.specs.declared.ends.FrameEnd.TheVariants as frame
+use Rattle.frame_player.specs.declared.console.Frames.{Frames}
 use Rattle.frame_player.specs.Told.{Told, IsJobOf, boot_of, gone_on, spans_of, table_of}
 
 -- A REWINDER STANDS at the path that was told. Its slots hold the paths that were told, and one slot more holds a spare

@@ -1,4 +1,5 @@
 pub mod FrameBytes
 pub mod FrameLaws
-pub mod Told
 pub mod Frames
+pub mod Joined
+pub mod Told

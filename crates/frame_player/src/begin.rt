@@ -5,10 +5,11 @@ ghost use Rattle.snapshot.specs.Positions.{IsRested, slot_count};
 ghost use Rattle.plan_drive.specs.Paths.{no_paths};
 ghost use Rattle.snapshot.specs.Path.{script_in};
 
+use crate::console::Frames;
+use crate::ends::BeginEnd;
 use crate::frame_bytes::{FrameBytes, SideBytes};
-use crate::frames::Frames;
 use free_files::{free_boot_rom, interpolation_file};
-use memory_player::{End, Inputs, Why, job_in};
+use memory_player::{End, Inputs, job_in};
 use snapshot::Rewind;
 use snes_defs::{Job, MOST_FRAMES, NoMemory, Region, Spans};
 use std::alloc::Global;
@@ -40,19 +41,6 @@ pub struct ConsoleInputs<'a> {
     pub most: u32,
     /// How many save states there are slots for, at most 64.
     pub slots: u32,
-}
-
-/// The reason why no console was made.
-#[derive(Clone, Copy, Debug, PartialEq, Eq)]
-pub enum BeginEnd {
-    /// No frames, or more than 36,000, were asked for.
-    Frames,
-    /// More than 64 slots were asked for.
-    Slots,
-    /// An input was not accepted.
-    Refused(Why),
-    /// Allocation failed.
-    NoMemory,
 }
 
 /// Reads the inputs, the cartridge first, and returns the job of the empty path.

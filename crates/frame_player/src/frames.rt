@@ -1,39 +1,15 @@
-ghost use Rattle.std.specs.Prelude.{◌≡◌, ◌<◌, ◌≤◌, ℕ, List, length, min, vec_len, IfOk, IfErr, IfSome, IsNone, IsTrue, IsFalse};
+ghost use Rattle.std.specs.Prelude.{◌≡◌, ◌<◌, ◌≤◌, ℕ, List, length, min, IfOk, IfErr, IfSome, IsNone, IsTrue, IsFalse};
 ghost use Rattle.snes_defs.specs.declared.ports.Side.{Side};
 ghost use Rattle.memory_player.specs.Filled.{in_front};
 ghost use Rattle.frame_player.specs.Told.{Told, gone_on, kept_in, back_to, word_of};
 ghost use Rattle.frame_player.specs.FrameBytes.{TakesOf, side_of};
 ghost use Rattle.frame_player.specs.Frames.{IsFramesOf, FramePlayed, EndsFrame, room_of, most_of};
 
-use crate::frame_bytes::FrameBytes;
+use crate::console::Frames;
+use crate::ends::FrameEnd;
 use crate::moves::{go, go_back, keep_in, load, save};
 use memory_player::Counts;
-use snapshot::Rewind;
 use snes_defs::{Side, Span};
-
-/// The reason why no frame was played.
-#[derive(Clone, Copy, Debug, PartialEq, Eq)]
-pub enum FrameEnd {
-    /// The path lasts as many frames as it may.
-    Frames,
-    /// The room for this side is too short for the frame.
-    TooShort(Side),
-}
-
-/// A console between two frames, and its save states.
-#[derive(Drop)]
-pub struct Frames {
-    pub(crate) rewind: Rewind,
-    pub(crate) buffer: Vec<u8>,
-    pub(crate) bytes: FrameBytes,
-    /// How many frames a path may last.
-    pub(crate) most: u32,
-    /// How many slots the caller has. The rewinder has one more: where a frame begins is stored there while it is played.
-    pub(crate) slots: u8,
-    ghost drains: { 1024 ≤ vec_len buffer },
-    ghost picture_fits: { vec_len bytes.video.bytes ≡ 244736 },
-    ghost samples_fit: { vec_len bytes.sound.bytes ≡ 2560 },
-}
 
 impl Frames {
     /// Plays a frame with these pads, and copies its picture and its samples to the front of both rooms.

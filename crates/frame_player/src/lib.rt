@@ -7,9 +7,12 @@
 #![tactic(auto)]
 
 mod begin;
+mod console;
+mod ends;
 mod frame_bytes;
 mod frames;
 mod moves;
 
-pub use begin::{BeginEnd, ConsoleInputs};
-pub use frames::{FrameEnd, Frames};
+pub use begin::ConsoleInputs;
+pub use console::Frames;
+pub use ends::{BeginEnd, FrameEnd};

@@ -1,5 +1,5 @@
 // The moves of a rewinder between two frames, and along one, by what its console was told.
-ghost use Rattle.std.specs.Prelude.{◌≡◌, ◌<◌, ◌≤◌, ◌×◌, ℕ, List, length};
+ghost use Rattle.std.specs.Prelude.{◌≡◌, ◌<◌, ◌≤◌, ℕ, List, length};
 ghost use Rattle.frame_player.specs.Told.{Told, kept_in, back_to};
 ghost use Rattle.frame_player.specs.Frames.{StandsAt, WentOn};
 ghost use Rattle.frame_player.specs.FrameBytes.{TakesOf, SameRooms};

@@ -1,10 +1,10 @@
 -- The numbers by which a fault of a held console is told. `embed/snes.h` has them under their names.
 use Rattle.std.specs.Prelude.{◌≡◌, ℕ}
 use Rattle.memory_player.specs.declared.inputs.End.TheVariants as end
-use Rattle.frame_player.specs.declared.begin.BeginEnd.{BeginEnd}
-use Rattle.frame_player.specs.declared.begin.BeginEnd.TheVariants as begin
-use Rattle.frame_player.specs.declared.frames.FrameEnd.{FrameEnd}
-use Rattle.frame_player.specs.declared.frames.FrameEnd.TheVariants as frame
+use Rattle.frame_player.specs.declared.ends.BeginEnd.{BeginEnd}
+use Rattle.frame_player.specs.declared.ends.BeginEnd.TheVariants as begin
+use Rattle.frame_player.specs.declared.ends.FrameEnd.{FrameEnd}
+use Rattle.frame_player.specs.declared.ends.FrameEnd.TheVariants as frame
 use Rattle.snes_library.specs.declared.answer.SnesAnswer.{SnesAnswer}
 use Rattle.snes_library.specs.declared.fault.Fault.{Fault}
 use Rattle.snes_library.specs.declared.fault.Fault.TheVariants.{Empty, Full, Region, Slot, End}

@@ -1,8 +1,8 @@
 -- What each call does to the console that a caller holds, and why a call was not done.
 use Rattle.std.specs.Prelude.{◌≡◌, ℕ, ◌<◌, ◌≤◌, List, length, ◌⊎◌}
 use Rattle.memory_player.specs.declared.inputs.End.TheVariants as end
-use Rattle.frame_player.specs.declared.begin.BeginEnd.TheVariants as begin
-use Rattle.frame_player.specs.declared.frames.FrameEnd.TheVariants as frame
+use Rattle.frame_player.specs.declared.ends.BeginEnd.TheVariants as begin
+use Rattle.frame_player.specs.declared.ends.FrameEnd.TheVariants as frame
 use Rattle.frame_player.specs.Told.{Told}
 use Rattle.frame_player.specs.Frames.{EndsBegin, EndsFrame, RoomsStay}
 use Rattle.kept_frames.specs.declared.console.SnesConsole.{SnesConsole}
