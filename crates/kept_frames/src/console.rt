@@ -1,9 +1,10 @@
 ghost use Rattle.std.specs.Prelude.{◌≡◌, ℕ, Bool, eqb};
-ghost use Rattle.kept_frames.specs.Told.{Told, begun, with_pads, with_kept, with_back};
-ghost use Rattle.kept_frames.specs.Toy.{IsFramesOf};
+ghost use Rattle.frame_player.specs.Told.{told_first, gone_on, kept_in, back_to, word_of};
+ghost use Rattle.frame_player.specs.Frames.{IsFramesOf};
 ghost use Rattle.kept_frames.specs.Left.{AsLeft};
 
 use crate::kept::KeptFrames;
+use crate::loose::Loose;
 use frame_player::Frames;
 use std::alloc::Global;
 
@@ -33,7 +34,7 @@ impl SnesConsole {
         ensures frames { IsFramesOf self.old.kept.told result.value }
     {
         self.full = 0;
-        self.kept.take(alloc)
+        self.kept.take().into_box(alloc)
     }
 
     /// Puts a state in. It is the one of what was told.
@@ -45,16 +46,24 @@ impl SnesConsole {
         ensures told { self.new.kept.told ≡ self.old.kept.told }
     {
         self.full = 1;
-        self.kept.fill(frames);
+        self.kept.fill(Loose::of(frames));
     }
 
     /// Tells the inputs, and no frame yet.
-    pub fn tell_begun(&mut self, cart: &[u8], boot: &[u8], table: &[u8], region: u32, most: u32, slots: u32)
+    pub fn tell_begun(
+        &mut self,
+        cart: &[u8],
+        boot: &[u8],
+        table: &[u8],
+        region: u32,
+        most: u32,
+        slots: u32,
+    )
         requires left { AsLeft self.old }
         requires empty { self.old.kept.full ≡ 0 }
         ensures left { AsLeft self.new }
         ensures empty { self.new.kept.full ≡ 0 }
-        ensures told { self.new.kept.told ≡ begun cart.now boot.now table.now region most slots }
+        ensures told { self.new.kept.told ≡ told_first cart.now boot.now table.now region most slots }
     {
         self.kept.tell(&(cart, boot, table, region, most, slots));
     }
@@ -65,18 +74,30 @@ impl SnesConsole {
         requires empty { self.old.kept.full ≡ 0 }
         ensures left { AsLeft self.new }
         ensures empty { self.new.kept.full ≡ 0 }
-        ensures told { self.new.kept.told ≡ with_pads self.old.kept.told pad1 pad2 }
+        ensures told { self.new.kept.told ≡ gone_on self.old.kept.told (word_of pad1) (word_of pad2) }
     {
         self.kept.tell(&(pad1, pad2));
     }
 
-    /// Tells that the path was put into a slot.
-    pub fn tell_kept(&mut self, slot: u32) {
+    /// Tells that a slot holds the path.
+    pub fn tell_kept(&mut self, slot: u32)
+        requires left { AsLeft self.old }
+        requires empty { self.old.kept.full ≡ 0 }
+        ensures left { AsLeft self.new }
+        ensures empty { self.new.kept.full ≡ 0 }
+        ensures told { self.new.kept.told ≡ kept_in self.old.kept.told slot }
+    {
         self.kept.tell(&slot);
     }
 
-    /// Tells that the path is that of a slot.
-    pub fn tell_back(&mut self, slot: u32) {
-        self.kept.tell(&(slot, slot));
+    /// Tells that the path is the one that a slot holds.
+    pub fn tell_back(&mut self, slot: u32)
+        requires left { AsLeft self.old }
+        requires empty { self.old.kept.full ≡ 0 }
+        ensures left { AsLeft self.new }
+        ensures empty { self.new.kept.full ≡ 0 }
+        ensures told { self.new.kept.told ≡ back_to self.old.kept.told slot }
+    {
+        self.kept.tell(&slot);
     }
 }

@@ -1,9 +1,10 @@
 ghost use Rattle.std.specs.Prelude.{◌≡◌, ℕ};
-ghost use Rattle.kept_frames.specs.Told.{Told, coded_told};
-ghost use Rattle.kept_frames.specs.Toy.{IsFramesOf};
+ghost use Rattle.frame_player.specs.Told.{Told};
+ghost use Rattle.kept_frames.specs.Coded.{coded_told};
+ghost use Rattle.frame_player.specs.Frames.{IsFramesOf};
 
+use crate::loose::Loose;
 use frame_player::Frames;
-use std::alloc::Global;
 use std::marker::Model;
 
 /// A state on the heap, or none, behind a pointer to bytes.
@@ -23,24 +24,25 @@ impl Model for KeptFrames {
 
 impl KeptFrames {
     /// Takes the state that lies there. Then none does, and what was told stays.
-    pub(crate) fn take(&mut self, alloc: Global) -> Box<Frames>
+    pub(crate) fn take(&mut self) -> Loose<Frames>
         requires full { self.old.full ≡ 1 }
         ensures empty { self.new.full ≡ 0 }
         ensures told { self.new.told ≡ self.old.told }
         ensures frames { IsFramesOf self.old.told result.value }
     {
-        let at = self.at as *mut Frames;
-        unsafe { Box::from_raw(alloc, at) }
+        Loose {
+            at: self.at as *mut Frames,
+        }
     }
 
     /// Puts a state there. It is the one of what was told.
-    pub(crate) fn fill(&mut self, frames: Box<Frames>)
+    pub(crate) fn fill(&mut self, frames: Loose<Frames>)
         requires empty { self.old.full ≡ 0 }
         requires frames { IsFramesOf self.old.told frames.value }
         ensures full { self.new.full ≡ 1 }
         ensures told { self.new.told ≡ self.old.told }
     {
-        let at = Box::into_raw(frames);
+        let Loose { at } = frames;
         self.at = at as *mut u8;
     }
 
@@ -50,6 +52,5 @@ impl KeptFrames {
         requires empty { self.old.full ≡ 0 }
         ensures empty { self.new.full ≡ 0 }
         ensures told { self.new.told ≡ told }
-    {
-    }
+    {}
 }

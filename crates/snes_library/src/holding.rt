@@ -9,9 +9,9 @@ ghost use Rattle.snes_library.specs.Fault.{IsFaultTold};
 
 use crate::answer::SnesAnswer;
 use crate::fault::{Fault, fault_status, fault_told, of_begin, of_frame};
-use memory_player::End;
 use frame_player::{ConsoleInputs, Frames};
 use kept_frames::SnesConsole;
+use memory_player::End;
 use snes_defs::Region;
 use std::alloc::Global;
 

@@ -19,10 +19,10 @@ mod fault;
 mod holding;
 
 pub use answer::SnesAnswer;
-pub use fault::Fault;
-pub use holding::{snes_back, snes_begin, snes_end, snes_frame, snes_keep};
 use answer::told;
 use console::SerialConsole;
+pub use fault::Fault;
+pub use holding::{snes_back, snes_begin, snes_end, snes_frame, snes_keep};
 use memory_player::{Inputs, play};
 use std::alloc::Global;
 

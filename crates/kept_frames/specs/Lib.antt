@@ -1,0 +1,4 @@
+pub mod Boxes
+pub mod Coded
+pub mod Kept
+pub mod Left
