@@ -19,7 +19,7 @@ use Rattle.snapshot.proofs.Effects.{rom_of}
 use Rattle.snapshot.proofs.ConsoleStates.{IsOwn, step_own}
 use Rattle.state_file.specs.Put.{Put}
 use Rattle.state_file.specs.State.{state_bytes}
-use Rattle.job_player.specs.Start.{console_of, sound_of, end_of}
+use Rattle.job_player.specs.Start.{console_of, sound_of}
 use Rattle.job_player.specs.Left.{after, Leaves, CanLeave}
 use Rattle.job_player.proofs.Ends.{job_is_playable}
 

@@ -1,6 +1,5 @@
 -- The search behind the end of a job, and the sound file that is taken where it ends.
 use Rattle.std.proofs.Common.{◌≡◌, ℕ, ◌+◌, ◌<◌, List, inl, inr, refl, ap, sym, subst, ◌∙◌, ⊎_elim, add-one, arith}
-use Rattle.std.specs.Prelude.{◌⊎◌}
 use Rattle.snes_defs.specs.declared.cart.Job.{Job}
 use Rattle.side_law.specs.Serial.{SerialState, turn}
 use Rattle.serial_console.specs.declared.serial.Serial.{Serial}

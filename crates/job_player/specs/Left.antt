@@ -1,5 +1,5 @@
 -- What the run of a job leaves: the state that the serial console of its two sides ends in, as bytes.
-use Rattle.std.specs.Prelude.{◌≡◌, ℕ, ◌+◌, ◌≤◌, List, []}
+use Rattle.std.specs.Prelude.{◌≡◌, ℕ, ◌+◌, List, []}
 use Rattle.snes_defs.specs.declared.cart.Job.{Job}
 use Rattle.side_law.specs.Serial.{SerialState, serial_of}
 use Rattle.side_law.specs.SerialRun.{RunsFor, after_turns}

@@ -18,7 +18,8 @@ pub cancel : (f g p : List ℕ) → f ++ g ≡ f ++ p → g ≡ p
 cancel [] g p e = e
 cancel (x ∷ f) g p e = cancel f g p (ap (drop 1) e)
 
-same_rest : (first other rest other_rest : List ℕ) → first ≡ other → first ++ rest ≡ other ++ other_rest → rest ≡ other_rest
+same_rest : (first other rest other_rest : List ℕ) → first ≡ other → first ++ rest ≡ other ++ other_rest
+    → rest ≡ other_rest
 same_rest first other rest other_rest begin whole =
     cancel first rest other_rest (whole ∙ ap (λ v. v ++ other_rest) (sym begin))
 
@@ -32,7 +33,8 @@ module _ (job : Job) (n : ℕ) (path : List Span) where
       let sound = sound_of_path job.region job.boot job.table in
       run_ends job.region (IsConsoleOf job.region) (IsSound job.region) 1024 4 console_moves sound_moves
       (console_is_lawful job.region) (sound_is_lawful job.region) (start_of job n path) end
-      (serving_at_first (IsConsoleOf job.region) (IsSound job.region) console sound (record { region = refl; line = omega arith }) refl)
+      (serving_at_first (IsConsoleOf job.region) (IsSound job.region) console sound
+      (record { region = refl; line = omega arith }) refl)
 
   -- EVERY PATH EMITS something
   pub path_emits : (video : List ℕ) × (audio : List ℕ) × PathEmits job n path video audio

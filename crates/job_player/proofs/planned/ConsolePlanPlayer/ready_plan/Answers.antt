@@ -1,15 +1,15 @@
-use Rattle.std.proofs.Common.{◌≡◌, ◌≤◌, ℕ, max, ap, subst, ◌∙◌, rules, arith}
+use Rattle.std.proofs.Common.{ℕ, subst, rules, arith}
 use Rattle.snes_defs.specs.declared.region.Region.{Region}
 use Rattle.run_drive.specs.Played.{IsPlayable}
-use Rattle.plan_drive.specs.Paths.{no_paths, goes_of, slots_of}
+use Rattle.plan_drive.specs.Paths.{no_paths, goes_of}
 use Rattle.plan_drive.specs.Joins.{Joins}
 use Rattle.snapshot.specs.Path.{PathEmits}
-use Rattle.snapshot.specs.Positions.{IsRested, slot_count}
+use Rattle.snapshot.specs.Positions.{IsRested}
 use Rattle.job_player.proofs.Planning.{room_for, own_script}
 use Rattle.job_player.proofs.planned.ConsolePlanPlayer.ready_plan.Goals as goal
 
 pub new-requires : goal.new-requires
-new-requires c = own_script c.args.job.now c.requires.script c.requires.region
+new-requires c = record { script = own_script c.args.job.now c.requires.script c.requires.region }
 
 pub returns-clause-starts : goal.returns-clause-starts
 returns-clause-starts c =
