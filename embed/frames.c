@@ -5,6 +5,7 @@
  * The boot ROM and the table are the free ones unless they are named. With --try the state at FRAME is kept. The rest is
  * played with START held on both pads first, and then, back at that state, by the script. The files have what was played
  * by the script, so they are the same as without --try. */
+#include <inttypes.h>
 #include <stdio.h>
 #include <stdlib.h>
 #include <string.h>
@@ -16,7 +17,7 @@ struct bytes {
 };
 
 struct pads {
-  uint32_t pad1, pad2;
+  uint16_t pad1, pad2;
 };
 
 static uint8_t video[SNES_FRAME_BYTES], sound[SNES_FRAME_SOUND_ROOM];
@@ -45,8 +46,8 @@ static void read_script(const char *name) {
       region = SNES_PAL;
       continue;
     }
-    if (sscanf(line, "%u %x %x", &count, &one.pad1, &one.pad2) != 3 || count > SNES_MOST_FRAMES - to) exit(3);
-    one.pad1 &= 0xfff0, one.pad2 &= 0xfff0;
+    if (sscanf(line, "%" SCNu32 " %" SCNx16 " %" SCNx16, &count, &one.pad1, &one.pad2) != 3) exit(3);
+    if (count > SNES_MOST_FRAMES - to) exit(3);
     while (count--) pads[to++] = one;
   }
   fclose(from);

@@ -34,7 +34,7 @@ extern "C" {
 #define SNES_NTSC 0
 #define SNES_PAL 1
 
-/* The buttons of a pad. The low four bits of a pad are 0. */
+/* The buttons of a pad. The low four bits of a pad count as 0, as in a script. */
 #define SNES_BUTTON_B 0x8000
 #define SNES_BUTTON_Y 0x4000
 #define SNES_BUTTON_SELECT 0x2000
@@ -52,7 +52,7 @@ extern "C" {
 enum snes_status {
   SNES_OK = 0,        /* done */
   SNES_FRAMES = 1,    /* snes_play, snes_begin: a number of frames out of bounds; snes_frame: the path has no frame left */
-  SNES_REFUSED = 3,   /* an input, a pad, a region or a slot was not accepted */
+  SNES_REFUSED = 3,   /* an input, a region or a slot was not accepted */
   SNES_TOO_SHORT = 4, /* video or sound does not fit into its room */
   SNES_NO_MEMORY = 5, /* malloc gave none */
   SNES_EMPTY = 6,     /* the console has not begun, or has ended */
@@ -73,9 +73,10 @@ enum snes_cause {
   SNES_SOUND_TOO_SHORT = 10,
   SNES_TOO_MANY_FRAMES = 11,
   SNES_WANT_OF_MEMORY = 12,
-  SNES_BAD_PAD = 13,         /* one of the low four bits of a pad is set, or it is above 65,535; place: 1 or 2, the pad */
+  SNES_NO_CONSOLE = 13,      /* the cause of SNES_EMPTY */
   SNES_BAD_REGION = 14,      /* neither SNES_NTSC nor SNES_PAL */
   SNES_BAD_SLOT = 15,        /* more than 64 slots were asked for */
+  SNES_CONSOLE_HELD = 16,    /* the cause of SNES_FULL */
 };
 
 struct snes_answer {
@@ -112,7 +113,7 @@ uint32_t snes_play(const uint8_t *cart, size_t cart_size,
  * console is in one call at a time. The calls of different consoles may run in several threads at once. */
 struct snes_console {
   uint32_t full;
-  void *at;
+  uint8_t *at;
 };
 
 /* Begins: switches a console on with a cartridge. The inputs are read in the call, and are the caller's again after it.
@@ -133,26 +134,27 @@ uint32_t snes_begin(struct snes_console *console,
 
 /* Plays a frame while the pads have these buttons down.
  *
- * `video_room` is at least SNES_FRAME_BYTES, and `sound_room` at least SNES_FRAME_SOUND_ROOM. At SNES_OK the frame's picture
- * is at the front of `video`, and its samples are at the front of `sound`; `answer` has the bytes of both. The frames 1
- * to n of a path have the bytes that snes_play gives for n frames and a script with the same pads.
+ * Rooms of SNES_FRAME_BYTES and SNES_FRAME_SOUND_ROOM serve every frame. At SNES_OK the frame's picture is at the front of
+ * `video`, and its samples are at the front of `sound`. What is behind them is as it was. `answer` has the bytes of both.
+ * The frames 1 to n of a path have the bytes that snes_play gives for n frames and a script with the same pads.
  *
  * At every other status the console and both rooms are as they were. SNES_FRAMES says that the path has `most` frames:
  * go back to a slot, or end and begin again. */
 uint32_t snes_frame(struct snes_console *console,
-                    uint32_t pad1,
-                    uint32_t pad2,
+                    uint16_t pad1,
+                    uint16_t pad2,
                     uint8_t *video, size_t video_room,
                     uint8_t *sound, size_t sound_room,
                     struct snes_answer *answer);
 
-/* Keeps the state of the console in a slot, a number below `slots`, in place of what the slot had. */
+/* Keeps the state of the console in a slot, in place of what the slot had. A slot that is not below `slots` is refused. */
 uint32_t snes_keep(struct snes_console *console, uint32_t slot);
 
-/* Goes back to the state that a slot has. The path is then that of the slot. */
+/* Goes back to the state that a slot has. The path is then that of the slot. A slot in which nothing was kept has the state
+ * that snes_begin left. */
 uint32_t snes_back(struct snes_console *console, uint32_t slot);
 
-/* Ends: gives back all memory of the console, which is then as before snes_begin. */
+/* Ends: frees all memory of the console. It can begin again. At SNES_EMPTY there was nothing to end. */
 uint32_t snes_end(struct snes_console *console);
 
 #ifdef __cplusplus

@@ -9,7 +9,7 @@ import threading
 from typing import Any, NamedTuple, Union
 
 from . import _library
-from ._errors import ConsoleError, Status
+from ._errors import Cause, ConsoleError, Status
 
 try:
     import numpy
@@ -24,7 +24,7 @@ File = Union[bytes, bytearray, memoryview, str, 'os.PathLike[str]']
 
 
 class Button(enum.IntFlag):
-    """The buttons of a pad. `Button.A | Button.RIGHT` is a pad with both down."""
+    """The buttons of a pad. `Button.A | Button.RIGHT` is a pad with both down. The low four bits of a pad count as 0."""
 
     B = 0x8000
     Y = 0x4000
@@ -134,7 +134,7 @@ class Console:
         numbers = [_word(number) for number in (REGIONS.get(region, 2), most, slots)]
         self._video = ctypes.create_string_buffer(FRAME_BYTES)
         self._sound = ctypes.create_string_buffer(FRAME_SOUND_ROOM)
-        self._done(self._library.snes_begin(self._kept, *inputs, *numbers, self._answer), True)
+        self._done(self._library.snes_begin(self._kept, *inputs, *numbers, self._answer))
 
     @property
     def frames(self) -> int:
@@ -145,7 +145,10 @@ class Console:
         """Plays a frame while the pads have these buttons down, and gives its bytes."""
         with self._lock:
             rooms = (self._video, FRAME_BYTES, self._sound, FRAME_SOUND_ROOM)
-            self._done(self._library.snes_frame(self._kept, _word(pad1), _word(pad2), *rooms, self._answer), True)
+            for pad in (pad1, pad2):
+                if not 0 <= pad <= 0xffff:
+                    raise ValueError(f'{pad} is no pad: give 0 to 0xFFFF, or Buttons')
+            self._done(self._library.snes_frame(self._kept, pad1, pad2, *rooms, self._answer))
             self._frames += 1
             video = ctypes.string_at(self._video, self._answer.video_count)
             return RawFrame(video, ctypes.string_at(self._sound, self._answer.sound_count))
@@ -160,13 +163,13 @@ class Console:
     def keep(self, slot: int) -> None:
         """Keeps the state in a slot, in place of what the slot had."""
         with self._lock:
-            self._done(self._library.snes_keep(self._kept, _word(slot)))
+            self._moved(self._library.snes_keep(self._kept, _word(slot)))
             self._frames_kept[slot] = self._frames
 
     def back(self, slot: int) -> None:
         """Goes back to the state that a slot has. A slot in which nothing was kept has the state of the start."""
         with self._lock:
-            self._done(self._library.snes_back(self._kept, _word(slot)))
+            self._moved(self._library.snes_back(self._kept, _word(slot)))
             self._frames = self._frames_kept.get(slot, 0)
 
     def close(self) -> None:
@@ -186,13 +189,16 @@ class Console:
         if hasattr(self, '_library'):
             self.close()
 
-    def _done(self, status: int, has_answer: bool = False) -> None:
+    def _done(self, status: int) -> None:
         """Raises a status that is not OK, with the cause that the call gave."""
-        if status == Status.OK:
-            return
-        if not has_answer:
-            raise ConsoleError(status, 15 if status == Status.REFUSED else 0)
-        raise ConsoleError(status, self._answer.cause, self._answer.place)
+        if status != Status.OK:
+            raise ConsoleError(status, self._answer.cause, self._answer.place)
+
+    @staticmethod
+    def _moved(status: int) -> None:
+        """Raises a status that is not OK of a call that gives no cause, since each of its statuses has but one."""
+        if status != Status.OK:
+            raise ConsoleError(status, Cause.NO_CONSOLE if status == Status.EMPTY else Cause.BAD_SLOT)
 
 
 def _word(number: int) -> int:

@@ -17,9 +17,8 @@ class Status(enum.IntEnum):
 
 
 class Cause(enum.IntEnum):
-    """The cause of a status, as snes.h has it. NONE is the cause of a status that says all."""
+    """The cause of a status, as snes.h has it."""
 
-    NONE = 0
     CART_TOO_SHORT = 1
     CART_TOO_LONG = 2
     CART_NO_HEADER = 3
@@ -32,12 +31,13 @@ class Cause(enum.IntEnum):
     SOUND_TOO_SHORT = 10
     TOO_MANY_FRAMES = 11
     WANT_OF_MEMORY = 12
-    BAD_PAD = 13
+    NO_CONSOLE = 13
     BAD_REGION = 14
     BAD_SLOT = 15
+    CONSOLE_HELD = 16
 
 
-# What happened, and what to do.
+# What happened, and what to do. The others are none that a caller of this package can bring about.
 _CAUSES = {
     Cause.CART_TOO_SHORT: ('the cartridge has fewer than 32,768 bytes', 'Give the whole image of a cartridge.'),
     Cause.CART_TOO_LONG: ('the cartridge has more than 4,194,304 bytes', 'Give the image of one cartridge, without more behind it.'),
@@ -46,15 +46,11 @@ _CAUSES = {
     Cause.CART_RAM_SIZE: ('the cartridge asks for RAM of size {place}', 'Cartridges with more than 128 KiB of RAM are not played.'),
     Cause.BOOT_SIZE: ('the boot ROM does not have 64 bytes', 'Give 64 bytes, or None for the free boot ROM.'),
     Cause.TABLE: ('the table is refused at entry {place}', 'Give 512 numbers of 16 bits up to 2047, or None for the free table.'),
-    Cause.TOO_MANY_FRAMES: ('the number of frames is out of bounds', 'Let `most` be 1 to 36,000.'),
-    Cause.BAD_PAD: ('pad {place} is no pad', 'Give 0 to 0xFFF0 with the low four bits 0, or Buttons.'),
+    Cause.TOO_MANY_FRAMES: ('a path has 1 to 36,000 frames, and not more than `most`', 'Go back to a slot, or begin a new console.'),
+    Cause.WANT_OF_MEMORY: ('there is no memory', 'Take fewer slots, or close other consoles.'),
+    Cause.NO_CONSOLE: ('the console is closed', 'Begin a new console.'),
     Cause.BAD_REGION: ('the region is neither NTSC nor PAL', "Give 'ntsc' or 'pal'."),
     Cause.BAD_SLOT: ('there is no such slot', 'Name a slot from 0 to `slots` - 1. A console has 0 to 64 slots.'),
-}
-_STATUSES = {
-    Status.FRAMES: ('the path has as many frames as it may have', 'Go back to a slot, or begin a new console.'),
-    Status.NO_MEMORY: ('there is no memory', 'Take fewer slots, or close other consoles.'),
-    Status.EMPTY: ('the console is closed', 'Begin a new console.'),
 }
 
 
@@ -64,11 +60,11 @@ class ConsoleError(Exception):
     `status` and `cause` are those of snes.h, `place` is the detail of the cause, `advice` is what to do.
     """
 
-    def __init__(self, status: int, cause: int = 0, place: int = 0) -> None:
+    def __init__(self, status: int, cause: int, place: int = 0) -> None:
         self.status = Status(status)
         self.cause = Cause(cause)
         self.place = place
-        what, self.advice = _CAUSES.get(self.cause) or _STATUSES.get(self.status) or (f'{self.status.name}, {self.cause.name}', '')
+        what, self.advice = _CAUSES.get(self.cause, (self.cause.name, ''))
         super().__init__(f'{what.format(place=place)}. {self.advice}'.strip())
 
     def __reduce__(self) -> tuple[type[ConsoleError], tuple[int, int, int]]:

@@ -4,7 +4,7 @@ from __future__ import annotations
 import ctypes
 import os
 import threading
-from ctypes import POINTER, c_char_p, c_size_t, c_uint32, c_void_p
+from ctypes import POINTER, c_char_p, c_size_t, c_uint16, c_uint32, c_void_p
 
 from ._errors import LibraryNotFound
 
@@ -30,7 +30,7 @@ _INPUT = [c_char_p, c_size_t]
 _ROOM = [c_void_p, c_size_t]
 _CALLS = {
     'snes_begin': [POINTER(Kept), *_INPUT, *_INPUT, *_INPUT, c_uint32, c_uint32, c_uint32, POINTER(Answer)],
-    'snes_frame': [POINTER(Kept), c_uint32, c_uint32, *_ROOM, *_ROOM, POINTER(Answer)],
+    'snes_frame': [POINTER(Kept), c_uint16, c_uint16, *_ROOM, *_ROOM, POINTER(Answer)],
     'snes_keep': [POINTER(Kept), c_uint32],
     'snes_back': [POINTER(Kept), c_uint32],
     'snes_end': [POINTER(Kept)],

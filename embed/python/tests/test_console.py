@@ -115,9 +115,9 @@ def test_refused_calls_leave_the_console(game, pads):
     with Console(game, most=50, slots=2) as console, Console(game) as other:
         wanted = play(other, pads[:50])
         first = play(console, pads[:49])
-        for pad in (1, 8, 0x10000, -1, 1 << 40):
-            refused(Status.REFUSED, Cause.BAD_PAD, 1, console.frame, pad)
-            refused(Status.REFUSED, Cause.BAD_PAD, 2, console.frame, 0x8000, pad)
+        for pads_of_a_frame in ((0x10000, 0), (0, -1), (0x8000, 1 << 40)):
+            with pytest.raises(ValueError):
+                console.frame(*pads_of_a_frame)
         for slot in (2, 64, -1):
             refused(Status.REFUSED, Cause.BAD_SLOT, 0, console.keep, slot)
             refused(Status.REFUSED, Cause.BAD_SLOT, 0, console.back, slot)
@@ -127,9 +127,9 @@ def test_refused_calls_leave_the_console(game, pads):
         refused(Status.FRAMES, Cause.TOO_MANY_FRAMES, 0, console.frame)
         console.back(0)
         assert play(console, pads[49:50]) == last
-    refused(Status.EMPTY, Cause.NONE, 0, console.frame)
-    refused(Status.EMPTY, Cause.NONE, 0, console.keep, 0)
-    refused(Status.EMPTY, Cause.NONE, 0, console.back, 0)
+    refused(Status.EMPTY, Cause.NO_CONSOLE, 0, console.frame)
+    refused(Status.EMPTY, Cause.NO_CONSOLE, 0, console.keep, 0)
+    refused(Status.EMPTY, Cause.NO_CONSOLE, 0, console.back, 0)
     console.close()
 
 
@@ -137,7 +137,7 @@ def test_rooms_that_lack_a_byte(game, pads):
     library = _library.load()
     with Console(game) as console, Console(game) as other:
         console.raw_frame(), other.raw_frame()
-        for sizes, cause in (((FRAME - 1, 2560), Cause.VIDEO_TOO_SHORT), ((FRAME, 2559), Cause.SOUND_TOO_SHORT)):
+        for sizes, cause in (((FRAME - 1, 2560), Cause.VIDEO_TOO_SHORT), ((FRAME, 2000), Cause.SOUND_TOO_SHORT)):
             rooms = [bytearray(b'\xee') * size for size in sizes]
             words = [word for room in rooms for word in ((_library.ctypes.c_char * len(room)).from_buffer(room), len(room))]
             answer = _library.Answer()
@@ -150,8 +150,15 @@ def test_rooms_that_lack_a_byte(game, pads):
 def test_begin_on_a_console_that_has_not_ended(game):
     with Console(game) as console:
         words = [word for data in (game, b'', b'') for word in (data, len(data))]
-        assert _library.load().snes_begin(console._kept, *words, 0, 36000, 8, _library.Answer()) == Status.FULL
+        answer = _library.Answer()
+        assert _library.load().snes_begin(console._kept, *words, 0, 36000, 8, answer) == Status.FULL
+        assert answer.cause == Cause.CONSOLE_HELD
         console.frame()
+
+
+def test_the_low_bits_of_a_pad_count_as_0(game, pads):
+    with Console(game) as console, Console(game) as other:
+        assert play(console, pads[1][:120]) == play(other, [(one | 15, two | 9) for one, two in pads[1][:120]])
 
 
 def test_two_consoles_on_two_threads(game, pads, serial):
