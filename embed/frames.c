@@ -33,6 +33,13 @@ static struct bytes read_file(const char *name) {
   return file;
 }
 
+/* No bytes, which stand for the free boot ROM or table. */
+static struct bytes none(void) {
+  struct bytes nothing = {malloc(1), 0};
+  if (!nothing.at) exit(5);
+  return nothing;
+}
+
 /* The pads of each frame; after the last line no button is down. A line of another form ends the program. A reset is one. */
 static void read_script(const char *name) {
   FILE *from = fopen(name, "r");
@@ -68,13 +75,13 @@ static void play(struct snes_console *console, struct pads down, FILE *video_to,
 }
 
 int main(int count, char **words) {
-  struct bytes boot = {(uint8_t *)"", 0}, table = boot;
+  struct bytes boot = none(), table = none();
   const char *at = "-1";
   struct snes_answer answer = {0, 0, 0, 0};
   struct snes_console console = {0, NULL};
   for (; count > 2 && !strncmp(words[1], "--", 2); count -= 2, words += 2) {
-    if (!strcmp(words[1], "--boot")) boot = read_file(words[2]);
-    else if (!strcmp(words[1], "--table")) table = read_file(words[2]);
+    if (!strcmp(words[1], "--boot")) free(boot.at), boot = read_file(words[2]);
+    else if (!strcmp(words[1], "--table")) free(table.at), table = read_file(words[2]);
     else if (!strcmp(words[1], "--try")) at = words[2];
     else return 1;
   }
@@ -88,6 +95,7 @@ int main(int count, char **words) {
 
   check("snes_begin", snes_begin(&console, cart.at, cart.size, boot.at, boot.size, table.at, table.size, region,
                                  (uint32_t)frames, 1, &answer), answer);
+  free(cart.at), free(boot.at), free(table.at);
   for (long frame = 0; frame < frames; frame++) {
     if (frame == tried) {
       check("snes_keep", snes_keep(&console, 0), answer);

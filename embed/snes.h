@@ -29,7 +29,7 @@ extern "C" {
 /* The most save states of a console. */
 #define SNES_MOST_SLOTS 64
 
-/* The regions of a console. NTSC has 21,477,272.73 / (262 * 1,364), about 60.0988 frames a second. PAL has
+/* The regions of a console. NTSC has 236,250,000 / 11 / (262 * 1,364), about 60.0985 frames a second. PAL has
  * 21,281,370 / (312 * 1,364), about 50.0070. */
 #define SNES_NTSC 0
 #define SNES_PAL 1
