@@ -243,6 +243,27 @@ def try_keys(browser, page, checks):
     checks.same('as at first', browser.value((cell % 0) + '.textContent'), 'Z, G0B0')
 
 
+def try_gamepads(browser, checks):
+    """Two gamepads that the browser does not have: buttons, and an axis."""
+    browser.value("""navigator.getGamepads = () => [null, ...[[0, [0, 9], [0, 0]], [1, [1], [0.9, -0.9]]].map(([index, down, axes]) =>
+        ({ index, axes, buttons: Array.from({ length: 16 }, (_, i) => ({ pressed: down.includes(i) })) }))]""")
+    checks.same('two gamepads', browser.until('run.pads.at(-1) === 0x90000980'), True)
+    browser.value("navigator.getGamepads = () => []")
+    checks.same('none', browser.until('run.pads.at(-1) === 0'), True)
+
+
+def try_full_screen(browser, shot, checks):
+    """The whole screen, at 4:3. The browser wants to be asked by a user for it."""
+    full = lambda: browser.do('Runtime.evaluate', expression="document.getElementById('full').click()", userGesture=True)
+    full()
+    checks.same('full screen', browser.until("document.fullscreenElement?.id === 'stage'"), True)
+    size = "(box => [box.width <= innerWidth, box.height <= innerHeight, Math.round(300 * box.width / box.height)])(document.getElementById('screen').getBoundingClientRect())"
+    checks.same('it fits, at 4:3', browser.value(size), [True, True, 400])
+    shot('full.png')
+    full()
+    checks.same('and back', browser.until('!document.fullscreenElement'), True)
+
+
 def try_files(browser, folder, shot, checks):
     at = at_of(folder)
     with open(at('script.txt'), 'w') as file:
@@ -287,6 +308,8 @@ def try_page(browser, folder, shots, checks, page):
     try_moves(browser, folder, shot, checks)
     try_link(browser, folder, page, checks)
     try_keys(browser, page, checks)
+    try_gamepads(browser, checks)
+    try_full_screen(browser, shot, checks)
     try_files(browser, folder, shot, checks)
 
 

@@ -10,6 +10,7 @@ from bogtrun_snes import Button, Cause, Console, ConsoleError, LibraryNotFound, 
 from bogtrun_snes import _console, _library
 
 FRAME = 244736
+EXAMPLE = os.path.join(os.path.dirname(os.path.abspath(__file__)), '..', 'examples', 'environment.py')
 
 
 def play(console, pads):
@@ -192,8 +193,18 @@ def test_a_fault_can_go_to_another_process(game):
     assert (other.status, other.cause, other.place, str(other)) == (3, 1, 0, str(fault.value))
 
 
+def test_the_score_of_the_example(game, pads, monkeypatch):
+    monkeypatch.syspath_prepend(os.path.dirname(EXAMPLE))
+    from environment import score_of
+
+    with Console(game) as console:
+        play(console, pads[1][:300])
+        assert score_of(console.frame(*pads[1][300]).picture) == 0
+        play(console, pads[1][301:550])
+        assert score_of(console.frame(*pads[1][550]).picture) == 20
+
+
 def test_the_example(scene):
-    example = os.path.join(os.path.dirname(os.path.abspath(__file__)), '..', 'examples', 'environment.py')
-    words = [sys.executable, example, str(scene / 'game.sfc'), '--steps', '40']
+    words = [sys.executable, EXAMPLE, str(scene / 'game.sfc'), '--steps', '40']
     one, two = (subprocess.run(words, check=True, capture_output=True, text=True).stdout for _ in range(2))
     assert one == two and 'episode' in one
