@@ -147,11 +147,11 @@ uint32_t snes_frame(struct snes_console *console,
                     uint8_t *sound, size_t sound_room,
                     struct snes_answer *answer);
 
-/* Keeps the state of the console in a slot, in place of what the slot had. A slot that is not below `slots` is refused. */
+/* Keeps the state of the console in a slot, in place of what the slot had. SNES_REFUSED says that there is no such slot. */
 uint32_t snes_keep(struct snes_console *console, uint32_t slot);
 
 /* Goes back to the state that a slot has. The path is then that of the slot. A slot in which nothing was kept has the state
- * that snes_begin left. */
+ * that snes_begin left. SNES_REFUSED says that there is no such slot. */
 uint32_t snes_back(struct snes_console *console, uint32_t slot);
 
 /* Ends: frees all memory of the console. It can begin again. At SNES_EMPTY there was nothing to end. */
