@@ -22,7 +22,7 @@ impl Model for KeptFrames {
     ghost also_owns = { λ h. kept h.full h.at h.told };
 }
 
-// What lies on the heap holds no lock and no thread's token, and any thread may free its block.
+// The state on the heap belongs to no thread, and any thread may free its block.
 unsafe impl Send for KeptFrames {}
 
 impl KeptFrames {
