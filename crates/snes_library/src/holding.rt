@@ -1,5 +1,5 @@
 // The calls for a console that the caller holds between frames.
-ghost use Rattle.std.specs.Prelude.{◌≡◌, ◌≢◌, if◌then◌else◌};
+ghost use Rattle.std.specs.Prelude.{◌≡◌, ◌≢◌};
 ghost use Rattle.frame_player.specs.Told.{told_first, gone_on, kept_in, back_to, word_of};
 ghost use Rattle.frame_player.specs.Frames.{FramePlayed};
 ghost use Rattle.kept_frames.specs.Left.{AsLeft};
@@ -116,12 +116,13 @@ pub extern "C" fn snes_keep(alloc: Global, console: &mut SnesConsole, slot: u32)
         return fault_status(Fault::Empty);
     }
     let mut frames = console.take(alloc);
-    let is_kept = frames.keep(slot);
-    if is_kept {
-        console.tell_kept(slot);
+    if !frames.keep(slot) {
+        console.fill(frames);
+        return fault_status(Fault::Slot);
     }
+    console.tell_kept(slot);
     console.fill(frames);
-    moved(is_kept)
+    0
 }
 
 /// Returns to the state that a slot holds, and returns a status: 0 if it was done.
@@ -136,12 +137,13 @@ pub extern "C" fn snes_back(alloc: Global, console: &mut SnesConsole, slot: u32)
         return fault_status(Fault::Empty);
     }
     let mut frames = console.take(alloc);
-    let is_back = frames.back(slot);
-    if is_back {
-        console.tell_back(slot);
+    if !frames.back(slot) {
+        console.fill(frames);
+        return fault_status(Fault::Slot);
     }
+    console.tell_back(slot);
     console.fill(frames);
-    moved(is_back)
+    0
 }
 
 /// Ends a console, frees all its memory, and returns a status: 0 if there was one.
@@ -157,17 +159,6 @@ pub extern "C" fn snes_end(alloc: Global, console: &mut SnesConsole) -> u32
     }
     drop(console.take(alloc));
     0
-}
-
-/// The status of a call that stores or returns: 0, or that there is no such slot.
-fn moved(is_done: bool) -> u32
-    ensures { result ≡ (if is_done then 0 else 3) }
-{
-    if is_done {
-        0
-    } else {
-        fault_status(Fault::Slot)
-    }
 }
 
 /// Writes that a call was done, and returns its status.
