@@ -1,11 +1,11 @@
--- Scripts with the same pads, and the scripts with the pads of some frames.
+-- Which scripts have the same pads, and which have the pads of some frames.
 use Rattle.std.specs.Prelude.{◌≡◌, ℕ, zero, suc, ◌<◌, List, [], ◌∷◌, length}
 use Rattle.snes_defs.specs.declared.script.Span.{Span}
 use Rattle.snes_defs.specs.Script.{frames_of, pads_at}
 use Rattle.frame_player.specs.Joined.{Frame}
 
--- TWO PATHS HAVE THE SAME PADS: they last the same number of frames, and the pads of each frame are the same
-pub record HasPadsOf (path other : List Span) : Type 0 where
+-- TWO PATHS HAVE THE SAME PADS: they last the same number of frames, and each frame has the same pads in both
+pub record HaveSamePads (path other : List Span) : Type 0 where
   pub lasts : frames_of path ≡ frames_of other
   pub pads : (frame : ℕ) → frame < frames_of path → pads_at path frame ≡ pads_at other frame
 
@@ -15,12 +15,11 @@ pads_played [] k = (0, 0)
 pads_played (f ∷ rest) zero = (f.pad1, f.pad2)
 pads_played (f ∷ rest) (suc k) = pads_played rest k
 
--- A PATH HAS THE PADS OF FRAMES: it lasts as many frames, and each frame of it has the pads with which it was played
-pub record ArePadsOf (path : List Span) (frames : List Frame) : Type 0 where
-  pub lasts : frames_of path ≡ length frames
-  pub pads : (k : ℕ) → k < length frames → pads_at path k ≡ pads_played frames k
+-- SPANS HAVE THE PADS OF FRAMES: each frame has in them the pads with which it was played
+abbrev pub HasPadsOf : List Span → List Frame → Type 0
+HasPadsOf spans frames = (k : ℕ) → k < length frames → pads_at spans k ≡ pads_played frames k
 
 -- each of some frames was played with these pads
-abbrev pub AreHeld : (pad1 pad2 : ℕ) → List Frame → Type 0
-AreHeld pad1 pad2 [] = Unit {0}
-AreHeld pad1 pad2 (f ∷ rest) = (f.pad1 ≡ pad1) × (f.pad2 ≡ pad2) × AreHeld pad1 pad2 rest
+abbrev pub ArePlayedWith : (pad1 pad2 : ℕ) → List Frame → Type 0
+ArePlayedWith pad1 pad2 [] = Unit {0}
+ArePlayedWith pad1 pad2 (f ∷ rest) = (f.pad1 ≡ pad1) × (f.pad2 ≡ pad2) × ArePlayedWith pad1 pad2 rest
