@@ -1,5 +1,5 @@
 -- No end is told as the status of a job that was done.
-use Rattle.std.proofs.Common.{◌≡◌, ◌≢◌, ℕ, List, sym, ◌∙◌, arith}
+use Rattle.std.proofs.Common.{◌≢◌, ℕ, List, sym, ◌∙◌, arith}
 use Rattle.job_player.proofs.Ends.{ends_early}
 use Rattle.memory_player.specs.declared.inputs.End.{End}
 use Rattle.memory_player.specs.declared.inputs.End.TheVariants.{Frames, Refused, NoMemory, TooShort}
