@@ -110,7 +110,9 @@ uint32_t snes_play(const uint8_t *cart, size_t cart_size,
 /* A console that the caller keeps. It is all zeros at first: struct snes_console console = {0, NULL}.
  *
  * The caller keeps, and nothing checks: C reads and writes neither field, and makes no copy to use in its place. Each
- * console is in one call at a time. The calls of different consoles may run in several threads at once. */
+ * console is in one call at a time. Two calls of one console may be in different threads, if a lock, the start or join of
+ * a thread, or a sequentially consistent atomic orders them. The calls of different consoles may run in several threads
+ * at once. */
 struct snes_console {
   uint32_t full;
   uint8_t *at;
@@ -136,7 +138,8 @@ uint32_t snes_begin(struct snes_console *console,
  *
  * Rooms of SNES_FRAME_BYTES and SNES_FRAME_SOUND_ROOM serve every frame. At SNES_OK the frame's picture is at the front of
  * `video`, and its samples are at the front of `sound`. What is behind them is as it was. `answer` has the bytes of both.
- * The frames 1 to n of a path have the bytes that snes_play gives for n frames and a script with the same pads.
+ * The frames 1 to n of a path have the bytes that snes_play gives for n frames and any script that gives each frame the
+ * same pads, in this region and without resets.
  *
  * At every other status the console and both rooms are as they were. SNES_FRAMES says that the path has `most` frames:
  * go back to a slot, or end and begin again. */

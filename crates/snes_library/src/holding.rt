@@ -68,8 +68,8 @@ pub extern "C" fn snes_begin(
 
 /// Plays a frame with these pads, and returns a status: 0 if it was done.
 ///
-/// The picture stands at the front of `video`, 244,736 bytes, and the samples at the front of `sound`, at most 2,560 bytes.
-/// `answer` says how many bytes they have. A pad has from bit 15 down B, Y, Select, Start, Up, Down, Left, Right, A, X, L,
+/// The picture stands at the front of `video`, and the samples at the front of `sound`. `answer` says how many bytes they
+/// have. A pad has from bit 15 down B, Y, Select, Start, Up, Down, Left, Right, A, X, L,
 /// R; its low four bits count as 0. At every other status the console and both rooms are as they were.
 #[unsafe(no_mangle)]
 pub extern "C" fn snes_frame(
