@@ -34,9 +34,11 @@ pub extern "C" fn snes_begin(
 ) -> u32
     requires left { AsLeft console.old }
     ensures left { AsLeft console.new }
-    ensures begun { result ≡ 0 → HasBegun console.old console.new (told_first cart.now boot.now table.now region most slots) }
+    ensures begun { result ≡ 0
+        → HasBegun console.old console.new (told_first cart.now boot.now table.now region most slots) }
     ensures done { result ≡ 0 → (answer.new.cause ≡ 0) × (answer.new.place ≡ 0) }
-    ensures ends { result ≢ 0 → Stays console.old console.new × (fault : Fault) × IsFaultTold fault result answer.new × EndsBegun console.old cart.now boot.now table.now region most slots fault }
+    ensures ends { result ≢ 0 → Stays console.old console.new × (fault : Fault) × IsFaultTold fault result answer.new
+        × EndsBegun console.old cart.now boot.now table.now region most slots fault }
 {
     if console.is_full() {
         return fault_told(Fault::Full, answer);
@@ -69,8 +71,8 @@ pub extern "C" fn snes_begin(
 /// Plays a frame with these pads, and returns a status: 0 if it was done.
 ///
 /// The picture stands at the front of `video`, and the samples at the front of `sound`. `answer` says how many bytes they
-/// have. A pad has from bit 15 down B, Y, Select, Start, Up, Down, Left, Right, A, X, L,
-/// R; its low four bits count as 0. At every other status the console and both rooms are as they were.
+/// have. A pad has from bit 15 down B, Y, Select, Start, Up, Down, Left, Right, A, X, L, R; its low four bits count as
+/// 0. At every other status the console and both rooms are as they were.
 #[unsafe(no_mangle)]
 pub extern "C" fn snes_frame(
     alloc: Global,
@@ -83,9 +85,12 @@ pub extern "C" fn snes_frame(
 ) -> u32
     requires left { AsLeft console.old }
     ensures left { AsLeft console.new }
-    ensures played { result ≡ 0 → FramePlayed console.old.kept.told (word_of pad1) (word_of pad2) video.old sound.old video.new sound.new answer.new.video answer.new.sound }
-    ensures on { result ≡ 0 → Holds console.old console.new (gone_on console.old.kept.told (word_of pad1) (word_of pad2)) }
-    ensures ends { result ≢ 0 → Stays console.old console.new × (fault : Fault) × IsFaultTold fault result answer.new × EndsPlayed console.old (word_of pad1) (word_of pad2) video.old sound.old video.new sound.new fault }
+    ensures played { result ≡ 0 → FramePlayed console.old.kept.told (word_of pad1) (word_of pad2)
+        video.old sound.old video.new sound.new answer.new.video answer.new.sound }
+    ensures on { result ≡ 0
+        → Holds console.old console.new (gone_on console.old.kept.told (word_of pad1) (word_of pad2)) }
+    ensures ends { result ≢ 0 → Stays console.old console.new × (fault : Fault) × IsFaultTold fault result answer.new
+        × EndsPlayed console.old (word_of pad1) (word_of pad2) video.old sound.old video.new sound.new fault }
 {
     if !console.is_full() {
         return fault_told(Fault::Empty, answer);
