@@ -1,40 +1,39 @@
--- The run of a path, and that of the same path whose script has memory for another number of spans.
-use Rattle.std.proofs.Common.{ℕ, ◌≤◌, List, refl, ap, sym, ◌∙◌, arith}
+-- The run of a path, and that of the same path whose script has memory for another number of spans and resets.
+use Rattle.std.proofs.Common.{ℕ, ◌≤◌, false, List, refl, ap, ◌∙◌, arith}
 use Rattle.snes_defs.specs.declared.cart.Cart.{Cart}
 use Rattle.snes_defs.specs.declared.cart.Job.{Job}
 use Rattle.snes_defs.specs.declared.region.Region.{Region}
-use Rattle.snes_defs.specs.declared.script.Span.{Span}
-use Rattle.snes_defs.specs.Script.{frames_of, pads_at}
+use Rattle.snes_defs.specs.Script.{frames_of}
 use Rattle.side_law.specs.Serial.{SerialState}
 use Rattle.side_law.specs.SerialRun.{after_turns}
-use Rattle.io_math.specs.Registers.{framed, registers_start}
+use Rattle.plan_drive.specs.Paths.{Path}
 use Rattle.console_bus.specs.BusState.{board_of}
 use Rattle.console_steps.specs.ConsoleState.{ConsoleState, console_moves}
 use Rattle.audio_side.specs.HardwareState.{table_of}
 use Rattle.audio_side.specs.Sound.{SoundState, sound_moves}
 use Rattle.snapshot.specs.Path.{PathEmits, script_in, start_of, console_of_path}
-use Rattle.snapshot.proofs.Clocks.{Agree, Alike}
-use Rattle.snapshot.proofs.Runs.{SameRun, same_runs, alike_stamp, starts_own, words_twice}
+use Rattle.snapshot.proofs.Clocks.{Agree, Alike, nothing_harmless}
+use Rattle.snapshot.proofs.Runs.{SameRun, same_runs, alike_stamp, starts_own}
 
-rooms_agree : (region : Region) (n m : ℕ) (path : List Span) → Agree (frames_of path) (script_in region n path) (script_in region m path)
-rooms_agree region n m path = record { pads = λ k lt. refl; resets = refl }
+rooms_agree : (region : Region) (n m : ℕ) (path : Path) → Agree (frames_of path.spans) (script_in region n path) (script_in region m path)
+rooms_agree region n m path = record {
+  pads = λ k lt. refl;
+  change = λ io. io;
+  harmless = nothing_harmless;
+  words = λ io. refl;
+  resets = λ k lt. refl;
+  extra = false;
+  there = refl;
+  sound = λ k lt. refl;
+}
 
-starts_roomy : (region : Region) (cart : Cart) (n m : ℕ) (path : List Span) → Alike (frames_of path) (script_in region m path) (console_of_path region cart n path) (console_of_path region cart m path)
-starts_roomy region cart n m path =
-    let t = script_in region m path in
-    let w = console_of_path region cart n path in
-    let f = frames_of path in
-    record {
-      before = λ lt. refl;
-      begun = λ is. ap (λ k. record w { rest = record w.rest { script = t; io = framed registers_start (pads_at path k).0 (pads_at path k).1 } }) is
-          ∙ ap (λ io. record w { rest = record w.rest { script = t; io = io } }) (sym (words_twice registers_start (pads_at path 0).0 (pads_at path 0).1 (pads_at path f).0 (pads_at path f).1));
-      within = omega arith;
-    }
+starts_roomy : (region : Region) (cart : Cart) (n m : ℕ) (path : Path) → Alike (frames_of path.spans) (script_in region n path) (script_in region m path) (rooms_agree region n m path) (console_of_path region cart n path) (console_of_path region cart m path)
+starts_roomy region cart n m path = record { before = λ lt. refl; begun = λ is. refl; within = omega arith }
 
-pub room_unseen : (job : Job) (n m : ℕ) (path : List Span) (video audio : List ℕ) → frames_of path ≤ 36000 → PathEmits job n path video audio → PathEmits job m path video audio
+pub room_unseen : (job : Job) (n m : ℕ) (path : Path) (video audio : List ℕ) → frames_of path.spans ≤ 36000 → PathEmits job n path video audio → PathEmits job m path video audio
 room_unseen job n m path video audio few h =
     let region = job.region in
-    let f = frames_of path in
+    let f = frames_of path.spans in
     let s = script_in region n path in
     let t = script_in region m path in
     let agree = rooms_agree region n m path in
