@@ -1,6 +1,6 @@
 // Copying a bus into another one, and adding spans and resets to its script.
 ghost use Rattle.std.specs.Prelude.{◌≡◌, ◌+◌, ◌<◌, ◌≤◌, ◌++◌, [], ◌∷◌, length, max, take, drop, OnOk, OnErr};
-ghost use Rattle.snes_defs.specs.Script.{RiseWithin, frames_of};
+ghost use Rattle.snes_defs.specs.Script.{RiseWithin, frames_of, is_reset};
 ghost use Rattle.console_bus.specs.Playing.{played, pressed, with_room};
 
 use crate::bus::{Bus, WORK_RAM};
@@ -61,6 +61,13 @@ impl Bus {
         let (pad1, pad2) = self.script.pads(self.frame as u32);
         self.io.set_words(pad1, pad2);
     }
+    /// Whether a frame of the script begins with a reset.
+    pub fn begins_with_reset(&self, frame: u32) -> bool
+        ensures { result ≡ is_reset self.now.script.resets frame }
+    {
+        self.script.resets(frame)
+    }
+
     /// Appends a frame to those of the script that begin with a reset, above them all. If the frame has begun, a reset
     /// is due. Does not allocate: the caller has reserved the room.
     pub fn press(&mut self, frame: u32)

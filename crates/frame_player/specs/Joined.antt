@@ -3,7 +3,7 @@ use Rattle.std.proofs.Common.{◌≡◌, ℕ, List, [], ◌∷◌, ◌++◌, sym
 use Rattle.snes_defs.specs.declared.cart.Job.{Job}
 use Rattle.snapshot.specs.Path.{PathEmits}
 use Rattle.snapshot.specs.PathLaws.{path_emits_once}
-use Rattle.frame_player.specs.Told.{Told, IsJobOf, gone_on, spans_of}
+use Rattle.frame_player.specs.Told.{Told, IsJobOf, gone_on, path_told, spans_of}
 use Rattle.frame_player.specs.Frames.{IsFrameOf}
 
 -- a frame that was played: its pads, its picture and its samples
@@ -33,14 +33,14 @@ samples_of (f ∷ rest) = f.samples ++ samples_of rest
 
 -- the serial console emits this for the job of what was told, with the pads of the path
 abbrev pub ToldEmits : Told → Job → (video audio : List ℕ) → Type 0
-ToldEmits told job = PathEmits job told.most (spans_of told.pads)
+ToldEmits told job = PathEmits job told.most (path_told told)
 
 -- one frame
 one_more : (told : Told) (f : Frame) (job : Job) (video audio : List ℕ) → IsJobOf told job → IsFrameOf told f.pad1 f.pad2 f.picture f.samples → ToldEmits told job video audio
     → ToldEmits (gone_on told f.pad1 f.pad2) job (video ++ f.picture) (audio ++ f.samples)
 one_more told f job video audio is frame so_far =
     let h = frame job is in
-    let same = path_emits_once job told.most (spans_of told.pads) h.first_video h.first_audio video audio h.first so_far in
+    let same = path_emits_once job told.most (path_told told) h.first_video h.first_audio video audio h.first so_far in
     subst (λ v. ToldEmits (gone_on told f.pad1 f.pad2) job (v ++ f.picture) (audio ++ f.samples)) same.0
     (subst (λ a. ToldEmits (gone_on told f.pad1 f.pad2) job (h.first_video ++ f.picture) (a ++ f.samples)) same.1 h.whole)
 
@@ -59,7 +59,7 @@ frames_join told (f ∷ rest) job video audio is played so_far =
 -- nothing is emitted for the empty path
 pub nothing_first : (told : Told) (job : Job) → told.pads ≡ [] → ToldEmits told job [] []
 nothing_first told job none =
-    subst (λ pads. PathEmits job told.most (spans_of pads) [] []) (sym none) (record {
+    subst (λ pads. PathEmits job told.most (record { spans = spans_of pads; resets = told.resets }) [] []) (sym none) (record {
       turns = 0;
       runs = record { first = λ k lt. absurd (omega (arith, lt)); past = record { console = omega arith; sound = omega arith } };
       video_is = refl;

@@ -104,6 +104,7 @@ module _ (job : Job) (n : ℕ) (p q : Path) (a b : Run) (va aa vb ab : List ℕ)
         few = x.few;
         room = x.room;
         reset_room = x.reset_room;
+        rise = x.rise;
         in_order = x.in_order;
       }
 

@@ -4,7 +4,7 @@ use Rattle.std.proofs.lemmas.Bool.{cases_lt}
 use Rattle.std.proofs.lemmas.List.{append-nil}
 use Rattle.snes_defs.specs.declared.cart.Job.{Job}
 use Rattle.snes_defs.specs.declared.script.Span.{Span}
-use Rattle.snes_defs.specs.Script.{frames_of}
+use Rattle.snes_defs.specs.Script.{RiseWithin, frames_of}
 use Rattle.clock_ratio.specs.Stamp.{frame_of, end_stamp_of}
 use Rattle.side_law.specs.Moves.{Moves}
 use Rattle.side_law.specs.Serial.{SerialState, got_of, console_step, sound_step, turn, console_emits, sound_emits}
@@ -27,6 +27,7 @@ use Rattle.snapshot.specs.Path.{start_of, end_of_path}
 use Rattle.snapshot.specs.Positions.{IsRested, IsGoing}
 use Rattle.snapshot.proofs.Runs.{goes_on, frames_more}
 use Rattle.snapshot.proofs.Copying.{done_script, done_region}
+use Rattle.snapshot.proofs.Resets.{rise_wider}
 
 -- a run that has not gone ahead
 lead_at : {C S : Type 0} (cm : Moves C) (sm : Moves S) (end : ℕ) (from at : SerialState C S) (video audio all_video all_audio : List ℕ)
@@ -80,6 +81,7 @@ begun job n paths r span x room few stands waits h =
       few = omega (arith, more, fits);
       room = omega (arith, size, short);
       reset_room = d.reset_room;
+      rise = subst (λ m. RiseWithin 1 m paths.path.resets) (sym more) (rise_wider 1 (frames_of paths.path.spans) span.count paths.path.resets d.rise);
       in_order = d.in_order;
       slots = h.slots;
     }
@@ -144,6 +146,7 @@ turned job n paths before video audio r after short turns console_out sound_out 
       few = h.few;
       room = h.room;
       reset_room = h.reset_room;
+      rise = h.rise;
       in_order = h.in_order;
       slots = h.slots;
     }

@@ -46,7 +46,7 @@ arrived job n paths before video audio r console sound no_video no_audio h =
     (subst (λ x. IsLead console_moves sound_moves end from at (v ++ r.run.serial.console.waiting) x) (ap (λ w. a ++ w) no_audio ∙ append-nil a) h.led.lead) in
     let under = lead_arrives console_moves sound_moves end from at v a lead past in (
       record {
-        now = (v, a, record { at = at; stands = h.led.stands; underway = under; past = past; no_video = no_video; no_audio = no_audio; end_is = h.end_is; few = h.few; room = h.room; reset_room = h.reset_room; in_order = h.in_order });
+        now = (v, a, record { at = at; stands = h.led.stands; underway = under; past = past; no_video = no_video; no_audio = no_audio; end_is = h.end_is; few = h.few; room = h.room; reset_room = h.reset_room; rise = h.rise; in_order = h.in_order });
         slots = h.slots;
       },
       record { first_video = h.first_video; first_audio = h.first_audio; first = h.first; whole = run_is_over console_moves sound_moves from end at v a under past },
@@ -76,6 +76,7 @@ video_handed job n paths before video audio r x k same left h = record {
   few = h.few;
   room = h.room;
   reset_room = h.reset_room;
+  rise = h.rise;
   in_order = h.in_order;
   slots = h.slots;
 }
@@ -99,6 +100,7 @@ audio_handed job n paths before video audio r x k same left h = record {
   few = h.few;
   room = h.room;
   reset_room = h.reset_room;
+  rise = h.rise;
   in_order = h.in_order;
   slots = h.slots;
 }
@@ -144,6 +146,7 @@ drove job n paths before r after base holds no_video no_audio console sound none
       few = h.few;
       room = h.room;
       reset_room = h.reset_room;
+      rise = h.rise;
       in_order = h.in_order;
       slots = h.slots;
     } in

@@ -1,7 +1,7 @@
 -- The button pressed where a path ends.
-use Rattle.std.proofs.Common.{◌≡◌, ℕ, ◌+◌, ◌<◌, ◌≤◌, List, [], ◌∷◌, ◌++◌, length, length-append, refl, ap, sym, ◌∙◌, subst, arith}
+use Rattle.std.proofs.Common.{◌≡◌, ℕ, ◌+◌, ◌<◌, ◌≤◌, false, List, [], ◌∷◌, ◌++◌, length, length-append, refl, ap, sym, ◌∙◌, subst, arith}
 use Rattle.snes_defs.specs.declared.cart.Job.{Job}
-use Rattle.snes_defs.specs.Script.{Script, RiseWithin, frames_of}
+use Rattle.snes_defs.specs.Script.{Script, RiseWithin, frames_of, is_reset}
 use Rattle.clock_ratio.specs.Stamp.{end_stamp_of}
 use Rattle.console_steps.specs.ConsoleState.{ConsoleState}
 use Rattle.console_machine.specs.Side.{ConsoleValue}
@@ -15,7 +15,7 @@ use Rattle.snapshot.specs.declared.run.Run.{Run}
 use Rattle.snapshot.specs.declared.rewind.Rewind.{Rewind}
 use Rattle.snapshot.specs.Positions.{IsDone, IsRested}
 use Rattle.snapshot.proofs.Copying.{done_own, done_script, done_region}
-use Rattle.snapshot.proofs.Resets.{frames_pressed}
+use Rattle.snapshot.proofs.Resets.{frames_pressed, rise_within, rise_snoc, rise_last, rise_below}
 use Rattle.snapshot.proofs.Runs.{presses_on}
 
 module _ (job : Job) (n : ℕ) (path : Path) (r : Run) (video audio : List ℕ) (d : IsDone job n path r video audio) where
@@ -32,6 +32,16 @@ module _ (job : Job) (n : ℕ) (path : Path) (r : Run) (video audio : List ℕ) 
   pub frames_are : (count : ℕ) → ((frames : ℕ) → frames ≤ 36000 → r.end ≡ end_stamp_of r.serial.console.region frames → count ≡ frames) → count ≡ frames_of path.spans
   frames_are count counts =
       counts (frames_of path.spans) d.few (d.end_is ∙ ap (λ g. end_stamp_of g (frames_of path.spans)) (sym (done_region job n path r video audio d)))
+
+-- where it may be pressed: after the first frame, and once
+pub may_press : (path : Path) → frames_of path.spans ≤ 36000 → RiseWithin 1 (frames_of path.spans) path.resets
+    → 0 < frames_of path.spans → is_reset path.resets (frames_of path.spans) ≡ false → MayPress path
+may_press path few rise some none = rise_snoc 1 36000 path.resets (frames_of path.spans) rise none (omega (arith, some)) few
+
+pub may_not : (path : Path) → MayPress path → (0 < frames_of path.spans) × (is_reset path.resets (frames_of path.spans) ≡ false)
+may_not path may =
+    let last = (rise_last 1 36000 path.resets (frames_of path.spans) may).0 in
+    (omega (arith, last), rise_below 1 36000 path.resets (frames_of path.spans) (frames_of path.spans) may (omega arith))
 
 -- a rewinder whose machines have the reset
 pub pressed_rested : (job : Job) (n : ℕ) (paths : Paths) (r : Rewind) (frame : ℕ) (x : ConsoleValue) (y : AudioValue)
@@ -70,6 +80,7 @@ pressed_rested job n paths r frame x y counts room rises stands waits sound_stan
           few = d.few;
           room = d.room;
           reset_room = omega (arith, size, short);
+          rise = rise_within 1 36000 path.resets (frames_of path.spans) may;
           in_order = frames_pressed path.resets (frames_of path.spans) may ∙ ap (λ v. v ++ frames_of path.spans ∷ []) d.in_order;
         },
       );

@@ -336,6 +336,7 @@ put_same t m resets room =
 
 -- at the start of a path that goes on by a span
 goes_alike : (region : Region) (cart : Cart) (n : ℕ) (path : Path) (span : Span) → Alike (frames_of path.spans) (script_in region n path) (script_in region n (longer path span)) (goes_agree region n path span) (console_of_path region cart n path) (console_of_path region cart n (longer path span))
+unfolding goes_agree
 goes_alike region cart n path span =
     let s = script_in region n path in
     let t = script_in region n (longer path span) in
@@ -403,6 +404,7 @@ module _ (job : Job) (n : ℕ) (path next : Path) (few : frames_of path.spans �
 pub goes_on : (job : Job) (n : ℕ) (path : Path) (span : Span) (w : SerialState ConsoleState SoundState) (video audio : List ℕ) → frames_of path.spans + span.count ≤ 36000
     → IsUnderway console_moves sound_moves (start_of job n path) (end_of_path job.region path) w video audio → IsPast console_moves sound_moves (end_of_path job.region path) w
     → IsUnderway console_moves sound_moves (start_of job n (longer path span)) (end_of_path job.region (longer path span)) (record w { console = console_played w.console span }) video audio
+unfolding goes_agree
 goes_on job n path span w video audio few under past =
     let region = job.region in
     let f = frames_of path.spans in
@@ -422,6 +424,7 @@ pub presses_on : (job : Job) (n : ℕ) (path : Path) (w : SerialState ConsoleSta
     → IsUnderway console_moves sound_moves (start_of job n path) (end_of_path job.region path) w video audio → IsPast console_moves sound_moves (end_of_path job.region path) w
     → IsUnderway console_moves sound_moves (start_of job n (pressed path)) (end_of_path job.region (pressed path))
     (record w { console = console_pressed w.console (frames_of path.spans); sound = sound_pressed w.sound (frames_of path.spans) }) video audio
+unfolding resets_agree
 presses_on job n path w video audio few may under past =
     let region = job.region in
     let f = frames_of path.spans in

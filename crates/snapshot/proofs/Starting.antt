@@ -52,6 +52,7 @@ first_done job spans s old new sound sound_new script starts roomy sounds sound_
       few = omega arith;
       room = omega arith;
       reset_room = omega arith;
+      rise = tt;
       in_order = no_frames 36001;
     }
 

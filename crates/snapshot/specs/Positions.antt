@@ -1,7 +1,7 @@
 -- When a rewinder stands where a path ends, and when it is on its way along a path.
 use Rattle.std.specs.Prelude.{◌≡◌, ℕ, ◌+◌, ◌<◌, ◌≤◌, List, [], ◌++◌, length, drop, slice_index_or}
 use Rattle.snes_defs.specs.declared.cart.Job.{Job}
-use Rattle.snes_defs.specs.Script.{frames_of}
+use Rattle.snes_defs.specs.Script.{RiseWithin, frames_of}
 use Rattle.side_law.specs.Serial.{SerialState}
 use Rattle.side_law.specs.SerialRun.{IsPast, IsUnderway}
 use Rattle.snes_defs.specs.declared.ports.Side.{Side}
@@ -34,6 +34,7 @@ pub record IsDone (job : Job) (n : ℕ) (path : Path) (r : Run) (video audio : L
   pub few : frames_of path.spans ≤ 36000
   pub room : length path.spans ≤ n
   pub reset_room : length path.resets ≤ n
+  pub rise : RiseWithin 1 (frames_of path.spans) path.resets
   pub in_order : reset_frames path.resets 36001 ≡ path.resets
 
 -- what can be copied into what: one cartridge, one boot ROM and table, and room for the spans and the resets
@@ -104,6 +105,7 @@ pub record IsGoing (job : Job) (n : ℕ) (paths : Paths) (before : Path) (video 
   pub few : frames_of paths.path.spans ≤ 36000
   pub room : length paths.path.spans ≤ n
   pub reset_room : length paths.path.resets ≤ n
+  pub rise : RiseWithin 1 (frames_of paths.path.spans) paths.path.resets
   pub in_order : reset_frames paths.path.resets 36001 ≡ paths.path.resets
   pub slots : AreHeld job n paths r
 

@@ -1,4 +1,4 @@
-ghost use Rattle.std.specs.Prelude.{◌≡◌, ◌+◌, ◌<◌, ◌≤◌, ◌↔◌, ℕ, List, [], length, max, OnOk, IfOk, IfSome, IsSome, IsNone};
+ghost use Rattle.std.specs.Prelude.{◌≡◌, ◌+◌, ◌<◌, ◌≤◌, ◌↔◌, ℕ, List, [], length, max, OnOk, IfOk, IfSome, IsSome, IsNone, IsTrue};
 ghost use Rattle.snes_defs.specs.declared.cart.Job.{Job};
 ghost use Rattle.snes_defs.specs.Script.{frames_of};
 ghost use Rattle.plan_drive.specs.Paths.{Path, Paths, empty_path, no_paths, gone, reset_there, MayPress, kept, back, goes_of, slots_of};
@@ -98,6 +98,15 @@ impl Rewind {
         ensures waits { StepsNone self.old self.new }
     {
         self.run.play(span);
+    }
+
+    /// Whether the reset button may be pressed at the end of the path: there are frames before it, and the button was
+    /// not pressed there.
+    pub fn may_reset(&self) -> bool
+        ensures { (job : Job) (n : ℕ) (paths : Paths) → IsRested job n paths self.now → IsTrue result ↔ MayPress paths.path }
+    {
+        let frames = self.run.frames();
+        frames > 0 && !self.run.is_reset_in(frames)
     }
 
     /// Presses the reset button at the end of the path, with the first step after it. The path must have frames, and

@@ -2,7 +2,7 @@
 // shows how far its machines were stepped.
 ghost use Rattle.std.specs.Prelude.{◌≡◌, ◌+◌, ◌*◌, ◌^◌, ◌<◌, ◌≤◌, ◌++◌, ◌↔◌, ℕ, List, [], ◌∷◌, length, max, min, take, drop, IsTrue, IfOk, IfErr, OnOk, OnErr};
 ghost use Rattle.snes_defs.specs.declared.ports.Side.{Side};
-ghost use Rattle.snes_defs.specs.Script.{RiseWithin, frames_of};
+ghost use Rattle.snes_defs.specs.Script.{RiseWithin, frames_of, is_reset};
 ghost use Rattle.clock_ratio.specs.Stamp.{frame_of, end_stamp_of};
 ghost use Rattle.side_law.specs.Serial.{SerialState, serial_of, turn, console_emits, sound_emits};
 ghost use Rattle.side_law.specs.SerialRun.{IsPast};
@@ -126,6 +126,14 @@ impl Run {
         let region = console.region();
         self.serial.console().play(span);
         self.end += end_stamp_in(region, span.count);
+    }
+
+    /// Whether a frame begins with a reset.
+    pub fn is_reset_in(&self, frame: u32) -> bool
+        ensures { result ≡ is_reset self.now.serial.console.rest.script.resets frame }
+    {
+        let (console, _) = self.serial.machines();
+        console.bus().begins_with_reset(frame)
     }
 
     /// Presses the reset button at the end of the path, on both sides. Nothing is allocated.
