@@ -9,8 +9,11 @@ use std::alloc::Global;
 use std::test::Fail;
 
 const START: u16 = 0x1000;
+
 const A: u16 = 0x0080;
+
 const RED: u16 = 0x001f;
+
 const GREEN: u16 = 0x00e0;
 
 /// A console of the door, and rooms for a frame.
@@ -90,12 +93,36 @@ fn a_slot_takes_a_console_back(rt: HostRuntime) -> Result<(), Fail> {
 }
 
 #[test]
+fn a_reset_shuts_the_door(rt: HostRuntime) -> Result<(), Fail> {
+    let mut bench = bench(rt.alloc(), Region::Ntsc).ok_or("no console")?;
+    // There is nothing to reset before the first frame.
+    assert!(rt; !bench.console.reset());
+    assert_eq!(rt; bench.dot_after(3, START), Ok(GREEN));
+    assert!(rt; bench.console.reset());
+    assert!(rt; !bench.console.reset());
+    assert!(rt; bench.console.keep(0));
+    assert_eq!(rt; bench.dot_after(3, 0), Ok(RED));
+    assert_eq!(rt; bench.dot_after(3, START), Ok(GREEN));
+    // The slot holds the press too, and the console that has not taken it.
+    assert!(rt; bench.console.back(0));
+    assert!(rt; !bench.console.reset());
+    assert_eq!(rt; bench.dot_after(3, 0), Ok(RED));
+    Ok(())
+}
+
+#[test]
 fn a_room_too_short_changes_nothing(rt: HostRuntime) -> Result<(), Fail> {
     let mut bench = bench(rt.alloc(), Region::Ntsc).ok_or("no console")?;
     let mut short = [7u8; 100];
-    let picture = bench.console.frame(0, 0, &mut short, bench.sound.as_mut_slice()).err();
+    let picture = bench
+        .console
+        .frame(0, 0, &mut short, bench.sound.as_mut_slice())
+        .err();
     assert_eq!(rt; picture, Some(FrameEnd::TooShort(Side::Console)));
-    let samples = bench.console.frame(0, 0, bench.video.as_mut_slice(), &mut short).err();
+    let samples = bench
+        .console
+        .frame(0, 0, bench.video.as_mut_slice(), &mut short)
+        .err();
     assert_eq!(rt; samples, Some(FrameEnd::TooShort(Side::Sound)));
     assert_eq!(rt; short, [7u8; 100]);
     assert_eq!(rt; bench.dot_after(5, 0), Ok(RED));

@@ -1,10 +1,10 @@
 // The calls for a console that the caller holds between frames.
 ghost use Rattle.std.specs.Prelude.{◌≡◌, ◌≢◌, if◌then◌else◌};
-ghost use Rattle.frame_player.specs.Told.{told_first, gone_on, kept_in, back_to, word_of};
+ghost use Rattle.frame_player.specs.Told.{told_first, gone_on, kept_in, back_to, pressed_in, word_of};
 ghost use Rattle.frame_player.specs.Frames.{FramePlayed};
 ghost use Rattle.kept_frames.specs.Left.{AsLeft};
 ghost use Rattle.snes_library.specs.declared.fault.Fault.{Fault};
-ghost use Rattle.snes_library.specs.Holding.{HasEnded, HasBegun, Holds, Stays, EndsBegun, EndsPlayed, EndsMoved};
+ghost use Rattle.snes_library.specs.Holding.{HasEnded, HasBegun, Holds, Stays, EndsBegun, EndsPlayed, EndsMoved, EndsReset};
 ghost use Rattle.snes_library.specs.Fault.{IsFaultTold};
 
 use crate::answer::SnesAnswer;
@@ -144,6 +144,28 @@ pub extern "C" fn snes_back(alloc: Global, console: &mut SnesConsole, slot: u32)
     moved(is_back)
 }
 
+/// Presses the reset button, so that the next frame begins with a reset, and returns a status: 0 if it was done.
+///
+/// It is refused before the first frame of the path, and if it was just pressed.
+#[unsafe(no_mangle)]
+pub extern "C" fn snes_reset(alloc: Global, console: &mut SnesConsole) -> u32
+    requires left { AsLeft console.old }
+    ensures left { AsLeft console.new }
+    ensures pressed { result ≡ 0 → Holds console.old console.new (pressed_in console.old.kept.told) }
+    ensures ends { result ≢ 0 → Stays console.old console.new × EndsReset console.old result }
+{
+    if !console.is_full() {
+        return fault_status(Fault::Empty);
+    }
+    let mut frames = console.take(alloc);
+    let is_pressed = frames.reset();
+    if is_pressed {
+        console.tell_reset();
+    }
+    console.fill(frames);
+    moved(is_pressed)
+}
+
 /// Ends a console, frees all its memory, and returns a status: 0 if there was one.
 #[unsafe(no_mangle)]
 pub extern "C" fn snes_end(alloc: Global, console: &mut SnesConsole) -> u32
@@ -159,7 +181,7 @@ pub extern "C" fn snes_end(alloc: Global, console: &mut SnesConsole) -> u32
     0
 }
 
-/// The status of a call that stores or returns: 0, or that there is no such slot.
+/// The status of a call that stores, returns or resets: 0, or that it is refused.
 fn moved(is_done: bool) -> u32
     ensures { result ≡ (if is_done then 0 else 3) }
 {
