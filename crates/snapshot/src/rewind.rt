@@ -1,4 +1,4 @@
-ghost use Rattle.std.specs.Prelude.{◌≡◌, ◌+◌, ◌<◌, ◌≤◌, ◌↔◌, ℕ, List, [], length, max, OnOk, IfOk, IfSome, IsSome, IsNone, IsTrue};
+ghost use Rattle.std.specs.Prelude.{◌≡◌, ◌+◌, ◌<◌, ◌≤◌, ◌↔◌, ℕ, false, List, [], length, max, OnOk, IfOk, IfSome, IsSome, IsNone, IsTrue};
 ghost use Rattle.snes_defs.specs.declared.cart.Job.{Job};
 ghost use Rattle.snes_defs.specs.Script.{frames_of};
 ghost use Rattle.plan_drive.specs.Paths.{Path, Paths, empty_path, no_paths, gone, reset_there, MayPress, kept, back, goes_of, slots_of};
@@ -26,6 +26,13 @@ mod playing;
 pub struct Rewind {
     run: Run,
     slots: Vec<Run>,
+}
+
+/// Whether the button may be pressed where a path of so many frames ends, of which a reset may begin the next one.
+fn may_press(frames: u32, is_reset: bool) -> bool
+    ensures { IsTrue result ↔ ((0 < frames) × (is_reset ≡ false)) }
+{
+    frames > 0 && !is_reset
 }
 
 impl Rewind {
@@ -106,7 +113,7 @@ impl Rewind {
         ensures { (job : Job) (n : ℕ) (paths : Paths) → IsRested job n paths self.now → IsTrue result ↔ MayPress paths.path }
     {
         let frames = self.run.frames();
-        frames > 0 && !self.run.is_reset_in(frames)
+        may_press(frames, self.run.is_reset_in(frames))
     }
 
     /// Presses the reset button at the end of the path, with the first step after it. The path must have frames, and
