@@ -42,6 +42,13 @@ pub struct Run {
     stepped: u64,
 }
 
+/// The number of resets for which a path of `spans` spans has memory, or that for which the script of the job has.
+fn room_for(job: &Job, spans: usize) -> usize
+    ensures { result ≡ max job.now.script.room spans }
+{
+    job.script.room().max(spans)
+}
+
 /// Returns the machines of a job at their start, with an empty path and memory for `spans` spans and resets. Fails only if
 /// allocation fails.
 pub fn first_run(alloc: Global, job: &Job, spans: usize) -> Result<Run, NoMemory>
@@ -52,7 +59,7 @@ pub fn first_run(alloc: Global, job: &Job, spans: usize) -> Result<Run, NoMemory
     let mut console = ConsoleSide::new(alloc, job)?;
     console.reserve(spans)?;
     let mut sound = AudioSide::new(alloc, job)?;
-    sound.reserve(job.script.room().max(spans))?;
+    sound.reserve(room_for(job, spans))?;
     Ok(Run {
         serial: Serial::new(console, sound),
         end: 0,
