@@ -148,9 +148,16 @@ impl Run {
         requires room { length self.old.serial.console.rest.script.resets < self.old.serial.console.rest.script.room }
         requires rises { RiseWithin 1 36000 (self.old.serial.console.rest.script.resets ++ frame ∷ []) }
         requires sound_room { length self.old.serial.sound.clock.resets < self.old.serial.sound.clock.room }
-        ensures pressed { self.new ≡ record self.old { serial = record self.old.serial { console = value_pressed self.old.serial.console frame; sound = audio_pressed self.old.serial.sound frame } } }
-        ensures stands { (w : ConsoleState) → console_side.StandsAt self.old.serial.console w → console_side.StandsAt self.new.serial.console (console_pressed w frame) }
-        ensures sound_stands { (m : SoundState) → sound_side.StandsAt self.old.serial.sound m → sound_side.StandsAt self.new.serial.sound (sound_pressed m frame) }
+        ensures pressed { self.new ≡ record self.old {
+          serial = record self.old.serial {
+            console = value_pressed self.old.serial.console frame;
+            sound = audio_pressed self.old.serial.sound frame;
+          };
+        } }
+        ensures stands { (w : ConsoleState) → console_side.StandsAt self.old.serial.console w
+            → console_side.StandsAt self.new.serial.console (console_pressed w frame) }
+        ensures sound_stands { (m : SoundState) → sound_side.StandsAt self.old.serial.sound m
+            → sound_side.StandsAt self.new.serial.sound (sound_pressed m frame) }
     {
         self.serial.console().press(frame);
         self.serial.sound().press(frame);
