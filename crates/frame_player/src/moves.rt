@@ -48,11 +48,11 @@ pub(crate) fn press(rewind: &mut Rewind) -> bool
     ensures none { (told : Told) (other : Way) → StandsAt told other rewind.old → IsFalse result
         → (MayReset told → ⊥) × StandsAt told other rewind.new }
 {
-    if !rewind.may_reset() {
-        return false;
+    if rewind.may_reset() {
+        rewind.reset();
+        return true;
     }
-    rewind.reset();
-    true
+    false
 }
 
 /// Plays one frame. The rooms take what it emits, as far as that fits.
