@@ -96,14 +96,14 @@ mkdir -p "$usr/share/lintian/overrides"
   echo 'snes: unstripped-binary-or-object [usr/lib/snes/snes*]'
 } >"$usr/share/lintian/overrides/snes"
 
-# The library with the three calls by which it allocates, static and shared. The shared object shows one name, snes_play.
+# The library with the three calls by which it allocates, static and shared. The shared object shows the calls of snes.h alone.
 triplet=x86_64-linux-gnu
 needs=("$usr"/lib/snes/snes*)
 if [ -f "$library" ]; then
   place=$usr/lib/$triplet
   lib=libbogtrun-snes
   mkdir -p "$usr/include/bogtrun" "$place/pkgconfig" "$doc/examples"
-  echo '{ global: snes_play; local: *; };' >"$work/names"
+  echo '{ global: snes_play; snes_begin; snes_frame; snes_keep; snes_back; snes_end; local: *; };' >"$work/names"
   cc -O2 -fPIC -ffile-prefix-map="$top"=. -c embed/heap.c -o "$work/heap.o" && cp "$library" "$work/$lib.a" &&
     ar rD "$work/$lib.a" "$work/heap.o" && ranlib -D "$work/$lib.a" &&
     cc -shared -o "$work/$lib.so.1" -Wl,-soname,"$lib.so.1",--build-id=none,-z,relro,-z,now,--gc-sections \
@@ -112,14 +112,14 @@ if [ -f "$library" ]; then
   strip --strip-unneeded -D "$place/$lib.so.1"
   ln -s "$lib.so.1" "$place/$lib.so"
   install -m 644 embed/snes.h "$usr/include/bogtrun"
-  install -m 644 embed/frame.c embed/play.py "$doc/examples"
+  install -m 644 embed/frame.c embed/frames.c embed/play.py "$doc/examples"
   cat >"$place/pkgconfig/bogtrun-snes.pc" <<TEXT
 prefix=\${pcfiledir}/../../..
 includedir=\${prefix}/include
 libdir=\${prefix}/lib/$triplet
 
 Name: bogtrun-snes
-Description: Super Nintendo emulator whose output is proved, as one call
+Description: Super Nintendo emulator whose output is proved, whole or a frame at a time
 Version: $version
 Cflags: -I\${includedir}/bogtrun
 Libs: -L\${libdir} -lbogtrun-snes

@@ -1,17 +1,20 @@
 #!/usr/bin/env bash
-# Tries the console as a library (docs/use/EMBEDDING.md): builds embed/frame.c and a shared object with the library, plays the
-# scene by both and by `snes serial`, compares the bytes by their sums, and tries each refusal.
+# Tries the console as a library (docs/use/EMBEDDING.md): builds the programs of embed/ and a shared object with the library, plays the
+# scene and the game by both and by `snes serial`, compares the bytes by their sums, and tries each refusal. So too the console a
+# frame at a time: embed/frames.c, the Python package if there is pytest, and the libretro core if there is libretro.h.
 #
 #     tools/compare/try_embedding.sh [FRAMES]
 #
-# FRAMES is 60 if left out. The library is proved and built first where that is needed (tools/build_library.sh). Needs a C compiler and
-# python3. SNES and SCENE may name built programs in place of ./snes and ./scene. Says each check, and ends with status 1
-# where one failed.
+# FRAMES is 60 if left out. The library is proved and built first if that is needed (tools/build_library.sh). LIBRARY may name
+# another one, to try one that is not proved. Needs a C compiler and python3. SNES and SCENE may name built programs in place
+# of ./snes and ./scene. Says each check, and ends with status 1 if one failed.
 top=$(cd "$(dirname "${BASH_SOURCE[0]}")/../.." && pwd) || exit 1
 frames=${1:-60}
 snes=${SNES:-$top/snes}
 scene=${SCENE:-$top/scene}
 library=$top/crates/snes_library/out/libsnes_library.a
+[ -z "${LIBRARY-}" ] || library=$(readlink -f "$LIBRARY")
+libretro=${LIBRETRO:-/usr/include/libretro-common}
 failed=0
 passed=0
 
@@ -28,7 +31,7 @@ check() {
 
 sum_of() { sha256sum "$1" | cut -d ' ' -f 1; }
 
-"$top/tools/build_library.sh" || exit 1
+[ -n "${LIBRARY-}" ] || "$top/tools/build_library.sh" || exit 1
 work=$(mktemp -d) || exit 1
 trap 'rm -rf "$work"' EXIT
 cd "$work" || exit 1
@@ -99,5 +102,68 @@ refused 'a video room that lacks a byte' '4 cause 9 place 0' "${inputs[@]}" 2 48
 refused 'a sound room that lacks a byte' '4 cause 10 place 0' "${inputs[@]}" "$frames" "$video_size" $((sound_size - 1))
 said=$(ulimit -v 36500; ./frame "${inputs[@]}" 1 frame.raw sound.raw 2>/dev/null)
 check 'too little memory' "$said" 'status 5 cause 12 place 0 video 0 sound 0'
+
+# A frame at a time, by C: in each region, with the free files and with named ones, with and without a try from a save state.
+game=$top/examples/game/minute.txt
+{ echo 'version 2 pal' && cat "$game"; } >pal.txt
+cc -std=c11 -O2 -Wall -Wextra -Werror -o frames "$top/embed/frames.c" "$top/embed/heap.c" "$library" || exit 1
+serial() {
+  "$snes" --quiet serial --cart scene/game.sfc --boot scene/boot.bin --table scene/table.bin --script "$1" --frames "$2" \
+    --video video.raw --audio audio.raw >/dev/null || exit 1
+}
+compare() {
+  check "$1: all video" "$(sum_of other.video)" "$(sum_of video.raw)"
+  check "$1: all sound" "$(sum_of other.audio)" "$(sum_of audio.raw)"
+}
+for script in "$game" pal.txt; do
+  serial "$script" 600
+  ./frames scene/game.sfc "$script" 600 other.video other.audio || exit 1
+  compare "frames, ${script##*/}"
+  ./frames --try 400 --boot scene/boot.bin --table scene/table.bin scene/game.sfc "$script" 600 other.video other.audio || exit 1
+  compare "frames with a try, ${script##*/}"
+done
+check 'frames: a cartridge that is too short' "$(./frames short.sfc pal.txt 1 other.video other.audio 2>&1)" 'snes_begin: status 3 cause 1 place 0'
+check 'frames: no frames' "$(./frames scene/game.sfc pal.txt 0 other.video other.audio 2>&1)" 'snes_begin: status 1 cause 11 place 0'
+printf '#include "snes.h"\nstatic_assert(SNES_FRAME_BYTES == 239 * 512 * 2 && SNES_FULL == 7 && SNES_CONSOLE_HELD == 16, "");\n' >header.cc
+check 'the header in C++' "$(c++ -std=c++11 -Wall -Wextra -Werror -pedantic -I"$top/embed" -fsyntax-only header.cc 2>&1)" ''
+
+# By Python, if there is pytest.
+if python3 -c 'import pytest' 2>/dev/null; then
+  said=$(PYTHONPATH=$top/embed/python SNES_LIBRARY=$PWD/libsnes.so SNES=$(command -v "$snes") SCENE=$(command -v "$scene") \
+    PYTHONDONTWRITEBYTECODE=1 python3 -m pytest -q -p no:cacheprovider "$top/embed/python/tests" 2>&1)
+  check 'the tests of the Python package' "$? $(tail -n 1 <<<"$said" | sed 's/ in .*//')" "0 $(grep -c '^def test_' "$top"/embed/python/tests/test_console.py) passed"
+else
+  echo '        without the tests of the Python package: there is no pytest'
+fi
+
+# By the libretro core, if there is the header.
+if [ -f "$libretro/libretro.h" ]; then
+  make -s -C "$top/core" LIBRARY="$library" LIBRETRO="$libretro" OUT="$PWD" || exit 1
+  mkdir -p system/bogtrun_snes && cp scene/boot.bin scene/table.bin system/bogtrun_snes
+  own=(--system system --set bogtrun_snes_boot=bogtrun_snes/boot.bin --set bogtrun_snes_table=bogtrun_snes/table.bin)
+  serial "$game" 600
+  said=$(./front ./bogtrun_snes_libretro.so scene/game.sfc "$game" 600 other.video other.audio)
+  check 'core: what it says' "$said" 'Bogtrun SNES 1.1: 60.0985 frames and 32000 samples a second, region 0'
+  compare 'core'
+  serial pal.txt 300
+  said=$(./front "${own[@]}" --set bogtrun_snes_region=pal ./bogtrun_snes_libretro.so scene/game.sfc pal.txt 300 other.video other.audio)
+  check 'core, PAL: what it says' "$said" 'Bogtrun SNES 1.1: 50.0070 frames and 32000 samples a second, region 1'
+  compare 'core, PAL'
+  said=$(./front --reset 100 ./bogtrun_snes_libretro.so scene/game.sfc "$game" 400 all.video all.audio | sed -n 2p)
+  check 'core: reset' "$said" 'frame 100: Power on anew'
+  serial "$game" 300
+  tail -c "$(stat -c %s video.raw)" all.video >other.video
+  tail -c "$(stat -c %s audio.raw)" all.audio >other.audio
+  compare 'core after a reset'
+  said=$(./front --system nowhere "${own[@]:2}" ./bogtrun_snes_libretro.so scene/game.sfc "$game" 1 other.video other.audio)
+  check 'core: a boot ROM that is missing' "$? $said" '3 frame 0: nowhere/bogtrun_snes/boot.bin is missing, or not 64 bytes long'
+  said=$(./front ./bogtrun_snes_libretro.so short.sfc "$game" 1 other.video other.audio)
+  check 'core: a cartridge that is too short' "$? $said" '3 frame 0: The cartridge has fewer than 32,768 bytes'
+  said=$(./front ./bogtrun_snes_libretro.so scene/game.sfc "$game" 36001 /dev/null /dev/null | sed 1d)
+  check 'core: ten minutes are over' "$said" "frame 32399: The console has 3,600 frames left
+frame 36000: The console has played its 36,000 frames. Reset: power on anew"
+else
+  echo "        without the libretro core: there is no $libretro/libretro.h"
+fi
 echo "$passed passed, $failed failed"
 [ "$failed" -eq 0 ]

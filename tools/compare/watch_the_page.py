@@ -1,14 +1,14 @@
 #!/usr/bin/env python3
-"""Tries web/emulator/index.html in a headless Chromium of Debian's packages, and compares its films with those of `snes serial`.
+"""Tries web/emulator/index.html in a headless Chromium of Debian's packages, and compares its frames with those of `snes`.
 
     tools/compare/watch_the_page.py SHOTS [CHROMIUM]
 
-tools/build_page.sh has to be run before. The sum that the page shows of 300 frames of the scene has to be that of
-`snes serial`; so too after keys were pressed, by the script that the page took down. SHOTS is where screenshots go. SNES
-and SCENE may name built programs in place of ./snes and ./scene. An error on the page's console fails it, and so does
-any request that is not for a local file. The status is 1 where a check failed.
+tools/build_page.sh has to be run before. The page plays the game live while keys are pressed. Then the sums that it took of each
+frame's picture and samples have to be those of `snes sums` for the script that it took down: 600 frames of it. So too after a
+rewind, by a link, and for dropped files in PAL. SHOTS is where screenshots go. SNES and SCENE may name built programs in place of
+./snes and ./scene. An error on the page's console fails it, and so does any request that is not for a local file. The
+status is 1 where a check failed.
 """
-import hashlib
 import os
 import struct
 import subprocess
@@ -24,20 +24,26 @@ SNES = os.environ.get('SNES', os.path.join(TOP, 'snes'))
 SCENE = os.environ.get('SCENE', os.path.join(TOP, 'scene'))
 
 
-def sum_of(name):
-    with open(name, 'rb') as file:
-        return hashlib.sha256(file.read()).hexdigest()
+def at_of(folder):
+    return lambda name: os.path.join(folder, name)
 
 
-def serial(folder, frames, script):
-    """The video and sound of the scene with this script, as `snes serial` writes them."""
-    at = lambda name: os.path.join(folder, name)
+def run_snes(folder, command, cart, script, frames, *outputs):
+    """Runs a command of `snes` over a cartridge of the scene's folder with this script."""
+    at = at_of(folder)
     with open(at('pressed.txt'), 'w') as file:
         file.write(script)
-    words = ['--cart', at('scene.sfc'), '--boot', at('boot.bin'), '--table', at('table.bin'), '--script', at('pressed.txt')]
-    subprocess.run([SNES, 'serial', *words, '--frames', str(frames), '--video', at('video.raw'), '--audio', at('audio.raw')],
-                   check=True, stdout=subprocess.DEVNULL, stderr=subprocess.DEVNULL)
-    return at('video.raw'), at('audio.raw')
+    words = ['--cart', at(cart), '--boot', at('boot.bin'), '--table', at('table.bin'), '--script', at('pressed.txt'), '--frames', str(frames)]
+    for output in outputs:
+        words += ['--' + output, at(output)]
+    subprocess.run([SNES, command, *words], check=True, stdout=subprocess.DEVNULL, stderr=subprocess.DEVNULL)
+
+
+def sums_of(folder, cart, script, frames):
+    """The lines of `snes sums`, without the last one, which has all frames."""
+    run_snes(folder, 'sums', cart, script, frames, 'sums')
+    with open(at_of(folder)('sums')) as file:
+        return file.read().splitlines()[:-1]
 
 
 def rows_of(png):
@@ -76,68 +82,235 @@ def dots_of(name, number):
     return [row for row in rows for _ in (0, 1)]
 
 
-def text_of(browser, name):
-    return browser.value(f"document.getElementById('{name}').textContent")
+def status_is(browser, text, seconds=20):
+    return browser.until(f"document.getElementById('status').textContent.startsWith({text!r})", seconds)
 
 
-def film_is_made(browser):
-    return browser.until("!making && film && document.getElementById('soundSum').textContent && /samples/.test(document.getElementById('status').textContent)", 120)
+def press(browser, code, down):
+    browser.do('Input.dispatchKeyEvent', type='keyDown' if down else 'keyUp', code=code, key=code)
 
 
-def try_film(browser, folder, frames, checks, what):
-    script = browser.value("document.getElementById('script').value")
-    video, audio = serial(folder, frames, script)
-    checks.same(f'{what}: the sum of {frames} frames', text_of(browser, 'videoSum'), sum_of(video))
-    checks.same(f'{what}: the sum of its sound', text_of(browser, 'soundSum'), sum_of(audio))
-    return video
+def tap(browser, code):
+    press(browser, code, True)
+    press(browser, code, False)
 
 
-def press(browser, code, key, down):
-    browser.do('Input.dispatchKeyEvent', type='keyDown' if down else 'keyUp', code=code, key=key)
+def click(browser, name):
+    browser.value(f"document.getElementById('{name}').click()")
 
 
-def try_page(browser, folder, shots, checks):
-    shot = lambda name: browser.shot(os.path.join(shots, name))
-    checks.same('the scene is made', film_is_made(browser), True)
-    print('        ' + text_of(browser, 'speed'))
-    video = try_film(browser, folder, 300, checks, 'the scene')
-    shot('first.png')
+def at_frame(browser, number, seconds=180):
+    return browser.until(f'run.on && run.number >= {number}', seconds)
 
-    browser.value("step(299)")
-    shot('last.png')
+
+def anew(browser, checks):
+    """Powers on, with sums of each frame."""
+    browser.value("document.getElementById('sums').checked = true")
+    click(browser, 'anew')
+    checks.same('power on anew', browser.until('run.on && run.number > 0 && run.number < 60'), True)
+
+
+def try_sums(browser, folder, cart, frames, checks, what):
+    """Compares the sums that the page took of its first frames with those of `snes sums` for its script."""
+    script = browser.value('script_text()')
+    found = browser.value('sums_text()').splitlines()
+    wanted = sums_of(folder, cart, script, frames)
+    checks.same(f'{what}: frames with sums', len(found) - 1 >= frames, True)
+    different = [line for line, other in zip(found[1:frames + 1], wanted[1:]) if line != other]
+    checks.same(f'{what}: of {frames} frames these differ from snes sums', different[:3], [])
+    checks.same(f'{what}: the last of them', found[frames], wanted[frames])
+    return script
+
+
+def try_picture(browser, folder, cart, checks, what):
+    """Compares the page's canvas with the last frame of the path."""
+    number = browser.value('run.number')
+    run_snes(folder, 'serial', cart, browser.value('script_text()'), number, 'video', 'audio')
     png = browser.value("new Promise(done => document.getElementById('screen').toBlob(blob => blob.arrayBuffer().then(all => done([...new Uint8Array(all)]))))")
-    checks.same('frame 299 as PNG', rows_of(bytes(png)) == dots_of(video, 299), True)
-    browser.value("step(-1)")
-    checks.same('a step back', browser.value('at'), 298)
+    checks.same(f'{what}: frame {number - 1} as PNG', rows_of(bytes(png)) == dots_of(at_of(folder)('video'), number - 1), True)
 
-    # What is pressed while it plays is in the script, by which the film is made again. (The scene reads no pad, so its film
-    # stays what it was.)
-    browser.value("step(-298)")
-    browser.value("document.getElementById('play').click()")
-    checks.same('it plays', browser.until('playing && at > 20'), True)
-    press(browser, 'ArrowRight', 'ArrowRight', True)
-    press(browser, 'KeyX', 'x', True)
-    time.sleep(1)
-    press(browser, 'KeyX', 'x', False)
-    time.sleep(.5)
-    press(browser, 'ArrowRight', 'ArrowRight', False)
+
+def play_with_keys(browser):
+    """Begins a game, and flies and shoots until some frames are over."""
+    at_frame(browser, 50)
+    tap(browser, 'Enter')
+    at_frame(browser, 90)
+    for i, code in enumerate(('ArrowRight', 'ArrowDown', 'ArrowLeft', 'ArrowUp', 'ArrowRight', 'ArrowDown')):
+        press(browser, code, True)
+        for shot in range(3):
+            tap(browser, ('KeyZ', 'KeyA', 'KeyX')[shot])
+            at_frame(browser, 90 + 80 * i + 25 * (shot + 1))
+        press(browser, code, False)
+
+
+def try_live(browser, folder, shot, checks):
+    checks.same('the game plays at once', at_frame(browser, 30), True)
+    anew(browser, checks)
+    play_with_keys(browser)
+    try_sound(browser, checks)
+    checks.same('it plays 600 frames', at_frame(browser, 605), True)
+    tap(browser, 'Space')
+    checks.same('it pauses', browser.value('run.paused'), True)
+    before = browser.value('run.number')
     time.sleep(.3)
-    browser.value("document.getElementById('soundSum').textContent = ''; document.getElementById('play').click()")
-    checks.same('the film is made again', film_is_made(browser), True)
-    script = browser.value("document.getElementById('script').value")
-    checks.same('what was pressed is in the script', ' 0180 0000\n' in script and ' 0100 0000\n' in script, True)
-    print('        ' + script.strip().replace('\n', ' | '))
-    try_film(browser, folder, 300, checks, 'with keys')
-    shot('pressed.png')
+    checks.same('and stands', browser.value('run.number'), before)
+    script = try_sums(browser, folder, 'game.sfc', 600, checks, 'keys')
+    print('        ' + script.strip().replace('\n', ' | ')[:400])
+    checks.same('keys: they are in the script', all(pad in script for pad in (' 1000 0000', ' 0100 0000', ' 8100 0000', ' 0480 0000')), True)
+    shot('live.png')
+    try_picture(browser, folder, 'game.sfc', checks, 'paused')
+    checks.same('the sound is on', browser.value("player.node !== null && player.context.state === 'running' && player.context.sampleRate"), 32000)
 
-    # Refusals are said, and files are taken.
-    browser.value("document.getElementById('script').value = 'no line'; document.getElementById('make').click()")
-    checks.same('a refused script', browser.until("document.getElementById('status').textContent === 'Status 3: the script is refused at line 1.'"), True)
-    browser.value("document.getElementById('script').value = 'version 2 pal\\n5 1000 0000\\n'; document.getElementById('frames').value = 100")
-    browser.value("document.getElementById('soundSum').textContent = ''; document.getElementById('status').textContent = ''")
-    browser.drop(os.path.join(folder, 'scene.sfc'), os.path.join(folder, 'boot.bin'), os.path.join(folder, 'table.bin'))
-    checks.same('a dropped cartridge', film_is_made(browser), True)
-    try_film(browser, folder, 100, checks, 'dropped, in PAL')
+
+def try_sound(browser, checks):
+    """Listens for five seconds. How many gaps there are depends on the machine, and is only said."""
+    played = lambda: browser.value('[player.played, player.gaps]')
+    before = played()
+    time.sleep(5)
+    samples, gaps = (after - one for after, one in zip(played(), before))
+    print(f'        {samples} samples were heard in 5 seconds, with {gaps} gaps; ' + browser.value(
+        "document.getElementById('speed').textContent + ', sound ahead ' + document.getElementById('ahead').textContent"))
+    checks.same('nearly all of 160,000 samples are heard', samples > 150000, True)
+
+
+def try_moves(browser, folder, shot, checks):
+    """Steps, a rewind, and what is played after it."""
+    number = browser.value('run.number')
+    tap(browser, 'Period')
+    checks.same('a step on', browser.value('run.number'), number + 1)
+    try_picture(browser, folder, 'game.sfc', checks, 'a step on')
+    for _ in range(9):
+        tap(browser, 'Comma')
+    checks.same('nine steps back', browser.value('run.number'), number - 8)
+    try_picture(browser, folder, 'game.sfc', checks, 'nine steps back')
+    tap(browser, 'Space')
+    at_frame(browser, number + 20)
+    press(browser, 'Backspace', True)
+    checks.same('it rewinds', browser.until(f'run.winding && run.number < {number - 60}'), True)
+    shot('rewound.png')
+    press(browser, 'Backspace', False)
+    checks.same('it plays on', browser.until(f'!run.winding && run.number > {number - 40}'), True)
+    press(browser, 'ArrowLeft', True)
+    at_frame(browser, number + 30)
+    press(browser, 'ArrowLeft', False)
+    tap(browser, 'Space')
+    try_sums(browser, folder, 'game.sfc', number + 30, checks, 'after a rewind')
+    try_picture(browser, folder, 'game.sfc', checks, 'after a rewind')
+    press(browser, 'Backspace', True)
+    checks.same('to the end of what can be rewound', status_is(browser, 'There is no more to rewind', 60), True)
+    press(browser, 'Backspace', False)
+    checks.same('it is paused still', browser.until('!run.winding && run.paused'), True)
+    try_picture(browser, folder, 'game.sfc', checks, 'rewound to the end')
+
+
+def try_link(browser, folder, page, checks):
+    """The link of a path plays the same path on a page that is opened with it."""
+    script = browser.value('script_text()')
+    frames = browser.value('run.number')
+    click(browser, 'link')
+    checks.same('the link is told', status_is(browser, 'The link is in the address'), True)
+    link = browser.value('location.hash')
+    print(f'        {len(script)} bytes of script, {len(link)} of link')
+    open_page(browser, 'about:blank')
+    open_page(browser, page + link)
+    checks.same('the link is opened', status_is(browser, 'Plays a script of'), True)
+    anew_text = "document.getElementById('sums').checked = true; open_link()"
+    browser.value(anew_text)
+    checks.same('the script of the link ends', status_is(browser, f'The script ended at frame {frames}', 120), True)
+    tap(browser, 'Space')
+    checks.same('the link has the script', browser.value('script_text()').startswith(script.rsplit('\n', 2)[0]), True)
+    try_sums(browser, folder, 'game.sfc', frames, checks, 'by the link')
+
+
+def try_keys(browser, page, checks):
+    """A key in place of another, also when the page is opened again; then as at first."""
+    cell = "document.querySelectorAll('#keys td button')[%d]"
+    browser.value((cell % 0) + '.click()')
+    tap(browser, 'KeyP')
+    checks.same('the key of B', browser.value((cell % 0) + '.textContent'), 'G0B0, P')
+    open_page(browser, 'about:blank')
+    open_page(browser, page)
+    at_frame(browser, 10)
+    press(browser, 'KeyP', True)
+    checks.same('the new key', browser.until('run.pads.at(-1) === 0x80000000'), True)
+    press(browser, 'KeyP', False)
+    press(browser, 'KeyZ', True)
+    number = browser.value('run.number')
+    at_frame(browser, number + 5)
+    checks.same('the old key', browser.value('run.pads.at(-1)'), 0)
+    press(browser, 'KeyZ', False)
+    click(browser, 'default')
+    checks.same('as at first', browser.value((cell % 0) + '.textContent'), 'Z, G0B0')
+
+
+def try_gamepads(browser, checks):
+    """Two gamepads that the browser does not have: buttons, and an axis."""
+    browser.value("""navigator.getGamepads = () => [null, ...[[0, [0, 9], [0, 0]], [1, [1], [0.9, -0.9]]].map(([index, down, axes]) =>
+        ({ index, axes, buttons: Array.from({ length: 16 }, (_, i) => ({ pressed: down.includes(i) })) }))]""")
+    checks.same('two gamepads', browser.until('run.pads.at(-1) === 0x90000980'), True)
+    browser.value("navigator.getGamepads = () => []")
+    checks.same('none', browser.until('run.pads.at(-1) === 0'), True)
+
+
+def try_full_screen(browser, shot, checks):
+    """The whole screen, at 4:3. The browser wants to be asked by a user for it."""
+    full = lambda: browser.do('Runtime.evaluate', expression="document.getElementById('full').click()", userGesture=True)
+    full()
+    checks.same('full screen', browser.until("document.fullscreenElement?.id === 'stage'"), True)
+    size = "(box => [box.width <= innerWidth, box.height <= innerHeight, Math.round(300 * box.width / box.height)])(document.getElementById('screen').getBoundingClientRect())"
+    checks.same('it fits, at 4:3', browser.value(size), [True, True, 400])
+    shot('full.png')
+    full()
+    checks.same('and back', browser.until('!document.fullscreenElement'), True)
+
+
+def try_files(browser, folder, shot, checks):
+    at = at_of(folder)
+    with open(at('script.txt'), 'w') as file:
+        file.write('version 2 pal\n50 0000 0000\n3 1000 0000\n60 8100 0080\n')
+    browser.value("document.getElementById('sums').checked = true")
+    browser.drop(at('game.sfc'), at('boot.bin'), at('table.bin'), at('script.txt'))
+    checks.same('dropped files', status_is(browser, 'The script ended at frame 113', 60), True)
+    at_frame(browser, 130)
+    tap(browser, 'Space')
+    try_sums(browser, folder, 'game.sfc', 130, checks, 'dropped, in PAL')
+    click(browser, 'scene')
+    checks.same('the scene', browser.until("run.on && run.name === 'scene.sfc' && run.number > 60", 60), True)
+    shot('scene.png')
+    with open(at('short.sfc'), 'wb') as file:
+        file.write(bytes(100))
+    browser.drop(at('short.sfc'))
+    checks.same('a refused cartridge', status_is(browser, 'Status 3: the cartridge has fewer than 32,768 bytes.'), True)
+    with open(at('none.txt'), 'w') as file:
+        file.write('2 0000 0000\nno line\n')
+    browser.drop(at('none.txt'))
+    checks.same('a refused script', status_is(browser, 'the script is refused at line 2.'), True)
+    click(browser, 'game')
+    at_frame(browser, 20)
+    # Nobody waits here until ten minutes are over: the call answers as it does then.
+    browser.value('machine.real = machine.frame; machine.frame = () => FRAMES')
+    checks.same('the ten minutes are over', status_is(browser, 'The console has played its 36,000 frames'), True)
+    browser.value('machine.frame = machine.real')
+    checks.same('and it waits', browser.value('run.paused'), True)
+    browser.drop(at('game.sfc'))
+    checks.same('power on after that', at_frame(browser, 20), True)
+
+
+def open_page(browser, url):
+    browser.do('Page.navigate', url=url)
+    if url != 'about:blank':
+        browser.until("document.readyState === 'complete' && typeof run === 'object' && run.on")
+
+
+def try_page(browser, folder, shots, checks, page):
+    shot = lambda name: browser.shot(os.path.join(shots, name))
+    try_live(browser, folder, shot, checks)
+    try_moves(browser, folder, shot, checks)
+    try_link(browser, folder, page, checks)
+    try_keys(browser, page, checks)
+    try_gamepads(browser, checks)
+    try_full_screen(browser, shot, checks)
+    try_files(browser, folder, shot, checks)
 
 
 def main():
@@ -154,9 +327,10 @@ def main():
             for domain in ('Page', 'Runtime', 'Log', 'Network'):
                 browser.do(domain + '.enable')
             browser.do('Emulation.setDeviceMetricsOverride', width=1240, height=880, deviceScaleFactor=1, mobile=False)
-            browser.do('Page.navigate', url='file://' + os.path.realpath(os.path.join(TOP, 'web', 'emulator', 'index.html')))
-            checks.same('the page is there', browser.until("document.readyState === 'complete' && typeof making === 'boolean'"), True)
-            try_page(browser, folder, shots, checks)
+            page = 'file://' + os.path.realpath(os.path.join(TOP, 'web', 'emulator', 'index.html'))
+            open_page(browser, page)
+            checks.same('the page is there', browser.value('run.on'), True)
+            try_page(browser, folder, shots, checks, page)
             checks.same('errors on the console', browser.errors, [])
             away = [url for url in browser.requests if not url.startswith(('file:', 'blob:', 'data:', 'about:'))]
             checks.same('requests that leave this machine', away, [])

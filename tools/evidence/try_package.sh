@@ -215,7 +215,8 @@ if [ -d "$work/tree/usr/include/bogtrun" ]; then
   rm "$root/tmp/snes.deb"
   mkdir "$root/tmp/try"
   check 'pkg-config: the version' "$(inside pkg-config --modversion bogtrun-snes)" "${version%%~*}"
-  check 'the shared object shows one name' "$(inside nm -D --defined-only -j /usr/lib/x86_64-linux-gnu/libbogtrun-snes.so.1)" snes_play
+  check 'the shared object shows its calls alone' "$(inside nm -D --defined-only -j /usr/lib/x86_64-linux-gnu/libbogtrun-snes.so.1 | xargs)" \
+    'snes_back snes_begin snes_end snes_frame snes_keep snes_play'
   source=/usr/share/doc/snes/examples/frame.c
   check 'the C example, shared: links' "$(run "cc -o shared $source \$(pkg-config --cflags --libs bogtrun-snes) 2>&1 && echo links")" links
   check 'the C example, static: links' "$(run "cc -o static $source \$(pkg-config --cflags bogtrun-snes) -l:libbogtrun-snes.a 2>&1 && echo links")" links
@@ -227,6 +228,10 @@ if [ -d "$work/tree/usr/include/bogtrun" ]; then
     check "the C example, $kind: the last frame" "$(run "tail -c 244736 video | cmp - $kind.frame && echo same")" same
     check "the C example, $kind: all sound" "$(run "cmp audio $kind.sound && echo same")" same
   done
+  check 'the C example, a frame at a time: links' "$(run "cc -o frames ${source%.c}s.c \$(pkg-config --cflags --libs bogtrun-snes) 2>&1 && echo links")" links
+  run './frames --try 30 s/scene.sfc s/script.txt 60 frames.video frames.audio' >/dev/null
+  check 'the C example, a frame at a time: all video' "$(run 'cmp video frames.video && echo same')" same
+  check 'the C example, a frame at a time: all sound' "$(run 'cmp audio frames.audio && echo same')" same
   # The archive is used from a folder of its own: pkg-config names that folder.
   mkdir "$root/opt/snes" && tar -C "$root/opt/snes" --strip-components 1 -xf "${package%.deb}.tar.gz"
   flags='PKG_CONFIG_PATH=/opt/snes/lib/x86_64-linux-gnu/pkgconfig pkg-config --cflags --libs bogtrun-snes'

@@ -1,6 +1,6 @@
-/* The memory of the page's module: blocks one behind another, all free again once none is in use. A call of the console
- * gives back all that it takes, and the page what it put in, so nothing grows from film to film but the module's memory
- * itself. No header is needed: the target has no C library. */
+/* The memory of the page's module: blocks one behind another, all free again once none is in use. A console that has ended
+ * has given back all that it took, and the page then gives back what it put in, so nothing grows from console to console.
+ * No call between takes any. No header is needed: the target has no C library. */
 typedef unsigned long size;
 
 struct tried {

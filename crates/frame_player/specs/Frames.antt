@@ -40,10 +40,12 @@ pub record IsFramesOf (told : Told) (f : Frames) : Type 0 where
 -- of this frame, beyond what it emits for the job with those of the path
 abbrev pub IsFrameOf : Told → (pad1 pad2 : ℕ) → (picture samples : List ℕ) → Type 0
 IsFrameOf told pad1 pad2 picture samples =
-    (job : Job) → IsJobOf told job → IsBeyond job told.most (path_told told) (path_told (gone_on told pad1 pad2)) picture samples
+    (job : Job) → IsJobOf told job
+    → IsBeyond job told.most (path_told told) (path_told (gone_on told pad1 pad2)) picture samples
 
 -- a rewinder went on by a frame, and these rooms took what it emits
-pub record WentOn (told : Told) (spare : Way) (pad1 pad2 : ℕ) (holds : Side → List ℕ → Type 0) (r : Rewind) : Type 0 where
+pub record WentOn (told : Told) (spare : Way) (pad1 pad2 : ℕ)
+    (holds : Side → List ℕ → Type 0) (r : Rewind) : Type 0 where
   pub picture : List ℕ
   pub samples : List ℕ
   pub is : IsFrameOf told pad1 pad2 picture samples
@@ -82,16 +84,19 @@ module _ (told : Told) (pad1 pad2 : ℕ) (video_old sound_old video_new sound_ne
 
   -- what the frame emits of a side is longer than the room for it, or than any frame should be
   abbrev pub IsLonger : Side → (picture samples : List ℕ) → Type 0
-  IsLonger side picture samples = min (room_of (length video_old) (length sound_old) side) (most_of side) < length (bytes_of picture samples side)
+  IsLonger side picture samples =
+      min (room_of (length video_old) (length sound_old) side) (most_of side) < length (bytes_of picture samples side)
 
   -- why no frame was played
   abbrev pub EndsFrame : FrameEnd → Type 0
   EndsFrame frame.Frames = (told.most ≤ length told.pads) × RoomsStay
-  EndsFrame (frame.TooShort side) = (picture : List ℕ) × (samples : List ℕ) × IsFrameOf told pad1 pad2 picture samples × IsLonger side picture samples × RoomsStay
+  EndsFrame (frame.TooShort side) = (picture : List ℕ) × (samples : List ℕ) × IsFrameOf told pad1 pad2 picture samples
+      × IsLonger side picture samples × RoomsStay
 
 -- why no console was made
 abbrev pub EndsBegin : (cart boot table : List ℕ) (most slots : ℕ) → BeginEnd → Type 0
 EndsBegin cart boot table most slots begin.Frames = (most ≡ 0) ⊎ (36000 < most)
 EndsBegin cart boot table most slots begin.Slots = 64 < slots
-EndsBegin cart boot table most slots (begin.Refused cause) = EndsInputs (told_of cart (boot_of boot) (table_of table) []) (end.Refused cause)
+EndsBegin cart boot table most slots (begin.Refused cause) =
+    EndsInputs (told_of cart (boot_of boot) (table_of table) []) (end.Refused cause)
 EndsBegin cart boot table most slots begin.NoMemory = Unit {0}

@@ -38,7 +38,16 @@ pub record Told : Type 0 where
 -- at first the path is empty, and so are those of the slots
 abbrev pub told_first : (cart boot table : List ℕ) (region most slots : ℕ) → Told
 told_first cart' boot' table' region' most' slots =
-    record { cart = cart'; boot = boot'; table = table'; region = region'; most = most'; pads = []; resets = []; held = replicate slots no_way }
+    record {
+      cart = cart';
+      boot = boot';
+      table = table';
+      region = region';
+      most = most';
+      pads = [];
+      resets = [];
+      held = replicate slots no_way;
+    }
 
 -- a pad's word: its low four bits count as 0
 abbrev pub word_of : ℕ → ℕ

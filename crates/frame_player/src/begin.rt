@@ -47,8 +47,10 @@ pub struct ConsoleInputs<'a> {
 #[tactic(auto, using(crate::proofs::Begins::jobs))]
 fn job_of(alloc: Global, inputs: ConsoleInputs<'_>) -> Result<Job, BeginEnd>
     ensures script { IfOk result (λ job. job.script ≡ script_in job.region 0 empty_path) }
-    ensures job { IfOk result (IsJobOf (told_first inputs.entry.cart.now inputs.entry.boot.now inputs.entry.table.now (region_number inputs.entry.region) inputs.entry.most inputs.entry.slots)) }
-    ensures ends { IfErr result (EndsBegin inputs.entry.cart.now inputs.entry.boot.now inputs.entry.table.now inputs.entry.most inputs.entry.slots) }
+    ensures job { IfOk result (IsJobOf (told_first inputs.entry.cart.now inputs.entry.boot.now inputs.entry.table.now
+        (region_number inputs.entry.region) inputs.entry.most inputs.entry.slots)) }
+    ensures ends { IfErr result (EndsBegin inputs.entry.cart.now inputs.entry.boot.now inputs.entry.table.now
+        inputs.entry.most inputs.entry.slots) }
 {
     let free_boot = free_boot_rom();
     let Ok(free_table) = interpolation_file(alloc) else {
@@ -107,8 +109,10 @@ impl Frames {
     /// Allocates all that the console will need.
     #[tactic(auto, using(crate::proofs::Begins::begins))]
     pub fn begin(alloc: Global, inputs: ConsoleInputs<'_>) -> Result<Frames, BeginEnd>
-        ensures begun { IfOk result (IsFramesOf (told_first inputs.entry.cart.now inputs.entry.boot.now inputs.entry.table.now (region_number inputs.entry.region) inputs.entry.most inputs.entry.slots)) }
-        ensures ends { IfErr result (EndsBegin inputs.entry.cart.now inputs.entry.boot.now inputs.entry.table.now inputs.entry.most inputs.entry.slots) }
+        ensures begun { IfOk result (IsFramesOf (told_first inputs.entry.cart.now inputs.entry.boot.now
+            inputs.entry.table.now (region_number inputs.entry.region) inputs.entry.most inputs.entry.slots)) }
+        ensures ends { IfErr result (EndsBegin inputs.entry.cart.now inputs.entry.boot.now inputs.entry.table.now
+            inputs.entry.most inputs.entry.slots) }
     {
         if inputs.most == 0 || inputs.most > MOST_FRAMES {
             return Err(BeginEnd::Frames);

@@ -42,7 +42,8 @@ impl SideBytes {
     pub(crate) fn copy_to(&self, room: &mut [u8]) -> usize
         requires whole { self.now.count ≤ length self.now.bytes.items }
         requires fits { self.now.count ≤ length room.old }
-        ensures front { (bytes : List ℕ) → Takes self.now.bytes.items self.now.count bytes → room.new ≡ in_front bytes room.old }
+        ensures front { (bytes : List ℕ) → Takes self.now.bytes.items self.now.count bytes
+            → room.new ≡ in_front bytes room.old }
         ensures count { (bytes : List ℕ) → Takes self.now.bytes.items self.now.count bytes → result ≡ length bytes }
     {
         let count = self.count;

@@ -24,9 +24,13 @@ impl Frames {
         sound: &mut [u8],
     ) -> Result<Counts, FrameEnd>
         requires told { (told : Told) × IsFramesOf told self.old }
-        ensures played { (told : Told) → IsFramesOf told self.old → IfOk result (λ counts. FramePlayed told (word_of pad1) (word_of pad2) video.old sound.old video.new sound.new counts.video counts.sound) }
-        ensures on { (told : Told) → IsFramesOf told self.old → IfOk result (λ counts. IsFramesOf (gone_on told (word_of pad1) (word_of pad2)) self.new) }
-        ensures ends { (told : Told) → IsFramesOf told self.old → IfErr result (EndsFrame told (word_of pad1) (word_of pad2) video.old sound.old video.new sound.new) }
+        ensures played { (told : Told) → IsFramesOf told self.old
+            → IfOk result (λ counts. FramePlayed told (word_of pad1) (word_of pad2)
+            video.old sound.old video.new sound.new counts.video counts.sound) }
+        ensures on { (told : Told) → IsFramesOf told self.old
+            → IfOk result (λ counts. IsFramesOf (gone_on told (word_of pad1) (word_of pad2)) self.new) }
+        ensures ends { (told : Told) → IsFramesOf told self.old
+            → IfErr result (EndsFrame told (word_of pad1) (word_of pad2) video.old sound.old video.new sound.new) }
         ensures stays { (told : Told) → IsFramesOf told self.old → IfErr result (λ end. IsFramesOf told self.new) }
     {
         if self.rewind.frames() >= self.most {
@@ -53,8 +57,10 @@ impl Frames {
 
     /// Returns the side whose bytes of the last frame are longer than a room, if there is one, the console's first.
     fn longer(&self, video_room: usize, sound_room: usize) -> Option<Side>
-        ensures none { IsNone result → (self.now.bytes.video.count ≤ min video_room 244736) × (self.now.bytes.sound.count ≤ min sound_room 2560) }
-        ensures some { IfSome result (λ side. min (room_of video_room sound_room side) (most_of side) < (side_of self.now.bytes side).count) }
+        ensures none { IsNone result → (self.now.bytes.video.count ≤ min video_room 244736)
+            × (self.now.bytes.sound.count ≤ min sound_room 2560) }
+        ensures some { IfSome result (λ side.
+            min (room_of video_room sound_room side) (most_of side) < (side_of self.now.bytes side).count) }
     {
         if self.bytes.video.is_beyond(video_room) {
             return Some(Side::Console);
@@ -69,8 +75,10 @@ impl Frames {
     fn hand_out(&self, video: &mut [u8], sound: &mut [u8]) -> Counts
         requires picture { self.now.bytes.video.count ≤ min (length video.old) 244736 }
         requires samples { self.now.bytes.sound.count ≤ min (length sound.old) 2560 }
-        ensures picture { (bytes : List ℕ) → TakesOf self.now.bytes Side.Console bytes → (video.new ≡ in_front bytes video.old) × (result.video ≡ length bytes) }
-        ensures samples { (bytes : List ℕ) → TakesOf self.now.bytes Side.Sound bytes → (sound.new ≡ in_front bytes sound.old) × (result.sound ≡ length bytes) }
+        ensures picture { (bytes : List ℕ) → TakesOf self.now.bytes Side.Console bytes
+            → (video.new ≡ in_front bytes video.old) × (result.video ≡ length bytes) }
+        ensures samples { (bytes : List ℕ) → TakesOf self.now.bytes Side.Sound bytes
+            → (sound.new ≡ in_front bytes sound.old) × (result.sound ≡ length bytes) }
     {
         Counts {
             video: self.bytes.video.copy_to(video),
@@ -81,8 +89,10 @@ impl Frames {
     /// Stores the present state in a slot. Returns false, and leaves all as it was, if there is no such slot.
     pub fn keep(&mut self, slot: u32) -> bool
         requires told { (told : Told) × IsFramesOf told self.old }
-        ensures kept { (told : Told) → IsFramesOf told self.old → IsTrue result → (slot < length told.held) × IsFramesOf (kept_in told slot) self.new }
-        ensures none { (told : Told) → IsFramesOf told self.old → IsFalse result → (length told.held ≤ slot) × IsFramesOf told self.new }
+        ensures kept { (told : Told) → IsFramesOf told self.old → IsTrue result → (slot < length told.held)
+            × IsFramesOf (kept_in told slot) self.new }
+        ensures none { (told : Told) → IsFramesOf told self.old → IsFalse result → (length told.held ≤ slot)
+            × IsFramesOf told self.new }
     {
         if slot >= u32::from(self.slots) {
             return false;
@@ -94,8 +104,10 @@ impl Frames {
     /// Returns to the state that a slot holds. Returns false, and leaves all as it was, if there is no such slot.
     pub fn back(&mut self, slot: u32) -> bool
         requires told { (told : Told) × IsFramesOf told self.old }
-        ensures back { (told : Told) → IsFramesOf told self.old → IsTrue result → (slot < length told.held) × IsFramesOf (back_to told slot) self.new }
-        ensures none { (told : Told) → IsFramesOf told self.old → IsFalse result → (length told.held ≤ slot) × IsFramesOf told self.new }
+        ensures back { (told : Told) → IsFramesOf told self.old → IsTrue result → (slot < length told.held)
+            × IsFramesOf (back_to told slot) self.new }
+        ensures none { (told : Told) → IsFramesOf told self.old → IsFalse result → (length told.held ≤ slot)
+            × IsFramesOf told self.new }
     {
         if slot >= u32::from(self.slots) {
             return false;

@@ -10,32 +10,40 @@ use snes_defs::Span;
 
 /// Stores the present state as the spare one, in the slot behind those of the caller.
 pub(crate) fn save(rewind: &mut Rewind, spare: u8)
-    requires stands { (told : Told) × (other : Way) × StandsAt told other rewind.old × (spare ≡ length told.held) }
-    ensures saved { (told : Told) (other : Way) → StandsAt told other rewind.old → spare ≡ length told.held → StandsAt told (way_of told) rewind.new }
+    requires stands { (told : Told) × (other : Way) × StandsAt told other rewind.old
+        × (spare ≡ length told.held) }
+    ensures saved { (told : Told) (other : Way) → StandsAt told other rewind.old → spare ≡ length told.held
+        → StandsAt told (way_of told) rewind.new }
 {
     rewind.keep(spare);
 }
 
 /// Returns to the spare state.
 pub(crate) fn load(rewind: &mut Rewind, spare: u8)
-    requires stands { (told : Told) × (other : Way) × StandsAt told other rewind.old × (spare ≡ length told.held) }
-    ensures loaded { (told : Told) (other : Way) → StandsAt told other rewind.old → spare ≡ length told.held → StandsAt (on_way told other) other rewind.new }
+    requires stands { (told : Told) × (other : Way) × StandsAt told other rewind.old
+        × (spare ≡ length told.held) }
+    ensures loaded { (told : Told) (other : Way) → StandsAt told other rewind.old → spare ≡ length told.held
+        → StandsAt (on_way told other) other rewind.new }
 {
     rewind.back(spare);
 }
 
 /// Stores the present state in a slot of the caller.
 pub(crate) fn keep_in(rewind: &mut Rewind, slot: u8)
-    requires stands { (told : Told) × (other : Way) × StandsAt told other rewind.old × (slot < length told.held) }
-    ensures kept { (told : Told) (other : Way) → StandsAt told other rewind.old → slot < length told.held → StandsAt (kept_in told slot) other rewind.new }
+    requires stands { (told : Told) × (other : Way) × StandsAt told other rewind.old
+        × (slot < length told.held) }
+    ensures kept { (told : Told) (other : Way) → StandsAt told other rewind.old → slot < length told.held
+        → StandsAt (kept_in told slot) other rewind.new }
 {
     rewind.keep(slot);
 }
 
 /// Returns to the state that a slot of the caller holds.
 pub(crate) fn go_back(rewind: &mut Rewind, slot: u8)
-    requires stands { (told : Told) × (other : Way) × StandsAt told other rewind.old × (slot < length told.held) }
-    ensures back { (told : Told) (other : Way) → StandsAt told other rewind.old → slot < length told.held → StandsAt (back_to told slot) other rewind.new }
+    requires stands { (told : Told) × (other : Way) × StandsAt told other rewind.old
+        × (slot < length told.held) }
+    ensures back { (told : Told) (other : Way) → StandsAt told other rewind.old → slot < length told.held
+        → StandsAt (back_to told slot) other rewind.new }
 {
     rewind.back(slot);
 }
@@ -57,7 +65,8 @@ pub(crate) fn press(rewind: &mut Rewind) -> bool
 
 /// Plays one frame. The rooms take what it emits, as far as that fits.
 pub(crate) fn go(rewind: &mut Rewind, span: Span, buffer: &mut [u8], bytes: &mut FrameBytes)
-    requires stands { (told : Told) × (other : Way) × StandsAt told other rewind.old × (length told.pads < told.most) }
+    requires stands { (told : Told) × (other : Way) × StandsAt told other rewind.old
+        × (length told.pads < told.most) }
     requires one { span.count ≡ 1 }
     requires drains { 1024 ≤ length buffer.old }
     ensures went { (told : Told) (other : Way) → StandsAt told other rewind.old → length told.pads < told.most

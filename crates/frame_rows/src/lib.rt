@@ -8,4 +8,6 @@
 #[cfg(test)]
 mod door;
 #[cfg(test)]
+mod played;
+#[cfg(test)]
 mod rows;

@@ -19,7 +19,8 @@ abbrev Parts : Type 0
 Parts = List ℕ × (List ℕ × (List ℕ × (ℕ × (ℕ × (List (ℕ × ℕ) × (List ℕ × List Way))))))
 
 abbrev coded_parts : Coded Parts
-coded_parts = coded× bytes (coded× bytes (coded× bytes (coded× coded_ℕ (coded× coded_ℕ (coded× path (coded× bytes (coded_list way)))))))
+coded_parts = coded× bytes (coded× bytes (coded× bytes
+    (coded× coded_ℕ (coded× coded_ℕ (coded× path (coded× bytes (coded_list way)))))))
 
 abbrev of_parts : Parts → Told
 of_parts (cart', (boot', (table', (region', (most', (pads', (resets', held'))))))) =
@@ -27,4 +28,5 @@ of_parts (cart', (boot', (table', (region', (most', (pads', (resets', held')))))
 
 abbrev pub coded_told : Coded Told
 coded_told =
-    code_by Parts coded_parts (λ t. (t.cart, (t.boot, (t.table, (t.region, (t.most, (t.pads, (t.resets, t.held)))))))) of_parts (λ _. refl)
+    code_by Parts coded_parts (λ t. (t.cart, (t.boot, (t.table, (t.region, (t.most, (t.pads, (t.resets, t.held)))))))) of_parts
+    (λ _. refl)

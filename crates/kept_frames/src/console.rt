@@ -9,6 +9,8 @@ use frame_player::Frames;
 use std::alloc::Global;
 
 /// What C holds. It is zeros at first, and else what a call left.
+///
+/// It may go from one thread to another between calls (`console_is_send`).
 #[repr(C)]
 #[derive(Drop)]
 pub struct SnesConsole {
@@ -111,4 +113,12 @@ impl SnesConsole {
     {
         self.kept.tell(&slot);
     }
+}
+
+/// Accepts only a type whose values may go to another thread.
+fn needs_send<T: Send>() {}
+
+/// Does nothing. The crate is accepted only if a console may go to another thread.
+fn console_is_send() {
+    needs_send::<SnesConsole>();
 }

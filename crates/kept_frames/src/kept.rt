@@ -22,6 +22,9 @@ impl Model for KeptFrames {
     ghost also_owns = { λ h. kept h.full h.at h.told };
 }
 
+// The state on the heap belongs to no thread, and any thread may free its block.
+unsafe impl Send for KeptFrames {}
+
 impl KeptFrames {
     /// Takes the state that lies there. Then none does, and what was told stays.
     pub(crate) fn take(&mut self) -> Loose<Frames>

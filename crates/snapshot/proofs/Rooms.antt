@@ -66,7 +66,7 @@ room_unseen job n m path video audio few h =
 -- ---- the sound side's room alone
 
 module _ (k : ℕ) where
-  abbrev roomy : SerialState ConsoleState SoundState → SerialState ConsoleState SoundState
+  abbrev pub roomy : SerialState ConsoleState SoundState → SerialState ConsoleState SoundState
   roomy w = record w { sound = sound_with_room w.sound k }
 
   sound_roomy : (w : SerialState ConsoleState SoundState) → sound_step console_moves sound_moves (roomy w) ≡ roomy (sound_step console_moves sound_moves w)
@@ -102,7 +102,7 @@ module _ (k : ℕ) where
       ∙ ap (λ v. v ++ sound_emits console_moves sound_moves (roomy (after_turns console_moves sound_moves w n))) (audio_roomy w n)
       ∙ ap (λ v. sound_output console_moves sound_moves w n ++ v) (emits_roomy (after_turns console_moves sound_moves w n))
 
-  output_roomy : (w : SerialState ConsoleState SoundState) (end : ℕ) (video audio : List ℕ) → IsOutput console_moves sound_moves (roomy w) end video audio → IsOutput console_moves sound_moves w end video audio
+  pub output_roomy : (w : SerialState ConsoleState SoundState) (end : ℕ) (video audio : List ℕ) → IsOutput console_moves sound_moves (roomy w) end video audio → IsOutput console_moves sound_moves w end video audio
   output_roomy w end video audio h =
       let past = subst (IsPast console_moves sound_moves end) (turns_roomy w h.turns) h.runs.past in
       record {

@@ -38,12 +38,14 @@ EndsBegun old cart boot table region most slots Full = old.kept.full ≡ 1
 EndsBegun old cart boot table region most slots Region = 1 < region
 EndsBegun old cart boot table region most slots Slot = EndsBegin cart boot table most slots begin.Slots
 EndsBegun old cart boot table region most slots (End end.Frames) = EndsBegin cart boot table most slots begin.Frames
-EndsBegun old cart boot table region most slots (End (end.Refused cause)) = EndsBegin cart boot table most slots (begin.Refused cause)
+EndsBegun old cart boot table region most slots (End (end.Refused cause)) = EndsBegin cart boot table most slots
+    (begin.Refused cause)
 EndsBegun old cart boot table region most slots (End end.NoMemory) = Unit {0}
 EndsBegun old cart boot table region most slots _ = ⊥
 
 -- why no frame was played
-abbrev pub EndsPlayed : SnesConsole → (pad1 pad2 : ℕ) → (video_old sound_old video_new sound_new : List ℕ) → Fault → Type 0
+abbrev pub EndsPlayed : SnesConsole → (pad1 pad2 : ℕ) → (video_old sound_old video_new sound_new : List ℕ) → Fault
+    → Type 0
 EndsPlayed old pad1 pad2 video_old sound_old video_new sound_new Empty =
     (old.kept.full ≡ 0) × RoomsStay old.kept.told pad1 pad2 video_old sound_old video_new sound_new
 EndsPlayed old pad1 pad2 video_old sound_old video_new sound_new (End end.Frames) =

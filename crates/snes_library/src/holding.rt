@@ -1,5 +1,5 @@
 // The calls for a console that the caller holds between frames.
-ghost use Rattle.std.specs.Prelude.{◌≡◌, ◌≢◌, if◌then◌else◌};
+ghost use Rattle.std.specs.Prelude.{◌≡◌, ◌≢◌};
 ghost use Rattle.frame_player.specs.Told.{MayReset, told_first, gone_on, kept_in, back_to, pressed_in, word_of};
 ghost use Rattle.frame_player.specs.Frames.{FramePlayed};
 ghost use Rattle.kept_frames.specs.Left.{AsLeft};
@@ -34,9 +34,11 @@ pub extern "C" fn snes_begin(
 ) -> u32
     requires left { AsLeft console.old }
     ensures left { AsLeft console.new }
-    ensures begun { result ≡ 0 → HasBegun console.old console.new (told_first cart.now boot.now table.now region most slots) }
+    ensures begun { result ≡ 0
+        → HasBegun console.old console.new (told_first cart.now boot.now table.now region most slots) }
     ensures done { result ≡ 0 → (answer.new.cause ≡ 0) × (answer.new.place ≡ 0) }
-    ensures ends { result ≢ 0 → Stays console.old console.new × (fault : Fault) × IsFaultTold fault result answer.new × EndsBegun console.old cart.now boot.now table.now region most slots fault }
+    ensures ends { result ≢ 0 → Stays console.old console.new × (fault : Fault) × IsFaultTold fault result answer.new
+        × EndsBegun console.old cart.now boot.now table.now region most slots fault }
 {
     if console.is_full() {
         return fault_told(Fault::Full, answer);
@@ -68,9 +70,9 @@ pub extern "C" fn snes_begin(
 
 /// Plays a frame with these pads, and returns a status: 0 if it was done.
 ///
-/// The picture stands at the front of `video`, 244,736 bytes, and the samples at the front of `sound`, at most 2,560 bytes.
-/// `answer` says how many bytes they have. A pad has from bit 15 down B, Y, Select, Start, Up, Down, Left, Right, A, X, L,
-/// R; its low four bits count as 0. At every other status the console and both rooms are as they were.
+/// The picture stands at the front of `video`, and the samples at the front of `sound`. `answer` says how many bytes they
+/// have. A pad has from bit 15 down B, Y, Select, Start, Up, Down, Left, Right, A, X, L, R; its low four bits count as
+/// 0. At every other status the console and both rooms are as they were.
 #[unsafe(no_mangle)]
 pub extern "C" fn snes_frame(
     alloc: Global,
@@ -83,9 +85,12 @@ pub extern "C" fn snes_frame(
 ) -> u32
     requires left { AsLeft console.old }
     ensures left { AsLeft console.new }
-    ensures played { result ≡ 0 → FramePlayed console.old.kept.told (word_of pad1) (word_of pad2) video.old sound.old video.new sound.new answer.new.video answer.new.sound }
-    ensures on { result ≡ 0 → Holds console.old console.new (gone_on console.old.kept.told (word_of pad1) (word_of pad2)) }
-    ensures ends { result ≢ 0 → Stays console.old console.new × (fault : Fault) × IsFaultTold fault result answer.new × EndsPlayed console.old (word_of pad1) (word_of pad2) video.old sound.old video.new sound.new fault }
+    ensures played { result ≡ 0 → FramePlayed console.old.kept.told (word_of pad1) (word_of pad2)
+        video.old sound.old video.new sound.new answer.new.video answer.new.sound }
+    ensures on { result ≡ 0
+        → Holds console.old console.new (gone_on console.old.kept.told (word_of pad1) (word_of pad2)) }
+    ensures ends { result ≢ 0 → Stays console.old console.new × (fault : Fault) × IsFaultTold fault result answer.new
+        × EndsPlayed console.old (word_of pad1) (word_of pad2) video.old sound.old video.new sound.new fault }
 {
     if !console.is_full() {
         return fault_told(Fault::Empty, answer);
@@ -116,12 +121,13 @@ pub extern "C" fn snes_keep(alloc: Global, console: &mut SnesConsole, slot: u32)
         return fault_status(Fault::Empty);
     }
     let mut frames = console.take(alloc);
-    let is_kept = frames.keep(slot);
-    if is_kept {
-        console.tell_kept(slot);
+    if !frames.keep(slot) {
+        console.fill(frames);
+        return fault_status(Fault::Slot);
     }
+    console.tell_kept(slot);
     console.fill(frames);
-    moved(is_kept)
+    0
 }
 
 /// Returns to the state that a slot holds, and returns a status: 0 if it was done.
@@ -136,12 +142,13 @@ pub extern "C" fn snes_back(alloc: Global, console: &mut SnesConsole, slot: u32)
         return fault_status(Fault::Empty);
     }
     let mut frames = console.take(alloc);
-    let is_back = frames.back(slot);
-    if is_back {
-        console.tell_back(slot);
+    if !frames.back(slot) {
+        console.fill(frames);
+        return fault_status(Fault::Slot);
     }
+    console.tell_back(slot);
     console.fill(frames);
-    moved(is_back)
+    0
 }
 
 /// Presses the reset button, so that the next frame begins with a reset, and returns a status: 0 if it was done.
@@ -159,12 +166,13 @@ pub extern "C" fn snes_reset(alloc: Global, console: &mut SnesConsole) -> u32
         return fault_status(Fault::Empty);
     }
     let mut frames = console.take(alloc);
-    let is_pressed = frames.reset();
-    if is_pressed {
-        console.tell_reset();
+    if !frames.reset() {
+        console.fill(frames);
+        return fault_status(Fault::Slot);
     }
+    console.tell_reset();
     console.fill(frames);
-    moved(is_pressed)
+    0
 }
 
 /// Ends a console, frees all its memory, and returns a status: 0 if there was one.
@@ -180,17 +188,6 @@ pub extern "C" fn snes_end(alloc: Global, console: &mut SnesConsole) -> u32
     }
     drop(console.take(alloc));
     0
-}
-
-/// The status of a call that stores, returns or resets: 0, or that it is refused.
-fn moved(is_done: bool) -> u32
-    ensures { result ≡ (if is_done then 0 else 3) }
-{
-    if is_done {
-        0
-    } else {
-        fault_status(Fault::Slot)
-    }
 }
 
 /// Writes that a call was done, and returns its status.

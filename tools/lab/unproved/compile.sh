@@ -3,6 +3,8 @@
 # compiled at the same time.
 #
 #   tools/lab/unproved/compile.sh OUT MODULE.ll ..
+#
+# With an OUT that ends in .o the one module becomes an object for a library, and nothing is linked.
 [ $# -ge 2 ] || { echo 'compile.sh OUT MODULE.ll ..: makes a program of modules' >&2; exit 2; }
 out=$1
 shift
@@ -12,11 +14,17 @@ trap 'rm -rf "$objects"' EXIT
 # The words that the toolchain gives its compiler for a proved program.
 machine=(-no-trap-after-noreturn -trap-unreachable -no-x86-call-frame-opt -disable-machine-licm -disable-postra-machine-licm
   -sink-common-insts=false -mergefunc-use-aliases)
+position=-fPIE
+[[ $out != *.o ]] || position=-fPIC
 compile() {
   "$kit/toolchain/bin/clang" --no-default-config -no-canonical-prefixes --target=x86_64-unknown-linux-gnu -march=x86-64 -Wno-override-module \
-    "--sysroot=$kit/toolchain" -ffunction-sections -fdata-sections -fPIE -O3 -fintegrated-cc1 -Xclang -fmerge-functions \
+    "--sysroot=$kit/toolchain" -ffunction-sections -fdata-sections "$position" -O3 -fintegrated-cc1 -Xclang -fmerge-functions \
     "${machine[@]/#/-mllvm=}" -c -x ir "$1" -o "$2"
 }
+if [[ $out == *.o ]]; then
+  compile "$1" "$out"
+  exit
+fi
 names=()
 running=()
 for module; do

@@ -1,0 +1,2 @@
+pub mod SamePads
+pub mod Played

@@ -1,0 +1,109 @@
+ghost use Rattle.std.specs.Prelude.{IfSome};
+ghost use Rattle.frame_rows.specs.Played.{IsConsole};
+
+use crate::door::{door, inputs};
+use frame_player::{FrameEnd, Frames};
+use snes_defs::Region;
+use std::alloc::Global;
+
+/// A console of the door, and rooms for a frame.
+#[derive(Drop)]
+pub struct Played {
+    pub console: Frames,
+    video: Vec<u8>,
+    sound: Vec<u8>,
+    /// The number of samples of all frames.
+    pub samples: usize,
+}
+
+impl Played {
+    /// Makes a console of the door.
+    pub fn begin(alloc: Global, region: Region) -> Option<Played>
+        ensures { IfSome result IsConsole }
+    {
+        let cart = door(alloc).ok()?;
+        let console = Frames::begin(alloc, inputs(cart.as_slice(), region)).ok()?;
+        let video = vec![in alloc; 0u8; 244_736].ok()?;
+        let sound = vec![in alloc; 0u8; 2_560].ok()?;
+        Some(Played {
+            console,
+            video,
+            sound,
+            samples: 0,
+        })
+    }
+
+    /// Plays a frame with this pad of controller 1.
+    fn play(&mut self, pad: u16) -> Result<(), FrameEnd>
+        requires { IsConsole self.old }
+        ensures { IsConsole self.new }
+    {
+        let video = self.video.as_mut_slice();
+        let sound = self.sound.as_mut_slice();
+        match self.console.frame(pad, 0, video, sound) {
+            Ok(counts) => {
+                self.samples = self.samples.saturating_add(counts.sound / 4);
+                Ok(())
+            }
+            Err(end) => Err(end),
+        }
+    }
+
+    /// Plays frames with this pad of controller 1, and returns the first dot of the last picture.
+    pub fn dot_after(&mut self, frames: u32, pad: u16) -> Result<u16, FrameEnd>
+        requires { IsConsole self.old }
+        ensures { IsConsole self.new }
+    {
+        for _ in 0..frames {
+            match self.play(pad) {
+                Ok(()) => {}
+                Err(end) => return Err(end),
+            }
+        }
+        let low = self.video.first().copied().unwrap_or(0);
+        let high = self.video.get(1).copied().unwrap_or(0);
+        Ok(u16::from(low) + 256 * u16::from(high))
+    }
+
+    /// Plays a frame into a room of 100 bytes for its picture, or for its samples, and returns why that was not done.
+    pub fn play_short(&mut self, is_picture: bool) -> Option<FrameEnd>
+        requires { IsConsole self.old }
+        ensures { IsConsole self.new }
+    {
+        let mut short = [7u8; 100];
+        let end = if is_picture {
+            self.console
+                .frame(0, 0, &mut short, self.sound.as_mut_slice())
+        } else {
+            self.console
+                .frame(0, 0, self.video.as_mut_slice(), &mut short)
+        };
+        match end {
+            Ok(_) => None,
+            Err(end) => Some(end),
+        }
+    }
+
+    /// Stores the state in a slot.
+    pub fn keep(&mut self, slot: u32) -> bool
+        requires { IsConsole self.old }
+        ensures { IsConsole self.new }
+    {
+        self.console.keep(slot)
+    }
+
+    /// Returns to the state of a slot.
+    pub fn back(&mut self, slot: u32) -> bool
+        requires { IsConsole self.old }
+        ensures { IsConsole self.new }
+    {
+        self.console.back(slot)
+    }
+    /// Presses the reset button.
+    pub fn reset(&mut self) -> bool
+        requires { IsConsole self.old }
+        ensures { IsConsole self.new }
+    {
+        self.console.reset()
+    }
+}
