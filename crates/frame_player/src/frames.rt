@@ -115,6 +115,7 @@ impl Frames {
         go_back(&mut self.rewind, slot as u8);
         true
     }
+
     /// Presses the reset button: the next frame begins with a reset. Returns false, and leaves all as it was, if no
     /// frame of the path was played, or if the button was just pressed.
     pub fn reset(&mut self) -> bool

@@ -99,6 +99,7 @@ impl Played {
     {
         self.console.back(slot)
     }
+
     /// Presses the reset button.
     pub fn reset(&mut self) -> bool
         requires { IsConsole self.old }
