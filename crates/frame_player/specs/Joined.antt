@@ -59,9 +59,9 @@ press_emits : (b : Bool) (told : Told) (job : Job) (video audio : List ℕ) → 
 press_emits false told job video audio may h = h
 press_emits true told job video audio may h =
     let frames = spans_frames told.pads in
-    let Path : ℕ → Type 0 = λ m. PathEmits job told.most (record { spans = spans_of told.pads; resets = told.resets ++ m ∷ [] }) video audio in
+    let Emitted : ℕ → Type 0 = λ m. PathEmits job told.most (record { spans = spans_of told.pads; resets = told.resets ++ m ∷ [] }) video audio in
     let rises = subst (λ m. RiseWithin 1 36000 (told.resets ++ m ∷ [])) (sym frames) may in
-    subst Path frames (pressed_emits job told.most (path_told told) video audio rises h)
+    subst Emitted frames (pressed_emits job told.most (path_told told) video audio rises h)
 
 job_still : (b : Bool) (told : Told) (job : Job) → IsJobOf told job → IsJobOf (reset_if b told) job
 job_still true told job is = record { cart = is.cart; boot = is.boot; table = is.table; region = is.region }
