@@ -12,15 +12,15 @@ path = coded_list (coded× coded_ℕ coded_ℕ)
 abbrev of_way : List (ℕ × ℕ) × List ℕ → Way
 of_way (pads', resets') = record { pads = pads'; resets = resets' }
 
-abbrev way : Coded Way
-way = code_by (List (ℕ × ℕ) × List ℕ) (coded× path bytes) (λ w. (w.pads, w.resets)) of_way (λ _. refl)
+abbrev coded_way : Coded Way
+coded_way = code_by (List (ℕ × ℕ) × List ℕ) (coded× path bytes) (λ w. (w.pads, w.resets)) of_way (λ _. refl)
 
 abbrev Parts : Type 0
 Parts = List ℕ × (List ℕ × (List ℕ × (ℕ × (ℕ × (List (ℕ × ℕ) × (List ℕ × List Way))))))
 
 abbrev coded_parts : Coded Parts
 coded_parts = coded× bytes (coded× bytes (coded× bytes
-    (coded× coded_ℕ (coded× coded_ℕ (coded× path (coded× bytes (coded_list way)))))))
+    (coded× coded_ℕ (coded× coded_ℕ (coded× path (coded× bytes (coded_list coded_way)))))))
 
 abbrev of_parts : Parts → Told
 of_parts (cart', (boot', (table', (region', (most', (pads', (resets', held'))))))) =
