@@ -95,8 +95,8 @@ frames_join told (f ∷ rest) job video audio is played so_far =
     (append_assoc video f.picture (pictures_of rest))
     (subst (λ a. ToldEmits (told_after next rest) job ((video ++ f.picture) ++ pictures_of rest) a)
     (append_assoc audio f.samples (samples_of rest))
-    (frames_join next rest job (video ++ f.picture) (audio ++ f.samples) also played.1.1
-    (one_more before f job video audio here played.1.0 (press_emits f.reset told job video audio played.0 so_far))))
+    (frames_join next rest job (video ++ f.picture) (audio ++ f.samples) also played.2
+    (one_more before f job video audio here played.1 (press_emits f.reset told job video audio played.0 so_far))))
 
 -- nothing is emitted for the empty path
 pub nothing_first : (told : Told) (job : Job) → told.pads ≡ [] → ToldEmits told job [] []
