@@ -1,7 +1,8 @@
 /* The console as a library; see docs/use/EMBEDDING.md for what is proved of its calls, and what a caller has to keep.
  *
  * snes_play plays a whole recording in one call. The other calls have a console that the caller keeps, and play it a frame
- * at a time: snes_begin, snes_frame for each frame, snes_keep and snes_back for save states, snes_end.
+ * at a time: snes_begin, snes_frame for each frame, snes_reset for the reset button, snes_keep and snes_back for save
+ * states, snes_end.
  *
  * In the repository, link libsnes_library.a with heap.c, which stands beside this header. Of the installed package, both are
  * in libbogtrun-snes: pkg-config --cflags --libs bogtrun-snes. */
@@ -149,6 +150,10 @@ uint32_t snes_frame(struct snes_console *console,
                     uint8_t *video, size_t video_room,
                     uint8_t *sound, size_t sound_room,
                     struct snes_answer *answer);
+
+/* Presses the reset button, so that the next frame begins with a reset. SNES_REFUSED says that no frame of the path was
+ * played, or that the button was just pressed. */
+uint32_t snes_reset(struct snes_console *console);
 
 /* Keeps the state of the console in a slot, in place of what the slot had. SNES_REFUSED says that there is no such slot. */
 uint32_t snes_keep(struct snes_console *console, uint32_t slot);

@@ -1,3 +1,4 @@
+mod Copies
 pub mod Frames
 pub mod Zeros
 pub mod Moves

@@ -11,6 +11,8 @@ pub record Clock : Type 0 where
   pub resets : List ℕ
   -- the number of the next cycle, from 0
   pub cycle : ℕ
+  -- for how many resets there is memory. No step looks at it
+  pub room : ℕ
 
 -- the stamp of the next cycle
 abbrev pub stamp_now : Clock → ℕ
@@ -32,4 +34,4 @@ reset_frames resets (suc n) = reset_frames resets n ++ (if is_reset resets n the
 
 -- before the first cycle of a script in a region; a script's frames are 0 to 36,000
 abbrev pub clock_at_start : Region → List ℕ → Clock
-clock_at_start region' resets' = record { region = region'; resets = reset_frames resets' 36001; cycle = 0 }
+clock_at_start region' resets' = record { region = region'; resets = reset_frames resets' 36001; cycle = 0; room = 0 }

@@ -42,7 +42,7 @@ hardware_from ram' dsp table' =
 
 -- before the first cycle of an Ntsc machine that is never reset
 abbrev pub unbroken_clock : Clock
-unbroken_clock = record { region = Ntsc; resets = []; cycle = 0 }
+unbroken_clock = record { region = Ntsc; resets = []; cycle = 0; room = 0 }
 
 -- THE START from registers, RAM, the 128 bytes of the S-DSP and the interpolation table: before an opcode fetch
 abbrev pub sound_from : SpcRegs → List ℕ → List ℕ → List ℕ → SoundState

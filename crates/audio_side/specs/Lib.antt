@@ -1,5 +1,6 @@
 pub mod Timer
 pub mod Clock
+pub mod Playing
 pub mod HardwareState
 pub mod Effect
 pub mod Sound

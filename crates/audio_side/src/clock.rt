@@ -24,25 +24,27 @@ pub struct CycleClock {
     rate: u64,
     /// The stamp of the next cycle, kept so that no product is computed.
     stamp: u64,
+    /// For how many resets there is memory.
+    room: usize,
 }
 
 impl Model for CycleClock {
-    ghost use Rattle.std.specs.Prelude.{◌≡◌, ◌≤◌, ◌+◌, ◌*◌, ◌^◌};
+    ghost use Rattle.std.specs.Prelude.{◌≡◌, ◌≤◌, ◌+◌, ◌*◌, ◌^◌, vec_capacity};
     ghost use Rattle.snes_defs.specs.declared.ports.Side.TheVariants.{Sound};
     ghost use Rattle.clock_ratio.specs.Stamp.{rate_of};
     ghost use Rattle.audio_side.specs.Clock.{Clock};
 
     ghost Value = { Clock };
 
-    ghost view = { λ s. record { region = s.region; resets = s.resets.items; cycle = s.cycle } };
+    ghost view = { λ s. record { region = s.region; resets = s.resets.items; cycle = s.cycle; room = s.room } };
 
-    ghost invariant = { λ s. (s.cycle ≤ 2 ^ 46) × (s.rate ≡ rate_of s.region Sound) × (s.stamp ≡ rate_of s.region Sound * s.cycle) × (s.stamp ≤ 2 ^ 62 + rate_of s.region Sound) };
+    ghost invariant = { λ s. (s.cycle ≤ 2 ^ 46) × (s.rate ≡ rate_of s.region Sound) × (s.stamp ≡ rate_of s.region Sound * s.cycle) × (s.stamp ≤ 2 ^ 62 + rate_of s.region Sound) × (s.room ≤ vec_capacity s.resets) };
 }
 
 impl CycleClock {
     /// The clock before the first cycle.
     pub fn new(region: Region, resets: Vec<u32>) -> CycleClock
-        ensures { result ≡ record { region = region; resets = resets.items; cycle = 0 } }
+        ensures { result ≡ record { region = region; resets = resets.items; cycle = 0; room = 0 } }
     {
         let rate = match region {
             Region::Ntsc => SOUND_RATE,
@@ -54,6 +56,7 @@ impl CycleClock {
             cycle: 0,
             rate,
             stamp: 0,
+            room: 0,
         }
     }
 

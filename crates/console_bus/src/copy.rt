@@ -1,7 +1,7 @@
-// Copying a bus into another one, and adding to its script.
-ghost use Rattle.std.specs.Prelude.{◌≡◌, ◌+◌, ◌<◌, ◌≤◌, ◌++◌, [], length, max, take, drop, OnOk, OnErr};
-ghost use Rattle.snes_defs.specs.Script.{frames_of};
-ghost use Rattle.console_bus.specs.Playing.{played, with_room};
+// Copying a bus into another one, and adding spans and resets to its script.
+ghost use Rattle.std.specs.Prelude.{◌≡◌, ◌+◌, ◌<◌, ◌≤◌, ◌++◌, [], ◌∷◌, length, max, take, drop, OnOk, OnErr};
+ghost use Rattle.snes_defs.specs.Script.{RiseWithin, frames_of, is_reset};
+ghost use Rattle.console_bus.specs.Playing.{played, pressed, with_room};
 
 use crate::bus::{Bus, WORK_RAM};
 use snes_defs::{NoMemory, Span};
@@ -18,15 +18,13 @@ fn copy_first(from: &[u8], into: &mut [u8], count: usize)
 impl Bus {
     /// Copies this bus into another one, except ROM. Does not allocate.
     ///
-    /// Both need the same cartridge and scripts without resets. The other needs room for this script's spans, and
-    /// keeps its room.
+    /// Both need the same cartridge. The other needs room for this script's spans and resets, and keeps its room.
     #[tactic(auto, using(crate::proofs::Copies::same_memory))]
     pub fn copy_into(&self, into: &mut Bus)
         requires board { self.now.board ≡ into.old.board }
         requires rom { drop (131072 + self.now.board.ram) self.now.memory ≡ drop (131072 + self.now.board.ram) into.old.memory }
         requires room { length self.now.script.spans ≤ into.old.script.room }
-        requires no_resets { self.now.script.resets ≡ [] }
-        requires none_there { into.old.script.resets ≡ [] }
+        requires reset_room { length self.now.script.resets ≤ into.old.script.room }
         ensures same { into.new ≡ record self.now { script = with_room self.now.script into.old.script.room } }
     {
         let ram = WORK_RAM + self.map.board().ram as usize;
@@ -44,7 +42,7 @@ impl Bus {
         into.reset = self.reset;
     }
 
-    /// Reserves room for `spans` more spans of the script. Fails only if allocation fails; then nothing has changed.
+    /// Reserves room for `spans` more spans of the script, and for as many resets in all as spans. Fails only if allocation fails; then nothing has changed.
     pub fn reserve(&mut self, spans: usize) -> Result<(), NoMemory>
         ensures ok { OnOk result (self.new ≡ record self.old { script = with_room self.old.script (max self.old.script.room (length self.old.script.spans + spans)) }) }
         ensures err { OnErr result (self.new ≡ self.old) }
@@ -62,5 +60,22 @@ impl Bus {
         self.script.add(span);
         let (pad1, pad2) = self.script.pads(self.frame as u32);
         self.io.set_words(pad1, pad2);
+    }
+    /// Whether a frame of the script begins with a reset.
+    pub fn begins_with_reset(&self, frame: u32) -> bool
+        ensures { result ≡ is_reset self.now.script.resets frame }
+    {
+        self.script.resets(frame)
+    }
+
+    /// Appends a frame to those of the script that begin with a reset, above them all. If the frame has begun, a reset
+    /// is due. Does not allocate: the caller has reserved the room.
+    pub fn press(&mut self, frame: u32)
+        requires room { length self.old.script.resets < self.old.script.room }
+        requires rises { RiseWithin 1 36000 (self.old.script.resets ++ frame ∷ []) }
+        ensures pressed { self.new ≡ pressed self.old frame }
+    {
+        self.script.add_reset(frame);
+        self.reset = self.frame as u32 == frame || self.reset;
     }
 }

@@ -11,7 +11,7 @@ use Rattle.snes_program.specs.Job.{ShowsJob}
 use Rattle.snes_program.specs.Kinds.{IsCartIn}
 use Rattle.memory_player.specs.Inputs.{told_of}
 use Rattle.frame_player.specs.declared.console.Frames.{Frames}
-use Rattle.frame_player.specs.Told.{told_first, IsJobOf, boot_of, table_of, region_of, region_number, spans_of}
+use Rattle.frame_player.specs.Told.{told_first, IsJobOf, boot_of, table_of, region_of, region_number, no_way, path_of}
 use Rattle.frame_player.specs.Frames.{IsFramesOf}
 
 -- a region's number names it
@@ -36,16 +36,16 @@ pub begun : (cart boot table : List ℕ) (region most slots : ℕ) (job : Job) (
     → IsFramesOf (told_first cart boot table region most slots) f
 begun cart boot table region most slots job f is rested count most_is slots_is few slots_few =
     let told = told_first cart boot table region most slots in
-    let size : length told.held ≡ slots = length-replicate slots [] in
+    let size : length told.held ≡ slots = length-replicate slots no_way in
     record {
-      spare = [];
+      spare = no_way;
       stands = record {
         job = job;
         is = is;
         paths = no_paths;
         rested = rested;
         path_is = refl;
-        held_are = λ k lt. ap spans_of (sym (get_or-replicate slots k [] [] (omega (arith, lt, size))));
+        held_are = λ k lt. ap path_of (sym (get_or-replicate slots k no_way no_way (omega (arith, lt, size))));
         spare_is = refl;
         slots = count ∙ ap (λ n. n + 1) (sym size);
         slots_few = omega (arith, slots_few, size);

@@ -8,7 +8,7 @@ use Rattle.cart_map.specs.declared.refused.CartRefused.{CartRefused}
 use Rattle.snes_defs.specs.declared.cart.Cart.{Cart}
 use Rattle.snes_defs.specs.declared.cart.Job.{Job}
 use Rattle.snes_defs.specs.declared.cart.MapKind.{MapKind}
-use Rattle.snes_defs.specs.declared.script.Span.{Span}
+use Rattle.plan_drive.specs.Paths.{Path}
 use Rattle.input_files.specs.Table.{IsTableFile}
 use Rattle.snes_program.specs.Kinds.{IsCartIn}
 use Rattle.snapshot.specs.Positions.{IsBeyond}
@@ -41,7 +41,7 @@ one_table file a b one other =
     (λ i lt. let size = one.entries in let small : i < 512 = omega (arith, lt, size) in one.numbers i small ∙ sym (other.numbers i small))
 
 -- so what one job's run has beyond another path, the run of each such job has
-pub same_beyond : (told : Told) (job other : Job) (n : ℕ) (before path : List Span) (video audio : List ℕ) → IsJobOf told job → IsJobOf told other
+pub same_beyond : (told : Told) (job other : Job) (n : ℕ) (before path : Path) (video audio : List ℕ) → IsJobOf told job → IsJobOf told other
     → IsBeyond job n before path video audio → IsBeyond other n before path video audio
 same_beyond told job other n before path video audio is also h =
     subst (λ c. IsBeyond (record other { cart = c }) n before path video audio) (one_cart told.cart job.cart other.cart is.cart also.cart)

@@ -2,9 +2,8 @@
 use Rattle.std.proofs.Common.{◌≡◌, ℕ, suc, ◌<◌, ◌==◌, Bool, true, false, List, [], ◌∷◌, ◌++◌, length, refl, ap, ◌∙◌, arith, if◌then◌else◌, slice_index_or, slice_set}
 use Rattle.std.proofs.lemmas.Bool.Decides.{nat_tests}
 use Rattle.std.proofs.lemmas.List.{get_or-set_same, get_or-set_other}
-use Rattle.snes_defs.specs.declared.script.Span.{Span}
-use Rattle.snes_defs.specs.Script.{frames_of}
-use Rattle.frame_player.specs.Told.{spans_of}
+use Rattle.plan_drive.specs.Paths.{Path}
+use Rattle.frame_player.specs.Told.{Way, no_way, spans_of}
 
 abbrev Pads : Type 0
 Pads = ℕ × ℕ
@@ -17,19 +16,15 @@ pub spans_count : (path : List Pads) → length (spans_of path) ≡ length path
 spans_count [] = refl
 spans_count (q ∷ rest) = ap suc (spans_count rest)
 
-pub spans_frames : (path : List Pads) → frames_of (spans_of path) ≡ length path
-spans_frames [] = refl
-spans_frames (q ∷ rest) = let one = spans_frames rest in omega (arith, one)
-
 -- what stands under a test of two numbers
-pub if_same : (k slot : ℕ) (a b : List Span) → k ≡ slot → (if k == slot then a else b) ≡ a
+pub if_same : (k slot : ℕ) (a b : Path) → k ≡ slot → (if k == slot then a else b) ≡ a
 if_same k slot a b e = go (k == slot) refl
   where
     go : (t : Bool) → (k == slot) ≡ t → (if t then a else b) ≡ a
     go true is = refl
     go false is = absurd (grind (arith, nat_tests))
 
-pub if_other : (k slot : ℕ) (a b : List Span) → ¬ (k ≡ slot) → (if k == slot then a else b) ≡ b
+pub if_other : (k slot : ℕ) (a b : Path) → ¬ (k ≡ slot) → (if k == slot then a else b) ≡ b
 if_other k slot a b e = go (k == slot) refl
   where
     go : (t : Bool) → (k == slot) ≡ t → (if t then a else b) ≡ b
@@ -37,8 +32,8 @@ if_other k slot a b e = go (k == slot) refl
     go false is = refl
 
 -- a slot that was just stored, and another
-pub stored_same : (held : List (List Pads)) (slot k : ℕ) (path : List Pads) → k ≡ slot → slot < length held → slice_index_or (slice_set held slot path) k [] ≡ path
-stored_same held slot k path e lt = ap (λ n. slice_index_or (slice_set held slot path) n []) e ∙ get_or-set_same held slot path [] lt
+pub stored_same : (held : List Way) (slot k : ℕ) (path : Way) → k ≡ slot → slot < length held → slice_index_or (slice_set held slot path) k no_way ≡ path
+stored_same held slot k path e lt = ap (λ n. slice_index_or (slice_set held slot path) n no_way) e ∙ get_or-set_same held slot path no_way lt
 
-pub stored_other : (held : List (List Pads)) (slot k : ℕ) (path : List Pads) → ¬ (k ≡ slot) → slice_index_or (slice_set held slot path) k [] ≡ slice_index_or held k []
-stored_other held slot k path e = get_or-set_other held slot k path [] e
+pub stored_other : (held : List Way) (slot k : ℕ) (path : Way) → ¬ (k ≡ slot) → slice_index_or (slice_set held slot path) k no_way ≡ slice_index_or held k no_way
+stored_other held slot k path e = get_or-set_other held slot k path no_way e

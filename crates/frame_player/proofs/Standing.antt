@@ -1,31 +1,30 @@
 -- The moves of a rewinder, by what its console was told.
-use Rattle.std.proofs.Common.{◌≡◌, ℕ, ◌+◌, ◌<◌, ◌≤◌, min, List, [], ◌∷◌, ◌++◌, length, ap, sym, ◌∙◌, subst, arith, slice_set, ⊎_elim}
+use Rattle.std.proofs.Common.{◌≡◌, ℕ, ◌+◌, ◌<◌, ◌≤◌, min, List, [], ◌∷◌, ◌++◌, length, length-append, ap, sym, ◌∙◌, subst, arith, slice_set, ⊎_elim}
 use Rattle.std.proofs.lemmas.Bool.{cases_order}
 use Rattle.std.proofs.lemmas.List.{length-set}
 use Rattle.snes_defs.specs.declared.cart.Job.{Job}
 use Rattle.snes_defs.specs.declared.ports.Side.{Side}
 use Rattle.snes_defs.specs.declared.ports.Side.TheVariants.{Console, Sound}
 use Rattle.snes_defs.specs.declared.script.Span.{Span}
-use Rattle.snes_defs.specs.Script.{frames_of}
-use Rattle.plan_drive.specs.Paths.{Paths, gone, kept, back}
+use Rattle.snes_defs.specs.Script.{RiseWithin, frames_of}
+use Rattle.plan_drive.specs.Paths.{Path, Paths, MayPress, longer, pressed, gone, reset_there, kept, back}
 use Rattle.snapshot.specs.declared.rewind.Rewind.{Rewind}
 use Rattle.snapshot.specs.Positions.{IsRested, IsBeyond, slot_count}
 use Rattle.snapshot.specs.Handed.{Gave}
-use Rattle.frame_player.specs.Told.{Told, kept_in, back_to, spans_of}
+use Rattle.frame_player.specs.Told.{Told, Way, MayReset, gone_on, kept_in, back_to, on_way, pressed_in, way_of, path_of, path_told, spans_of}
 use Rattle.frame_player.specs.declared.frame_bytes.FrameBytes.{FrameBytes}
 use Rattle.frame_player.specs.FrameBytes.{TakesOf, side_of}
 use Rattle.frame_player.specs.Frames.{StandsAt, WentOn, room_of, most_of, bytes_of}
 use Rattle.frame_player.proofs.Puts.{few_counted}
-use Rattle.frame_player.proofs.Paths.{spans_more, spans_count, spans_frames, if_same, if_other, stored_same, stored_other}
+use Rattle.frame_player.proofs.Paths.{spans_more, spans_count, if_same, if_other, stored_same, stored_other}
+use Rattle.frame_player.specs.Joined.{spans_frames}
 use Rattle.frame_player.proofs.Jobs.{same_beyond}
-
-abbrev Pads : Type 0
-Pads = ℕ × ℕ
+use Rattle.snapshot.proofs.Resets.{rise_within, rise_few}
 
 -- the present state is stored as the spare one
-pub saved : (told : Told) (other : List Pads) (r after : Rewind) (spare : ℕ) (h : StandsAt told other r) → spare ≡ length told.held
+pub saved : (told : Told) (other : Way) (r after : Rewind) (spare : ℕ) (h : StandsAt told other r) → spare ≡ length told.held
     → ((job : Job) (n : ℕ) (paths : Paths) → IsRested job n paths r → IsRested job n (kept paths spare) after) → slot_count after ≡ slot_count r
-    → StandsAt told told.pads after
+    → StandsAt told (way_of told) after
 saved told other r after spare h is keeps same = record {
   job = h.job;
   is = h.is;
@@ -40,11 +39,11 @@ saved told other r after spare h is keeps same = record {
 }
 
 -- or in a slot of the caller
-pub kept_so : (told : Told) (other : List Pads) (r after : Rewind) (slot : ℕ) (h : StandsAt told other r) → slot < length told.held
+pub kept_so : (told : Told) (other : Way) (r after : Rewind) (slot : ℕ) (h : StandsAt told other r) → slot < length told.held
     → ((job : Job) (n : ℕ) (paths : Paths) → IsRested job n paths r → IsRested job n (kept paths slot) after) → slot_count after ≡ slot_count r
     → StandsAt (kept_in told slot) other after
 kept_so told other r after slot h lt keeps same =
-    let size : length (slice_set told.held slot told.pads) ≡ length told.held = length-set told.held slot told.pads in
+    let size : length (slice_set told.held slot (way_of told)) ≡ length told.held = length-set told.held slot (way_of told) in
     record {
       job = h.job;
       is = record { cart = h.is.cart; boot = h.is.boot; table = h.is.table; region = h.is.region };
@@ -52,13 +51,13 @@ kept_so told other r after slot h lt keeps same =
       rested = keeps h.job told.most h.paths h.rested;
       path_is = h.path_is;
       held_are = λ k within. ⊎_elim
-          (λ e. if_same k slot h.paths.path (h.paths.held k) e ∙ h.path_is ∙ ap spans_of (sym (stored_same told.held slot k told.pads e lt)))
+          (λ e. if_same k slot h.paths.path (h.paths.held k) e ∙ h.path_is ∙ ap path_of (sym (stored_same told.held slot k (way_of told) e lt)))
           (λ differ. let ne : ¬ (k ≡ slot) = λ e. ⊎_elim (λ l. omega (arith, l, e)) (λ g. omega (arith, g, e)) differ in
           if_other k slot h.paths.path (h.paths.held k) ne ∙ h.held_are k (omega (arith, within, size))
-          ∙ ap spans_of (sym (stored_other told.held slot k told.pads ne)))
+          ∙ ap path_of (sym (stored_other told.held slot k (way_of told) ne)))
           (cases_order k slot);
       spare_is =
-          if_other (length (slice_set told.held slot told.pads)) slot h.paths.path (h.paths.held (length (slice_set told.held slot told.pads))) (λ e. omega (arith, e, lt, size))
+          if_other (length (slice_set told.held slot (way_of told))) slot h.paths.path (h.paths.held (length (slice_set told.held slot (way_of told)))) (λ e. omega (arith, e, lt, size))
           ∙ ap h.paths.held size ∙ h.spare_is;
       slots = same ∙ h.slots ∙ ap (λ n. n + 1) (sym size);
       slots_few = let few = h.slots_few in omega (arith, few, size);
@@ -66,7 +65,7 @@ kept_so told other r after slot h lt keeps same =
     }
 
 -- a slot's state becomes the present one
-pub back_so : (told : Told) (other : List Pads) (r after : Rewind) (slot : ℕ) (h : StandsAt told other r) → slot < length told.held
+pub back_so : (told : Told) (other : Way) (r after : Rewind) (slot : ℕ) (h : StandsAt told other r) → slot < length told.held
     → ((job : Job) (n : ℕ) (paths : Paths) → IsRested job n paths r → IsRested job n (back paths slot) after) → slot_count after ≡ slot_count r
     → StandsAt (back_to told slot) other after
 back_so told other r after slot h lt backs same = record {
@@ -83,9 +82,9 @@ back_so told other r after slot h lt backs same = record {
 }
 
 -- or the spare one
-pub loaded : (told : Told) (other : List Pads) (r after : Rewind) (spare : ℕ) (h : StandsAt told other r) → spare ≡ length told.held
+pub loaded : (told : Told) (other : Way) (r after : Rewind) (spare : ℕ) (h : StandsAt told other r) → spare ≡ length told.held
     → ((job : Job) (n : ℕ) (paths : Paths) → IsRested job n paths r → IsRested job n (back paths spare) after) → slot_count after ≡ slot_count r
-    → StandsAt (record told { pads = other }) other after
+    → StandsAt (on_way told other) other after
 loaded told other r after spare h is backs same = record {
   job = h.job;
   is = record { cart = h.is.cart; boot = h.is.boot; table = h.is.table; region = h.is.region };
@@ -104,28 +103,30 @@ abbrev pub no_bytes : Side → List ℕ
 no_bytes side = []
 
 -- what a rewinder has to be for a frame
-pub can_go : (told : Told) (other : List Pads) (r : Rewind) (span : Span) (h : StandsAt told other r) → span.count ≡ 1 → length told.pads < told.most
-    → (length h.paths.path < told.most) × (frames_of h.paths.path + span.count ≤ 36000)
+pub can_go : (told : Told) (other : Way) (r : Rewind) (span : Span) (h : StandsAt told other r) → span.count ≡ 1 → length told.pads < told.most
+    → (length h.paths.path.spans < told.most) × (frames_of h.paths.path.spans + span.count ≤ 36000)
 can_go told other r span h one lt =
-    let count = ap length h.path_is ∙ spans_count told.pads in
-    let frames = ap frames_of h.path_is ∙ spans_frames told.pads in
+    let count = ap (λ (p : Path). length p.spans) h.path_is ∙ spans_count told.pads in
+    let frames = ap (λ (p : Path). frames_of p.spans) h.path_is ∙ spans_frames told.pads in
     let few = h.few in (omega (arith, count, lt), omega (arith, frames, lt, few, one))
 
 -- a frame was played
-pub went : (told : Told) (other : List Pads) (r after : Rewind) (span : Span) (holds : Side → List ℕ → Type 0) (h : StandsAt told other r) → span.count ≡ 1
+pub went : (told : Told) (other : Way) (r after : Rewind) (span : Span) (holds : Side → List ℕ → Type 0) (h : StandsAt told other r) → span.count ≡ 1
     → Gave h.job told.most (gone h.paths span) h.paths.path no_bytes holds after → slot_count after ≡ slot_count r
     → WentOn told other span.pad1 span.pad2 holds after
 went told other r after span holds h one gave same =
     let before = h.path_is in
-    let longer : h.paths.path ++ span ∷ [] ≡ spans_of (told.pads ++ (span.pad1, span.pad2) ∷ []) =
-    ap (λ c. h.paths.path ++ record { count = c; pad1 = span.pad1; pad2 = span.pad2 } ∷ []) one
-    ∙ ap (λ p. p ++ record { count = 1; pad1 = span.pad1; pad2 = span.pad2 } ∷ []) before ∙ sym (spans_more told.pads (span.pad1, span.pad2)) in
+    let next = path_told (gone_on told span.pad1 span.pad2) in
+    let goes : longer h.paths.path span ≡ next =
+    ap (λ c. longer h.paths.path (record { count = c; pad1 = span.pad1; pad2 = span.pad2 })) one
+    ∙ ap (λ p. longer p (record { count = 1; pad1 = span.pad1; pad2 = span.pad2 })) before
+    ∙ ap (λ v. record { spans = v; resets = told.resets }) (sym (spans_more told.pads (span.pad1, span.pad2))) in
     record {
       picture = gave.video;
       samples = gave.audio;
-      is = λ job is. same_beyond told h.job job told.most (spans_of told.pads) (spans_of (told.pads ++ (span.pad1, span.pad2) ∷ [])) gave.video gave.audio h.is is
-          (subst (λ b. IsBeyond h.job told.most b (spans_of (told.pads ++ (span.pad1, span.pad2) ∷ [])) gave.video gave.audio) before
-          (subst (λ p. IsBeyond h.job told.most h.paths.path p gave.video gave.audio) longer gave.beyond));
+      is = λ job is. same_beyond told h.job job told.most (path_told told) next gave.video gave.audio h.is is
+          (subst (λ b. IsBeyond h.job told.most b next gave.video gave.audio) before
+          (subst (λ p. IsBeyond h.job told.most h.paths.path p gave.video gave.audio) goes gave.beyond));
       picture_taken = gave.video_taken;
       samples_taken = gave.audio_taken;
       stands = record {
@@ -133,7 +134,7 @@ went told other r after span holds h one gave same =
         is = record { cart = h.is.cart; boot = h.is.boot; table = h.is.table; region = h.is.region };
         paths = gone h.paths span;
         rested = gave.rested;
-        path_is = longer;
+        path_is = goes;
         held_are = h.held_are;
         spare_is = h.spare_is;
         slots = same ∙ h.slots;
@@ -142,15 +143,55 @@ went told other r after span holds h one gave same =
       };
     }
 
+-- ---- the button
+
+-- it may be pressed at the path's end where it may by what was told
+pub may_told : (told : Told) (other : Way) (r : Rewind) (h : StandsAt told other r) → MayPress h.paths.path → MayReset told
+may_told told other r h may =
+    subst (λ m. RiseWithin 1 36000 (told.resets ++ m ∷ [])) (spans_frames told.pads) (subst (λ (p : Path). MayPress p) h.path_is may)
+
+pub may_press : (told : Told) (other : Way) (r : Rewind) (h : StandsAt told other r) → MayReset told → MayPress h.paths.path
+may_press told other r h may =
+    subst (λ (p : Path). MayPress p) (sym h.path_is) (subst (λ m. RiseWithin 1 36000 (told.resets ++ m ∷ [])) (sym (spans_frames told.pads)) may)
+
+-- there is room for one more
+pub reset_fits : (told : Told) (other : Way) (r : Rewind) (h : StandsAt told other r) → MayPress h.paths.path → length h.paths.path.resets < told.most
+reset_fits told other r h may =
+    let (video, audio, d) = h.rested.now in
+    let path = h.paths.path in
+    let within = rise_within 1 36000 path.resets (frames_of path.spans) may in
+    let few = rise_few 1 (frames_of path.spans) (path.resets ++ frames_of path.spans ∷ []) (omega arith) within in
+    let size = length-append path.resets (frames_of path.spans ∷ []) in
+    let frames = ap (λ (p : Path). frames_of p.spans) h.path_is ∙ spans_frames told.pads in
+    let count = ap (λ (p : Path). length p.spans) h.path_is ∙ spans_count told.pads in
+    let room = d.room in
+    omega (arith, few, size, frames, count, room)
+
+pub pressed_so : (told : Told) (other : Way) (r after : Rewind) (h : StandsAt told other r)
+    → ((job : Job) (n : ℕ) (paths : Paths) → IsRested job n paths r → IsRested job n (reset_there paths) after) → slot_count after ≡ slot_count r
+    → StandsAt (pressed_in told) other after
+pressed_so told other r after h presses same = record {
+  job = h.job;
+  is = record { cart = h.is.cart; boot = h.is.boot; table = h.is.table; region = h.is.region };
+  paths = reset_there h.paths;
+  rested = presses h.job told.most h.paths h.rested;
+  path_is = ap pressed h.path_is ∙ ap (λ m. record { spans = spans_of told.pads; resets = told.resets ++ m ∷ [] }) (spans_frames told.pads);
+  held_are = h.held_are;
+  spare_is = h.spare_is;
+  slots = same ∙ h.slots;
+  slots_few = h.slots_few;
+  few = h.few;
+}
+
 -- ---- a console
 
 -- a path has as many frames as pads
-pub frames_are : (told : Told) (other : List Pads) (r : Rewind) (h : StandsAt told other r) → frames_of h.paths.path ≡ length told.pads
-frames_are told other r h = ap frames_of h.path_is ∙ spans_frames told.pads
+pub frames_are : (told : Told) (other : Way) (r : Rewind) (h : StandsAt told other r) → frames_of h.paths.path.spans ≡ length told.pads
+frames_are told other r h = ap (λ (p : Path). frames_of p.spans) h.path_is ∙ spans_frames told.pads
 
 -- how many frames were played, by what the rewinder says
-pub played_are : (told : Told) (other : List Pads) (r : Rewind) (result : ℕ) → StandsAt told other r
-    → ((job : Job) (n : ℕ) (paths : Paths) → IsRested job n paths r → result ≡ frames_of paths.path) → result ≡ length told.pads
+pub played_are : (told : Told) (other : Way) (r : Rewind) (result : ℕ) → StandsAt told other r
+    → ((job : Job) (n : ℕ) (paths : Paths) → IsRested job n paths r → result ≡ frames_of paths.path.spans) → result ≡ length told.pads
 played_are told other r result h says = says h.job told.most h.paths h.rested ∙ frames_are told other r h
 
 -- bytes that are counted beyond a room are longer than it

@@ -4,10 +4,20 @@ use Rattle.snes_defs.specs.declared.cart.Job.{Job}
 use Rattle.snes_defs.specs.declared.region.Region.{Region}
 use Rattle.snes_defs.specs.declared.region.Region.TheVariants.{Ntsc, Pal}
 use Rattle.snes_defs.specs.declared.script.Span.{Span}
+use Rattle.snes_defs.specs.Script.{RiseWithin}
+use Rattle.plan_drive.specs.Paths.{Path}
 use Rattle.free_files.specs.Boot.{free_boot}
 use Rattle.free_files.specs.Interpolation.{interpolation, table_bytes}
 use Rattle.input_files.specs.Table.{IsTableFile}
 use Rattle.snes_program.specs.Kinds.{IsCartIn}
+
+-- a path: both pads of each frame, and the frames that begin with a press of the reset button
+pub record Way : Type 0 where
+  pub pads : List (ℕ × ℕ)
+  pub resets : List ℕ
+
+abbrev pub no_way : Way
+no_way = record { pads = []; resets = [] }
 
 pub record Told : Type 0 where
   -- the bytes of the cartridge, of the boot ROM and of the table; no bytes of the last two mean the free ones
@@ -20,8 +30,10 @@ pub record Told : Type 0 where
   pub most : ℕ
   -- both pads of each frame of the path
   pub pads : List (ℕ × ℕ)
+  -- the frames of the path that begin with a press of the reset button
+  pub resets : List ℕ
   -- the path that each slot holds
-  pub held : List (List (ℕ × ℕ))
+  pub held : List Way
 
 -- at first the path is empty, and so are those of the slots
 abbrev pub told_first : (cart boot table : List ℕ) (region most slots : ℕ) → Told
@@ -33,7 +45,8 @@ told_first cart' boot' table' region' most' slots =
       region = region';
       most = most';
       pads = [];
-      held = replicate slots [];
+      resets = [];
+      held = replicate slots no_way;
     }
 
 -- a pad's word: its low four bits count as 0
@@ -44,11 +57,24 @@ word_of pad = pad / 16 * 16
 abbrev pub gone_on : Told → ℕ → ℕ → Told
 gone_on t pad1 pad2 = record t { pads = t.pads ++ (pad1, pad2) ∷ [] }
 
+abbrev pub way_of : Told → Way
+way_of t = record { pads = t.pads; resets = t.resets }
+
 abbrev pub kept_in : Told → ℕ → Told
-kept_in t slot = record t { held = slice_set t.held slot t.pads }
+kept_in t slot = record t { held = slice_set t.held slot (way_of t) }
+
+abbrev pub on_way : Told → Way → Told
+on_way t way = record t { pads = way.pads; resets = way.resets }
 
 abbrev pub back_to : Told → ℕ → Told
-back_to t slot = record t { pads = slice_index_or t.held slot [] }
+back_to t slot = on_way t (slice_index_or t.held slot no_way)
+
+-- the button pressed at the end of the path, where it may be: not before the first frame, and once
+abbrev pub pressed_in : Told → Told
+pressed_in t = record t { resets = t.resets ++ length t.pads ∷ [] }
+
+abbrev pub MayReset : Told → Type 0
+MayReset t = RiseWithin 1 36000 (t.resets ++ length t.pads ∷ [])
 
 -- the region of a number, and its number
 abbrev pub region_of : ℕ → Region
@@ -80,3 +106,10 @@ pub record IsJobOf (told : Told) (job : Job) : Type 0 where
 abbrev pub spans_of : List (ℕ × ℕ) → List Span
 spans_of [] = []
 spans_of (pads ∷ rest) = record { count = 1; pad1 = pads.0; pad2 = pads.1 } ∷ spans_of rest
+
+-- the path of a way
+abbrev pub path_of : Way → Path
+path_of way = record { spans = spans_of way.pads; resets = way.resets }
+
+abbrev pub path_told : Told → Path
+path_told t = path_of (way_of t)

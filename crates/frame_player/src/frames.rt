@@ -1,13 +1,13 @@
 ghost use Rattle.std.specs.Prelude.{◌≡◌, ◌<◌, ◌≤◌, ℕ, List, length, min, IfOk, IfErr, IfSome, IsNone, IsTrue, IsFalse};
 ghost use Rattle.snes_defs.specs.declared.ports.Side.{Side};
 ghost use Rattle.memory_player.specs.Filled.{in_front};
-ghost use Rattle.frame_player.specs.Told.{Told, gone_on, kept_in, back_to, word_of};
+ghost use Rattle.frame_player.specs.Told.{Told, MayReset, gone_on, kept_in, back_to, pressed_in, word_of};
 ghost use Rattle.frame_player.specs.FrameBytes.{TakesOf, side_of};
 ghost use Rattle.frame_player.specs.Frames.{IsFramesOf, FramePlayed, EndsFrame, room_of, most_of};
 
 use crate::console::Frames;
 use crate::ends::FrameEnd;
-use crate::moves::{go, go_back, keep_in, load, save};
+use crate::moves::{go, go_back, keep_in, load, press, save};
 use memory_player::Counts;
 use snes_defs::{Side, Span};
 
@@ -114,5 +114,17 @@ impl Frames {
         }
         go_back(&mut self.rewind, slot as u8);
         true
+    }
+
+    /// Presses the reset button: the next frame begins with a reset. Returns false, and leaves all as it was, if no
+    /// frame of the path was played, or if the button was just pressed.
+    pub fn reset(&mut self) -> bool
+        requires told { (told : Told) × IsFramesOf told self.old }
+        ensures pressed { (told : Told) → IsFramesOf told self.old → IsTrue result
+            → MayReset told × IsFramesOf (pressed_in told) self.new }
+        ensures none { (told : Told) → IsFramesOf told self.old → IsFalse result
+            → (MayReset told → ⊥) × IsFramesOf told self.new }
+    {
+        press(&mut self.rewind)
     }
 }

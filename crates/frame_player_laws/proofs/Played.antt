@@ -1,6 +1,6 @@
 -- Frames that were played, the spans of one frame each that they tell, and other scripts with their pads.
-use Rattle.std.proofs.Common.{◌≡◌, ℕ, zero, suc, ◌-◌, ◌<◌, ◌≤◌, Bool, true, false, List, [], ◌∷◌, ◌++◌, length}
-use Rattle.std.proofs.Common.{refl, ap, sym, subst, ◌∙◌, append_assoc, append-nil, arith, ltb, if◌then◌else◌}
+use Rattle.std.proofs.Common.{◌≡◌, ℕ, zero, suc, ◌+◌, ◌-◌, ◌<◌, ◌≤◌, Bool, true, false, List, [], ◌∷◌, ◌++◌, length}
+use Rattle.std.proofs.Common.{refl, ap, sym, subst, ◌∙◌, append_assoc, append-nil, length-append, arith, ltb, if◌then◌else◌}
 use Rattle.std.proofs.lemmas.Bool.Decides.{nat_tests}
 use Rattle.snes_defs.specs.declared.cart.Job.{Job}
 use Rattle.snes_defs.specs.declared.script.Span.{Span}
@@ -10,12 +10,13 @@ use Rattle.side_law.specs.Serial.{serial_of}
 use Rattle.side_law.specs.SerialRun.{IsOutput}
 use Rattle.console_steps.specs.ConsoleState.{console_moves}
 use Rattle.audio_side.specs.Sound.{sound_start, sound_moves}
+use Rattle.plan_drive.specs.Paths.{Path}
 use Rattle.snapshot.specs.Path.{PathEmits}
 use Rattle.job_player.specs.Start.{Emits, console_of}
 use Rattle.frame_player.specs.Told.{Told, IsJobOf, gone_on, spans_of}
-use Rattle.frame_player.specs.Joined.{Frame, ArePlayed, told_after, pictures_of, samples_of, frames_from_first}
-use Rattle.frame_player_laws.specs.Scripts.{HasPadsOf, ArePlayedWith, pads_played}
-use Rattle.frame_player_laws.proofs.SamePads.{same_pads, same_output}
+use Rattle.frame_player.specs.Joined.{Frame, ArePlayed, reset_if, told_after, pictures_of, samples_of, frames_from_first}
+use Rattle.frame_player_laws.specs.Scripts.{HasPadsOf, ArePlayedWith, pads_played, presses_from}
+use Rattle.frame_player_laws.proofs.SamePads.{same_pads, same_job}
 
 -- ---- the pads of a frame of the first span, and of one behind it
 
@@ -50,7 +51,31 @@ pads_list (f ∷ rest) = (f.pad1, f.pad2) ∷ pads_list rest
 told_pads : (told : Told) (frames : List Frame) → (told_after told frames).pads ≡ told.pads ++ pads_list frames
 told_pads told [] = sym (append-nil told.pads)
 told_pads told (f ∷ rest) =
-    told_pads (gone_on told f.pad1 f.pad2) rest ∙ append_assoc told.pads ((f.pad1, f.pad2) ∷ []) (pads_list rest)
+    told_pads (gone_on (reset_if f.reset told) f.pad1 f.pad2) rest
+    ∙ ap (λ v. (v ++ (f.pad1, f.pad2) ∷ []) ++ pads_list rest) (same_told f.reset told)
+    ∙ append_assoc told.pads ((f.pad1, f.pad2) ∷ []) (pads_list rest)
+  where
+    same_told : (b : Bool) (t : Told) → (reset_if b t).pads ≡ t.pads
+    same_told true t = refl
+    same_told false t = refl
+
+-- and the frames before which the button was pressed
+told_resets : (told : Told) (frames : List Frame)
+    → (told_after told frames).resets ≡ told.resets ++ presses_from (length told.pads) frames
+told_resets told [] = sym (append-nil told.resets)
+told_resets told (f ∷ rest) =
+    told_resets (gone_on (reset_if f.reset told) f.pad1 f.pad2) rest
+    ∙ ap (λ n. (reset_if f.reset told).resets ++ presses_from n rest) (one_longer f.reset told)
+    ∙ here f.reset told (presses_from (length told.pads + 1) rest)
+  where
+    one_longer : (b : Bool) (t : Told) → length ((reset_if b t).pads ++ (f.pad1, f.pad2) ∷ []) ≡ length t.pads + 1
+    one_longer true t = length-append t.pads ((f.pad1, f.pad2) ∷ [])
+    one_longer false t = length-append t.pads ((f.pad1, f.pad2) ∷ [])
+
+    here : (b : Bool) (t : Told) (more : List ℕ)
+        → (reset_if b t).resets ++ more ≡ t.resets ++ ((if b then length t.pads ∷ [] else []) ++ more)
+    here true t more = append_assoc t.resets (length t.pads ∷ []) more
+    here false t more = refl
 
 -- a span for each frame
 abbrev spans_played : List Frame → List Span
@@ -75,7 +100,7 @@ pads_same frames spans h k lt = h k (subst (λ n. k < n) (spans_last frames) lt)
 
 -- ---- the laws
 
-module _ (told : Told) (frames : List Frame) (job : Job) (none : told.pads ≡ []) (is : IsJobOf told job)
+module _ (told : Told) (frames : List Frame) (job : Job) (none : told.pads ≡ []) (no_resets : told.resets ≡ []) (is : IsJobOf told job)
     (played : ArePlayed told frames) (few : length frames ≤ 36000) where
   most : ℕ
   most = (told_after told frames).most
@@ -84,32 +109,41 @@ module _ (told : Told) (frames : List Frame) (job : Job) (none : told.pads ≡ [
   few_spans = subst (λ k. k ≤ 36000) (sym (spans_last frames)) few
 
   -- the law of joined frames, by the pads of the frames
-  by_frames : PathEmits job most (spans_played frames) (pictures_of frames) (samples_of frames)
-  unfolding most
+  path_played : Path
+  path_played = record { spans = spans_played frames; resets = presses_from 0 frames }
+
+  by_frames : PathEmits job most path_played (pictures_of frames) (samples_of frames)
+  unfolding most path_played
   by_frames =
-      subst (λ p. PathEmits job (told_after told frames).most (spans_of p) (pictures_of frames) (samples_of frames))
-      (told_pads told frames ∙ ap (λ p. p ++ pads_list frames) none) (frames_from_first told frames job none is played)
+      let resets = told_resets told frames ∙ ap (λ v. v ++ presses_from (length told.pads) frames) no_resets
+      ∙ ap (λ v. presses_from (length v) frames) none in
+      let pads = told_pads told frames ∙ ap (λ p. p ++ pads_list frames) none in
+      subst (λ r. PathEmits job (told_after told frames).most (record { spans = spans_played frames; resets = r }) (pictures_of frames) (samples_of frames)) resets
+      (subst (λ p. PathEmits job (told_after told frames).most (record { spans = spans_of p; resets = (told_after told frames).resets }) (pictures_of frames) (samples_of frames)) pads
+      (frames_from_first told frames job none is played))
 
-  pub any_script : (n : ℕ) (path : List Span) → frames_of path ≡ length frames → HasPadsOf path frames
-      → PathEmits job n path (pictures_of frames) (samples_of frames)
-  any_script n path lasts h =
-      same_pads job most n (spans_played frames) path (pictures_of frames) (samples_of frames)
-      (record { lasts = spans_last frames ∙ sym lasts; pads = λ k lt. sym (pads_same frames path h k lt) })
-      few_spans by_frames
+  pub any_script : (n : ℕ) (path : Path) → frames_of path.spans ≡ length frames → HasPadsOf path.spans frames
+      → path.resets ≡ presses_from 0 frames → PathEmits job n path (pictures_of frames) (samples_of frames)
+  unfolding path_played
+  any_script n path lasts h resets =
+      same_pads job most n path_played path (pictures_of frames) (samples_of frames)
+      (record { lasts = spans_last frames ∙ sym lasts; pads = λ k lt. sym (pads_same frames path.spans h k lt) })
+      resets few_spans by_frames
 
-  pub any_job : job.frames ≡ length frames → job.script.resets ≡ [] → HasPadsOf job.script.spans frames
+  pub any_job : job.frames ≡ length frames → job.script.resets ≡ presses_from 0 frames → HasPadsOf job.script.spans frames
       → Emits job (pictures_of frames) (samples_of frames)
+  unfolding path_played
   any_job lasts resets h =
       let video = pictures_of frames in
       let audio = samples_of frames in
-      let Emitted : List ℕ → ℕ → Type 0
-      = λ (r : List ℕ) (count : ℕ). IsOutput console_moves sound_moves
-      (serial_of (console_of job) (sound_start job.region r job.boot job.table))
+      let Emitted : ℕ → Type 0
+      = λ (count : ℕ). IsOutput console_moves sound_moves
+      (serial_of (console_of job) (sound_start job.region job.script.resets job.boot job.table))
       (end_stamp_of job.region count) video audio in
-      let by_script : Emitted [] (frames_of (spans_played frames))
-      = same_output job most (spans_played frames) job.script resets (pads_same frames job.script.spans h)
+      let by_script : Emitted (frames_of (spans_played frames))
+      = same_job job most path_played job.script resets (pads_same frames job.script.spans h)
       video audio few_spans by_frames in
-      subst (λ r. Emitted r job.frames) (sym resets) (subst (Emitted []) (spans_last frames ∙ sym lasts) by_script)
+      subst Emitted (spans_last frames ∙ sym lasts) by_script
 
 -- ---- one span
 

@@ -1,9 +1,9 @@
 -- The run of a path, and that of a script with the same pads in each frame of the path: up to the end of the path they
 -- are one run.
-use Rattle.std.proofs.Common.{◌≡◌, ℕ, ◌<◌, ◌≤◌, List, [], refl, ap, sym, subst, ◌∙◌, arith}
+use Rattle.std.proofs.Common.{◌≡◌, ℕ, ◌<◌, ◌≤◌, false, List, refl, ap, sym, subst, ◌∙◌, arith}
 use Rattle.snes_defs.specs.declared.cart.Job.{Job}
-use Rattle.snes_defs.specs.declared.script.Span.{Span}
-use Rattle.snes_defs.specs.Script.{Script, frames_of, pads_at}
+use Rattle.plan_drive.specs.Paths.{Path}
+use Rattle.snes_defs.specs.Script.{Script, frames_of, is_reset, pads_at}
 use Rattle.clock_ratio.specs.Stamp.{end_stamp_of}
 use Rattle.side_law.specs.Serial.{SerialState, serial_of}
 use Rattle.side_law.specs.SerialRun.{IsOutput, after_turns}
@@ -11,26 +11,40 @@ use Rattle.io_math.specs.Registers.{framed, registers_start}
 use Rattle.console_bus.specs.BusState.{board_of}
 use Rattle.console_steps.specs.ConsoleState.{ConsoleState, console_moves, console_start}
 use Rattle.audio_side.specs.HardwareState.{table_of}
-use Rattle.audio_side.specs.Sound.{SoundState, sound_moves}
+use Rattle.audio_side.specs.Clock.{reset_frames}
+use Rattle.audio_side.specs.Sound.{SoundState, sound_start, sound_moves}
 use Rattle.snapshot.specs.Path.{PathEmits, script_in, start_of, end_of_path, console_of_path, sound_of_path}
-use Rattle.snapshot.proofs.Clocks.{Agree, Alike}
+use Rattle.snapshot.proofs.Clocks.{Agree, Alike, words_harmless, words_of}
 use Rattle.snapshot.proofs.Runs.{SameRun, same_runs, alike_stamp, starts_own, words_twice}
+use Rattle.snapshot.proofs.Rooms.{output_roomy}
 use Rattle.frame_player_laws.specs.Scripts.{HaveSamePads}
 
-module _ (job : Job) (n : ℕ) (path : List Span) (t : Script) (resets : t.resets ≡ [])
-    (pads : (k : ℕ) → k < frames_of path → pads_at t.spans k ≡ pads_at path k) where
-  agree : Agree (frames_of path) (script_in job.region n path) t
-  agree = record { pads = pads; resets = resets }
+module _ (job : Job) (n : ℕ) (path : Path) (t : Script) (resets : t.resets ≡ path.resets)
+    (pads : (k : ℕ) → k < frames_of path.spans → pads_at t.spans k ≡ pads_at path.spans k) where
+  abbrev agree : Agree (frames_of path.spans) (script_in job.region n path) t
+  agree =
+      let f = frames_of path.spans in
+      record {
+        pads = pads;
+        change = words_of t f;
+        harmless = words_harmless (pads_at t.spans f).0 (pads_at t.spans f).1;
+        words = λ io. sym (words_twice io (pads_at path.spans f).0 (pads_at path.spans f).1
+            (pads_at t.spans f).0 (pads_at t.spans f).1);
+        resets = λ k lt. ap (λ xs. is_reset xs k) resets;
+        extra = false;
+        there = ap (λ xs. is_reset xs f) resets;
+        sound = λ k lt. ap (λ xs. is_reset (reset_frames xs 36001) k) resets;
+      }
 
   -- the serial console that plays the other script, and both consoles at their starts
   abbrev pub other_start : SerialState ConsoleState SoundState
   other_start =
-      serial_of (console_start job.cart t job.region) (sound_of_path job.region job.boot job.table)
+      serial_of (console_start job.cart t job.region) (sound_of_path job.region t.room t.resets job.boot job.table)
 
-  starts_alike : Alike (frames_of path) t (console_of_path job.region job.cart n path)
+  starts_alike : Alike (frames_of path.spans) (script_in job.region n path) t agree (console_of_path job.region job.cart n path)
       (console_start job.cart t job.region)
   starts_alike =
-      let f = frames_of path in
+      let f = frames_of path.spans in
       let w = console_of_path job.region job.cart n path in
       record {
         before = λ lt.
@@ -43,16 +57,16 @@ module _ (job : Job) (n : ℕ) (path : List Span) (t : Script) (resets : t.reset
               };
             }) is
             ∙ ap (λ io. record w { rest = record w.rest { script = t; io = io } })
-            (sym (words_twice registers_start (pads_at path 0).0 (pads_at path 0).1
+            (sym (words_twice registers_start (pads_at path.spans 0).0 (pads_at path.spans 0).1
             (pads_at t.spans f).0 (pads_at t.spans f).1));
         within = omega arith;
       }
 
-  pub same_output : (video audio : List ℕ) → frames_of path ≤ 36000 → PathEmits job n path video audio
+  pub same_output : (video audio : List ℕ) → frames_of path.spans ≤ 36000 → PathEmits job n path video audio
       → IsOutput console_moves sound_moves other_start (end_of_path job.region path) video audio
   same_output video audio few h =
       let region = job.region in
-      let f = frames_of path in
+      let f = frames_of path.spans in
       let s = script_in region n path in
       let a = start_of job n path in
       let start : SameRun region f few s t agree a other_start = record { console = starts_alike; else_same = refl } in
@@ -87,12 +101,22 @@ module _ (job : Job) (n : ℕ) (path : List Span) (t : Script) (resets : t.reset
         audio_is = (same h.turns (omega arith)).audio ∙ h.audio_is;
       }
 
-pub same_pads : (job : Job) (n m : ℕ) (path other : List Span) (video audio : List ℕ)
-    → HaveSamePads path other → frames_of path ≤ 36000
+  -- and without room for more resets on the sound side
+  pub same_job : (video audio : List ℕ) → frames_of path.spans ≤ 36000 → PathEmits job n path video audio
+      → IsOutput console_moves sound_moves
+      (serial_of (console_start job.cart t job.region) (sound_start job.region t.resets job.boot job.table))
+      (end_of_path job.region path) video audio
+  same_job video audio few h =
+      output_roomy t.room
+      (serial_of (console_start job.cart t job.region) (sound_start job.region t.resets job.boot job.table))
+      (end_of_path job.region path) video audio (same_output video audio few h)
+
+pub same_pads : (job : Job) (n m : ℕ) (path other : Path) (video audio : List ℕ)
+    → HaveSamePads path.spans other.spans → other.resets ≡ path.resets → frames_of path.spans ≤ 36000
     → PathEmits job n path video audio → PathEmits job m other video audio
-same_pads job n m path other video audio h few emits =
+same_pads job n m path other video audio h resets few emits =
     let region = job.region in
     let t = script_in region m other in
     let Emitted : ℕ → Type 0
     = λ frames. IsOutput console_moves sound_moves (start_of job m other) (end_stamp_of region frames) video audio in
-    subst Emitted h.lasts (same_output job n path t refl (λ k lt. sym (h.pads k lt)) video audio few emits)
+    subst Emitted h.lasts (same_output job n path t resets (λ k lt. sym (h.pads k lt)) video audio few emits)

@@ -108,4 +108,12 @@ impl Played {
     {
         self.console.back(slot)
     }
+
+    /// Presses the reset button.
+    pub fn reset(&mut self) -> bool
+        requires { IsConsole self.old }
+        ensures { IsConsole self.new }
+    {
+        self.console.reset()
+    }
 }

@@ -58,6 +58,24 @@ fn a_slot_takes_a_console_back(rt: HostRuntime) -> Result<(), Fail> {
 }
 
 #[test]
+fn a_reset_shuts_the_door(rt: HostRuntime) -> Result<(), Fail> {
+    let mut played = Played::begin(rt.alloc(), Region::Ntsc).ok_or("no console")?;
+    // There is nothing to reset before the first frame.
+    assert!(rt; !played.reset());
+    assert_eq!(rt; played.dot_after(3, START), Ok(GREEN));
+    assert!(rt; played.reset());
+    assert!(rt; !played.reset());
+    assert!(rt; played.keep(0));
+    assert_eq!(rt; played.dot_after(3, 0), Ok(RED));
+    assert_eq!(rt; played.dot_after(3, START), Ok(GREEN));
+    // The slot holds the press too, and the console that has not taken it.
+    assert!(rt; played.back(0));
+    assert!(rt; !played.reset());
+    assert_eq!(rt; played.dot_after(3, 0), Ok(RED));
+    Ok(())
+}
+
+#[test]
 fn a_room_too_short_changes_nothing(rt: HostRuntime) -> Result<(), Fail> {
     let mut played = Played::begin(rt.alloc(), Region::Ntsc).ok_or("no console")?;
     let picture = FrameEnd::TooShort(Side::Console);

@@ -58,7 +58,7 @@ after_line number r line = if nat_eq number 1 then after_first r line (version_o
 
 -- the script that was read
 abbrev pub script_in : Read → Script
-script_in r = record { region = r.region; spans = r.spans; resets = r.resets; room = length r.spans }
+script_in r = record { region = r.region; spans = r.spans; resets = r.resets; room = 0 }
 
 -- what follows a line: more of the script, or its refusal at the line's number
 abbrev pub going_on : Option Read → ℕ → (Read → Result Script ℕ) → Result Script ℕ

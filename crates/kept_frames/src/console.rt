@@ -1,5 +1,5 @@
 ghost use Rattle.std.specs.Prelude.{◌≡◌, ℕ, Bool, eqb};
-ghost use Rattle.frame_player.specs.Told.{told_first, gone_on, kept_in, back_to, word_of};
+ghost use Rattle.frame_player.specs.Told.{told_first, gone_on, kept_in, back_to, pressed_in, word_of};
 ghost use Rattle.frame_player.specs.Frames.{IsFramesOf};
 ghost use Rattle.kept_frames.specs.Left.{AsLeft};
 
@@ -79,6 +79,17 @@ impl SnesConsole {
         ensures told { self.new.kept.told ≡ gone_on self.old.kept.told (word_of pad1) (word_of pad2) }
     {
         self.kept.tell(&(pad1, pad2));
+    }
+
+    /// Tells that the reset button is pressed.
+    pub fn tell_reset(&mut self)
+        requires left { AsLeft self.old }
+        requires empty { self.old.kept.full ≡ 0 }
+        ensures left { AsLeft self.new }
+        ensures empty { self.new.kept.full ≡ 0 }
+        ensures told { self.new.kept.told ≡ pressed_in self.old.kept.told }
+    {
+        self.kept.tell(&true);
     }
 
     /// Tells that a slot holds the path.

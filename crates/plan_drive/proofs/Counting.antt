@@ -26,9 +26,9 @@ samples_few a c = omega arith
 -- a path, and the path that each slot holds, by how many frames they last
 pub record Lasts (paths : Paths) (path : ℕ) (held : List ℕ) (most : ℕ) : Type 0 where
   pub size : length held ≡ 8
-  pub path_is : path ≡ frames_of paths.path
+  pub path_is : path ≡ frames_of paths.path.spans
   pub path_most : path ≤ most
-  pub held_is : (slot other : ℕ) → slot < 8 → slice_index_or held slot other ≡ frames_of (paths.held slot)
+  pub held_is : (slot other : ℕ) → slot < 8 → slice_index_or held slot other ≡ frames_of (paths.held slot).spans
   pub held_most : (slot other : ℕ) → slot < 8 → slice_index_or held slot other ≤ most
 
 -- some steps were counted, and the rest is left
@@ -59,15 +59,15 @@ module _ (steps rest : List PlanStep) (frames samples path : ℕ) (held : List �
       → Counted steps rest (frames + count) (samples + (samples_to (path + count) - samples_to path)) (path + count) held
   counted_go count pad1 pad2 h =
       let span : Span = record { count = count; pad1 = pad1; pad2 = pad2 } in
-      let more = frames_more h.paths.path span in
+      let more = frames_more h.paths.path.spans span in
       let is = h.lasts.path_is in
       let most = h.lasts.path_most in
       let frames_left = h.frames_left in
       let few = h.few in
       let rises = samples_few path count in
-      let went : (samples_to (frames_of h.paths.path + count) - samples_to (frames_of h.paths.path)) ≡ samples_to (path + count) - samples_to path
+      let went : (samples_to (frames_of h.paths.path.spans + count) - samples_to (frames_of h.paths.path.spans)) ≡ samples_to (path + count) - samples_to path
       = ap (λ n. samples_to (n + count) - samples_to n) (sym is) in
-      let left : samples + ((samples_to (frames_of h.paths.path + count) - samples_to (frames_of h.paths.path)) + samples_in rest (after_step h.paths (Go count pad1 pad2))) ≡ samples_in steps no_paths = h.samples_left in
+      let left : samples + ((samples_to (frames_of h.paths.path.spans + count) - samples_to (frames_of h.paths.path.spans)) + samples_in rest (after_step h.paths (Go count pad1 pad2))) ≡ samples_in steps no_paths = h.samples_left in
       record {
         paths = after_step h.paths (Go count pad1 pad2);
         lasts = record {
@@ -104,16 +104,16 @@ module _ (steps rest : List PlanStep) (frames samples path : ℕ) (held : List �
       set_here : (other : ℕ) → slice_index_or (slice_set held slot path) slot other ≡ path
       set_here other = let size = h.lasts.size in get_or-set_same held slot path other (omega (arith, within, size))
 
-      same : (k other : ℕ) → k ≡ slot → slice_index_or (slice_set held slot path) k other ≡ frames_of ((kept h.paths slot).held k)
+      same : (k other : ℕ) → k ≡ slot → slice_index_or (slice_set held slot path) k other ≡ frames_of ((kept h.paths slot).held k).spans
       same k other e =
           let on : (slot == slot) ≡ true = grind (arith, nat_tests) in
-          subst (λ j. slice_index_or (slice_set held slot path) j other ≡ frames_of ((kept h.paths slot).held j)) (sym e)
-          (subst (λ b. slice_index_or (slice_set held slot path) slot other ≡ frames_of (if b then h.paths.path else h.paths.held slot)) {x = true} (sym on) (set_here other ∙ h.lasts.path_is))
+          subst (λ j. slice_index_or (slice_set held slot path) j other ≡ frames_of ((kept h.paths slot).held j).spans) (sym e)
+          (subst (λ b. slice_index_or (slice_set held slot path) slot other ≡ frames_of (if b then h.paths.path else h.paths.held slot).spans) {x = true} (sym on) (set_here other ∙ h.lasts.path_is))
 
-      differ : (k other : ℕ) → k < 8 → (k ≡ slot → ⊥) → slice_index_or (slice_set held slot path) k other ≡ frames_of ((kept h.paths slot).held k)
+      differ : (k other : ℕ) → k < 8 → (k ≡ slot → ⊥) → slice_index_or (slice_set held slot path) k other ≡ frames_of ((kept h.paths slot).held k).spans
       differ k other lt ne =
           let off : (k == slot) ≡ false = grind (arith, nat_tests) in
-          subst (λ b. slice_index_or (slice_set held slot path) k other ≡ frames_of (if b then h.paths.path else h.paths.held k)) {x = false} (sym off)
+          subst (λ b. slice_index_or (slice_set held slot path) k other ≡ frames_of (if b then h.paths.path else h.paths.held k).spans) {x = false} (sym off)
           (get_or-set_other held slot k path other ne ∙ h.lasts.held_is k other lt)
 
   pub counted_back : (slot other : ℕ) → slot < 8 → Counted steps (Back slot ∷ rest) frames samples path held → Counted steps rest frames samples (slice_index_or held slot other) held

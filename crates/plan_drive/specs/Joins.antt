@@ -1,15 +1,14 @@
 -- What the goes of a plan emit, one after another.
 use Rattle.std.specs.Prelude.{◌≡◌, ℕ, List, [], ◌∷◌, ◌++◌}
 use Rattle.snes_defs.specs.declared.cart.Job.{Job}
-use Rattle.snes_defs.specs.declared.script.Span.{Span}
 use Rattle.input_files.specs.declared.plan.PlanStep.{PlanStep}
 use Rattle.input_files.specs.declared.plan.PlanStep.TheVariants.{Go, Keep, Back}
-use Rattle.plan_drive.specs.Paths.{Paths, no_paths, after_step, path_job, goes_of}
+use Rattle.plan_drive.specs.Paths.{Path, Paths, no_paths, after_step, path_job, goes_of}
 
 -- by what the run of a path's job emits
-module _ (emits : (path : List Span) → (video audio : List ℕ) → Type 0) where
+module _ (emits : (path : Path) → (video audio : List ℕ) → Type 0) where
   -- what the run of a longer path has beyond that of a shorter one
-  pub record Extends (before path : List Span) (video audio : List ℕ) : Type 0 where
+  pub record Extends (before path : Path) (video audio : List ℕ) : Type 0 where
     pub first_video : List ℕ
     pub first_audio : List ℕ
     pub first : emits before first_video first_audio

@@ -1,25 +1,50 @@
--- A path: the spans that a console has played from the start of its job, one after another; the job of a path; and the
--- paths of a plan.
+-- A path: the spans that a console has played from the start of its job, one after another, and its resets; the job of a
+-- path; and the paths of a plan.
 use Rattle.std.specs.Prelude.{ℕ, ◌+◌, ◌==◌, max, List, [], ◌∷◌, ◌++◌, if◌then◌else◌}
 use Rattle.snes_defs.specs.declared.cart.Job.{Job}
 use Rattle.snes_defs.specs.declared.region.Region.TheVariants.{Ntsc}
 use Rattle.snes_defs.specs.declared.script.Span.{Span}
-use Rattle.snes_defs.specs.Script.{Script, frames_of}
+use Rattle.snes_defs.specs.Script.{Script, RiseWithin, frames_of}
 use Rattle.input_files.specs.declared.plan.PlanStep.{PlanStep}
 use Rattle.input_files.specs.declared.plan.PlanStep.TheVariants.{Go, Keep, Back}
 
+-- A PATH: the spans that a console has played since the start of its job, and the frames with which the button was
+-- pressed: each is the end of the path that was gone until then
+pub record Path : Type 0 where
+  pub spans : List Span
+  pub resets : List ℕ
+
+abbrev pub empty_path : Path
+empty_path = record { spans = []; resets = [] }
+
+-- a path that goes on by a span
+abbrev pub longer : Path → Span → Path
+longer path span = record { spans = path.spans ++ span ∷ []; resets = path.resets }
+
+-- a path at whose end the button is pressed
+abbrev pub pressed : Path → Path
+pressed path = record { spans = path.spans; resets = path.resets ++ frames_of path.spans ∷ [] }
+
+-- it may be pressed there: not before the first frame, nor twice, nor past the last frame that a script may have
+abbrev pub MayPress : Path → Type 0
+MayPress path = RiseWithin 1 36000 (path.resets ++ frames_of path.spans ∷ [])
+
 -- THE PATHS of a plan on its way: the one that it is on, and the one that each slot holds
 pub record Paths : Type 0 where
-  pub path : List Span
-  pub held : ℕ → List Span
+  pub path : Path
+  pub held : ℕ → Path
 
 -- at first all are empty
 abbrev pub no_paths : Paths
-no_paths = record { path = []; held = λ slot. [] }
+no_paths = record { path = empty_path; held = λ slot. empty_path }
 
 -- a go appends its span to the path
 abbrev pub gone : Paths → Span → Paths
-gone p span = record { path = p.path ++ span ∷ []; held = p.held }
+gone p span = record { path = longer p.path span; held = p.held }
+
+-- the button is pressed at the end of the path
+abbrev pub reset_there : Paths → Paths
+reset_there p = record { path = pressed p.path; held = p.held }
 
 -- a keep stores the path in a slot
 abbrev pub kept : Paths → ℕ → Paths
@@ -39,13 +64,13 @@ abbrev pub after_steps : List PlanStep → Paths → Paths
 after_steps [] p = p
 after_steps (step ∷ rest) p = after_steps rest (after_step p step)
 
--- THE JOB of a path: the machines of a job, played with an Ntsc script of just the path, without resets; the run ends with
--- the path. The script has memory for n spans, at which no machine looks
-abbrev pub path_script : ℕ → List Span → Script
-path_script n path = record { region = Ntsc; spans = path; resets = []; room = n }
+-- THE JOB of a path: the machines of a job, played with an Ntsc script of just the path; the run ends with the path. The
+-- script has memory for n spans and n resets, at which no machine looks
+abbrev pub path_script : ℕ → Path → Script
+path_script n path = record { region = Ntsc; spans = path.spans; resets = path.resets; room = n }
 
-abbrev pub path_job : Job → ℕ → List Span → Job
-path_job job n path = record { cart = job.cart; boot = job.boot; table = job.table; script = path_script n path; frames = frames_of path; region = Ntsc }
+abbrev pub path_job : Job → ℕ → Path → Job
+path_job job n path = record { cart = job.cart; boot = job.boot; table = job.table; script = path_script n path; frames = frames_of path.spans; region = Ntsc }
 
 -- How much memory a plan needs: a span for each of its goes, and the slots up to the highest that it names.
 abbrev pub goes_of : List PlanStep → ℕ

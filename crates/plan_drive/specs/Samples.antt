@@ -16,6 +16,6 @@ samples_to frames = samples_before_of Ntsc (end_stamp_of Ntsc frames)
 abbrev pub samples_in : List PlanStep → Paths → ℕ
 samples_in [] paths = 0
 samples_in (Go count pad1 pad2 ∷ rest) paths =
-    (samples_to (frames_of paths.path + count) - samples_to (frames_of paths.path)) + samples_in rest (after_step paths (Go count pad1 pad2))
+    (samples_to (frames_of paths.path.spans + count) - samples_to (frames_of paths.path.spans)) + samples_in rest (after_step paths (Go count pad1 pad2))
 samples_in (Keep slot ∷ rest) paths = samples_in rest (after_step paths (Keep slot))
 samples_in (Back slot ∷ rest) paths = samples_in rest (after_step paths (Back slot))

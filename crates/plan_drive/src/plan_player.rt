@@ -3,7 +3,7 @@ ghost use Rattle.snes_defs.specs.declared.cart.Job.{Job};
 ghost use Rattle.snes_defs.specs.declared.region.Region.TheVariants.{Ntsc};
 ghost use Rattle.input_files.specs.declared.plan.PlanStep.{PlanStep};
 ghost use Rattle.run_drive.specs.Played.{IsPlayable, PlayedWhole, PlayedFirst};
-ghost use Rattle.plan_drive.specs.Paths.{path_script};
+ghost use Rattle.plan_drive.specs.Paths.{empty_path, path_script};
 ghost use Rattle.plan_drive.specs.Joins.{PlanEmits};
 
 use input_files::Plan;
@@ -24,7 +24,7 @@ pub trait PlanPlayer: Player {
 
     /// Makes the machines of an NTSC job without a script, and allocates all the memory that a plan needs.
     fn ready_plan(alloc: Global, job: &Job, plan: &Plan) -> Result<Self::Planned, NoMemory>
-        requires script { job.now.script ≡ path_script 0 [] }
+        requires script { job.now.script ≡ path_script 0 empty_path }
         requires region { job.now.region ≡ Ntsc }
         ensures starts { IfOk result (λ planned. plans planned job.now plan.now) }
         ensures ends { OnOk result (IsPlayable (PlanEmits Self.emits job.now plan.now)) };

@@ -1,5 +1,6 @@
--- The clocks of a step that pass for a console and for one whose script goes on: the two differ in the script, and
--- from the first clock of the frame in which the shorter script ends on in the pads' words.
+-- The clocks of a step that pass for a console and for one whose script goes on or has a reset more: the two differ in
+-- the script, and from the first clock of the frame in which the shorter script ends on in the pads' words and in
+-- whether a reset is due.
 use Rattle.std.proofs.Common.{◌≡◌, ℕ, ◌+◌, ◌-◌, ◌<◌, ◌≤◌, ◌==◌, ◌&&◌, ◌||◌, Bool, true, false, List, [], ◌∷◌, ◌++◌, refl, sym, ap, subst, ◌∙◌, ⊎_elim, arith, if◌then◌else◌}
 use Rattle.std.proofs.lemmas.Bool.{cases_lt}
 use Rattle.std.proofs.lemmas.Bool.Decides.{nat_tests}
@@ -16,6 +17,7 @@ use Rattle.cpu65816.specs.Instruction.{CpuState, signalled}
 use Rattle.ppu_regs.specs.Writes.{after_over}
 use Rattle.console_bus.specs.BusState.{BusState, next_frame}
 use Rattle.console_bus.specs.Happenings.{happened, emitted_at, frame_begun, blank_begun, row_drawn, row_bytes, row_over, shown_dot, is_shown}
+use Rattle.audio_side.specs.Clock.{reset_frames}
 use Rattle.console_steps.specs.ConsoleState.{ConsoleState, after_event, after_events, bytes_of_events, with_interrupt_levels}
 use Rattle.console_steps.proofs.Beams.{happened_beam}
 use Rattle.console_steps.proofs.EventLists.{events_joined}
@@ -38,11 +40,11 @@ words_timed io a b = refl
 pub words_harmless : (a b : ℕ) → IsHarmless (λ io. with_words io a b)
 words_harmless a b = record { timer = λ io. words_timed io a b; nmi = λ io. refl; irq = λ io. refl }
 
-abbrev pub put : Script → (IoRegisters → IoRegisters) → BusState → BusState
-put s g r = record r { script = s; io = g r.io }
+abbrev pub put : Script → (IoRegisters → IoRegisters) → Bool → BusState → BusState
+put s g d r = record r { script = s; io = g r.io; reset = d || r.reset }
 
-abbrev pub console_put : Script → (IoRegisters → IoRegisters) → ConsoleState → ConsoleState
-console_put s g w = record w { rest = put s g w.rest }
+abbrev pub console_put : Script → (IoRegisters → IoRegisters) → Bool → ConsoleState → ConsoleState
+console_put s g d w = record w { rest = put s g d w.rest }
 
 -- events other than a line's start and vertical blank
 abbrev IsLater : Event → Type 0
@@ -54,29 +56,29 @@ IsLater Draw = Unit {0}
 IsLater HdmaLine = Unit {0}
 IsLater Timer = Unit {0}
 
-module _ (s : Script) (g : IoRegisters → IoRegisters) (h : IsHarmless g) where
-  either_put : (b : Bool) (x y x' y' : BusState) → x' ≡ put s g x → y' ≡ put s g y → (if b then x' else y') ≡ put s g (if b then x else y)
+module _ (s : Script) (g : IoRegisters → IoRegisters) (d : Bool) (h : IsHarmless g) where
+  either_put : (b : Bool) (x y x' y' : BusState) → x' ≡ put s g d x → y' ≡ put s g d y → (if b then x' else y') ≡ put s g d (if b then x else y)
   either_put true x y x' y' e f = e
   either_put false x y x' y' e f = f
 
-  drawn_put : (r : BusState) → row_drawn (put s g r) ≡ put s g (row_drawn r)
+  drawn_put : (r : BusState) → row_drawn (put s g d r) ≡ put s g d (row_drawn r)
   unfolding row_drawn is_shown
   drawn_put r = either_put (is_shown r) (record r { picture = after_over r.picture (row_over r.picture (r.beam.v - 1)) }) r _ _ refl refl
 
-  happened_put : (r : BusState) (e : Event) → IsLater e → happened (put s g r) e ≡ put s g (happened r e)
+  happened_put : (r : BusState) (e : Event) → IsLater e → happened (put s g d r) e ≡ put s g d (happened r e)
   happened_put r Line l = absurd l
   happened_put r Blank l = absurd l
   happened_put r HdmaFrame l = refl
   happened_put r Refresh l = refl
   happened_put r Draw l = drawn_put r
   happened_put r HdmaLine l = refl
-  happened_put r Timer l = ap (λ io. record r { script = s; io = io }) (h.timer r.io)
+  happened_put r Timer l = ap (λ io. record r { script = s; io = io; reset = d || r.reset }) (h.timer r.io)
 
-  row_put : (r : BusState) → row_bytes (put s g r) ≡ row_bytes r
+  row_put : (r : BusState) → row_bytes (put s g d r) ≡ row_bytes r
   unfolding row_bytes shown_dot is_shown
   row_put r = refl
 
-  pub emitted_put : (r : BusState) (e : Event) → emitted_at (put s g r) e ≡ emitted_at r e
+  pub emitted_put : (r : BusState) (e : Event) → emitted_at (put s g d r) e ≡ emitted_at r e
   emitted_put r Line = refl
   emitted_put r Blank = refl
   emitted_put r HdmaFrame = refl
@@ -85,17 +87,17 @@ module _ (s : Script) (g : IoRegisters → IoRegisters) (h : IsHarmless g) where
   emitted_put r HdmaLine = refl
   emitted_put r Timer = refl
 
-  pub lines_put : (p : CpuState) (r : BusState) → with_interrupt_levels p (put s g r) ≡ with_interrupt_levels p r
+  pub lines_put : (p : CpuState) (r : BusState) → with_interrupt_levels p (put s g d r) ≡ with_interrupt_levels p r
   lines_put p r = ap (λ n. signalled p n (irq_level (g r.io))) (h.nmi r.io) ∙ ap (λ i. signalled p (nmi_level r.io) i) (h.irq r.io)
 
   -- what an event leads to, where it does the same
-  pub event_by : (w : ConsoleState) (e : Event) → happened (put s g w.rest) e ≡ put s g (happened w.rest e)
-      → after_event (console_put s g w) e ≡ console_put s g (after_event w e)
+  pub event_by : (w : ConsoleState) (e : Event) → happened (put s g d w.rest) e ≡ put s g d (happened w.rest e)
+      → after_event (console_put s g d w) e ≡ console_put s g d (after_event w e)
   event_by w e same =
       ap (λ q. record w { processor = with_interrupt_levels w.processor q; rest = q }) same
-      ∙ ap (λ p. record w { processor = p; rest = put s g (happened w.rest e) }) (lines_put w.processor (happened w.rest e))
+      ∙ ap (λ p. record w { processor = p; rest = put s g d (happened w.rest e) }) (lines_put w.processor (happened w.rest e))
 
-  later_put : (w : ConsoleState) (e : Event) → IsLater e → after_event (console_put s g w) e ≡ console_put s g (after_event w e)
+  later_put : (w : ConsoleState) (e : Event) → IsLater e → after_event (console_put s g d w) e ≡ console_put s g d (after_event w e)
   later_put w e l = event_by w e (happened_put w.rest e l)
 
 -- ---- frame and beam over events
@@ -147,18 +149,25 @@ events_clock w (e ∷ es) = events_clock (after_event w e) es
 
 -- ---- the two consoles
 
--- the scripts give the same pads up to a frame, and the same resets
+-- the scripts give the same pads up to a frame, and the same resets. In frame f the words may change, and t alone may
+-- have a reset
 pub record Agree (f : ℕ) (s t : Script) : Type 0 where
   pub pads : (n : ℕ) → n < f → pads_at t.spans n ≡ pads_at s.spans n
-  pub resets : t.resets ≡ s.resets
+  pub change : IoRegisters → IoRegisters
+  pub harmless : IsHarmless change
+  pub words : (io : IoRegisters) → framed io (pads_at t.spans f).0 (pads_at t.spans f).1 ≡ change (framed io (pads_at s.spans f).0 (pads_at s.spans f).1)
+  pub resets : (n : ℕ) → n < f → is_reset t.resets n ≡ is_reset s.resets n
+  pub extra : Bool
+  pub there : is_reset t.resets f ≡ (extra || is_reset s.resets f)
+  pub sound : (n : ℕ) → n < f → is_reset (reset_frames t.resets 36001) n ≡ is_reset (reset_frames s.resets 36001) n
 
 abbrev pub words_of : Script → ℕ → IoRegisters → IoRegisters
 words_of t f io = with_words io (pads_at t.spans f).0 (pads_at t.spans f).1
 
 -- a console in a frame before f, or in frame f, and the one that plays the other script
-pub record Alike (f : ℕ) (t : Script) (w x : ConsoleState) : Type 0 where
-  pub before : w.rest.frame < f → x ≡ console_put t (λ io. io) w
-  pub begun : w.rest.frame ≡ f → x ≡ console_put t (words_of t f) w
+pub record Alike (f : ℕ) (s t : Script) (agree : Agree f s t) (w x : ConsoleState) : Type 0 where
+  pub before : w.rest.frame < f → x ≡ console_put t (λ io. io) false w
+  pub begun : w.rest.frame ≡ f → x ≡ console_put t agree.change agree.extra w
   pub within : w.rest.frame ≤ f
 
 module _ (f : ℕ) (small : f < 65535) (s t : Script) (agree : Agree f s t) where
@@ -173,63 +182,81 @@ module _ (f : ℕ) (small : f < 65535) (s t : Script) (agree : Agree f s t) wher
   May w Timer = Unit {0}
 
   -- a later event
-  later_alike : (w x : ConsoleState) (e : Event) → IsLater e → (happened w.rest e).frame ≡ w.rest.frame → Alike f t w x → Alike f t (after_event w e) (after_event x e)
+  later_alike : (w x : ConsoleState) (e : Event) → IsLater e → (happened w.rest e).frame ≡ w.rest.frame → Alike f s t agree w x → Alike f s t agree (after_event w e) (after_event x e)
   later_alike w x e l same h = record {
-    before = λ lt. ap (λ y. after_event y e) (h.before (subst (λ n. n < f) same lt)) ∙ later_put t (λ io. io) nothing_harmless w e l;
-    begun = λ is. ap (λ y. after_event y e) (h.begun (sym same ∙ is)) ∙ later_put t (words_of t f) (words_harmless (pads_at t.spans f).0 (pads_at t.spans f).1) w e l;
+    before = λ lt. ap (λ y. after_event y e) (h.before (subst (λ n. n < f) same lt)) ∙ later_put t (λ io. io) false nothing_harmless w e l;
+    begun = λ is. ap (λ y. after_event y e) (h.begun (sym same ∙ is)) ∙ later_put t agree.change agree.extra agree.harmless w e l;
     within = subst (λ n. n ≤ f) (sym same) h.within;
   }
 
   -- a frame begins: the words are those of the frame
-  frame_put : (r : BusState) → r.script ≡ s → frame_begun (put t (λ io. io) r) ≡ put t (words_of t (next_frame r.frame)) (frame_begun r)
-  unfolding frame_begun framed
-  frame_put r is =
-      ap (λ v. record r { script = t; frame = next_frame r.frame; io = framed r.io (pads_at t.spans (next_frame r.frame)).0 (pads_at t.spans (next_frame r.frame)).1; picture = (frame_begun r).picture; reset = r.reset || is_reset v (next_frame r.frame) })
-      (agree.resets ∙ ap (λ v. v.resets) (sym is))
+  swapped : (a e x : Bool) → (a || (e || x)) ≡ (e || (a || x))
+  swapped true true x = refl
+  swapped true false x = refl
+  swapped false true x = refl
+  swapped false false x = refl
 
-  own_words : (r : BusState) → r.script ≡ s → next_frame r.frame < f → put t (words_of t (next_frame r.frame)) (frame_begun r) ≡ put t (λ io. io) (frame_begun r)
-  unfolding frame_begun framed
-  own_words r is lt =
-      ap (λ p. put t (λ io. with_words io p.0 p.1) (frame_begun r)) (agree.pads (next_frame r.frame) lt ∙ ap (λ v. pads_at v.spans (next_frame r.frame)) (sym is))
+  frame_put : (r : BusState) (g : IoRegisters → IoRegisters) (e : Bool)
+      → framed r.io (pads_at t.spans (next_frame r.frame)).0 (pads_at t.spans (next_frame r.frame)).1 ≡ g (framed r.io (pads_at r.script.spans (next_frame r.frame)).0 (pads_at r.script.spans (next_frame r.frame)).1)
+      → is_reset t.resets (next_frame r.frame) ≡ (e || is_reset r.script.resets (next_frame r.frame))
+      → frame_begun (put t (λ io. io) false r) ≡ put t g e (frame_begun r)
+  unfolding frame_begun
+  frame_put r g e words is =
+      let n = next_frame r.frame in
+      ap (λ io. record r { script = t; frame = n; io = io; picture = (frame_begun r).picture; reset = r.reset || is_reset t.resets n }) words
+      ∙ ap (λ v. record r { script = t; frame = n; io = g (framed r.io (pads_at r.script.spans n).0 (pads_at r.script.spans n).1); picture = (frame_begun r).picture; reset = v })
+      (ap (λ v. r.reset || v) is ∙ swapped r.reset e (is_reset r.script.resets n))
 
-  frame_alike : (w x : ConsoleState) → (w.rest.frame < f) → w.rest.script ≡ s → Alike f t w x → Alike f t (record w { processor = with_interrupt_levels w.processor (frame_begun w.rest); rest = frame_begun w.rest }) (record x { processor = with_interrupt_levels x.processor (frame_begun x.rest); rest = frame_begun x.rest })
+  frame_alike : (w x : ConsoleState) → (w.rest.frame < f) → w.rest.script ≡ s → Alike f s t agree w x → Alike f s t agree (record w { processor = with_interrupt_levels w.processor (frame_begun w.rest); rest = frame_begun w.rest }) (record x { processor = with_interrupt_levels x.processor (frame_begun x.rest); rest = frame_begun x.rest })
   frame_alike w x lt is h =
       let n = next_frame w.rest.frame in
       let same : n ≡ w.rest.frame + 1 = grind (arith, nat_tests) in
       let go : ConsoleState → ConsoleState = λ y. record y { processor = with_interrupt_levels y.processor (frame_begun y.rest); rest = frame_begun y.rest } in
-      let told_so : go x ≡ console_put t (words_of t n) (go w) = ap go (h.before lt)
-      ∙ ap (λ q. record w { processor = with_interrupt_levels w.processor q; rest = q }) (frame_put w.rest is)
-      ∙ ap (λ p. record w { processor = p; rest = put t (words_of t n) (frame_begun w.rest) }) (lines_put t (words_of t n) (words_harmless (pads_at t.spans n).0 (pads_at t.spans n).1) w.processor (frame_begun w.rest)) in
+      let told_so : (g : IoRegisters → IoRegisters) (e : Bool) → IsHarmless g
+      → framed w.rest.io (pads_at t.spans n).0 (pads_at t.spans n).1 ≡ g (framed w.rest.io (pads_at w.rest.script.spans n).0 (pads_at w.rest.script.spans n).1)
+      → is_reset t.resets n ≡ (e || is_reset w.rest.script.resets n) → go x ≡ console_put t g e (go w) = λ g e harmless words resets. ap go (h.before lt)
+      ∙ ap (λ q. record w { processor = with_interrupt_levels w.processor q; rest = q }) (frame_put w.rest g e words resets)
+      ∙ ap (λ p. record w { processor = p; rest = put t g e (frame_begun w.rest) }) (lines_put t g e harmless w.processor (frame_begun w.rest)) in
       record {
-        before = λ early. told_so ∙ ap (λ q. record w { processor = with_interrupt_levels w.processor (frame_begun w.rest); rest = q }) (own_words w.rest is (subst (λ m. m < f) (begun_frame w.rest) early));
-        begun = λ there. subst (λ m. go x ≡ console_put t (words_of t m) (go w)) (sym (begun_frame w.rest) ∙ there) told_so;
+        before = λ early.
+            let sooner = subst (λ m. m < f) (begun_frame w.rest) early in
+            told_so (λ io. io) false nothing_harmless
+            (ap (λ p. framed w.rest.io p.0 p.1) (agree.pads n sooner ∙ ap (λ v. pads_at v.spans n) (sym is)))
+            (agree.resets n sooner ∙ ap (λ v. is_reset v.resets n) (sym is));
+        begun = λ there.
+            let now : n ≡ f = sym (begun_frame w.rest) ∙ there in
+            told_so agree.change agree.extra agree.harmless
+            (ap (λ m. framed w.rest.io (pads_at t.spans m).0 (pads_at t.spans m).1) now ∙ agree.words w.rest.io
+            ∙ ap (λ m. agree.change (framed w.rest.io (pads_at s.spans m).0 (pads_at s.spans m).1)) (sym now)
+            ∙ ap (λ v. agree.change (framed w.rest.io (pads_at v.spans n).0 (pads_at v.spans n).1)) (sym is))
+            (ap (λ m. is_reset t.resets m) now ∙ agree.there ∙ ap (λ m. agree.extra || is_reset s.resets m) (sym now) ∙ ap (λ v. agree.extra || is_reset v.resets n) (sym is));
         within = subst (λ m. m ≤ f) (sym (begun_frame w.rest)) (omega (arith, same, lt));
       }
 
-  line_alike : (w x : ConsoleState) → (w.rest.frame < f) → w.rest.script ≡ s → Alike f t w x → Alike f t (after_event w Line) (after_event x Line)
-  line_alike w x lt is h = subst (λ y. Alike f t (after_event w Line) (after_event y Line)) (sym (h.before lt)) (go (w.rest.beam.v == 0))
+  line_alike : (w x : ConsoleState) → (w.rest.frame < f) → w.rest.script ≡ s → Alike f s t agree w x → Alike f s t agree (after_event w Line) (after_event x Line)
+  line_alike w x lt is h = subst (λ y. Alike f s t agree (after_event w Line) (after_event y Line)) (sym (h.before lt)) (go (w.rest.beam.v == 0))
     where
-      here : Alike f t w (console_put t (λ io. io) w)
+      here : Alike f s t agree w (console_put t (λ io. io) false w)
       here = record { before = λ l. refl; begun = λ e. absurd (omega (arith, lt, e)); within = h.within }
 
-      go : (b : Bool) → Alike f t (record w { processor = with_interrupt_levels w.processor (if b then frame_begun w.rest else w.rest); rest = if b then frame_begun w.rest else w.rest })
-          (record w { processor = with_interrupt_levels w.processor (if b then frame_begun (put t (λ io. io) w.rest) else put t (λ io. io) w.rest); rest = if b then frame_begun (put t (λ io. io) w.rest) else put t (λ io. io) w.rest })
-      go true = frame_alike w (console_put t (λ io. io) w) lt is here
+      go : (b : Bool) → Alike f s t agree (record w { processor = with_interrupt_levels w.processor (if b then frame_begun w.rest else w.rest); rest = if b then frame_begun w.rest else w.rest })
+          (record w { processor = with_interrupt_levels w.processor (if b then frame_begun (put t (λ io. io) false w.rest) else put t (λ io. io) false w.rest); rest = if b then frame_begun (put t (λ io. io) false w.rest) else put t (λ io. io) false w.rest })
+      go true = frame_alike w (console_put t (λ io. io) false w) lt is here
       go false = record { before = λ l. refl; begun = λ e. absurd (omega (arith, lt, e)); within = h.within }
 
-  blank_put : (r : BusState) → r.script ≡ s → r.frame < f → blank_begun (put t (λ io. io) r) ≡ put t (λ io. io) (blank_begun r)
+  blank_put : (r : BusState) → r.script ≡ s → r.frame < f → blank_begun (put t (λ io. io) false r) ≡ put t (λ io. io) false (blank_begun r)
   unfolding blank_begun
   blank_put r is lt =
       ap (λ p. record r { script = t; io = blanked r.io p.0 p.1; picture = (blank_begun r).picture }) (agree.pads r.frame lt ∙ ap (λ v. pads_at v.spans r.frame) (sym is))
 
-  blank_alike : (w x : ConsoleState) → (w.rest.frame < f) → w.rest.script ≡ s → Alike f t w x → Alike f t (after_event w Blank) (after_event x Blank)
+  blank_alike : (w x : ConsoleState) → (w.rest.frame < f) → w.rest.script ≡ s → Alike f s t agree w x → Alike f s t agree (after_event w Blank) (after_event x Blank)
   blank_alike w x lt is h = record {
-    before = λ l. ap (λ y. after_event y Blank) (h.before lt) ∙ event_by t (λ io. io) nothing_harmless w Blank (blank_put w.rest is lt);
+    before = λ l. ap (λ y. after_event y Blank) (h.before lt) ∙ event_by t (λ io. io) false nothing_harmless w Blank (blank_put w.rest is lt);
     begun = λ e. absurd (omega (arith, lt, e, blank_frame w.rest));
     within = subst (λ n. n ≤ f) (sym (blank_frame w.rest)) h.within;
   }
 
-  event_alike : (w x : ConsoleState) (e : Event) → May w e → Alike f t w x → Alike f t (after_event w e) (after_event x e)
+  event_alike : (w x : ConsoleState) (e : Event) → May w e → Alike f s t agree w x → Alike f s t agree (after_event w e) (after_event x e)
   event_alike w x Line m h = line_alike w x m.0 m.1 h
   event_alike w x Blank m h = blank_alike w x m.0 m.1 h
   event_alike w x HdmaFrame m h = later_alike w x HdmaFrame tt refl h
@@ -239,10 +266,10 @@ module _ (f : ℕ) (small : f < 65535) (s t : Script) (agree : Agree f s t) wher
   event_alike w x Timer m h = later_alike w x Timer tt refl h
 
   -- two that are alike emit the same
-  pub alike_emits : (w x : ConsoleState) (e : Event) → Alike f t w x → emitted_at x.rest e ≡ emitted_at w.rest e
+  pub alike_emits : (w x : ConsoleState) (e : Event) → Alike f s t agree w x → emitted_at x.rest e ≡ emitted_at w.rest e
   alike_emits w x e h =
-      ⊎_elim (λ lt. ap (λ y. emitted_at y.rest e) (h.before lt) ∙ emitted_put t (λ io. io) nothing_harmless w.rest e)
-      (λ ge. ap (λ y. emitted_at y.rest e) (h.begun (omega (arith, ge, h.within))) ∙ emitted_put t (words_of t f) (words_harmless (pads_at t.spans f).0 (pads_at t.spans f).1) w.rest e)
+      ⊎_elim (λ lt. ap (λ y. emitted_at y.rest e) (h.before lt) ∙ emitted_put t (λ io. io) false nothing_harmless w.rest e)
+      (λ ge. ap (λ y. emitted_at y.rest e) (h.begun (omega (arith, ge, h.within))) ∙ emitted_put t agree.change agree.extra agree.harmless w.rest e)
       (cases_lt w.rest.frame f)
 
   -- a list of events, each of which may come
@@ -250,8 +277,8 @@ module _ (f : ℕ) (small : f < 65535) (s t : Script) (agree : Agree f s t) wher
   Fits w [] = Unit {0}
   Fits w (e ∷ es) = May w e × Fits (after_event w e) es
 
-  pub events_alike : (es : List Event) (w x : ConsoleState) → Fits w es → Alike f t w x
-      → Alike f t (after_events w es) (after_events x es) × (bytes_of_events x es ≡ bytes_of_events w es)
+  pub events_alike : (es : List Event) (w x : ConsoleState) → Fits w es → Alike f s t agree w x
+      → Alike f s t agree (after_events w es) (after_events x es) × (bytes_of_events x es ≡ bytes_of_events w es)
   events_alike [] w x fits h = (h, refl)
   events_alike (e ∷ es) w x (may, fits) h =
       let rest = events_alike es (after_event w e) (after_event x e) fits (event_alike w x e may h) in

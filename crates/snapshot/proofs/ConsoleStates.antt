@@ -138,10 +138,10 @@ module _ (own : Region) (f : ℕ) (small : f < 65535) (s t : Script) (agree : Ag
   abbrev Near : ConsoleState → ℕ → Type 0
   Near w k = w.rest.frame ≡ f → (w.rest.beam.v ≡ 0) × (w.rest.beam.h + k < 1364)
 
-  moved_alike : (w x : ConsoleState) → Alike f t w x → Alike f t (moved w) (moved x)
+  moved_alike : (w x : ConsoleState) → Alike f s t agree w x → Alike f s t agree (moved w) (moved x)
   moved_alike w x h = record { before = λ lt. ap moved (h.before lt); begun = λ is. ap moved (h.begun is); within = h.within }
 
-  same_events : (w x : ConsoleState) → Alike f t w x → events_next x ≡ events_next w
+  same_events : (w x : ConsoleState) → Alike f s t agree w x → events_next x ≡ events_next w
   same_events w x h =
       ⊎_elim (λ lt. ap events_next (h.before lt)) (λ ge. ap events_next (h.begun (omega (arith, ge, h.within)))) (cases_lt w.rest.frame f)
 
@@ -233,8 +233,8 @@ module _ (own : Region) (f : ℕ) (small : f < 65535) (s t : Script) (agree : Ag
       begun_still own f w.rest.frame b.v b.h n.rest.frame n.rest.beam.v n.rest.beam.h w.clock k t.clock clock was.0 was.1 there is))
       (cases_lt w.rest.frame f)
 
-  pub clocks_alike : (k : ℕ) (w x : ConsoleState) → k ≤ 40 → IsTimed own w → w.clock + k < frame_clocks own * 65535 → w.rest.script ≡ s → Near w k → Alike f t w x
-      → Alike f t (after_clocks w k) (after_clocks x k) × (bytes_in x k ≡ bytes_in w k)
+  pub clocks_alike : (k : ℕ) (w x : ConsoleState) → k ≤ 40 → IsTimed own w → w.clock + k < frame_clocks own * 65535 → w.rest.script ≡ s → Near w k → Alike f s t agree w x
+      → Alike f s t agree (after_clocks w k) (after_clocks x k) × (bytes_in x k ≡ bytes_in w k)
   unfolding after_clocks bytes_in
   clocks_alike zero w x few timed early is near h = (h, refl)
   clocks_alike (suc k) w x few timed early is near h =
@@ -245,7 +245,7 @@ module _ (own : Region) (f : ℕ) (small : f < 65535) (s t : Script) (agree : Ag
       let later = one_later w in
       let rest = clocks_alike k (after_one w) (after_events (moved x) (events_next w)) (omega (arith, few)) (one_timed own w timed fewer) (omega (arith, early, later))
       (ap (λ v. v.script) (events_body (moved w) (events_next w)) ∙ is) (next_near w k few timed fewer near h.within) one.0 in (
-        subst (λ es. Alike f t (after_clocks (after_one w) k) (after_clocks (after_events (moved x) es) k)) (sym events) rest.0,
+        subst (λ es. Alike f s t agree (after_clocks (after_one w) k) (after_clocks (after_events (moved x) es) k)) (sym events) rest.0,
         ap (λ es. bytes_of_events (moved x) es ++ bytes_in (after_events (moved x) es) k) events
             ∙ ap (λ v. v ++ bytes_in (after_events (moved x) (events_next w)) k) one.1
             ∙ ap (λ v. bytes_of_events (moved w) (events_next w) ++ v) rest.1,
@@ -259,7 +259,7 @@ module _ (own : Region) (f : ℕ) (small : f < 65535) (s t : Script) (agree : Ag
   processor_told p r (Moves_byte m) got = refl
   processor_told p r (Accesses a) got = ap (λ b. moved_on p b) (byte_told t r a got)
 
-  pub effect_alike : (w : ConsoleState) (d : Due) (got : ℕ) → w.rest.script ≡ s → w.rest.frame < f → effect (console_put t (λ io. io) w) d got ≡ console_put t (λ io. io) (effect w d got)
+  pub effect_alike : (w : ConsoleState) (d : Due) (got : ℕ) → w.rest.script ≡ s → w.rest.frame < f → effect (console_put t (λ io. io) false w) d got ≡ console_put t (λ io. io) false (effect w d got)
   effect_alike w d got is early =
       ap (λ p. record w { processor = with_interrupt_levels p (rest_after (with_script t w.rest) d got); rest = rest_after (with_script t w.rest) d got }) (processor_told w.processor w.rest d got)
       ∙ ap (λ q. record w { processor = with_interrupt_levels (processor_after w.processor w.rest d got) q; rest = q })
@@ -273,24 +273,24 @@ module _ (own : Region) (f : ℕ) (small : f < 65535) (s t : Script) (agree : Ag
   act_told r (Moves_byte (Load from)) = refl
   act_told r (Accesses a) = refl
 
-  pub step_act : (w : ConsoleState) → act_of (with_script t w.rest) (due_of (console_put t (λ io. io) w)) ≡ act_of w.rest (due_of w)
+  pub step_act : (w : ConsoleState) → act_of (with_script t w.rest) (due_of (console_put t (λ io. io) false w)) ≡ act_of w.rest (due_of w)
   step_act w = act_told w.rest (due_of w)
 
   pub step_alike : (w : ConsoleState) (got : ℕ) → due_clocks (due_of w) w.rest.io.fast ≤ 40 → IsTimed own w → w.clock + 40 < frame_clocks own * 65535 → w.rest.script ≡ s → w.rest.frame < f
-      → Alike f t (console_after w (due_of w) got) (console_after (console_put t (λ io. io) w) (due_of w) got)
-      × (bytes_after (console_put t (λ io. io) w) (due_of w) got ≡ bytes_after w (due_of w) got)
+      → Alike f s t agree (console_after w (due_of w) got) (console_after (console_put t (λ io. io) false w) (due_of w) got)
+      × (bytes_after (console_put t (λ io. io) false w) (due_of w) got ≡ bytes_after w (due_of w) got)
   step_alike w got few timed early is before =
       let d = due_of w in
       let n = due_clocks d w.rest.io.fast in
       let k = effect_keeps w.rest d got in
       let e = effect w d got in
       let same = k.frame in
-      let alike : Alike f t e (console_put t (λ io. io) e) = record {
+      let alike : Alike f s t agree e (console_put t (λ io. io) false e) = record {
         before = λ l. refl;
         begun = λ there. absurd (omega (arith, there, before, same));
         within = omega (arith, same, before);
       } in
-      let all = clocks_alike n e (console_put t (λ io. io) e) few (effect_timed own w d got timed) (omega (arith, early, few)) (k.script ∙ is) (λ there. absurd (omega (arith, there, before, same))) alike in (
-        subst (λ y. Alike f t (after_clocks e n) (after_clocks y n)) (sym (effect_alike w d got is before)) all.0,
+      let all = clocks_alike n e (console_put t (λ io. io) false e) few (effect_timed own w d got timed) (omega (arith, early, few)) (k.script ∙ is) (λ there. absurd (omega (arith, there, before, same))) alike in (
+        subst (λ y. Alike f s t agree (after_clocks e n) (after_clocks y n)) (sym (effect_alike w d got is before)) all.0,
         ap (λ y. bytes_in y n) (effect_alike w d got is before) ∙ all.1,
       )

@@ -4,7 +4,7 @@ use Rattle.std.proofs.lemmas.Bool.{cases_lt}
 use Rattle.std.proofs.lemmas.List.{append-nil}
 use Rattle.snes_defs.specs.declared.cart.Job.{Job}
 use Rattle.snes_defs.specs.declared.script.Span.{Span}
-use Rattle.snes_defs.specs.Script.{frames_of}
+use Rattle.snes_defs.specs.Script.{RiseWithin, frames_of}
 use Rattle.clock_ratio.specs.Stamp.{frame_of, end_stamp_of}
 use Rattle.side_law.specs.Moves.{Moves}
 use Rattle.side_law.specs.Serial.{SerialState, got_of, console_step, sound_step, turn, console_emits, sound_emits}
@@ -22,11 +22,12 @@ use Rattle.audio_side.specs.Sound.{AudioValue, SoundState, sound_moves}
 use Rattle.audio_side.specs.Sound as sound_side
 use Rattle.snapshot.specs.declared.run.Run.{Run}
 use Rattle.snapshot.specs.declared.rewind.Rewind.{Rewind}
-use Rattle.plan_drive.specs.Paths.{Paths, gone}
+use Rattle.plan_drive.specs.Paths.{Path, Paths, gone}
 use Rattle.snapshot.specs.Path.{start_of, end_of_path}
 use Rattle.snapshot.specs.Positions.{IsRested, IsGoing}
 use Rattle.snapshot.proofs.Runs.{goes_on, frames_more}
 use Rattle.snapshot.proofs.Copying.{done_script, done_region}
+use Rattle.snapshot.proofs.Resets.{rise_wider}
 
 -- a run that has not gone ahead
 lead_at : {C S : Type 0} (cm : Moves C) (sm : Moves S) (end : ℕ) (from at : SerialState C S) (video audio all_video all_audio : List ℕ)
@@ -59,10 +60,10 @@ pub begun : (job : Job) (n : ℕ) (paths : Paths) (r : Rewind) (span : Span) (x 
 begun job n paths r span x room few stands waits h =
     let (video, audio, d) = h.now in
     let script = done_script job n paths.path r.run video audio d in
-    let fits : frames_of paths.path + span.count ≤ 36000 = subst (λ s. frames_of s.spans + span.count ≤ 36000) script few in
-    let short : length paths.path < n = subst (λ s. length s.spans < s.room) script room in
-    let more = frames_more paths.path span in
-    let size = length-append paths.path (span ∷ []) in
+    let fits : frames_of paths.path.spans + span.count ≤ 36000 = subst (λ s. frames_of s.spans + span.count ≤ 36000) script few in
+    let short : length paths.path.spans < n = subst (λ s. length s.spans < s.room) script room in
+    let more = frames_more paths.path.spans span in
+    let size = length-append paths.path.spans (span ∷ []) in
     let end = d.end_is in
     let later = ap (end_stamp_of job.region) more in
     record {
@@ -79,6 +80,9 @@ begun job n paths r span x room few stands waits h =
       end_is = ap (λ g. r.run.end + frame_of g * span.count) (done_region job n paths.path r.run video audio d) ∙ omega (arith, end, later);
       few = omega (arith, more, fits);
       room = omega (arith, size, short);
+      reset_room = d.reset_room;
+      rise = subst (λ m. RiseWithin 1 m paths.path.resets) (sym more) (rise_wider 1 (frames_of paths.path.spans) span.count paths.path.resets d.rise);
+      in_order = d.in_order;
       slots = h.slots;
     }
 
@@ -111,7 +115,7 @@ lead_turn end from at video audio lead short = go (turn_of console_moves sound_m
         (subst (λ v. IsLead console_moves sound_moves end from (sound_step console_moves sound_moves at) v (audio ++ sound_moves.bytes at.sound (got_of (sound_moves.act at.sound) at.to_sound))) (sym (append-nil video) ∙ ap (λ v. video ++ v) (sym gives.0))
         (lead_sound_turn console_moves sound_moves end from at video audio lead lt early)))
 
-pub turned : (job : Job) (n : ℕ) (paths : Paths) (before : List Span) (video audio : List ℕ) (r : Rewind) (after : Run)
+pub turned : (job : Job) (n : ℕ) (paths : Paths) (before : Path) (video audio : List ℕ) (r : Rewind) (after : Run)
     → ((w : SerialState ConsoleState SoundState) → IsAt console_side.StandsAt sound_side.StandsAt r.run.serial w → ¬ IsPast console_moves sound_moves r.run.end w)
     → ((w : SerialState ConsoleState SoundState) → IsAt console_side.StandsAt sound_side.StandsAt r.run.serial w → IsAt console_side.StandsAt sound_side.StandsAt after.serial (turn console_moves sound_moves w))
     → ((w : SerialState ConsoleState SoundState) → IsAt console_side.StandsAt sound_side.StandsAt r.run.serial w → after.serial.console.waiting ≡ r.run.serial.console.waiting ++ console_emits console_moves sound_moves w)
@@ -141,5 +145,8 @@ turned job n paths before video audio r after short turns console_out sound_out 
       end_is = same ∙ h.end_is;
       few = h.few;
       room = h.room;
+      reset_room = h.reset_room;
+      rise = h.rise;
+      in_order = h.in_order;
       slots = h.slots;
     }

@@ -3,11 +3,13 @@ pub mod Effects
 pub mod Clocks
 pub mod ConsoleStates
 pub mod Sounding
+pub mod Resets
 pub mod Arrives
 pub mod Runs
 pub mod Copying
 pub mod Slots
 pub mod Going
+pub mod Pressing
 pub mod Starting
 pub mod Drives
 pub mod Over

@@ -1,10 +1,10 @@
 -- What a run of whole frames needs of a region's numbers. They are looked at here alone.
-use Rattle.std.proofs.Common.{◌≡◌, ℕ, suc, ◌+◌, ◌*◌, ◌^◌, ◌<◌, ◌≤◌, ◌==◌, lit<, arith, if◌then◌else◌}
+use Rattle.std.proofs.Common.{◌≡◌, ℕ, suc, ◌+◌, ◌*◌, ◌/◌, ◌^◌, ◌<◌, ◌≤◌, ◌==◌, lit<, arith, if◌then◌else◌}
 use Rattle.std.proofs.lemmas.Bool.Decides.{nat_tests}
 use Rattle.snes_defs.specs.declared.region.Region.{Region}
 use Rattle.snes_defs.specs.declared.region.Region.TheVariants.{Ntsc, Pal}
 use Rattle.snes_defs.specs.declared.ports.Side.TheVariants.{Console}
-use Rattle.clock_ratio.specs.Stamp.{rate_of, end_stamp_of}
+use Rattle.clock_ratio.specs.Stamp.{rate_of, frame_of, end_stamp_of}
 use Rattle.beam.specs.Events.{lines_of}
 
 -- the clocks of a frame, and where the clock stands, by the frame and the place of the beam
@@ -80,3 +80,13 @@ ends_within Pal f few = omega (arith, few)
 pub ends_early : (region : Region) (f : ℕ) → f ≤ 36000 → end_stamp_of region f ≤ 2 ^ 62
 ends_early Ntsc f few = omega (arith, few)
 ends_early Pal f few = omega (arith, few)
+
+-- more frames end later
+pub ends_rise : (region : Region) (f g : ℕ) → f ≤ g → end_stamp_of region f ≤ end_stamp_of region g
+ends_rise Ntsc f g le = omega (arith, le)
+ends_rise Pal f g le = omega (arith, le)
+
+-- a stamp before the begin of frame f lies in a frame before it
+pub frame_below : (region : Region) (f stamp : ℕ) → stamp < end_stamp_of region f → stamp / frame_of region < f
+frame_below Ntsc f stamp lt = omega (arith, lt)
+frame_below Pal f stamp lt = omega (arith, lt)

@@ -4,7 +4,6 @@ use Rattle.std.proofs.lemmas.List.{append-nil, take-append-drop}
 use Rattle.snes_defs.specs.declared.cart.Job.{Job}
 use Rattle.snes_defs.specs.declared.ports.Side.{Side}
 use Rattle.snes_defs.specs.declared.ports.Side.TheVariants.{Console, Sound}
-use Rattle.snes_defs.specs.declared.script.Span.{Span}
 use Rattle.side_law.specs.SerialRun.{IsPast}
 use Rattle.side_law.proofs.SerialRuns.{run_is_over}
 use Rattle.serial_console.specs.Lead.{IsLead, IsLed}
@@ -18,7 +17,7 @@ use Rattle.audio_side.specs.Sound as sound_side
 use Rattle.audio_side.specs.SoundLaws.{stamp_stands as sound_stamp}
 use Rattle.snapshot.specs.declared.run.Run.{Run}
 use Rattle.snapshot.specs.declared.rewind.Rewind.{Rewind}
-use Rattle.plan_drive.specs.Paths.{Paths}
+use Rattle.plan_drive.specs.Paths.{Path, Paths}
 use Rattle.snapshot.specs.Path.{start_of, end_of_path}
 use Rattle.snapshot.specs.Positions.{IsRested, IsGoing, IsBeyond}
 use Rattle.side_law.specs.SerialRun.{IsOutput}
@@ -29,7 +28,7 @@ use Rattle.snapshot.specs.Handed.{Gave, GaveSome}
 use Rattle.snapshot.proofs.Arrives.{lead_arrives}
 
 -- a path that has come to its end, and of which no byte waits
-pub arrived : (job : Job) (n : ℕ) (paths : Paths) (before : List Span) (video audio : List ℕ) (r : Rewind)
+pub arrived : (job : Job) (n : ℕ) (paths : Paths) (before : Path) (video audio : List ℕ) (r : Rewind)
     → r.run.end ≤ r.run.serial.console.stamp → r.run.end ≤ stamp_now r.run.serial.sound.clock
     → r.run.serial.console.waiting ≡ [] → r.run.serial.sound.waiting ≡ []
     → IsGoing job n paths before video audio r → IsRested job n paths r × IsBeyond job n before paths.path video audio
@@ -47,7 +46,7 @@ arrived job n paths before video audio r console sound no_video no_audio h =
     (subst (λ x. IsLead console_moves sound_moves end from at (v ++ r.run.serial.console.waiting) x) (ap (λ w. a ++ w) no_audio ∙ append-nil a) h.led.lead) in
     let under = lead_arrives console_moves sound_moves end from at v a lead past in (
       record {
-        now = (v, a, record { at = at; stands = h.led.stands; underway = under; past = past; no_video = no_video; no_audio = no_audio; end_is = h.end_is; few = h.few; room = h.room });
+        now = (v, a, record { at = at; stands = h.led.stands; underway = under; past = past; no_video = no_video; no_audio = no_audio; end_is = h.end_is; few = h.few; room = h.room; reset_room = h.reset_room; rise = h.rise; in_order = h.in_order });
         slots = h.slots;
       },
       record { first_video = h.first_video; first_audio = h.first_audio; first = h.first; whole = run_is_over console_moves sound_moves from end at v a under past },
@@ -58,7 +57,7 @@ handed : (f v w : List ℕ) (k : ℕ) → (f ++ v) ++ w ≡ (f ++ (v ++ take k w
 handed f v w k =
     ap (λ x. (f ++ v) ++ x) (sym (take-append-drop {A = ℕ} k w)) ∙ sym (append_assoc (f ++ v) (take k w) (drop k w)) ∙ ap (λ x. x ++ drop k w) (append_assoc f v (take k w))
 
-pub video_handed : (job : Job) (n : ℕ) (paths : Paths) (before : List Span) (video audio : List ℕ) (r : Rewind) (x : ConsoleValue) (k : ℕ)
+pub video_handed : (job : Job) (n : ℕ) (paths : Paths) (before : Path) (video audio : List ℕ) (r : Rewind) (x : ConsoleValue) (k : ℕ)
     → ((w : ConsoleState) → console_side.StandsAt r.run.serial.console w → console_side.StandsAt x w) → x.waiting ≡ drop k r.run.serial.console.waiting
     → IsGoing job n paths before video audio r
     → IsGoing job n paths before (video ++ take k r.run.serial.console.waiting) audio
@@ -76,10 +75,13 @@ video_handed job n paths before video audio r x k same left h = record {
   end_is = h.end_is;
   few = h.few;
   room = h.room;
+  reset_room = h.reset_room;
+  rise = h.rise;
+  in_order = h.in_order;
   slots = h.slots;
 }
 
-pub audio_handed : (job : Job) (n : ℕ) (paths : Paths) (before : List Span) (video audio : List ℕ) (r : Rewind) (x : AudioValue) (k : ℕ)
+pub audio_handed : (job : Job) (n : ℕ) (paths : Paths) (before : Path) (video audio : List ℕ) (r : Rewind) (x : AudioValue) (k : ℕ)
     → ((m : SoundState) → sound_side.StandsAt r.run.serial.sound m → sound_side.StandsAt x m) → x.waiting ≡ drop k r.run.serial.sound.waiting
     → IsGoing job n paths before video audio r
     → IsGoing job n paths before video (audio ++ take k r.run.serial.sound.waiting)
@@ -97,6 +99,9 @@ audio_handed job n paths before video audio r x k same left h = record {
   end_is = h.end_is;
   few = h.few;
   room = h.room;
+  reset_room = h.reset_room;
+  rise = h.rise;
+  in_order = h.in_order;
   slots = h.slots;
 }
 
@@ -111,15 +116,15 @@ none_more : (f w more : List ℕ) → w ≡ [] → ((f ++ []) ++ w) ++ more ≡ 
 none_more f w more was = ap (λ v. v ++ more) (ap (λ v. (f ++ []) ++ v) was ∙ append-nil (f ++ []) ∙ append-nil f)
 
 -- what had been emitted when the span began
-abbrev pub emitted_of : (job : Job) (n : ℕ) (paths : Paths) (before : List Span) (r : Rewind) → IsGoing job n paths before [] [] r → Side → List ℕ
+abbrev pub emitted_of : (job : Job) (n : ℕ) (paths : Paths) (before : Path) (r : Rewind) → IsGoing job n paths before [] [] r → Side → List ℕ
 emitted_of job n paths before r h = by_side ((h.first_video ++ []) ++ r.run.serial.console.waiting) ((h.first_audio ++ []) ++ r.run.serial.sound.waiting)
 
-pub drove : (job : Job) (n : ℕ) (paths : Paths) (before : List Span) (r : Rewind) (after : Run) (base : Side → List ℕ) (holds : Side → List ℕ → Type 0)
+pub drove : (job : Job) (n : ℕ) (paths : Paths) (before : Path) (r : Rewind) (after : Run) (base : Side → List ℕ) (holds : Side → List ℕ → Type 0)
     → r.run.serial.console.waiting ≡ [] → r.run.serial.sound.waiting ≡ []
     → r.run.end ≤ after.serial.console.stamp → r.run.end ≤ stamp_now after.serial.sound.clock → after.serial.console.waiting ≡ [] → after.serial.sound.waiting ≡ []
     → after.end ≡ r.run.end
     → (h : IsGoing job n paths before [] [] r)
-    → TookOn console_moves sound_moves console_side.StandsAt sound_side.StandsAt (console_of_path job.region job.cart n paths.path) (sound_of_path job.region job.boot job.table) r.run.end after.serial (Since holds base (emitted_of job n paths before r h))
+    → TookOn console_moves sound_moves console_side.StandsAt sound_side.StandsAt (console_of_path job.region job.cart n paths.path) (sound_of_path job.region n paths.path.resets job.boot job.table) r.run.end after.serial (Since holds base (emitted_of job n paths before r h))
     → Gave job n paths before base holds (record { run = after; slots = r.slots })
 drove job n paths before r after base holds no_video no_audio console sound none_video none_audio same h took =
     let (video, video_is, video_held) = took.video_taken in
@@ -140,15 +145,18 @@ drove job n paths before r after base holds no_video no_audio console sound none
       end_is = same ∙ h.end_is;
       few = h.few;
       room = h.room;
+      reset_room = h.reset_room;
+      rise = h.rise;
+      in_order = h.in_order;
       slots = h.slots;
     } in
     let done = arrived job n paths before video audio new (omega (arith, console, same)) (omega (arith, sound, same)) none_video none_audio going in
     record { video = video; audio = audio; beyond = done.1; rested = done.0; video_taken = video_held; audio_taken = audio_held }
 
-pub drove_some : (job : Job) (n : ℕ) (paths : Paths) (before : List Span) (r : Rewind) (base : Side → List ℕ) (holds : Side → List ℕ → Type 0)
+pub drove_some : (job : Job) (n : ℕ) (paths : Paths) (before : Path) (r : Rewind) (base : Side → List ℕ) (holds : Side → List ℕ → Type 0)
     → r.run.serial.console.waiting ≡ [] → r.run.serial.sound.waiting ≡ []
     → (h : IsGoing job n paths before [] [] r)
-    → TookFirst console_moves sound_moves (console_of_path job.region job.cart n paths.path) (sound_of_path job.region job.boot job.table) r.run.end (Since holds base (emitted_of job n paths before r h))
+    → TookFirst console_moves sound_moves (console_of_path job.region job.cart n paths.path) (sound_of_path job.region n paths.path.resets job.boot job.table) r.run.end (Since holds base (emitted_of job n paths before r h))
     → GaveSome job n paths before base holds
 drove_some job n paths before r base holds no_video no_audio h took =
     let (video, video_is, video_held) = took.video_taken in
@@ -171,7 +179,7 @@ drove_some job n paths before r base holds no_video no_audio h took =
     }
 
 -- where the run of a span stands as it begins
-pub stands_led : (job : Job) (n : ℕ) (paths : Paths) (before : List Span) (r : Rewind) (h : IsGoing job n paths before [] [] r)
+pub stands_led : (job : Job) (n : ℕ) (paths : Paths) (before : Path) (r : Rewind) (h : IsGoing job n paths before [] [] r)
     → IsLed console_moves sound_moves console_side.StandsAt sound_side.StandsAt r.run.end (start_of job n paths.path) r.run.serial (emitted_of job n paths before r h Console) (emitted_of job n paths before r h Sound)
 stands_led job n paths before r h =
     subst (λ e. IsLed console_moves sound_moves console_side.StandsAt sound_side.StandsAt e (start_of job n paths.path) r.run.serial (emitted_of job n paths before r h Console) (emitted_of job n paths before r h Sound)) (sym h.end_is) h.led

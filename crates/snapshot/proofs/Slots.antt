@@ -4,11 +4,11 @@ use Rattle.std.proofs.lemmas.Bool.{cases_lt}
 use Rattle.std.proofs.Math.ListN.{get_or-append}
 use Rattle.std.proofs.Math.Seq.{get_or-append_seam}
 use Rattle.snes_defs.specs.declared.cart.Job.{Job}
-use Rattle.snes_defs.specs.declared.script.Span.{Span}
+use Rattle.plan_drive.specs.Paths.{Path}
 use Rattle.snapshot.specs.declared.run.Run.{Run}
 use Rattle.snapshot.specs.Positions.{HoldsPath}
 
-pub one_more : (job : Job) (n : ℕ) (path : List Span) (runs : List Run) (run : Run)
+pub one_more : (job : Job) (n : ℕ) (path : Path) (runs : List Run) (run : Run)
     → ((k : ℕ) (other : Run) → k < length runs → HoldsPath job n path (slice_index_or runs k other)) → HoldsPath job n path run
     → (k : ℕ) (other : Run) → k < length (runs ++ run ∷ []) → HoldsPath job n path (slice_index_or (runs ++ run ∷ []) k other)
 one_more job n path runs run are new k other below =

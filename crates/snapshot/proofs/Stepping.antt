@@ -16,7 +16,7 @@ use Rattle.audio_side.specs.Sound as sound_side
 use Rattle.audio_side.specs.SoundLaws.{stamp_stands as sound_stamp}
 use Rattle.input_files.specs.declared.plan.PlanStep.{PlanStep}
 use Rattle.input_files.specs.declared.plan.PlanStep.TheVariants.{Go}
-use Rattle.plan_drive.specs.Paths.{Paths, no_paths, after_step}
+use Rattle.plan_drive.specs.Paths.{Path, Paths, no_paths, after_step}
 use Rattle.snapshot.specs.declared.run.Run.{Run}
 use Rattle.snapshot.specs.declared.rewind.Rewind.{Rewind}
 use Rattle.snapshot.specs.Path.{end_of_path}
@@ -59,7 +59,7 @@ slot_waits slots slot old new within is same k other = ⊎_elim here there (case
 
 module _ (job : Job) (n : ℕ) where
   -- the run of a path that has come to its end ends at the stamps of the two machines
-  ends_at : (path : List Span) (r : Run) (video audio : List ℕ) (d : IsDone job n path r video audio) → EndsAt job n path (console_moves.stamp d.at.console) (sound_moves.stamp d.at.sound)
+  ends_at : (path : Path) (r : Run) (video audio : List ℕ) (d : IsDone job n path r video audio) → EndsAt job n path (console_moves.stamp d.at.console) (sound_moves.stamp d.at.sound)
   ends_at path r video audio d = record {
     turns = d.underway.turns;
     runs = record { past = subst (IsPast console_moves sound_moves (end_of_path job.region path)) (sym d.underway.now_is) d.past; first = d.underway.not_past };
@@ -68,7 +68,7 @@ module _ (job : Job) (n : ℕ) where
   }
 
   -- a go, from where a path ends to where the path after it ends
-  pub go_lasts : (before path : List Span) (span : Span) (r mid after : Rewind) → HoldsPath job n before r.run
+  pub go_lasts : (before path : Path) (span : Span) (r mid after : Rewind) → HoldsPath job n before r.run
       → ((w : SerialState ConsoleState SoundState) → StandsIn r w → StandsIn mid (record w { console = console_played w.console span }))
       → HoldsPath job n path after.run → GoLasts job n before path (rise_of mid.run after.run)
   go_lasts before path span r mid after was begins is =

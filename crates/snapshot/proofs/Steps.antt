@@ -16,7 +16,7 @@ use Rattle.input_files.specs.declared.plan.PlanStep.{PlanStep}
 use Rattle.input_files.specs.declared.plan.PlanStep.TheVariants.{Go, Keep, Back}
 use Rattle.input_files.specs.Plan.{frames_in, NamesBelow}
 use Rattle.run_drive.specs.Played.{IsPlayable, PlayedWhole, PlayedFirst}
-use Rattle.plan_drive.specs.Paths.{Paths, no_paths, kept, after_step, after_steps, goes_of, slots_from, slots_of}
+use Rattle.plan_drive.specs.Paths.{Path, Paths, no_paths, longer, kept, after_step, after_steps, goes_of, slots_from, slots_of}
 use Rattle.plan_drive.specs.Joins.{Joins}
 use Rattle.snapshot.specs.declared.rewind.Rewind.{Rewind}
 use Rattle.snapshot.specs.Path.{PathEmits, start_of, end_of_path}
@@ -46,23 +46,23 @@ ended from end video audio h = record {
 
 module _ (job : Job) (n : ℕ) where
   -- the output of the shorter path is a beginning of that of the longer one
-  pub longer_begins : (path : List Span) (span : Span) (video audio all_video all_audio : List ℕ) → frames_of path + span.count ≤ 36000
-      → PathEmits job n path video audio → PathEmits job n (path ++ span ∷ []) all_video all_audio
+  pub longer_begins : (path : Path) (span : Span) (video audio all_video all_audio : List ℕ) → frames_of path.spans + span.count ≤ 36000
+      → PathEmits job n path video audio → PathEmits job n (longer path span) all_video all_audio
       → ((rest : List ℕ) × (video ++ rest ≡ all_video)) × ((rest : List ℕ) × (audio ++ rest ≡ all_audio))
   longer_begins path span video audio all_video all_audio few short long =
       let e = ended (start_of job n path) (end_of_path job.region path) video audio short in
-      output_begins console_moves sound_moves (start_of job n (path ++ span ∷ [])) (end_of_path job.region (path ++ span ∷ [])) _ video audio all_video all_audio
+      output_begins console_moves sound_moves (start_of job n (longer path span)) (end_of_path job.region (longer path span)) _ video audio all_video all_audio
       (goes_on job n path span e.now video audio few e.underway e.past) long
 
-  pub record More (path longer : List Span) : Type 0 where
+  pub record More (path next : Path) : Type 0 where
     pub video : List ℕ
     pub audio : List ℕ
-    pub beyond : IsBeyond job n path longer video audio
+    pub beyond : IsBeyond job n path next video audio
 
-  pub goes_further : (path : List Span) (span : Span) → frames_of path + span.count ≤ 36000 → More path (path ++ span ∷ [])
+  pub goes_further : (path : Path) (span : Span) → frames_of path.spans + span.count ≤ 36000 → More path (longer path span)
   goes_further path span few =
       let (video, audio, short) = path_emits job n path in
-      let (all_video, all_audio, long) = path_emits job n (path ++ span ∷ []) in
+      let (all_video, all_audio, long) = path_emits job n (longer path span) in
       let begins = longer_begins path span video audio all_video all_audio few short long in
       record {
         video = begins.0.0;
@@ -71,25 +71,25 @@ module _ (job : Job) (n : ℕ) where
           first_video = video;
           first_audio = audio;
           first = short;
-          whole = subst (λ v. PathEmits job n (path ++ span ∷ []) v (audio ++ begins.1.0)) (sym begins.0.1)
-              (subst (λ a. PathEmits job n (path ++ span ∷ []) all_video a) (sym begins.1.1) long);
+          whole = subst (λ v. PathEmits job n (longer path span) v (audio ++ begins.1.0)) (sym begins.0.1)
+              (subst (λ a. PathEmits job n (longer path span) all_video a) (sym begins.1.1) long);
         };
       }
 
   -- no path lasts longer than so many frames
   pub record AreWithin (most : ℕ) (paths : Paths) : Type 0 where
-    pub path : frames_of paths.path ≤ most
-    pub held : (slot : ℕ) → frames_of (paths.held slot) ≤ most
+    pub path : frames_of paths.path.spans ≤ most
+    pub held : (slot : ℕ) → frames_of (paths.held slot).spans ≤ most
 
-  chosen : (b : Bool) (most : ℕ) (p q : List Span) → frames_of p ≤ most → frames_of q ≤ most → frames_of (if b then p else q) ≤ most
+  chosen : (b : Bool) (most : ℕ) (p q : Path) → frames_of p.spans ≤ most → frames_of q.spans ≤ most → frames_of (if b then p else q).spans ≤ most
   chosen true most p q h k = h
   chosen false most p q h k = k
 
   gone_within : (most count pad1 pad2 : ℕ) (paths : Paths) → AreWithin most paths → AreWithin (most + count) (after_step paths (Go count pad1 pad2))
   gone_within most count pad1 pad2 paths h =
-      let longer = frames_more paths.path (record { count = count; pad1 = pad1; pad2 = pad2 }) in
+      let more = frames_more paths.path.spans (record { count = count; pad1 = pad1; pad2 = pad2 }) in
       let le = h.path in
-      record { path = omega (arith, longer, le); held = λ slot. let less = h.held slot in omega (arith, less) }
+      record { path = omega (arith, more, le); held = λ slot. let less = h.held slot in omega (arith, less) }
 
   kept_within : (most slot : ℕ) (paths : Paths) → AreWithin most paths → AreWithin most (kept paths slot)
   kept_within most slot paths h = record { path = h.path; held = λ k. chosen (k == slot) most paths.path (paths.held k) h.path (h.held k) }
@@ -143,8 +143,8 @@ pub record Reached (job : Job) (n : ℕ) (steps rest : List PlanStep) (holds : S
   pub within : AreWithin job n frames paths
   pub goes : ℕ
   pub goes_left : goes + goes_of rest ≡ goes_of steps
-  pub spans : length paths.path ≤ goes
-  pub held_spans : (slot : ℕ) → length (paths.held slot) ≤ goes
+  pub spans : length paths.path.spans ≤ goes
+  pub held_spans : (slot : ℕ) → length (paths.held slot).spans ≤ goes
   pub video_taken : holds Console video
   pub audio_taken : holds Sound audio
   pub stepped : HasStepped job n steps rest paths start r
@@ -198,7 +198,7 @@ module _ (job : Job) (n : ℕ) (steps rest : List PlanStep) (now later : Side �
       let goes = h.goes_left in
       let frames = h.frames_left in
       let spans = h.spans in
-      let size = length-append h.paths.path (span ∷ []) in
+      let size = length-append h.paths.path.spans (span ∷ []) in
       record {
         paths = after_step h.paths (Go count pad1 pad2);
         video = h.video ++ gave.video;
@@ -236,8 +236,8 @@ module _ (job : Job) (n : ℕ) (steps rest : List PlanStep) (now later : Side �
         first_video = gave.first_video;
         first_audio = gave.first_audio;
         first = gave.first;
-        whole = subst (λ v. PathEmits job n (h.paths.path ++ span ∷ []) v (gave.first_audio ++ both.1.0)) (sym both.0.1)
-            (subst (λ a. PathEmits job n (h.paths.path ++ span ∷ []) gave.whole_video a) (sym both.1.1) gave.whole);
+        whole = subst (λ v. PathEmits job n (longer h.paths.path span) v (gave.first_audio ++ both.1.0)) (sym both.0.1)
+            (subst (λ a. PathEmits job n (longer h.paths.path span) gave.whole_video a) (sym both.1.1) gave.whole);
       } in
       record {
         video = h.video ++ (both.0.0 ++ next.video);
@@ -249,7 +249,7 @@ module _ (job : Job) (n : ℕ) (steps rest : List PlanStep) (now later : Side �
         audio_taken = first_taken (later Sound) h.audio gave.audio gave.whole_audio both.1.0 next.audio gave.first_audio gave.audio_count gave.audio_is both.1.1 gave.audio_taken;
       }
 
-  shorter : (b : Bool) (goes : ℕ) (p q : List Span) → length p ≤ goes → length q ≤ goes → length (if b then p else q) ≤ goes
+  shorter : (b : Bool) (goes : ℕ) (p q : Path) → length p.spans ≤ goes → length q.spans ≤ goes → length (if b then p else q).spans ≤ goes
   shorter true goes p q h k = h
   shorter false goes p q h k = k
 

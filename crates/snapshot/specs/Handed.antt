@@ -3,13 +3,12 @@ use Rattle.std.specs.Prelude.{◌≡◌, ℕ, List, ◌++◌, take}
 use Rattle.snes_defs.specs.declared.cart.Job.{Job}
 use Rattle.snes_defs.specs.declared.ports.Side.{Side}
 use Rattle.snes_defs.specs.declared.ports.Side.TheVariants.{Console, Sound}
-use Rattle.snes_defs.specs.declared.script.Span.{Span}
 use Rattle.snapshot.specs.declared.rewind.Rewind.{Rewind}
-use Rattle.plan_drive.specs.Paths.{Paths}
+use Rattle.plan_drive.specs.Paths.{Path, Paths}
 use Rattle.snapshot.specs.Path.{PathEmits}
 use Rattle.snapshot.specs.Positions.{IsRested, IsBeyond}
 
-module _ (job : Job) (n : ℕ) (paths : Paths) (before : List Span) (base : Side → List ℕ) (holds : Side → List ℕ → Type 0) where
+module _ (job : Job) (n : ℕ) (paths : Paths) (before : Path) (base : Side → List ℕ) (holds : Side → List ℕ → Type 0) where
   -- the whole of what the path emits beyond the path before it, and the rewinder stands at the end of the path
   pub record Gave (r : Rewind) : Type 0 where
     pub video : List ℕ

@@ -1,7 +1,7 @@
 -- What the runs of paths emit: each path emits something, and one thing.
 use Rattle.std.proofs.Common.{◌≡◌, ℕ, List, [], ◌∷◌, ◌++◌, drop, refl, ap, sym, ◌∙◌, arith}
 use Rattle.snes_defs.specs.declared.cart.Job.{Job}
-use Rattle.snes_defs.specs.declared.script.Span.{Span}
+use Rattle.plan_drive.specs.Paths.{Path}
 use Rattle.side_law.proofs.SerialRuns.{run_ends, same_output}
 use Rattle.side_law.proofs.SerialKeeps.{serving_at_first}
 use Rattle.console_steps.specs.ConsoleState.{console_moves}
@@ -23,14 +23,14 @@ same_rest : (first other rest other_rest : List ℕ) → first ≡ other → fir
 same_rest first other rest other_rest begin whole =
     cancel first rest other_rest (whole ∙ ap (λ v. v ++ other_rest) (sym begin))
 
-module _ (job : Job) (n : ℕ) (path : List Span) where
+module _ (job : Job) (n : ℕ) (path : Path) where
   -- the run of a path's job comes to any end
   pub path_ends : (end : ℕ)
       → Ends console_moves sound_moves (console_of_path job.region job.cart n path)
-      (sound_of_path job.region job.boot job.table) end
+      (sound_of_path job.region n path.resets job.boot job.table) end
   path_ends end =
       let console = console_of_path job.region job.cart n path in
-      let sound = sound_of_path job.region job.boot job.table in
+      let sound = sound_of_path job.region n path.resets job.boot job.table in
       run_ends job.region (IsConsoleOf job.region) (IsSound job.region) 1024 4 console_moves sound_moves
       (console_is_lawful job.region) (sound_is_lawful job.region) (start_of job n path) end
       (serving_at_first (IsConsoleOf job.region) (IsSound job.region) console sound
@@ -46,7 +46,7 @@ module _ (job : Job) (n : ℕ) (path : List Span) where
   path_emits_once = same_output console_moves sound_moves (start_of job n path) (end_of_path job.region path)
 
 -- so what a longer path has beyond a shorter one is one thing too
-pub beyond_once : (job : Job) (n : ℕ) (before path : List Span) (video audio other_video other_audio : List ℕ)
+pub beyond_once : (job : Job) (n : ℕ) (before path : Path) (video audio other_video other_audio : List ℕ)
     → IsBeyond job n before path video audio → IsBeyond job n before path other_video other_audio
     → (video ≡ other_video) × (audio ≡ other_audio)
 beyond_once job n before path video audio other_video other_audio h k =

@@ -1,12 +1,11 @@
 -- When a rewinder stands where a path ends, and when it is on its way along a path.
 use Rattle.std.specs.Prelude.{◌≡◌, ℕ, ◌+◌, ◌<◌, ◌≤◌, List, [], ◌++◌, length, drop, slice_index_or}
 use Rattle.snes_defs.specs.declared.cart.Job.{Job}
-use Rattle.snes_defs.specs.declared.script.Span.{Span}
-use Rattle.snes_defs.specs.Script.{frames_of}
+use Rattle.snes_defs.specs.Script.{RiseWithin, frames_of}
 use Rattle.side_law.specs.Serial.{SerialState}
 use Rattle.side_law.specs.SerialRun.{IsPast, IsUnderway}
 use Rattle.snes_defs.specs.declared.ports.Side.{Side}
-use Rattle.audio_side.specs.Clock.{stamp_now}
+use Rattle.audio_side.specs.Clock.{reset_frames, stamp_now}
 use Rattle.serial_console.specs.Serial.{IsAt, earlier_side}
 use Rattle.serial_console.specs.Lead.{IsLed}
 use Rattle.console_steps.specs.ConsoleState.{ConsoleState, console_moves}
@@ -15,15 +14,16 @@ use Rattle.console_machine.specs.Side as console_side
 use Rattle.console_machine.specs.Playing.{value_with_room}
 use Rattle.audio_side.specs.Sound.{AudioValue, SoundState, sound_moves}
 use Rattle.audio_side.specs.Sound as sound_side
+use Rattle.audio_side.specs.Playing.{audio_with_room}
 use Rattle.snapshot.specs.declared.run.Run.{Run}
 use Rattle.snapshot.specs.declared.rewind.Rewind.{Rewind}
-use Rattle.plan_drive.specs.Paths.{Paths}
+use Rattle.plan_drive.specs.Paths.{Path, Paths}
 use Rattle.plan_drive.specs.Joins.{Extends}
 use Rattle.snapshot.specs.Path.{PathEmits, start_of, end_of_path}
 
 -- THE MACHINES OF A PATH at its end: they stand where the serial run of the path's job ends, which has emitted this
 -- video and this audio, and no byte waits
-pub record IsDone (job : Job) (n : ℕ) (path : List Span) (r : Run) (video audio : List ℕ) : Type 0 where
+pub record IsDone (job : Job) (n : ℕ) (path : Path) (r : Run) (video audio : List ℕ) : Type 0 where
   pub at : SerialState ConsoleState SoundState
   pub stands : IsAt console_side.StandsAt sound_side.StandsAt r.serial at
   pub underway : IsUnderway console_moves sound_moves (start_of job n path) (end_of_path job.region path) at video audio
@@ -31,27 +31,28 @@ pub record IsDone (job : Job) (n : ℕ) (path : List Span) (r : Run) (video audi
   pub no_video : r.serial.console.waiting ≡ []
   pub no_audio : r.serial.sound.waiting ≡ []
   pub end_is : r.end ≡ end_of_path job.region path
-  pub few : frames_of path ≤ 36000
-  pub room : length path ≤ n
+  pub few : frames_of path.spans ≤ 36000
+  pub room : length path.spans ≤ n
+  pub reset_room : length path.resets ≤ n
+  pub rise : RiseWithin 1 (frames_of path.spans) path.resets
+  pub in_order : reset_frames path.resets 36001 ≡ path.resets
 
--- what can be copied into what: one cartridge, one boot ROM and table, no resets, and room for the spans
+-- what can be copied into what: one cartridge, one boot ROM and table, and room for the spans and the resets
 pub record CanCopy (from into : Run) : Type 0 where
   pub board : from.serial.console.rest.board ≡ into.serial.console.rest.board
   pub rom : drop (131072 + from.serial.console.rest.board.ram) from.serial.console.rest.memory ≡ drop (131072 + from.serial.console.rest.board.ram) into.serial.console.rest.memory
   pub room : length from.serial.console.rest.script.spans ≤ into.serial.console.rest.script.room
-  pub no_resets : from.serial.console.rest.script.resets ≡ []
-  pub none_there : into.serial.console.rest.script.resets ≡ []
+  pub reset_room : length from.serial.console.rest.script.resets ≤ into.serial.console.rest.script.room
   pub boot : from.serial.sound.hardware.boot ≡ into.serial.sound.hardware.boot
   pub table : from.serial.sound.hardware.table ≡ into.serial.sound.hardware.table
-  pub no_sound_resets : from.serial.sound.clock.resets ≡ []
-  pub none_there_either : into.serial.sound.clock.resets ≡ []
+  pub sound_room : length from.serial.sound.clock.resets ≤ into.serial.sound.clock.room
 
--- a copy, which keeps its room for spans and its count of steps
-abbrev pub copy_of : Run → ℕ → ℕ → Run
-copy_of r n stepped = record {
+-- a copy, which keeps its room for spans and resets on both sides, and its count of steps
+abbrev pub copy_of : Run → (n sound_room stepped : ℕ) → Run
+copy_of r n sound_room stepped = record {
   serial = record {
     console = value_with_room r.serial.console n;
-    sound = r.serial.sound;
+    sound = audio_with_room r.serial.sound sound_room;
     to_sound = r.serial.to_sound;
     to_console = r.serial.to_console;
   };
@@ -71,7 +72,7 @@ abbrev pub next_side : Rewind → Side
 next_side r = earlier_side r.run.serial.console.stamp (stamp_now r.run.serial.sound.clock)
 
 -- THE SLOTS hold the machines of their paths, each at its end
-abbrev pub HoldsPath : Job → ℕ → List Span → Run → Type 0
+abbrev pub HoldsPath : Job → ℕ → Path → Run → Type 0
 HoldsPath job n path r = (video : List ℕ) × (audio : List ℕ) × IsDone job n path r video audio
 
 abbrev pub AreHeld : Job → ℕ → Paths → Rewind → Type 0
@@ -94,17 +95,20 @@ pub record IsRested (job : Job) (n : ℕ) (paths : Paths) (r : Rewind) : Type 0 
 
 -- IT IS UNDER WAY along its path, of which the path `before` was gone when the last span began; since then it has
 -- handed out this video and this audio
-pub record IsGoing (job : Job) (n : ℕ) (paths : Paths) (before : List Span) (video audio : List ℕ) (r : Rewind) : Type 0 where
+pub record IsGoing (job : Job) (n : ℕ) (paths : Paths) (before : Path) (video audio : List ℕ) (r : Rewind) : Type 0 where
   pub first_video : List ℕ
   pub first_audio : List ℕ
   pub first : PathEmits job n before first_video first_audio
   pub led : IsLed console_moves sound_moves console_side.StandsAt sound_side.StandsAt (end_of_path job.region paths.path) (start_of job n paths.path) r.run.serial
       ((first_video ++ video) ++ r.run.serial.console.waiting) ((first_audio ++ audio) ++ r.run.serial.sound.waiting)
   pub end_is : r.run.end ≡ end_of_path job.region paths.path
-  pub few : frames_of paths.path ≤ 36000
-  pub room : length paths.path ≤ n
+  pub few : frames_of paths.path.spans ≤ 36000
+  pub room : length paths.path.spans ≤ n
+  pub reset_room : length paths.path.resets ≤ n
+  pub rise : RiseWithin 1 (frames_of paths.path.spans) paths.path.resets
+  pub in_order : reset_frames paths.path.resets 36001 ≡ paths.path.resets
   pub slots : AreHeld job n paths r
 
 -- WHAT A GO HANDS OUT: what the run of the path has beyond that of the path before it
-abbrev pub IsBeyond : Job → ℕ → (before path : List Span) → (video audio : List ℕ) → Type 0
+abbrev pub IsBeyond : Job → ℕ → (before path : Path) → (video audio : List ℕ) → Type 0
 IsBeyond job n = Extends (PathEmits job n)

@@ -2,14 +2,13 @@
 -- of its region or more, so a count that stays means that no step was made.
 use Rattle.std.specs.Prelude.{◌≡◌, ℕ, ◌+◌, ◌-◌, min, List, [], ◌∷◌, slice_index_or}
 use Rattle.snes_defs.specs.declared.cart.Job.{Job}
-use Rattle.snes_defs.specs.declared.script.Span.{Span}
 use Rattle.side_law.specs.SerialRun.{RunsFor, after_turns}
 use Rattle.console_steps.specs.ConsoleState.{console_moves}
 use Rattle.audio_side.specs.Sound.{sound_moves}
 use Rattle.audio_side.specs.Clock.{stamp_now}
 use Rattle.input_files.specs.declared.plan.PlanStep.{PlanStep}
 use Rattle.input_files.specs.declared.plan.PlanStep.TheVariants.{Go, Keep, Back}
-use Rattle.plan_drive.specs.Paths.{Paths, no_paths, after_step}
+use Rattle.plan_drive.specs.Paths.{Path, Paths, no_paths, after_step}
 use Rattle.snapshot.specs.declared.run.Run.{Run}
 use Rattle.snapshot.specs.declared.rewind.Rewind.{Rewind}
 use Rattle.snapshot.specs.Path.{start_of, end_of_path}
@@ -47,14 +46,14 @@ pub record StepsOn (before after : Rewind) : Type 0 where
 
 module _ (job : Job) (n : ℕ) where
   -- the serial run of a path's job, from its start to its end, leaves both sides at these stamps
-  pub record EndsAt (path : List Span) (console sound : ℕ) : Type 0 where
+  pub record EndsAt (path : Path) (console sound : ℕ) : Type 0 where
     pub turns : ℕ
     pub runs : RunsFor console_moves sound_moves (start_of job n path) (end_of_path job.region path) turns
     pub console_is : console_moves.stamp (after_turns console_moves sound_moves (start_of job n path) turns).console ≡ console
     pub sound_is : sound_moves.stamp (after_turns console_moves sound_moves (start_of job n path) turns).sound ≡ sound
 
   -- by how many stamps one go comes on: from the end of the path before it to the end of the path after it
-  pub record GoLasts (before path : List Span) (rise : ℕ) : Type 0 where
+  pub record GoLasts (before path : Path) (rise : ℕ) : Type 0 where
     pub console : ℕ
     pub sound : ℕ
     pub from : EndsAt before console sound

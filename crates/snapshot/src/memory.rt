@@ -1,7 +1,7 @@
 // How much memory a plan needs, and runs at their start.
-ghost use Rattle.std.specs.Prelude.{◌≡◌, ◌<◌, ℕ, [], length, max, slice_index_or, IfOk};
+ghost use Rattle.std.specs.Prelude.{◌≡◌, ◌<◌, ℕ, length, max, slice_index_or, IfOk};
 ghost use Rattle.snapshot.specs.declared.run.Run.{Run};
-ghost use Rattle.plan_drive.specs.Paths.{goes_of, slots_of};
+ghost use Rattle.plan_drive.specs.Paths.{empty_path, goes_of, slots_of};
 ghost use Rattle.snapshot.specs.Path.{script_in};
 ghost use Rattle.snapshot.specs.Positions.{HoldsPath};
 
@@ -40,16 +40,16 @@ pub fn count_slots(steps: &[PlanStep]) -> usize
     count
 }
 
-/// Returns `count` runs of a job at its start, each with memory for `spans` spans. Fails only if allocation fails.
+/// Returns `count` runs of a job at its start, each with memory for `spans` spans and resets. Fails only if allocation fails.
 pub fn first_runs(
     alloc: Global,
     job: &Job,
     spans: usize,
     count: usize,
 ) -> Result<Vec<Run>, NoMemory>
-    requires { job.now.script ≡ script_in job.now.region job.now.script.room [] }
+    requires { job.now.script ≡ script_in job.now.region job.now.script.room empty_path }
     ensures count { IfOk result (λ runs. length runs.items ≡ count) }
-    ensures starts { IfOk result (λ runs. (k : ℕ) (other : Run) → k < length runs.items → HoldsPath job.now (max job.now.script.room spans) [] (slice_index_or runs.items k other)) }
+    ensures starts { IfOk result (λ runs. (k : ℕ) (other : Run) → k < length runs.items → HoldsPath job.now (max job.now.script.room spans) empty_path (slice_index_or runs.items k other)) }
 {
     let mut runs = Vec::new(alloc);
     'runs: for _ in 0..count {

@@ -1,8 +1,7 @@
-ghost use Rattle.std.specs.Prelude.{◌≡◌, ◌+◌, ◌<◌, ◌≤◌, ◌↔◌, ℕ, List, [], length, max, OnOk, IfOk, IfSome, IsSome, IsNone};
+ghost use Rattle.std.specs.Prelude.{◌≡◌, ◌+◌, ◌<◌, ◌≤◌, ◌↔◌, ℕ, false, List, [], length, max, OnOk, IfOk, IfSome, IsSome, IsNone, IsTrue};
 ghost use Rattle.snes_defs.specs.declared.cart.Job.{Job};
-ghost use Rattle.snes_defs.specs.declared.script.Span.{Span};
 ghost use Rattle.snes_defs.specs.Script.{frames_of};
-ghost use Rattle.plan_drive.specs.Paths.{Paths, no_paths, gone, kept, back, goes_of, slots_of};
+ghost use Rattle.plan_drive.specs.Paths.{Path, Paths, empty_path, no_paths, gone, reset_there, MayPress, kept, back, goes_of, slots_of};
 ghost use Rattle.side_law.specs.Serial.{SerialState, turn};
 ghost use Rattle.console_steps.specs.ConsoleState.{ConsoleState, console_moves};
 ghost use Rattle.console_machine.specs.Playing.{console_played};
@@ -29,9 +28,16 @@ pub struct Rewind {
     slots: Vec<Run>,
 }
 
+/// Whether the button may be pressed where a path of so many frames ends, of which a reset may begin the next one.
+fn may_press(frames: u32, is_reset: bool) -> bool
+    ensures { IsTrue result ↔ ((0 < frames) × (is_reset ≡ false)) }
+{
+    frames > 0 && !is_reset
+}
+
 impl Rewind {
     /// Returns the machines of a job with an empty script, at its start, and `slots` slots, which hold the start too.
-    /// A path may have `spans` spans, or as many as the script has memory for.
+    /// A path may have `spans` spans, or as many as the script has memory for, and as many resets.
     ///
     /// Allocates all memory for these, and fails only if allocation fails.
     pub fn with_room(
@@ -40,7 +46,7 @@ impl Rewind {
         spans: usize,
         slots: usize,
     ) -> Result<Rewind, NoMemory>
-        requires script { job.now.script ≡ script_in job.now.region job.now.script.room [] }
+        requires script { job.now.script ≡ script_in job.now.region job.now.script.room empty_path }
         ensures rested { IfOk result (λ r. IsRested job.now (max job.now.script.room spans) no_paths r) }
         ensures slots { IfOk result (λ r. slot_count r ≡ slots) }
         ensures stepped { IfOk result (λ r. stepped_of r ≡ 0) }
@@ -55,7 +61,7 @@ impl Rewind {
     ///
     /// Allocates all memory that the plan needs, and fails only if allocation fails.
     pub fn new(alloc: Global, job: &Job, plan: &Plan) -> Result<Rewind, NoMemory>
-        requires script { job.now.script ≡ script_in job.now.region job.now.script.room [] }
+        requires script { job.now.script ≡ script_in job.now.region job.now.script.room empty_path }
         ensures rested { IfOk result (λ r. IsRested job.now (max job.now.script.room (goes_of plan.now)) no_paths r) }
         ensures slots { IfOk result (λ r. slot_count r ≡ slots_of plan.now) }
         ensures stepped { IfOk result (λ r. stepped_of r ≡ 0) }
@@ -68,7 +74,7 @@ impl Rewind {
 
     /// The number of frames that the path lasts.
     pub fn frames(&self) -> u32
-        ensures { (job : Job) (n : ℕ) (paths : Paths) → IsRested job n paths self.now → result ≡ frames_of paths.path }
+        ensures { (job : Job) (n : ℕ) (paths : Paths) → IsRested job n paths self.now → result ≡ frames_of paths.path.spans }
     {
         self.run.frames()
     }
@@ -90,7 +96,7 @@ impl Rewind {
     /// Puts a span at the end of the path, and starts to play it. The machines stay, except for the console's script
     /// and the pads that it gives. Nothing is allocated.
     pub fn begin(&mut self, span: Span)
-        requires rested { (job : Job) × (n : ℕ) × (paths : Paths) × IsRested job n paths self.old × (length paths.path < n) × (frames_of paths.path + span.count ≤ 36000) }
+        requires rested { (job : Job) × (n : ℕ) × (paths : Paths) × IsRested job n paths self.old × (length paths.path.spans < n) × (frames_of paths.path.spans + span.count ≤ 36000) }
         ensures going { (job : Job) (n : ℕ) (paths : Paths) → IsRested job n paths self.old → IsGoing job n (gone paths span) paths.path [] [] self.new }
         ensures no_video { video_waiting self.new ≡ [] }
         ensures no_audio { audio_waiting self.new ≡ [] }
@@ -101,13 +107,37 @@ impl Rewind {
         self.run.play(span);
     }
 
+    /// Whether the reset button may be pressed at the end of the path: there are frames before it, and the button was
+    /// not pressed there.
+    pub fn may_reset(&self) -> bool
+        ensures { (job : Job) (n : ℕ) (paths : Paths) → IsRested job n paths self.now
+            → IsTrue result ↔ MayPress paths.path }
+    {
+        let frames = self.run.frames();
+        may_press(frames, self.run.is_reset_in(frames))
+    }
+
+    /// Presses the reset button at the end of the path, with the first step after it. The path must have frames, and
+    /// the button must not have been pressed there. Nothing is allocated.
+    pub fn reset(&mut self)
+        requires rested { (job : Job) × (n : ℕ) × (paths : Paths) × IsRested job n paths self.old
+            × (length paths.path.resets < n) × MayPress paths.path }
+        ensures reset { (job : Job) (n : ℕ) (paths : Paths) → IsRested job n paths self.old
+            → IsRested job n (reset_there paths) self.new }
+        ensures slots { slot_count self.new ≡ slot_count self.old }
+        ensures waits { StepsNone self.old self.new }
+    {
+        let frame = self.run.frames();
+        self.run.press(frame);
+    }
+
     /// Takes one step of the earlier side, and returns that side; the console wins ties. Returns none if and only if
     /// both stamps have reached the end of the path.
     pub fn turn(&mut self) -> Option<Side>
-        requires going { (job : Job) × (n : ℕ) × (paths : Paths) × (before : List Span) × (video : List ℕ) × (audio : List ℕ) × IsGoing job n paths before video audio self.old }
+        requires going { (job : Job) × (n : ℕ) × (paths : Paths) × (before : Path) × (video : List ℕ) × (audio : List ℕ) × IsGoing job n paths before video audio self.old }
         requires console_room { length (video_waiting self.old) + 1024 ≤ 65536 }
         requires sound_room { length (audio_waiting self.old) + 4 ≤ 4096 }
-        ensures going { (job : Job) (n : ℕ) (paths : Paths) (before : List Span) (video audio : List ℕ) → IsGoing job n paths before video audio self.old → IsGoing job n paths before video audio self.new }
+        ensures going { (job : Job) (n : ℕ) (paths : Paths) (before : Path) (video audio : List ℕ) → IsGoing job n paths before video audio self.old → IsGoing job n paths before video audio self.new }
         ensures ended { IsNone result ↔ HasEnded self.old }
         ensures stays { IsNone result → self.new ≡ self.old }
         ensures side { IfSome result (λ side. side ≡ next_side self.old) }

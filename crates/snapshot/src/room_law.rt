@@ -1,11 +1,11 @@
 // A law of the definitions. The function has no code to run: the law is its contract.
 ghost use Rattle.std.specs.Prelude.{◌≤◌, ℕ, List};
 ghost use Rattle.snes_defs.specs.declared.cart.Job.{Job};
-ghost use Rattle.snes_defs.specs.declared.script.Span.{Span};
+ghost use Rattle.plan_drive.specs.Paths.{Path};
 ghost use Rattle.snes_defs.specs.Script.{frames_of};
 ghost use Rattle.snapshot.specs.Path.{PathEmits};
 
-/// States that what the run of a path's job emits is the same for whatever number of spans its script has memory.
+/// States that what the run of a path's job emits is the same for whatever number of spans and resets its script has memory.
 pub fn room_is_not_seen()
-    ensures { (job : Job) (n m : ℕ) (path : List Span) (video audio : List ℕ) → frames_of path ≤ 36000 → PathEmits job n path video audio → PathEmits job m path video audio }
+    ensures { (job : Job) (n m : ℕ) (path : Path) (video audio : List ℕ) → frames_of path.spans ≤ 36000 → PathEmits job n path video audio → PathEmits job m path video audio }
 {}

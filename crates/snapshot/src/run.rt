@@ -1,8 +1,8 @@
 // The machines of a path: how they are stepped and copied. Nothing else steps or copies them, so the count of a run
 // shows how far its machines were stepped.
-ghost use Rattle.std.specs.Prelude.{◌≡◌, ◌+◌, ◌*◌, ◌^◌, ◌<◌, ◌≤◌, ◌++◌, ◌↔◌, ℕ, List, [], length, max, min, take, drop, IsTrue, IfOk, IfErr, OnOk, OnErr};
+ghost use Rattle.std.specs.Prelude.{◌≡◌, ◌+◌, ◌*◌, ◌^◌, ◌<◌, ◌≤◌, ◌++◌, ◌↔◌, ℕ, List, [], ◌∷◌, length, max, min, take, drop, IsTrue, IfOk, IfErr, OnOk, OnErr};
 ghost use Rattle.snes_defs.specs.declared.ports.Side.{Side};
-ghost use Rattle.snes_defs.specs.Script.{frames_of};
+ghost use Rattle.snes_defs.specs.Script.{RiseWithin, frames_of, is_reset};
 ghost use Rattle.clock_ratio.specs.Stamp.{frame_of, end_stamp_of};
 ghost use Rattle.side_law.specs.Serial.{SerialState, serial_of, turn, console_emits, sound_emits};
 ghost use Rattle.side_law.specs.SerialRun.{IsPast};
@@ -10,10 +10,12 @@ ghost use Rattle.serial_console.specs.Serial.{IsAt, earlier_side};
 ghost use Rattle.serial_console.specs.Lead.{IsLed};
 ghost use Rattle.console_steps.specs.ConsoleState.{ConsoleState, console_moves};
 ghost use Rattle.console_machine.specs.Side as console_side;
-ghost use Rattle.console_machine.specs.Playing.{console_played, value_played};
+ghost use Rattle.console_machine.specs.Playing.{console_played, console_pressed, value_played, value_pressed};
 ghost use Rattle.audio_side.specs.Sound as sound_side;
 ghost use Rattle.audio_side.specs.Sound.{SoundState, sound_moves};
 ghost use Rattle.audio_side.specs.Clock.{stamp_now};
+ghost use Rattle.audio_side.specs.Playing.{audio_pressed, sound_pressed};
+ghost use Rattle.plan_drive.specs.Paths.{empty_path};
 ghost use Rattle.run_drive.specs.Run.{TookFirst};
 ghost use Rattle.snapshot.specs.Path.{script_in};
 ghost use Rattle.snapshot.specs.Driven.{Since, TookOn, Ends};
@@ -40,16 +42,24 @@ pub struct Run {
     stepped: u64,
 }
 
-/// Returns the machines of a job at their start, with an empty path and memory for `spans` spans. Fails only if
+/// The number of resets for which a path of `spans` spans has memory, or that for which the script of the job has.
+fn room_for(job: &Job, spans: usize) -> usize
+    ensures { result ≡ max job.now.script.room spans }
+{
+    job.script.room().max(spans)
+}
+
+/// Returns the machines of a job at their start, with an empty path and memory for `spans` spans and resets. Fails only if
 /// allocation fails.
 pub fn first_run(alloc: Global, job: &Job, spans: usize) -> Result<Run, NoMemory>
-    requires { job.now.script ≡ script_in job.now.region job.now.script.room [] }
-    ensures done { IfOk result (λ r. IsDone job.now (max job.now.script.room spans) [] r [] []) }
+    requires { job.now.script ≡ script_in job.now.region job.now.script.room empty_path }
+    ensures done { IfOk result (λ r. IsDone job.now (max job.now.script.room spans) empty_path r [] []) }
     ensures stepped { IfOk result (λ r. r.stepped ≡ 0) }
 {
     let mut console = ConsoleSide::new(alloc, job)?;
     console.reserve(spans)?;
-    let sound = AudioSide::new(alloc, job)?;
+    let mut sound = AudioSide::new(alloc, job)?;
+    sound.reserve(room_for(job, spans))?;
     Ok(Run {
         serial: Serial::new(console, sound),
         end: 0,
@@ -61,7 +71,7 @@ pub fn first_run(alloc: Global, job: &Job, spans: usize) -> Result<Run, NoMemory
 /// Nothing is allocated.
 pub fn copy_run(from: &Run, into: &mut Run)
     requires { CanCopy from.now into.old }
-    ensures { into.new ≡ copy_of from.now into.old.serial.console.rest.script.room into.old.stepped }
+    ensures { into.new ≡ copy_of from.now into.old.serial.console.rest.script.room into.old.serial.sound.clock.room into.old.stepped }
 {
     let (console, sound) = from.serial.machines();
     console.copy_into(into.serial.console());
@@ -123,6 +133,34 @@ impl Run {
         let region = console.region();
         self.serial.console().play(span);
         self.end += end_stamp_in(region, span.count);
+    }
+
+    /// Whether a frame begins with a reset.
+    pub fn is_reset_in(&self, frame: u32) -> bool
+        ensures { result ≡ is_reset self.now.serial.console.rest.script.resets frame }
+    {
+        let (console, _) = self.serial.machines();
+        console.bus().begins_with_reset(frame)
+    }
+
+    /// Presses the reset button at the end of the path, on both sides. Nothing is allocated.
+    pub fn press(&mut self, frame: u32)
+        requires room { length self.old.serial.console.rest.script.resets < self.old.serial.console.rest.script.room }
+        requires rises { RiseWithin 1 36000 (self.old.serial.console.rest.script.resets ++ frame ∷ []) }
+        requires sound_room { length self.old.serial.sound.clock.resets < self.old.serial.sound.clock.room }
+        ensures pressed { self.new ≡ record self.old {
+          serial = record self.old.serial {
+            console = value_pressed self.old.serial.console frame;
+            sound = audio_pressed self.old.serial.sound frame;
+          };
+        } }
+        ensures stands { (w : ConsoleState) → console_side.StandsAt self.old.serial.console w
+            → console_side.StandsAt self.new.serial.console (console_pressed w frame) }
+        ensures sound_stands { (m : SoundState) → sound_side.StandsAt self.old.serial.sound m
+            → sound_side.StandsAt self.new.serial.sound (sound_pressed m frame) }
+    {
+        self.serial.console().press(frame);
+        self.serial.sound().press(frame);
     }
 
     /// The number of frames that the path lasts.

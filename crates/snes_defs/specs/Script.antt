@@ -11,7 +11,8 @@ pub record Script : Type 0 where
   pub spans : List Span
   -- the numbers of the frames that begin with a reset
   pub resets : List ℕ
-  -- for how many spans it has memory. No machine looks at it
+  -- up to how many spans, and up to how many resets, it may grow in the memory that it has; 0 for one that was made
+  -- whole. No machine looks at it
   pub room : ℕ
 
 -- how many frames the spans last

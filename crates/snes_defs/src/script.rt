@@ -1,5 +1,5 @@
 // The controller script.
-ghost use Rattle.std.specs.Prelude.{◌≡◌, ◌≤◌, List, [], if◌then◌else◌, IfOk, length};
+ghost use Rattle.std.specs.Prelude.{◌≡◌, ◌≤◌, List, [], if◌then◌else◌, IfOk};
 ghost use Rattle.snes_defs.specs.declared.region.Region.TheVariants.{Ntsc};
 ghost use Rattle.snes_defs.specs.declared.script.Span.{Span};
 ghost use Rattle.snes_defs.specs.Script.{Script, IsScript, RiseWithin, frames_of, pads_at, is_reset};
@@ -32,26 +32,27 @@ pub struct Spans {
     region: Region,
     spans: Vec<Span>,
     resets: Vec<u32>,
-    /// How many spans there is memory for.
+    /// Up to how many spans, and up to how many resets, it may grow in the memory that it has. A script that was made
+    /// whole has 0 here.
     room: usize,
 }
 
 impl Model for Spans {
-    ghost use Rattle.std.specs.Prelude.{◌≤◌, vec_len, vec_capacity};
+    ghost use Rattle.std.specs.Prelude.{◌≤◌, vec_capacity};
     ghost use Rattle.snes_defs.specs.Script.{Script, IsScript};
 
     ghost Value = { Script };
 
     ghost view = { λ s. record { region = s.region; spans = s.spans.items; resets = s.resets.items; room = s.room } };
 
-    ghost invariant = { λ s. IsScript (record { region = s.region; spans = s.spans.items; resets = s.resets.items; room = s.room }) × (vec_len s.spans ≤ s.room) × (s.room ≤ vec_capacity s.spans) };
+    ghost invariant = { λ s. IsScript (record { region = s.region; spans = s.spans.items; resets = s.resets.items; room = s.room }) × (s.room ≤ vec_capacity s.spans) × (s.room ≤ vec_capacity s.resets) };
 }
 
 impl Spans {
     /// Makes an Ntsc script of the spans, without resets. It does not allocate.
     pub fn of(alloc: Global, v: Vec<Span>) -> Spans
         requires { frames_of v.items ≤ 36000 }
-        ensures kept { result ≡ record { region = Ntsc; spans = v.items; resets = []; room = length v.items } }
+        ensures kept { result ≡ record { region = Ntsc; spans = v.items; resets = []; room = 0 } }
     {
         Spans::versioned(v, Region::Ntsc, Vec::new(alloc))
     }
@@ -60,28 +61,30 @@ impl Spans {
     pub fn versioned(v: Vec<Span>, region: Region, resets: Vec<u32>) -> Spans
         requires frames { frames_of v.items ≤ 36000 }
         requires resets { RiseWithin 1 36000 resets.items }
-        ensures kept { result ≡ record { region = region; spans = v.items; resets = resets.items; room = length v.items } }
+        ensures kept { result ≡ record { region = region; spans = v.items; resets = resets.items; room = 0 } }
     {
-        let room = v.len();
         Spans {
             region,
             spans: v,
             resets,
-            room,
+            room: 0,
         }
     }
 
-    /// Returns a separate script with the same content, and memory for as many spans. Fails only if allocation fails.
+    /// Returns a separate script with the same content, which may grow as far. Fails only if allocation fails.
     pub fn copied(&self, alloc: Global) -> Result<Spans, NoMemory>
         ensures { IfOk result (λ copy. copy ≡ self.now) }
     {
         let Ok(mut spans) = Vec::from_slice(alloc, self.spans.as_slice()) else {
             return Err(NoMemory);
         };
-        let Ok(()) = spans.reserve(self.room - self.spans.len()) else {
+        let Ok(()) = spans.reserve(self.room.saturating_sub(self.spans.len())) else {
             return Err(NoMemory);
         };
-        let Ok(resets) = Vec::from_slice(alloc, self.resets.as_slice()) else {
+        let Ok(mut resets) = Vec::from_slice(alloc, self.resets.as_slice()) else {
+            return Err(NoMemory);
+        };
+        let Ok(()) = resets.reserve(self.room.saturating_sub(self.resets.len())) else {
             return Err(NoMemory);
         };
         Ok(Spans {
@@ -90,6 +93,13 @@ impl Spans {
             resets,
             room: self.room,
         })
+    }
+
+    /// Up to how many spans, and up to how many resets, the script may grow without allocating.
+    pub fn room(&self) -> usize
+        ensures { result ≡ self.now.room }
+    {
+        self.room
     }
 
     /// Returns the region of the machine that the script is played on.

@@ -3,7 +3,7 @@ use Rattle.std.specs.Prelude.{◌≡◌, ℕ, ◌<◌, ◌≤◌, List, length, 
 use Rattle.memory_player.specs.declared.inputs.End.TheVariants as end
 use Rattle.frame_player.specs.declared.ends.BeginEnd.TheVariants as begin
 use Rattle.frame_player.specs.declared.ends.FrameEnd.TheVariants as frame
-use Rattle.frame_player.specs.Told.{Told}
+use Rattle.frame_player.specs.Told.{Told, MayReset}
 use Rattle.frame_player.specs.Frames.{EndsBegin, EndsFrame, RoomsStay}
 use Rattle.kept_frames.specs.declared.console.SnesConsole.{SnesConsole}
 use Rattle.snes_library.specs.declared.fault.Fault.{Fault}
@@ -57,3 +57,7 @@ EndsPlayed old pad1 pad2 video_old sound_old video_new sound_new _ = ⊥
 -- why nothing was stored, or returned to
 abbrev pub EndsMoved : SnesConsole → ℕ → ℕ → Type 0
 EndsMoved old slot status = ((old.kept.full ≡ 0) × (status ≡ 6)) ⊎ ((length old.kept.told.held ≤ slot) × (status ≡ 3))
+
+-- why the button was not pressed
+abbrev pub EndsReset : SnesConsole → ℕ → Type 0
+EndsReset old status = ((old.kept.full ≡ 0) × (status ≡ 6)) ⊎ ((MayReset old.kept.told → ⊥) × (status ≡ 3))

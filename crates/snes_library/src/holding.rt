@@ -1,10 +1,10 @@
 // The calls for a console that the caller holds between frames.
 ghost use Rattle.std.specs.Prelude.{◌≡◌, ◌≢◌};
-ghost use Rattle.frame_player.specs.Told.{told_first, gone_on, kept_in, back_to, word_of};
+ghost use Rattle.frame_player.specs.Told.{MayReset, told_first, gone_on, kept_in, back_to, pressed_in, word_of};
 ghost use Rattle.frame_player.specs.Frames.{FramePlayed};
 ghost use Rattle.kept_frames.specs.Left.{AsLeft};
 ghost use Rattle.snes_library.specs.declared.fault.Fault.{Fault};
-ghost use Rattle.snes_library.specs.Holding.{HasEnded, HasBegun, Holds, Stays, EndsBegun, EndsPlayed, EndsMoved};
+ghost use Rattle.snes_library.specs.Holding.{HasEnded, HasBegun, Holds, Stays, EndsBegun, EndsPlayed, EndsMoved, EndsReset};
 ghost use Rattle.snes_library.specs.Fault.{IsFaultTold};
 
 use crate::answer::SnesAnswer;
@@ -147,6 +147,30 @@ pub extern "C" fn snes_back(alloc: Global, console: &mut SnesConsole, slot: u32)
         return fault_status(Fault::Slot);
     }
     console.tell_back(slot);
+    console.fill(frames);
+    0
+}
+
+/// Presses the reset button, so that the next frame begins with a reset, and returns a status: 0 if it was done.
+///
+/// It is refused before the first frame of the path, and if it was just pressed.
+#[unsafe(no_mangle)]
+pub extern "C" fn snes_reset(alloc: Global, console: &mut SnesConsole) -> u32
+    requires left { AsLeft console.old }
+    ensures left { AsLeft console.new }
+    ensures may { result ≡ 0 → MayReset console.old.kept.told }
+    ensures pressed { result ≡ 0 → Holds console.old console.new (pressed_in console.old.kept.told) }
+    ensures ends { result ≢ 0 → Stays console.old console.new × EndsReset console.old result }
+{
+    if !console.is_full() {
+        return fault_status(Fault::Empty);
+    }
+    let mut frames = console.take(alloc);
+    if !frames.reset() {
+        console.fill(frames);
+        return fault_status(Fault::Slot);
+    }
+    console.tell_reset();
     console.fill(frames);
     0
 }

@@ -1,7 +1,7 @@
 // The console for programs that are not written in Rattle: a static library.
 //
 // `snes_play` plays a whole job. It is a thin layer over `memory_player`: a player that has both sides of the console,
-// and no lock and no thread. `snes_begin`, `snes_frame`, `snes_keep`, `snes_back` and `snes_end` are for a console that
+// and no lock and no thread. `snes_begin`, `snes_frame`, `snes_reset`, `snes_keep`, `snes_back` and `snes_end` are for a console that
 // the caller holds between frames (`kept_frames`, `frame_player`). `embed/snes.h` declares the calls for C.
 // `docs/use/EMBEDDING.md` says what is proved of them, and which duties of a caller nothing checks.
 #![tactic(auto)]
@@ -22,7 +22,7 @@ pub use answer::SnesAnswer;
 use answer::told;
 use console::SerialConsole;
 pub use fault::Fault;
-pub use holding::{snes_back, snes_begin, snes_end, snes_frame, snes_keep};
+pub use holding::{snes_back, snes_begin, snes_end, snes_frame, snes_keep, snes_reset};
 use memory_player::{Inputs, play};
 use std::alloc::Global;
 

@@ -5,7 +5,7 @@ ghost use Rattle.shelf.specs.declared.shelves.Input.{Input};
 ghost use Rattle.shelf.specs.Told.{Holds, HasRisen};
 ghost use Rattle.run_drive.specs.Outputs.{OnlyFills, output_of};
 ghost use Rattle.run_drive.specs.Played.{PlayedWhole, PlayedFirst};
-ghost use Rattle.plan_drive.specs.Paths.{path_script};
+ghost use Rattle.plan_drive.specs.Paths.{empty_path, path_script};
 ghost use Rattle.plan_drive.specs.Joins.{PlanEmits};
 ghost use Rattle.snes_program.specs.Rewind.{ShowsPlan, plan_line};
 
@@ -58,7 +58,7 @@ impl<P: PlanPlayer> Rewind<P> {
 
 /// Returns the machines that the inputs make, as an NTSC job without a script, and the plan.
 fn machines_of(alloc: Global, files: <PlanFiles as Loads>::Value) -> (Job, Plan)
-    ensures script { result.0.script ≡ path_script 0 [] }
+    ensures script { result.0.script ≡ path_script 0 empty_path }
     ensures region { result.0.region ≡ Ntsc }
     ensures shows { (told : Input → Option (List ℕ)) → ⟦<PlanFiles as Loads>⟧.reads told files → ShowsPlan told result.0 result.1 }
 {

@@ -14,7 +14,7 @@ use Rattle.spc_player_laws.proofs.Memory.{Follows, effect_follows, given_same, t
 use Rattle.spc_player_laws.proofs.Rates.{sample_again, bytes_again}
 
 abbrev state : SpcState → HardwareState → ℕ → SoundState
-state s b n = record { processor = s; hardware = b; clock = record { region = Ntsc; resets = []; cycle = n } }
+state s b n = record { processor = s; hardware = b; clock = record { region = Ntsc; resets = []; cycle = n; room = 0 } }
 
 abbrev playing : SpcState → HardwareState → ℕ → List ℕ → Playing
 playing s b n ports' = record { sound = state s b n; ports = ports' }
@@ -24,7 +24,7 @@ and_false true = refl
 and_false false = refl
 
 -- no reset comes
-not_due : (n : ℕ) → is_reset_due (record { region = Ntsc; resets = []; cycle = n }) ≡ false
+not_due : (n : ℕ) → is_reset_due (record { region = Ntsc; resets = []; cycle = n; room = 0 }) ≡ false
 not_due n = and_false _
 
 act_is : (s : SpcState) (b : HardwareState) (n : ℕ) → sound_act (state s b n) ≡ act_of (next_of s)

@@ -19,7 +19,7 @@ period = 983040
 -- to which nobody writes
 abbrev pub goes_on : SpcRegs → HardwareState → ℕ → List ℕ → Playing
 goes_on regs b cycle ports' =
-    record { sound = record { processor = between regs; hardware = b; clock = record { region = Ntsc; resets = []; cycle = cycle } }; ports = ports' }
+    record { sound = record { processor = between regs; hardware = b; clock = record { region = Ntsc; resets = []; cycle = cycle; room = 0 } }; ports = ports' }
 
 -- the file that is taken there, with these bytes of the S-DSP
 abbrev pub file_of : SpcRegs → HardwareState → List ℕ → List ℕ → Image

@@ -1,6 +1,7 @@
 use Rattle.std.proofs.Common.{◌∷◌, [], ℕ, length, length-append, max, slice_index_or, ◌<◌, ap, subst, sym, ◌∙◌, arith}
 use Rattle.snapshot.specs.declared.run.Run.{Run}
 use Rattle.snapshot.specs.Positions.{HoldsPath}
+use Rattle.plan_drive.specs.Paths.{empty_path}
 use Rattle.snapshot.proofs.Slots.{one_more}
 use Rattle.snapshot.proofs.memory.first_runs.Goals as goal
 
@@ -13,6 +14,6 @@ runs-preserved c =
     let count = c.runs.invariant.count in
     record {
       count = ap length c.in-Ok.ensures.items ∙ omega arith;
-      starts = subst (λ v. (k : ℕ) (other : Run) → k < length v → HoldsPath job n [] (slice_index_or v k other)) (sym c.in-Ok.ensures.items)
-          (one_more job n [] c.runs.runs.items run c.runs.invariant.starts ([], [], c.in_ok-run.ensures.done));
+      starts = subst (λ v. (k : ℕ) (other : Run) → k < length v → HoldsPath job n empty_path (slice_index_or v k other)) (sym c.in-Ok.ensures.items)
+          (one_more job n empty_path c.runs.runs.items run c.runs.invariant.starts ([], [], c.in_ok-run.ensures.done));
     }

@@ -1,5 +1,5 @@
 use Rattle.std.proofs.Common.{length, refl, arith}
-use Rattle.frame_player.specs.Told.{gone_on, word_of}
+use Rattle.frame_player.specs.Told.{gone_on, way_of, word_of}
 use Rattle.frame_player.proofs.Standing.{is_longer, played_are}
 use Rattle.frame_player.proofs.console.Frames.frame.Goals as goal
 
@@ -16,7 +16,7 @@ go-requires-clause-stands c =
     let played = played_are told h.spare c.args.self.now.rewind c.frames.result h.stands c.frames.ensures in
     let most = h.most_is in
     let some = c.if-frames-self.false in
-    (told, told.pads, c.save.ensures.saved told h.spare h.stands h.slots_is, omega (arith, played, most, some))
+    (told, way_of told, c.save.ensures.saved told h.spare h.stands h.slots_is, omega (arith, played, most, some))
 
 pub load-requires : goal.load-requires
 load-requires c =
@@ -24,15 +24,15 @@ load-requires c =
     let played = played_are told h.spare c.args.self.now.rewind c.frames.result h.stands c.frames.ensures in
     let most = h.most_is in
     let some = c.if-frames-self.false in
-    let w = c.go.ensures.went told told.pads (c.save.ensures.saved told h.spare h.stands h.slots_is) (omega (arith, played, most, some)) in
-    record { stands = (gone_on told (word_of c.args.pad1) (word_of c.args.pad2), told.pads, w.stands, h.slots_is) }
+    let w = c.go.ensures.went told (way_of told) (c.save.ensures.saved told h.spare h.stands h.slots_is) (omega (arith, played, most, some)) in
+    record { stands = (gone_on told (word_of c.args.pad1) (word_of c.args.pad2), way_of told, w.stands, h.slots_is) }
 
 pub returns-in-Some-clause-ends : goal.returns-in-Some-clause-ends
 returns-in-Some-clause-ends c = λ told h.
     let played = played_are told h.spare c.args.self.now.rewind c.frames.result h.stands c.frames.ensures in
     let most = h.most_is in
     let some = c.if-frames-self.false in
-    let w = c.go.ensures.went told told.pads (c.save.ensures.saved told h.spare h.stands h.slots_is) (omega (arith, played, most, some)) in (
+    let w = c.go.ensures.went told (way_of told) (c.save.ensures.saved told h.spare h.stands h.slots_is) (omega (arith, played, most, some)) in (
       w.picture,
       w.samples,
       w.is,
@@ -45,10 +45,10 @@ returns-in-Some-clause-stays c = λ told h.
     let played = played_are told h.spare c.args.self.now.rewind c.frames.result h.stands c.frames.ensures in
     let most = h.most_is in
     let some = c.if-frames-self.false in
-    let w = c.go.ensures.went told told.pads (c.save.ensures.saved told h.spare h.stands h.slots_is) (omega (arith, played, most, some)) in
+    let w = c.go.ensures.went told (way_of told) (c.save.ensures.saved told h.spare h.stands h.slots_is) (omega (arith, played, most, some)) in
     record {
-      spare = told.pads;
-      stands = c.load.ensures.loaded (gone_on told (word_of c.args.pad1) (word_of c.args.pad2)) told.pads w.stands h.slots_is;
+      spare = way_of told;
+      stands = c.load.ensures.loaded (gone_on told (word_of c.args.pad1) (word_of c.args.pad2)) (way_of told) w.stands h.slots_is;
       most_is = most;
       slots_is = h.slots_is;
     }
@@ -58,7 +58,7 @@ returns-clause-played c = λ told h.
     let played = played_are told h.spare c.args.self.now.rewind c.frames.result h.stands c.frames.ensures in
     let most = h.most_is in
     let some = c.if-frames-self.false in
-    let w = c.go.ensures.went told told.pads (c.save.ensures.saved told h.spare h.stands h.slots_is) (omega (arith, played, most, some)) in
+    let w = c.go.ensures.went told (way_of told) (c.save.ensures.saved told h.spare h.stands h.slots_is) (omega (arith, played, most, some)) in
     record {
       picture = w.picture;
       samples = w.samples;
@@ -74,5 +74,5 @@ returns-clause-on c = λ told h.
     let played = played_are told h.spare c.args.self.now.rewind c.frames.result h.stands c.frames.ensures in
     let most = h.most_is in
     let some = c.if-frames-self.false in
-    let w = c.go.ensures.went told told.pads (c.save.ensures.saved told h.spare h.stands h.slots_is) (omega (arith, played, most, some)) in
-    record { spare = told.pads; stands = w.stands; most_is = most; slots_is = h.slots_is }
+    let w = c.go.ensures.went told (way_of told) (c.save.ensures.saved told h.spare h.stands h.slots_is) (omega (arith, played, most, some)) in
+    record { spare = way_of told; stands = w.stands; most_is = most; slots_is = h.slots_is }

@@ -1,5 +1,6 @@
 use Rattle.std.proofs.Common.{◌<◌, ◌∙◌, length, sym, arith}
 use Rattle.std.proofs.lemmas.List.{length-set}
+use Rattle.frame_player.specs.Told.{way_of}
 use Rattle.frame_player.proofs.console.Frames.keep.Goals as goal
 
 pub returns-clause-kept : goal.returns-clause-kept
@@ -12,6 +13,6 @@ returns-clause-kept c = λ told h is.
         spare = h.spare;
         stands = c.keep_in.ensures.kept told h.spare h.stands lt;
         most_is = h.most_is;
-        slots_is = slots ∙ sym (length-set told.held c.args.slot told.pads);
+        slots_is = slots ∙ sym (length-set told.held c.args.slot (way_of told));
       },
     )

@@ -19,7 +19,7 @@ play-requires c =
     let (video, audio, d) = rested.now in
     let script = done_script job n paths.path c.args.self.now.run video audio d in
     let end = d.end_is in
-    let early = ends_early job.region (frames_of paths.path + c.args.span.count) few in
+    let early = ends_early job.region (frames_of paths.path.spans + c.args.span.count) few in
     record {
       room = subst (λ (s : Script). length s.spans < s.room) (sym script) short;
       frames = subst (λ (s : Script). frames_of s.spans + c.args.span.count ≤ 36000) (sym script) few;

@@ -8,5 +8,5 @@ pub returns : goal.returns
 returns c = λ job n paths rested.
     let r = c.args.self.now in
     let (video, audio, d) = rested.now in
-    c.frames.ensures (frames_of paths.path) d.few
-    (d.end_is ∙ ap (λ region. end_stamp_of region (frames_of paths.path)) (sym (done_region job n paths.path r.run video audio d)))
+    c.frames.ensures (frames_of paths.path.spans) d.few
+    (d.end_is ∙ ap (λ region. end_stamp_of region (frames_of paths.path.spans)) (sym (done_region job n paths.path r.run video audio d)))
