@@ -22,15 +22,17 @@ impl Played {
         ensures { IfSome result IsConsole }
     {
         let cart = door(alloc).ok()?;
-        let console = Frames::begin(alloc, inputs(cart.as_slice(), region)).ok()?;
         let video = vec![in alloc; 0u8; 244_736].ok()?;
         let sound = vec![in alloc; 0u8; 2_560].ok()?;
-        Some(Played {
-            console,
-            video,
-            sound,
-            samples: 0,
-        })
+        match Frames::begin(alloc, inputs(cart.as_slice(), region)) {
+            Ok(console) => Some(Played {
+                console,
+                video,
+                sound,
+                samples: 0,
+            }),
+            Err(_) => None,
+        }
     }
 
     /// Plays a frame with this pad of controller 1.
@@ -65,20 +67,27 @@ impl Played {
         Ok(u16::from(low) + 256 * u16::from(high))
     }
 
-    /// Plays a frame into a room of 100 bytes for its picture, or for its samples, and returns why that was not done.
-    pub fn play_short(&mut self, is_picture: bool) -> Option<FrameEnd>
+    /// Plays a frame into a room of 100 bytes for its picture, and returns why that was not done.
+    pub fn play_short_picture(&mut self) -> Option<FrameEnd>
         requires { IsConsole self.old }
         ensures { IsConsole self.new }
     {
         let mut short = [7u8; 100];
-        let end = if is_picture {
-            self.console
-                .frame(0, 0, &mut short, self.sound.as_mut_slice())
-        } else {
-            self.console
-                .frame(0, 0, self.video.as_mut_slice(), &mut short)
-        };
-        match end {
+        let sound = self.sound.as_mut_slice();
+        match self.console.frame(0, 0, &mut short, sound) {
+            Ok(_) => None,
+            Err(end) => Some(end),
+        }
+    }
+
+    /// Plays a frame into a room of 100 bytes for its samples, and returns why that was not done.
+    pub fn play_short_sound(&mut self) -> Option<FrameEnd>
+        requires { IsConsole self.old }
+        ensures { IsConsole self.new }
+    {
+        let mut short = [7u8; 100];
+        let video = self.video.as_mut_slice();
+        match self.console.frame(0, 0, video, &mut short) {
             Ok(_) => None,
             Err(end) => Some(end),
         }

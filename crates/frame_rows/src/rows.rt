@@ -79,9 +79,9 @@ fn a_reset_shuts_the_door(rt: HostRuntime) -> Result<(), Fail> {
 fn a_room_too_short_changes_nothing(rt: HostRuntime) -> Result<(), Fail> {
     let mut played = Played::begin(rt.alloc(), Region::Ntsc).ok_or("no console")?;
     let picture = FrameEnd::TooShort(Side::Console);
-    assert_eq!(rt; played.play_short(true), Some(picture));
+    assert_eq!(rt; played.play_short_picture(), Some(picture));
     let samples = FrameEnd::TooShort(Side::Sound);
-    assert_eq!(rt; played.play_short(false), Some(samples));
+    assert_eq!(rt; played.play_short_sound(), Some(samples));
     assert_eq!(rt; played.dot_after(5, 0), Ok(RED));
     assert_eq!(rt; played.samples, 2_662);
     Ok(())
