@@ -2,9 +2,9 @@
  *
  *     front [--set OPTION=VALUE].. [--system FOLDER] [--reset FRAME] CORE CART SCRIPT FRAMES VIDEO-FILE SOUND-FILE
  *
- * It plays so many frames with the pads of a script's lines, and writes video and sound as `snes serial` does, so that the
- * files can be compared. With --reset it presses reset before that frame, and the pads begin again with the first line.
- * It says the core's name and rates, and each message of the core. */
+ * It plays so many frames with the pads of a script's lines, presses reset where a line says so, and writes video and sound as
+ * `snes serial` does, so that the files can be compared. With --reset it presses reset before that frame too, and the script
+ * begins again with its first line. It says the core's name and rates, and each message of the core. */
 #include <dlfcn.h>
 #include <libretro.h>
 #include <stdarg.h>
@@ -19,6 +19,7 @@ static const char *options[OPTIONS];
 static int option_count;
 static const char *folder = ".";
 static unsigned pads[MOST + 1][2], frame;
+static bool resets[MOST + 1];
 static FILE *video, *sound;
 
 static bool environment(unsigned command, void *data) {
@@ -83,6 +84,7 @@ static void read_script(const char *name) {
   unsigned to = 0, count, one, two;
   if (!from) exit(2);
   while (fgets(line, sizeof line, from)) {
+    if (!strncmp(line, "reset", 5)) resets[to] = true;
     if (sscanf(line, "%u %x %x", &count, &one, &two) != 3) continue;
     for (; count > 0 && to < MOST; count--, to++) pads[to][0] = one, pads[to][1] = two;
   }
@@ -141,6 +143,7 @@ int main(int count, char **words) {
          rates.timing.fps, rates.timing.sample_rate, CALL(retro_get_region)());
   for (long played = 0; played < frames; played++) {
     if (played == reset) CALL(retro_reset)(), frame = 0;
+    if (frame < MOST && resets[frame]) CALL(retro_reset)();
     CALL(retro_run)();
     if (frame < MOST) frame++;
   }
