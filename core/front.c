@@ -109,6 +109,16 @@ static struct retro_game_info read_cart(const char *name) {
   return game;
 }
 
+/* Gives the core what it calls. */
+static void give_calls(void *core) {
+  CALL(retro_set_environment)(environment);
+  CALL(retro_set_video_refresh)(show);
+  CALL(retro_set_audio_sample)(hear_one);
+  CALL(retro_set_audio_sample_batch)(hear);
+  CALL(retro_set_input_poll)(poll);
+  CALL(retro_set_input_state)(state);
+}
+
 int main(int count, char **words) {
   long reset = -1;
   for (; count > 2 && !strncmp(words[1], "--", 2); count -= 2, words += 2) {
@@ -128,12 +138,7 @@ int main(int count, char **words) {
 
   struct retro_system_info info;
   struct retro_system_av_info rates;
-  CALL(retro_set_environment)(environment);
-  CALL(retro_set_video_refresh)(show);
-  CALL(retro_set_audio_sample)(hear_one);
-  CALL(retro_set_audio_sample_batch)(hear);
-  CALL(retro_set_input_poll)(poll);
-  CALL(retro_set_input_state)(state);
+  give_calls(core);
   CALL(retro_init)();
   CALL(retro_get_system_info)(&info);
   if (CALL(retro_api_version)() != RETRO_API_VERSION || CALL(retro_serialize_size)() != 0) return 1;

@@ -81,6 +81,17 @@ static void play(struct snes_console *console, struct pads down, FILE *video_to,
   if (sound_to && fwrite(sound, 1, answer.sound_count, sound_to) != answer.sound_count) exit(4);
 }
 
+/* Keeps the state in slot 0, plays the rest in another way, and goes back. */
+static void try_another_way(struct snes_console *console, long frame, long frames) {
+  struct snes_answer answer = {0, 0, 0, 0};
+  check("snes_keep", snes_keep(console, 0), answer);
+  for (long other = frame; other < frames; other++) {
+    if (other == frame + 1) check("snes_reset", snes_reset(console), answer);
+    play(console, (struct pads){SNES_BUTTON_START, SNES_BUTTON_START}, NULL, NULL);
+  }
+  check("snes_back", snes_back(console, 0), answer);
+}
+
 int main(int count, char **words) {
   struct bytes boot = none(), table = none();
   const char *at = "-1";
@@ -105,14 +116,7 @@ int main(int count, char **words) {
   free(cart.at), free(boot.at), free(table.at);
   for (long frame = 0; frame < frames; frame++) {
     if (resets[frame]) check("snes_reset", snes_reset(&console), answer);
-    if (frame == tried) {
-      check("snes_keep", snes_keep(&console, 0), answer);
-      for (long other = frame; other < frames; other++) {
-        if (other == frame + 1) check("snes_reset", snes_reset(&console), answer);
-        play(&console, (struct pads){SNES_BUTTON_START, SNES_BUTTON_START}, NULL, NULL);
-      }
-      check("snes_back", snes_back(&console, 0), answer);
-    }
+    if (frame == tried) try_another_way(&console, frame, frames);
     play(&console, pads[frame], video_to, sound_to);
   }
   check("snes_end", snes_end(&console), answer);

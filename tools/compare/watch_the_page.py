@@ -209,8 +209,34 @@ def step_on_to(browser, residue):
         tap(browser, 'Period')
 
 
+def try_moves_at_a_reset(browser, folder, residue, checks):
+    """Presses reset so many frames behind a state. Steps and rewinds to frames behind it and before it, and presses it again."""
+    step_on_to(browser, residue)
+    number, what = browser.value('run.number'), f'reset {residue} frames behind a state'
+    click(browser, 'reset')
+    checks.same(f'{what}: it is said', status_is(browser, f'Reset at frame {number}.'), True)
+    tap(browser, 'KeyR')
+    checks.same(f'{what}: twice', status_is(browser, 'No frame was played yet'), True)
+    pressed = browser.value('run.resets')
+    checks.same(f'{what}: it is noted', pressed.count(number), 1)
+    for _ in range(4):
+        tap(browser, 'Period')
+    try_picture(browser, folder, 'game.sfc', checks, f'{what}, 4 frames on')
+    tap(browser, 'Comma')
+    try_picture(browser, folder, 'game.sfc', checks, f'{what}, a step back')
+    browser.value('wind(), wind(), end_winding()')
+    checks.same(f'{what}: a rewind to its frame', browser.value('[run.number, run.resets]'), [number + 1, pressed])
+    try_picture(browser, folder, 'game.sfc', checks, f'{what}, a rewind to its frame')
+    tap(browser, 'Comma')
+    checks.same(f'{what}: a step before it', browser.value('[run.number, run.resets]'), [number, pressed[:-1]])
+    try_picture(browser, folder, 'game.sfc', checks, f'{what}, a step before it')
+    click(browser, 'reset')
+    for _ in range(33):
+        tap(browser, 'Period')
+
+
 def try_reset(browser, folder, shot, checks):
-    """Resets by key and button, steps and rewinds to frames behind one and before one, and what is played after all."""
+    """Resets by key and button, a rewind across two of them, and what is played after all."""
     anew(browser, checks)
     at_frame(browser, 50)
     tap(browser, 'Enter')
@@ -221,28 +247,7 @@ def try_reset(browser, folder, shot, checks):
     tap(browser, 'Space')
     # A state holds the button in the first case, and in the second it is pressed behind a state.
     for residue in (0, 3):
-        step_on_to(browser, residue)
-        number, what = browser.value('run.number'), f'reset {residue} frames behind a state'
-        click(browser, 'reset')
-        checks.same(f'{what}: it is said', status_is(browser, f'Reset at frame {number}.'), True)
-        tap(browser, 'KeyR')
-        checks.same(f'{what}: twice', status_is(browser, 'No frame was played yet'), True)
-        pressed = browser.value('run.resets')
-        checks.same(f'{what}: it is noted', pressed.count(number), 1)
-        for _ in range(4):
-            tap(browser, 'Period')
-        try_picture(browser, folder, 'game.sfc', checks, f'{what}, 4 frames on')
-        tap(browser, 'Comma')
-        try_picture(browser, folder, 'game.sfc', checks, f'{what}, a step back')
-        browser.value('wind(), wind(), end_winding()')
-        checks.same(f'{what}: a rewind to its frame', browser.value('[run.number, run.resets]'), [number + 1, pressed])
-        try_picture(browser, folder, 'game.sfc', checks, f'{what}, a rewind to its frame')
-        tap(browser, 'Comma')
-        checks.same(f'{what}: a step before it', browser.value('[run.number, run.resets]'), [number, pressed[:-1]])
-        try_picture(browser, folder, 'game.sfc', checks, f'{what}, a step before it')
-        click(browser, 'reset')
-        for _ in range(33):
-            tap(browser, 'Period')
+        try_moves_at_a_reset(browser, folder, residue, checks)
     number, pressed = browser.value('run.number'), browser.value('run.resets')
     tap(browser, 'Space')
     at_frame(browser, number + 50)
