@@ -143,8 +143,11 @@ void retro_run(void) {
   }
 }
 
+/* Presses the reset button. Before the first frame, and twice with no frame between, the library refuses it, and nothing is
+ * needed. A console that has played all its frames, or is not on, is powered on anew. */
 void retro_reset(void) {
   uint32_t before = region;
+  if (frames < SNES_MOST_FRAMES && snes_reset(&console) != SNES_EMPTY) return;
   if (!power_on()) return;
   say("Power on anew");
   if (region == before) return;

@@ -2,9 +2,9 @@
  *
  *     front [--set OPTION=VALUE].. [--system FOLDER] [--reset FRAME] CORE CART SCRIPT FRAMES VIDEO-FILE SOUND-FILE
  *
- * It plays so many frames with the pads of a script's lines, and writes video and sound as `snes serial` does, so that the
- * files can be compared. With --reset it presses reset before that frame, and the pads begin again with the first line.
- * It says the core's name and rates, and each message of the core. */
+ * It plays so many frames with the pads of a script's lines, presses reset where a line says so, and writes video and sound as
+ * `snes serial` does, so that the files can be compared. With --reset it presses reset before that frame too, and the script
+ * begins again with its first line. It says the core's name and rates, and each message of the core. */
 #include <dlfcn.h>
 #include <libretro.h>
 #include <stdarg.h>
@@ -19,6 +19,7 @@ static const char *options[OPTIONS];
 static int option_count;
 static const char *folder = ".";
 static unsigned pads[MOST + 1][2], frame;
+static bool resets[MOST + 1];
 static FILE *video, *sound;
 
 static bool environment(unsigned command, void *data) {
@@ -83,6 +84,7 @@ static void read_script(const char *name) {
   unsigned to = 0, count, one, two;
   if (!from) exit(2);
   while (fgets(line, sizeof line, from)) {
+    if (!strncmp(line, "reset", 5)) resets[to] = true;
     if (sscanf(line, "%u %x %x", &count, &one, &two) != 3) continue;
     for (; count > 0 && to < MOST; count--, to++) pads[to][0] = one, pads[to][1] = two;
   }
@@ -107,6 +109,16 @@ static struct retro_game_info read_cart(const char *name) {
   return game;
 }
 
+/* Gives the core what it calls. */
+static void give_calls(void *core) {
+  CALL(retro_set_environment)(environment);
+  CALL(retro_set_video_refresh)(show);
+  CALL(retro_set_audio_sample)(hear_one);
+  CALL(retro_set_audio_sample_batch)(hear);
+  CALL(retro_set_input_poll)(poll);
+  CALL(retro_set_input_state)(state);
+}
+
 int main(int count, char **words) {
   long reset = -1;
   for (; count > 2 && !strncmp(words[1], "--", 2); count -= 2, words += 2) {
@@ -126,12 +138,7 @@ int main(int count, char **words) {
 
   struct retro_system_info info;
   struct retro_system_av_info rates;
-  CALL(retro_set_environment)(environment);
-  CALL(retro_set_video_refresh)(show);
-  CALL(retro_set_audio_sample)(hear_one);
-  CALL(retro_set_audio_sample_batch)(hear);
-  CALL(retro_set_input_poll)(poll);
-  CALL(retro_set_input_state)(state);
+  give_calls(core);
   CALL(retro_init)();
   CALL(retro_get_system_info)(&info);
   if (CALL(retro_api_version)() != RETRO_API_VERSION || CALL(retro_serialize_size)() != 0) return 1;
@@ -141,6 +148,7 @@ int main(int count, char **words) {
          rates.timing.fps, rates.timing.sample_rate, CALL(retro_get_region)());
   for (long played = 0; played < frames; played++) {
     if (played == reset) CALL(retro_reset)(), frame = 0;
+    if (frame < MOST && resets[frame]) CALL(retro_reset)();
     CALL(retro_run)();
     if (frame < MOST) frame++;
   }

@@ -2,8 +2,9 @@
  *
  *     frames [--boot FILE] [--table FILE] [--try FRAME] CART SCRIPT FRAMES VIDEO-FILE SOUND-FILE
  *
- * The boot ROM and the table are the free ones unless they are named. With --try the state at FRAME is kept. The rest is
- * played with START held on both pads first, and then, back at that state, by the script. The files have what was played
+ * The boot ROM and the table are the free ones unless they are named. With --try the state at FRAME is kept, with the reset
+ * button just pressed if the script presses it there. The rest is played in another way first: START is held on both pads,
+ * and reset is pressed after a frame. Then, back at that state, it is played by the script. The files have what was played
  * by the script, so they are the same as without --try. */
 #include <inttypes.h>
 #include <stdio.h>
@@ -22,6 +23,7 @@ struct pads {
 
 static uint8_t video[SNES_FRAME_BYTES], sound[SNES_FRAME_SOUND_ROOM];
 static struct pads pads[SNES_MOST_FRAMES];
+static uint8_t resets[SNES_MOST_FRAMES + 1]; /* 1 for each frame that begins with a reset */
 static uint32_t region = SNES_NTSC;
 
 static struct bytes read_file(const char *name) {
@@ -40,22 +42,27 @@ static struct bytes none(void) {
   return nothing;
 }
 
-/* The pads of each frame; after the last line no button is down. A line of another form ends the program. A reset is one. */
+/* The pads and resets of each frame; after the last line no button is down. A line of another form ends the program, and so
+ * does a reset that a script may not have. */
 static void read_script(const char *name) {
   FILE *from = fopen(name, "r");
   char line[256];
-  uint32_t to = 0, count;
+  uint32_t to = 0, lines = 0, version = 1, count;
   struct pads one;
   if (!from) exit(2);
-  while (fgets(line, sizeof line, from)) {
-    if (line[strspn(line, "\r\n")] == 0 || !strncmp(line, "version 2 ntsc", 14)) continue;
-    if (!strncmp(line, "version 2 pal", 13)) {
-      region = SNES_PAL;
-      continue;
+  for (; fgets(line, sizeof line, from); lines++) {
+    line[strcspn(line, "\r\n")] = 0;
+    if (lines == 0 && (!strcmp(line, "version 2 ntsc") || !strcmp(line, "version 2 pal"))) {
+      version = 2;
+      region = line[10] == 'p' ? SNES_PAL : SNES_NTSC;
+    } else if (version == 2 && !strcmp(line, "reset")) {
+      if (to == 0 || resets[to]) exit(3);
+      resets[to] = 1;
+    } else if (*line) {
+      if (sscanf(line, "%" SCNu32 " %" SCNx16 " %" SCNx16, &count, &one.pad1, &one.pad2) != 3) exit(3);
+      if (count > SNES_MOST_FRAMES - to) exit(3);
+      while (count--) pads[to++] = one;
     }
-    if (sscanf(line, "%" SCNu32 " %" SCNx16 " %" SCNx16, &count, &one.pad1, &one.pad2) != 3) exit(3);
-    if (count > SNES_MOST_FRAMES - to) exit(3);
-    while (count--) pads[to++] = one;
   }
   fclose(from);
 }
@@ -72,6 +79,17 @@ static void play(struct snes_console *console, struct pads down, FILE *video_to,
   check("snes_frame", snes_frame(console, down.pad1, down.pad2, video, sizeof video, sound, sizeof sound, &answer), answer);
   if (video_to && fwrite(video, 1, answer.video_count, video_to) != answer.video_count) exit(4);
   if (sound_to && fwrite(sound, 1, answer.sound_count, sound_to) != answer.sound_count) exit(4);
+}
+
+/* Keeps the state in slot 0, plays the rest in another way, and goes back. */
+static void try_another_way(struct snes_console *console, long frame, long frames) {
+  struct snes_answer answer = {0, 0, 0, 0};
+  check("snes_keep", snes_keep(console, 0), answer);
+  for (long other = frame; other < frames; other++) {
+    if (other == frame + 1) check("snes_reset", snes_reset(console), answer);
+    play(console, (struct pads){SNES_BUTTON_START, SNES_BUTTON_START}, NULL, NULL);
+  }
+  check("snes_back", snes_back(console, 0), answer);
 }
 
 int main(int count, char **words) {
@@ -97,13 +115,8 @@ int main(int count, char **words) {
                                  (uint32_t)frames, 1, &answer), answer);
   free(cart.at), free(boot.at), free(table.at);
   for (long frame = 0; frame < frames; frame++) {
-    if (frame == tried) {
-      check("snes_keep", snes_keep(&console, 0), answer);
-      for (long other = frame; other < frames; other++) {
-        play(&console, (struct pads){SNES_BUTTON_START, SNES_BUTTON_START}, NULL, NULL);
-      }
-      check("snes_back", snes_back(&console, 0), answer);
-    }
+    if (resets[frame]) check("snes_reset", snes_reset(&console), answer);
+    if (frame == tried) try_another_way(&console, frame, frames);
     play(&console, pads[frame], video_to, sound_to);
   }
   check("snes_end", snes_end(&console), answer);

@@ -27,7 +27,7 @@ target=(--no-default-config --target=wasm64-unknown-unknown -mbulk-memory -msign
 "$clang" "${target[@]}" -Wno-override-module -c -x ir "$work/module.bc" -o "$work/snes.o" 2>"$work/said" || { cat "$work/said" >&2; exit 1; }
 grep -v "is not a recognized processor for this target" "$work/said" >&2
 "$clang" "${target[@]}" -ffreestanding -Wall -Wextra -Werror -c "$top/web/emulator/heap.c" -o "$work/heap.o" || exit 1
-calls=(snes_begin snes_frame snes_keep snes_back snes_end page_alloc page_free)
+calls=(snes_begin snes_frame snes_reset snes_keep snes_back snes_end page_alloc page_free)
 (exec -a wasm-ld "$clang" -mwasm64 --no-entry --gc-sections --strip-all -z stack-size=1048576 \
   "${calls[@]/#/--export=}" -o "$work/snes.wasm" "$work/snes.o" "$work/heap.o") || exit 1
 

@@ -103,7 +103,7 @@ if [ -f "$library" ]; then
   place=$usr/lib/$triplet
   lib=libbogtrun-snes
   mkdir -p "$usr/include/bogtrun" "$place/pkgconfig" "$doc/examples"
-  echo '{ global: snes_play; snes_begin; snes_frame; snes_keep; snes_back; snes_end; local: *; };' >"$work/names"
+  echo '{ global: snes_play; snes_begin; snes_frame; snes_reset; snes_keep; snes_back; snes_end; local: *; };' >"$work/names"
   cc -O2 -fPIC -ffile-prefix-map="$top"=. -c embed/heap.c -o "$work/heap.o" && cp "$library" "$work/$lib.a" &&
     ar rD "$work/$lib.a" "$work/heap.o" && ranlib -D "$work/$lib.a" &&
     cc -shared -o "$work/$lib.so.1" -Wl,-soname,"$lib.so.1",--build-id=none,-z,relro,-z,now,--gc-sections \

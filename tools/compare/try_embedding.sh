@@ -103,9 +103,17 @@ refused 'a sound room that lacks a byte' '4 cause 10 place 0' "${inputs[@]}" "$f
 said=$(ulimit -v 36500; ./frame "${inputs[@]}" 1 frame.raw sound.raw 2>/dev/null)
 check 'too little memory' "$said" 'status 5 cause 12 place 0 video 0 sound 0'
 
-# A frame at a time, by C: in each region, with the free files and with named ones, with and without a try from a save state.
+# A frame at a time, by C: in each region, without resets and with them, with the free files and with named ones, with and without a
+# try from a save state. Scripts with resets press the button in frames 1, 300, 400 and 401, and the state at 400 is kept.
 game=$top/examples/game/minute.txt
 { echo 'version 2 pal' && cat "$game"; } >pal.txt
+with_resets() {
+  echo "version 2 $1"
+  printf '%s\n' '1 0000 0000' reset "$(head -n 22 "$game")" '2 8100 0000' reset '100 8200 0100' reset '1 0000 1000' reset
+  cat "$game"
+}
+with_resets ntsc >resets.txt
+with_resets pal >resets_pal.txt
 cc -std=c11 -O2 -Wall -Wextra -Werror -o frames "$top/embed/frames.c" "$top/embed/heap.c" "$library" || exit 1
 serial() {
   "$snes" --quiet serial --cart scene/game.sfc --boot scene/boot.bin --table scene/table.bin --script "$1" --frames "$2" \
@@ -115,7 +123,7 @@ compare() {
   check "$1: all video" "$(sum_of other.video)" "$(sum_of video.raw)"
   check "$1: all sound" "$(sum_of other.audio)" "$(sum_of audio.raw)"
 }
-for script in "$game" pal.txt; do
+for script in "$game" pal.txt resets.txt resets_pal.txt; do
   serial "$script" 600
   ./frames scene/game.sfc "$script" 600 other.video other.audio || exit 1
   compare "frames, ${script##*/}"
@@ -124,6 +132,13 @@ for script in "$game" pal.txt; do
 done
 check 'frames: a cartridge that is too short' "$(./frames short.sfc pal.txt 1 other.video other.audio 2>&1)" 'snes_begin: status 3 cause 1 place 0'
 check 'frames: no frames' "$(./frames scene/game.sfc pal.txt 0 other.video other.audio 2>&1)" 'snes_begin: status 1 cause 11 place 0'
+printf '%s\n' '1 0000 0000' reset >old.txt
+printf '%s\n' 'version 2 ntsc' '0 0000 0000' reset >first.txt
+printf '%s\n' 'version 2 ntsc' '1 0000 0000' reset '' reset >twice.txt
+for script in old.txt first.txt twice.txt; do
+  ./frames scene/game.sfc $script 1 other.video other.audio
+  check "frames: a reset that is refused, $script" $? 3
+done
 printf '#include "snes.h"\nstatic_assert(SNES_FRAME_BYTES == 239 * 512 * 2 && SNES_FULL == 7 && SNES_CONSOLE_HELD == 16, "");\n' >header.cc
 check 'the header in C++' "$(c++ -std=c++11 -Wall -Wextra -Werror -pedantic -I"$top/embed" -fsyntax-only header.cc 2>&1)" ''
 
@@ -145,23 +160,31 @@ if [ -f "$libretro/libretro.h" ]; then
   said=$(./front ./bogtrun_snes_libretro.so scene/game.sfc "$game" 600 other.video other.audio)
   check 'core: what it says' "$said" 'Bogtrun SNES 1.1: 60.0985 frames and 32000 samples a second, region 0'
   compare 'core'
-  serial pal.txt 300
-  said=$(./front "${own[@]}" --set bogtrun_snes_region=pal ./bogtrun_snes_libretro.so scene/game.sfc pal.txt 300 other.video other.audio)
+  serial resets.txt 600
+  ./front ./bogtrun_snes_libretro.so scene/game.sfc resets.txt 600 other.video other.audio >/dev/null || exit 1
+  compare 'core, resets'
+  serial resets_pal.txt 420
+  said=$(./front "${own[@]}" --set bogtrun_snes_region=pal ./bogtrun_snes_libretro.so scene/game.sfc resets_pal.txt 420 other.video other.audio)
   check 'core, PAL: what it says' "$said" 'Bogtrun SNES 1.1: 50.0070 frames and 32000 samples a second, region 1'
-  compare 'core, PAL'
-  said=$(./front --reset 100 ./bogtrun_snes_libretro.so scene/game.sfc "$game" 400 all.video all.audio | sed -n 2p)
-  check 'core: reset' "$said" 'frame 100: Power on anew'
-  serial "$game" 300
-  tail -c "$(stat -c %s video.raw)" all.video >other.video
-  tail -c "$(stat -c %s audio.raw)" all.audio >other.audio
-  compare 'core after a reset'
+  compare 'core, PAL, resets'
+  serial "$game" 60
+  said=$(./front --reset 0 ./bogtrun_snes_libretro.so scene/game.sfc "$game" 60 other.video other.audio | sed 1d)
+  check 'core: reset before the first frame' "$said" ''
+  compare 'core: reset before the first frame'
   said=$(./front --system nowhere "${own[@]:2}" ./bogtrun_snes_libretro.so scene/game.sfc "$game" 1 other.video other.audio)
   check 'core: a boot ROM that is missing' "$? $said" '3 frame 0: nowhere/bogtrun_snes/boot.bin is missing, or not 64 bytes long'
   said=$(./front ./bogtrun_snes_libretro.so short.sfc "$game" 1 other.video other.audio)
   check 'core: a cartridge that is too short' "$? $said" '3 frame 0: The cartridge has fewer than 32,768 bytes'
-  said=$(./front ./bogtrun_snes_libretro.so scene/game.sfc "$game" 36001 /dev/null /dev/null | sed 1d)
+  # Ten minutes, and a frame more that stands. Then reset powers on, and 60 frames are those of the start.
+  mkfifo all.video all.audio
+  tail -c "$(stat -c %s video.raw)" all.video >other.video &
+  tail -c "$(stat -c %s audio.raw)" all.audio >other.audio &
+  said=$(./front --reset 36001 ./bogtrun_snes_libretro.so scene/game.sfc "$game" 36061 all.video all.audio | sed 1d)
+  wait
   check 'core: ten minutes are over' "$said" "frame 32399: The console has 3,600 frames left
-frame 36000: The console has played its 36,000 frames. Reset: power on anew"
+frame 36000: The console has played its 36,000 frames. Reset: power on anew
+frame 36000: Power on anew"
+  compare 'core after ten minutes'
 else
   echo "        without the libretro core: there is no $libretro/libretro.h"
 fi

@@ -5,7 +5,7 @@
 
 tools/build_page.sh has to be run before. The page plays the game live while keys are pressed. Then the sums that it took of each
 frame's picture and samples have to be those of `snes sums` for the script that it took down: 600 frames of it. So too after a
-rewind, by a link, and for dropped files in PAL. SHOTS is where screenshots go. SNES and SCENE may name built programs in place of
+rewind, after resets, by a link, and for dropped files in PAL. SHOTS is where screenshots go. SNES and SCENE may name built programs in place of
 ./snes and ./scene. An error on the page's console fails it, and so does any request that is not for a local file. The
 status is 1 where a check failed.
 """
@@ -203,6 +203,77 @@ def try_moves(browser, folder, shot, checks):
     try_picture(browser, folder, 'game.sfc', checks, 'rewound to the end')
 
 
+def step_on_to(browser, residue):
+    """Steps until the frames are so many modulo 8. Before each eighth frame a state is kept."""
+    while browser.value('run.number') % 8 != residue:
+        tap(browser, 'Period')
+
+
+def try_moves_at_a_reset(browser, folder, residue, checks):
+    """Presses reset so many frames behind a state. Steps and rewinds to frames behind it and before it, and presses it again."""
+    step_on_to(browser, residue)
+    number, what = browser.value('run.number'), f'reset {residue} frames behind a state'
+    click(browser, 'reset')
+    checks.same(f'{what}: it is said', status_is(browser, f'Reset at frame {number}.'), True)
+    tap(browser, 'KeyR')
+    checks.same(f'{what}: twice', status_is(browser, 'No frame was played yet'), True)
+    pressed = browser.value('run.resets')
+    checks.same(f'{what}: it is noted', pressed.count(number), 1)
+    for _ in range(4):
+        tap(browser, 'Period')
+    try_picture(browser, folder, 'game.sfc', checks, f'{what}, 4 frames on')
+    tap(browser, 'Comma')
+    try_picture(browser, folder, 'game.sfc', checks, f'{what}, a step back')
+    browser.value('wind(), wind(), end_winding()')
+    checks.same(f'{what}: a rewind to its frame', browser.value('[run.number, run.resets]'), [number + 1, pressed])
+    try_picture(browser, folder, 'game.sfc', checks, f'{what}, a rewind to its frame')
+    tap(browser, 'Comma')
+    checks.same(f'{what}: a step before it', browser.value('[run.number, run.resets]'), [number, pressed[:-1]])
+    try_picture(browser, folder, 'game.sfc', checks, f'{what}, a step before it')
+    click(browser, 'reset')
+    for _ in range(33):
+        tap(browser, 'Period')
+
+
+def try_reset(browser, folder, shot, checks):
+    """Resets by key and button, a rewind across two of them, and what is played after all."""
+    anew(browser, checks)
+    at_frame(browser, 50)
+    tap(browser, 'Enter')
+    at_frame(browser, 100)
+    tap(browser, 'KeyR')
+    checks.same('reset by its key', browser.until('run.resets.length === 1'), True)
+    at_frame(browser, 150)
+    tap(browser, 'Space')
+    # A state holds the button in the first case, and in the second it is pressed behind a state.
+    for residue in (0, 3):
+        try_moves_at_a_reset(browser, folder, residue, checks)
+    number, pressed = browser.value('run.number'), browser.value('run.resets')
+    tap(browser, 'Space')
+    at_frame(browser, number + 50)
+    tap(browser, 'KeyR')
+    at_frame(browser, number + 80)
+    tap(browser, 'Space')
+    press(browser, 'Backspace', True)
+    checks.same('it rewinds across two resets', browser.until(f'run.winding && run.number < {pressed[-1] - 1}'), True)
+    press(browser, 'Backspace', False)
+    checks.same('it stands before them', browser.until('!run.winding && run.paused'), True)
+    number = browser.value('run.number')
+    left = [at for at in pressed if at < number]
+    checks.same('both are forgotten', (len(left) < len(pressed), browser.value('run.resets')), (True, left))
+    try_picture(browser, folder, 'game.sfc', checks, 'before two resets')
+    tap(browser, 'Space')
+    at_frame(browser, number + 20)
+    tap(browser, 'KeyR')
+    at_frame(browser, number + 60)
+    shot('reset.png')
+    tap(browser, 'Space')
+    script = try_sums(browser, folder, 'game.sfc', browser.value('run.number'), checks, 'after resets')
+    print('        ' + script.strip().replace('\n', ' | ')[:400])
+    checks.same('after resets: they are in the script', (script.split('\n')[0], script.count('reset\n')), ('version 2 ntsc', len(left) + 1))
+    try_picture(browser, folder, 'game.sfc', checks, 'after resets')
+
+
 def try_link(browser, folder, page, checks):
     """The link of a path plays the same path on a page that is opened with it."""
     script = browser.value('script_text()')
@@ -266,14 +337,16 @@ def try_full_screen(browser, shot, checks):
 
 def try_files(browser, folder, shot, checks):
     at = at_of(folder)
+    dropped = 'version 2 pal\n50 0000 0000\nreset\n3 1000 0000\n60 8100 0080\nreset\n'
     with open(at('script.txt'), 'w') as file:
-        file.write('version 2 pal\n50 0000 0000\n3 1000 0000\n60 8100 0080\n')
+        file.write(dropped)
     browser.value("document.getElementById('sums').checked = true")
     browser.drop(at('game.sfc'), at('boot.bin'), at('table.bin'), at('script.txt'))
     checks.same('dropped files', status_is(browser, 'The script ended at frame 113', 60), True)
     at_frame(browser, 130)
     tap(browser, 'Space')
-    try_sums(browser, folder, 'game.sfc', 130, checks, 'dropped, in PAL')
+    script = try_sums(browser, folder, 'game.sfc', 130, checks, 'dropped, in PAL')
+    checks.same('dropped, in PAL: the script', script.startswith(dropped), True)
     click(browser, 'scene')
     checks.same('the scene', browser.until("run.on && run.name === 'scene.sfc' && run.number > 60", 60), True)
     shot('scene.png')
@@ -281,10 +354,12 @@ def try_files(browser, folder, shot, checks):
         file.write(bytes(100))
     browser.drop(at('short.sfc'))
     checks.same('a refused cartridge', status_is(browser, 'Status 3: the cartridge has fewer than 32,768 bytes.'), True)
-    with open(at('none.txt'), 'w') as file:
-        file.write('2 0000 0000\nno line\n')
-    browser.drop(at('none.txt'))
-    checks.same('a refused script', status_is(browser, 'the script is refused at line 2.'), True)
+    for lines in ('2 0000 0000\nno line\n', 'version 2 pal\nreset\n', '2 0000 0000\nreset\n', 'version 2 ntsc\n1 0000 0000\nreset\nreset\n'):
+        with open(at('none.txt'), 'w') as file:
+            file.write(lines)
+        browser.drop(at('none.txt'))
+        checks.same('a refused script', status_is(browser, f'the script is refused at line {lines.count(chr(10))}.'), True)
+        browser.value("say('')")
     click(browser, 'game')
     at_frame(browser, 20)
     # Nobody waits here until ten minutes are over: the call answers as it does then.
@@ -306,6 +381,7 @@ def try_page(browser, folder, shots, checks, page):
     shot = lambda name: browser.shot(os.path.join(shots, name))
     try_live(browser, folder, shot, checks)
     try_moves(browser, folder, shot, checks)
+    try_reset(browser, folder, shot, checks)
     try_link(browser, folder, page, checks)
     try_keys(browser, page, checks)
     try_gamepads(browser, checks)

@@ -216,7 +216,7 @@ if [ -d "$work/tree/usr/include/bogtrun" ]; then
   mkdir "$root/tmp/try"
   check 'pkg-config: the version' "$(inside pkg-config --modversion bogtrun-snes)" "${version%%~*}"
   check 'the shared object shows its calls alone' "$(inside nm -D --defined-only -j /usr/lib/x86_64-linux-gnu/libbogtrun-snes.so.1 | xargs)" \
-    'snes_back snes_begin snes_end snes_frame snes_keep snes_play'
+    'snes_back snes_begin snes_end snes_frame snes_keep snes_play snes_reset'
   source=/usr/share/doc/snes/examples/frame.c
   check 'the C example, shared: links' "$(run "cc -o shared $source \$(pkg-config --cflags --libs bogtrun-snes) 2>&1 && echo links")" links
   check 'the C example, static: links' "$(run "cc -o static $source \$(pkg-config --cflags bogtrun-snes) -l:libbogtrun-snes.a 2>&1 && echo links")" links

@@ -160,6 +160,14 @@ class Console:
             return Frame(_picture_by_bytes(video), array.array('h', sound))
         return Frame(_picture_by_numpy(video), numpy.frombuffer(bytearray(sound), '<i2').reshape(-1, 2))
 
+    def reset(self) -> None:
+        """Presses the reset button: the next frame begins with a reset.
+
+        It is refused before the first frame of the path, and twice with no frame between, as in a script.
+        """
+        with self._lock:
+            self._moved(self._library.snes_reset(self._kept), Cause.RESET_TOO_SOON)
+
     def keep(self, slot: int) -> None:
         """Keeps the state in a slot, in place of what the slot had."""
         with self._lock:
@@ -195,10 +203,10 @@ class Console:
             raise ConsoleError(status, self._answer.cause, self._answer.place)
 
     @staticmethod
-    def _moved(status: int) -> None:
+    def _moved(status: int, refused: Cause = Cause.BAD_SLOT) -> None:
         """Raises a status that is not OK of a call that gives no cause, since each of its statuses has but one."""
         if status != Status.OK:
-            raise ConsoleError(status, Cause.NO_CONSOLE if status == Status.EMPTY else Cause.BAD_SLOT)
+            raise ConsoleError(status, Cause.NO_CONSOLE if status == Status.EMPTY else refused)
 
 
 def _word(number: int) -> int:

@@ -17,8 +17,9 @@ class Status(enum.IntEnum):
 
 
 class Cause(enum.IntEnum):
-    """The cause of a status, as snes.h has it."""
+    """The cause of a status, as snes.h has it. RESET_TOO_SOON is of this package: snes_reset gives no cause."""
 
+    RESET_TOO_SOON = 0
     CART_TOO_SHORT = 1
     CART_TOO_LONG = 2
     CART_NO_HEADER = 3
@@ -39,6 +40,7 @@ class Cause(enum.IntEnum):
 
 # What happened, and what to do. The others are none that a caller of this package can bring about.
 _CAUSES = {
+    Cause.RESET_TOO_SOON: ('no frame was played since the start or the last press of reset', 'Play a frame first.'),
     Cause.CART_TOO_SHORT: ('the cartridge has fewer than 32,768 bytes', 'Give the whole image of a cartridge.'),
     Cause.CART_TOO_LONG: ('the cartridge has more than 4,194,304 bytes', 'Give the image of one cartridge, without more behind it.'),
     Cause.CART_NO_HEADER: ('the cartridge has neither a LoROM nor a HiROM header', 'Give an image of these two kinds.'),

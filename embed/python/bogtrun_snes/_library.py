@@ -31,6 +31,7 @@ _ROOM = [c_void_p, c_size_t]
 _CALLS = {
     'snes_begin': [POINTER(Kept), *_INPUT, *_INPUT, *_INPUT, c_uint32, c_uint32, c_uint32, POINTER(Answer)],
     'snes_frame': [POINTER(Kept), c_uint16, c_uint16, *_ROOM, *_ROOM, POINTER(Answer)],
+    'snes_reset': [POINTER(Kept)],
     'snes_keep': [POINTER(Kept), c_uint32],
     'snes_back': [POINTER(Kept), c_uint32],
     'snes_end': [POINTER(Kept)],

@@ -19,6 +19,22 @@ def play(console, pads):
     return b''.join(one.video for one in frames), b''.join(one.sound for one in frames)
 
 
+def play_with_resets(console, pads, resets, first=0):
+    """The same, with the reset button pressed before the frames of these numbers. The first of the frames has the number `first`."""
+    parts = []
+    for number, both in enumerate(pads, first):
+        if number in resets:
+            console.reset()
+        parts.append(console.raw_frame(*both))
+    return b''.join(one.video for one in parts), b''.join(one.sound for one in parts)
+
+
+def script_with_resets(region, pads, resets):
+    """A script of version 2 with these pads and resets, a line for each frame."""
+    lines = [('reset\n' if number in resets else '') + f'1 {one:04x} {two:04x}\n' for number, (one, two) in enumerate(pads)]
+    return f'version 2 {region}\n' + ''.join(lines)
+
+
 def refused(status, cause, place, call, *words, **named):
     with pytest.raises(ConsoleError) as fault:
         call(*words, **named)
@@ -62,6 +78,62 @@ def test_a_slot_in_which_nothing_was_kept_has_the_start(game, pads, serial):
         console.back(63)
         assert console.frames == 0
         assert play(console, pads[1][:20]) == first
+
+
+def test_resets_are_those_of_serial(game, pads, serial):
+    pads, resets = pads[1][:300], {1, 130, 131, 250, 299}
+    for region in ('ntsc', 'pal'):
+        wanted = serial('game.sfc', script_with_resets(region, pads, resets), 300)
+        with Console(game, region=region) as console:
+            assert play_with_resets(console, pads, resets) == wanted
+            assert console.frames == 300
+        assert wanted != serial('game.sfc', script_with_resets(region, pads, ()), 300)
+
+
+def test_back_to_a_slot_that_holds_a_reset(game, pads, serial):
+    pads = pads[1][:200]
+    for region in ('ntsc', 'pal'):
+        wanted = serial('game.sfc', script_with_resets(region, pads, {60, 120, 150}), 200)
+        plain = serial('game.sfc', script_with_resets(region, pads, {60}), 200)
+        with Console(game, region=region, slots=2) as console:
+            first = play_with_resets(console, pads[:120], {60})
+            console.keep(0)
+            console.reset()
+            console.keep(1)
+            # What is pressed on another path is not pressed on those of the slots.
+            play_with_resets(console, pads[:40], {1, 7, 30})
+            console.reset()
+            for _ in range(2):
+                console.back(1)
+                refused(Status.REFUSED, Cause.RESET_TOO_SOON, 0, console.reset)
+                rest = play_with_resets(console, pads[120:], {150}, 120)
+                assert (first[0] + rest[0], first[1] + rest[1]) == wanted
+            console.back(0)
+            rest = play(console, pads[120:])
+            assert (first[0] + rest[0], first[1] + rest[1]) == plain
+            assert wanted != plain
+
+
+def test_refused_resets_leave_the_console(game, pads):
+    pads = pads[1][:40]
+    with Console(game, most=40) as console, Console(game) as other:
+        wanted = play_with_resets(other, pads, {20})
+        refused(Status.REFUSED, Cause.RESET_TOO_SOON, 0, console.reset)
+        first = play(console, pads[:20])
+        console.reset()
+        for _ in range(2):
+            refused(Status.REFUSED, Cause.RESET_TOO_SOON, 0, console.reset)
+        rest = play(console, pads[20:])
+        assert (first[0] + rest[0], first[1] + rest[1]) == wanted
+        # The button can be pressed behind the last frame too, but no frame follows.
+        console.reset()
+        refused(Status.REFUSED, Cause.RESET_TOO_SOON, 0, console.reset)
+        refused(Status.FRAMES, Cause.TOO_MANY_FRAMES, 0, console.frame)
+        # A slot in which nothing was kept has the start, and no frame.
+        console.back(0)
+        refused(Status.REFUSED, Cause.RESET_TOO_SOON, 0, console.reset)
+        assert play_with_resets(console, pads, {20}) == wanted
+    refused(Status.EMPTY, Cause.NO_CONSOLE, 0, console.reset)
 
 
 def test_picture_and_samples(game, monkeypatch):

@@ -33,11 +33,12 @@ fn main(rt: HostRuntime) -> std::process::ExitCode {
         snes_play(alloc, b"", b"", b"", b"", 0, none, other, &mut answer),
         snes_begin(alloc, console, b"", b"", b"", 0, 1, 0, &mut answer),
         snes_frame(alloc, console, 0, 0, none, other, &mut answer),
+        snes_reset(alloc, console),
         snes_keep(alloc, console, 0),
         snes_back(alloc, console, 0),
         snes_end(alloc, console),
     ];
-    std::process::ExitCode::from((statuses[5] % 256) as u8)
+    std::process::ExitCode::from((statuses[6] % 256) as u8)
 }
 TEXT
 exports=$(sed -n '/no_mangle/{n; s/.*extern "C" fn \([a-z_]*\).*/\1/p}' "$crate"/src/*.rt)
