@@ -53,7 +53,7 @@ extern "C" {
 enum snes_status {
   SNES_OK = 0,        /* done */
   SNES_FRAMES = 1,    /* snes_play, snes_begin: a number of frames out of bounds; snes_frame: the path has no frame left */
-  SNES_REFUSED = 3,   /* an input, a region or a slot was not accepted */
+  SNES_REFUSED = 3,   /* an input, a region, a slot or a reset was not accepted */
   SNES_TOO_SHORT = 4, /* video or sound does not fit into its room */
   SNES_NO_MEMORY = 5, /* malloc gave none */
   SNES_EMPTY = 6,     /* the console has not begun, or has ended */
@@ -140,7 +140,7 @@ uint32_t snes_begin(struct snes_console *console,
  * Rooms of SNES_FRAME_BYTES and SNES_FRAME_SOUND_ROOM serve every frame. At SNES_OK the frame's picture is at the front of
  * `video`, and its samples are at the front of `sound`. What is behind them is as it was. `answer` has the bytes of both.
  * The frames 1 to n of a path have the bytes that snes_play gives for n frames and any script that gives each frame the
- * same pads, in this region and without resets.
+ * same pads, in this region and with a reset before the frames before which the button was pressed.
  *
  * At every other status the console and both rooms are as they were. SNES_FRAMES says that the path has `most` frames:
  * go back to a slot, or end and begin again. */
