@@ -6,6 +6,7 @@ use Rattle.plan_drive.specs.Paths.{no_paths, goes_of, slots_of}
 use Rattle.plan_drive.specs.Joins.{PlanEmits}
 use Rattle.snapshot.specs.Positions.{IsRested, slot_count}
 use Rattle.job_player.specs.Start.{Emits}
+use Rattle.job_player.proofs.Planning.{played_plan, played_some}
 use Rattle.job_player.proofs.Plays.{on_ok}
 use Rattle.job_player.proofs.planned.ConsolePlanPlayer.play_plan.Goals as goal
 
@@ -22,7 +23,10 @@ returns-clause-whole g c =
     let steps = c.args.plan.now in
     let r = c.args.planned.rewind in
     on_ok {Q = (job : Job) → (IsRested (record job { region = Ntsc }) (goes_of steps) no_paths r × (slots_of steps ≤ slot_count r) × (vec_len c.args.planned.buffer ≡ 65536)) → PlayedWhole (PlanEmits Emits job steps) (g.K.Sink.holds c.play.new.sink)}
-    _ c.play.ensures.whole (λ whole job h. whole (record job { region = Ntsc }) (goes_of steps) h.0)
+    _ c.play.ensures.whole
+    (λ whole job h. played_plan job steps (g.K.Sink.holds c.play.new.sink) (whole (record job { region = Ntsc }) (goes_of steps) h.0))
 
 pub returns-clause-first : goal.returns-clause-first
-returns-clause-first g c = λ job h. c.play.ensures.first (record job { region = Ntsc }) (goes_of c.args.plan.now) h.0
+returns-clause-first g c = λ job h.
+    played_some job c.args.plan.now (g.K.Sink.holds c.play.new.sink)
+    (c.play.ensures.first (record job { region = Ntsc }) (goes_of c.args.plan.now) h.0)

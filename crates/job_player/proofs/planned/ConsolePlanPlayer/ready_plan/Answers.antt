@@ -5,7 +5,7 @@ use Rattle.plan_drive.specs.Paths.{no_paths, goes_of}
 use Rattle.plan_drive.specs.Joins.{Joins}
 use Rattle.snapshot.specs.Path.{PathEmits}
 use Rattle.snapshot.specs.Positions.{IsRested}
-use Rattle.job_player.proofs.Planning.{room_for, own_script}
+use Rattle.job_player.proofs.Planning.{room_for, own_script, playable}
 use Rattle.job_player.proofs.planned.ConsolePlanPlayer.ready_plan.Goals as goal
 
 pub new-requires : goal.new-requires
@@ -26,5 +26,6 @@ pub returns-clause-ends : goal.returns-clause-ends
 returns-clause-ends c =
     let job = c.args.job.now in
     let steps = c.args.plan.now in
-    subst (λ (r : Region). IsPlayable (Joins (PathEmits (record job { region = r }) (goes_of steps)) steps no_paths)) c.requires.region
-    (subst (λ (n : ℕ). IsPlayable (Joins (PathEmits job n) steps no_paths)) (room_for job steps c.requires.script) c.in_ok-rewind.ensures.ends)
+    playable job steps
+    (subst (λ (r : Region). IsPlayable (Joins (PathEmits (record job { region = r }) (goes_of steps)) steps no_paths)) c.requires.region
+    (subst (λ (n : ℕ). IsPlayable (Joins (PathEmits job n) steps no_paths)) (room_for job steps c.requires.script) c.in_ok-rewind.ensures.ends))
