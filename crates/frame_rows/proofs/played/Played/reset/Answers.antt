@@ -6,5 +6,5 @@ pub returns : goal.returns
 returns c =
     let (told, h) = c.requires in
     either c.reset.result
-        (λ yes. (pressed_in told, (c.reset.ensures.pressed told h yes).1))
-        (λ no. (told, (c.reset.ensures.none told h no).1))
+    (λ yes. (pressed_in told, (c.reset.ensures.pressed told h yes).1))
+    (λ no. (told, (c.reset.ensures.none told h no).1))
