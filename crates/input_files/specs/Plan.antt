@@ -1,5 +1,5 @@
 -- What a plan of the rewinder says, line by line. This project's own format.
-use Rattle.std.specs.Prelude.{ℕ, ◌+◌, ◌-◌, ◌<◌, Bool, true, false, ◌&&◌, nat_le, nat_lt, nat_eq, if◌then◌else◌, min, List, [], ◌∷◌, ◌++◌, length, map, codes, replicate, slice_index, slice_index_or, slice_set, Option, Some, None, Result, Ok, Err}
+use Rattle.std.specs.Prelude.{ℕ, ◌+◌, ◌-◌, ◌<◌, ◌≤◌, Bool, true, false, ◌&&◌, nat_le, nat_lt, nat_eq, if◌then◌else◌, min, List, [], ◌∷◌, ◌++◌, length, map, codes, replicate, slice_index, slice_index_or, slice_set, Option, Some, None, Result, Ok, Err}
 use Rattle.std.specs.Str.{bytes_eq}
 use Rattle.bstr.specs.Text.{lines_of, without_terminator}
 use Rattle.snes_defs.specs.declared.region.Region.{Region}
@@ -7,6 +7,7 @@ use Rattle.snes_defs.specs.declared.region.Region.TheVariants.{Ntsc, Pal}
 use Rattle.snes_defs.specs.declared.script.Span.{Span}
 use Rattle.input_files.specs.Fields.{span_of, word_of, behind}
 use Rattle.input_files.specs.declared.plan.PlanStep.{PlanStep}
+use Rattle.input_files.specs.declared.plan_ends.PlanEnds.{PlanEnds}
 use Rattle.input_files.specs.declared.plan.PlanStep.TheVariants.{Go, Keep, Back, Reset}
 
 -- A PLAN: the region of the console that plays it, and its steps
@@ -30,35 +31,33 @@ NamesBelow m (Keep slot ∷ rest) = (slot < m) × NamesBelow m rest
 NamesBelow m (Back slot ∷ rest) = (slot < m) × NamesBelow m rest
 NamesBelow m (Reset ∷ rest) = NamesBelow m rest
 
--- where a plan is: how many frames its path lasts, and with which of them the reset button was pressed last, 0 where with
--- none; and the same of the path that each slot holds
-pub record Ends : Type 0 where
-  pub path : ℕ
-  pub last : ℕ
-  pub held : List ℕ
-  pub held_last : List ℕ
-
-abbrev pub first_ends : Ends
+-- where a plan is (`PlanEnds`): at first all paths are empty
+abbrev pub first_ends : PlanEnds
 first_ends = record { path = 0; last = 0; held = replicate 8 0; held_last = replicate 8 0 }
 
-abbrev pub ends_after : Ends → PlanStep → Ends
+abbrev pub ends_after : PlanEnds → PlanStep → PlanEnds
 ends_after e (Go count pad1 pad2) = record e { path = e.path + count }
 ends_after e (Keep slot) = record e { held = slice_set e.held slot e.path; held_last = slice_set e.held_last slot e.last }
 ends_after e (Back slot) = record e { path = slice_index e.held slot; last = slice_index e.held_last slot }
 ends_after e Reset = record e { last = e.path }
 
-abbrev pub all_ends : Ends → List PlanStep → Ends
+-- no path lasts longer than so many frames
+pub record AreWithin (most : ℕ) (e : PlanEnds) : Type 0 where
+  pub path : e.path ≤ most
+  pub held : (k : ℕ) → slice_index e.held k ≤ most
+
+abbrev pub all_ends : PlanEnds → List PlanStep → Ends
 all_ends e [] = e
 all_ends e (step ∷ rest) = all_ends (ends_after e step) rest
 
 -- the button is pressed after the first frame of a path, and once at one end
-abbrev pub Presses : Ends → PlanStep → Type 0
+abbrev pub Presses : PlanEnds → PlanStep → Type 0
 Presses e (Go count pad1 pad2) = Unit {0}
 Presses e (Keep slot) = Unit {0}
 Presses e (Back slot) = Unit {0}
 Presses e Reset = e.last < e.path
 
-abbrev pub ResetsFit : Ends → List PlanStep → Type 0
+abbrev pub ResetsFit : PlanEnds → List PlanStep → Type 0
 ResetsFit e [] = Unit {0}
 ResetsFit e (step ∷ rest) = Presses e step × ResetsFit (ends_after e step) rest
 
@@ -70,7 +69,7 @@ pub record PlanRead : Type 0 where
   pub steps : List PlanStep
   pub frames : ℕ
   pub kept : List Bool
-  pub ends : Ends
+  pub ends : PlanEnds
 
 abbrev pub no_plan : PlanRead
 no_plan = record { region = Ntsc; begun = false; steps = []; frames = 0; kept = replicate 8 false; ends = first_ends }

@@ -8,6 +8,7 @@
 mod boot;
 mod fields;
 mod plan;
+mod plan_ends;
 mod planning;
 mod reading;
 mod script;

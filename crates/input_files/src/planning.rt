@@ -3,6 +3,7 @@ ghost use Rattle.input_files.specs.Plan.{region_named, slot_of};
 
 use crate::fields::{span_of, split_word};
 use crate::plan::{Plan, PlanEnd, PlanStep};
+use crate::plan_ends::PlanEnds;
 use snes_defs::{MOST_FRAMES, Region, Span};
 use std::alloc::Global;
 use std::marker::Model;
@@ -18,12 +19,8 @@ pub(crate) struct Planning {
     frames: u32,
     /// Which slots were kept.
     kept: [bool; 8],
-    /// How many frames the path lasts, and with which of them the button was pressed last, 0 where with none.
-    path: u32,
-    last: u32,
-    /// The same of the path that each slot holds.
-    held: [u32; 8],
-    held_last: [u32; 8],
+    /// Where the path ends, and those of the slots.
+    ends: PlanEnds,
 }
 
 impl Model for Planning {
@@ -31,12 +28,12 @@ impl Model for Planning {
 
     ghost Value = { PlanRead };
 
-    ghost use Rattle.std.specs.Prelude.{◌≡◌, ◌≤◌, ℕ, slice_index};
-    ghost use Rattle.input_files.specs.Plan.{all_ends, first_ends, frames_in, NamesBelow, ResetsFit};
+    ghost use Rattle.std.specs.Prelude.{◌≡◌, ◌≤◌};
+    ghost use Rattle.input_files.specs.Plan.{AreWithin, all_ends, first_ends, frames_in, NamesBelow, ResetsFit};
 
-    ghost view = { λ p. record { region = p.region; begun = p.begun; steps = p.steps.items; frames = p.frames; kept = p.kept; ends = record { path = p.path; last = p.last; held = p.held; held_last = p.held_last } } };
+    ghost view = { λ p. record { region = p.region; begun = p.begun; steps = p.steps.items; frames = p.frames; kept = p.kept; ends = p.ends } };
 
-    ghost invariant = { λ p. (p.frames ≡ frames_in p.steps.items) × (p.frames ≤ 36000) × NamesBelow 8 p.steps.items × ResetsFit first_ends p.steps.items × (record { path = p.path; last = p.last; held = p.held; held_last = p.held_last } ≡ all_ends first_ends p.steps.items) × (p.path ≤ p.frames) × ((k : ℕ) → slice_index p.held k ≤ p.frames) };
+    ghost invariant = { λ p. (p.frames ≡ frames_in p.steps.items) × (p.frames ≤ 36000) × NamesBelow 8 p.steps.items × ResetsFit first_ends p.steps.items × (p.ends ≡ all_ends first_ends p.steps.items) × AreWithin p.frames p.ends };
 }
 
 /// The slot of one digit, 0 to 7.
@@ -83,10 +80,7 @@ impl Planning {
             steps: Vec::new(alloc),
             frames: 0,
             kept: [false; 8],
-            path: 0,
-            last: 0,
-            held: [0; 8],
-            held_last: [0; 8],
+            ends: PlanEnds::first(),
         }
     }
 
@@ -177,7 +171,7 @@ impl Planning {
             return Err(PlanEnd::NoMemory);
         }
         self.frames += span.count;
-        self.path += span.count;
+        self.ends.go_on(span.count, span.pad1, span.pad2);
         Ok(())
     }
 
@@ -196,8 +190,7 @@ impl Planning {
             return Err(PlanEnd::NoMemory);
         }
         self.kept[slot as usize] = true;
-        self.held[slot as usize] = self.path;
-        self.held_last[slot as usize] = self.last;
+        self.ends.keep(slot);
         Ok(())
     }
 
@@ -218,8 +211,7 @@ impl Planning {
         if self.steps.push(PlanStep::Back(slot)).is_err() {
             return Err(PlanEnd::NoMemory);
         }
-        self.path = self.held[slot as usize];
-        self.last = self.held_last[slot as usize];
+        self.ends.go_back(slot);
         Ok(())
     }
 
@@ -230,13 +222,13 @@ impl Planning {
         ensures place { (k : ℕ) → result ≡ Err (PlanEnd.Line k) → k ≡ number }
         ensures bad { (k : ℕ) → result ≡ Err (PlanEnd.Line k) → after_plan_reset self.old ≡ None }
     {
-        if self.last >= self.path {
+        if self.ends.last >= self.ends.path {
             return Err(PlanEnd::Line(number));
         }
         if self.steps.push(PlanStep::Reset).is_err() {
             return Err(PlanEnd::NoMemory);
         }
-        self.last = self.path;
+        self.ends.reset();
         Ok(())
     }
 }
