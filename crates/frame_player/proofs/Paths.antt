@@ -3,7 +3,6 @@ use Rattle.std.proofs.Common.{◌≡◌, ℕ, suc, ◌<◌, ◌==◌, Bool, true
 use Rattle.std.proofs.lemmas.Bool.Decides.{nat_tests}
 use Rattle.std.proofs.lemmas.List.{get_or-set_same, get_or-set_other}
 use Rattle.snes_defs.specs.declared.script.Span.{Span}
-use Rattle.snes_defs.specs.Script.{frames_of}
 use Rattle.plan_drive.specs.Paths.{Path}
 use Rattle.frame_player.specs.Told.{Way, no_way, spans_of}
 
@@ -17,10 +16,6 @@ spans_more (q ∷ rest) p = ap (λ spans. record { count = 1; pad1 = q.0; pad2 =
 pub spans_count : (path : List Pads) → length (spans_of path) ≡ length path
 spans_count [] = refl
 spans_count (q ∷ rest) = ap suc (spans_count rest)
-
-pub spans_frames : (path : List Pads) → frames_of (spans_of path) ≡ length path
-spans_frames [] = refl
-spans_frames (q ∷ rest) = let one = spans_frames rest in omega (arith, one)
 
 -- what stands under a test of two numbers
 pub if_same : (k slot : ℕ) (a b : Path) → k ≡ slot → (if k == slot then a else b) ≡ a

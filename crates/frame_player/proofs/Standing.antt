@@ -16,7 +16,8 @@ use Rattle.frame_player.specs.declared.frame_bytes.FrameBytes.{FrameBytes}
 use Rattle.frame_player.specs.FrameBytes.{TakesOf, side_of}
 use Rattle.frame_player.specs.Frames.{StandsAt, WentOn, room_of, most_of, bytes_of}
 use Rattle.frame_player.proofs.Puts.{few_counted}
-use Rattle.frame_player.proofs.Paths.{spans_more, spans_count, spans_frames, if_same, if_other, stored_same, stored_other}
+use Rattle.frame_player.proofs.Paths.{spans_more, spans_count, if_same, if_other, stored_same, stored_other}
+use Rattle.frame_player.specs.Joined.{spans_frames}
 use Rattle.frame_player.proofs.Jobs.{same_beyond}
 use Rattle.snapshot.proofs.Resets.{rise_within, rise_few}
 

@@ -36,8 +36,8 @@ pub record IsFramesOf (told : Told) (f : Frames) : Type 0 where
   pub most_is : f.most ≡ told.most
   pub slots_is : f.slots ≡ length told.held
 
--- WHAT A FRAME HANDS OUT: what the serial console emits for the job with the pads and resets of the path and the pads of this frame, beyond
--- what it emits for the job with those of the path
+-- WHAT A FRAME HANDS OUT: what the serial console emits for the job with the pads and resets of the path and with the pads
+-- of this frame, beyond what it emits for the job with those of the path
 abbrev pub IsFrameOf : Told → (pad1 pad2 : ℕ) → (picture samples : List ℕ) → Type 0
 IsFrameOf told pad1 pad2 picture samples =
     (job : Job) → IsJobOf told job → IsBeyond job told.most (path_told told) (path_told (gone_on told pad1 pad2)) picture samples

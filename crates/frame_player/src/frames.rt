@@ -107,8 +107,10 @@ impl Frames {
     /// frame of the path was played, or if the button was just pressed.
     pub fn reset(&mut self) -> bool
         requires told { (told : Told) × IsFramesOf told self.old }
-        ensures pressed { (told : Told) → IsFramesOf told self.old → IsTrue result → MayReset told × IsFramesOf (pressed_in told) self.new }
-        ensures none { (told : Told) → IsFramesOf told self.old → IsFalse result → (MayReset told → ⊥) × IsFramesOf told self.new }
+        ensures pressed { (told : Told) → IsFramesOf told self.old → IsTrue result
+            → MayReset told × IsFramesOf (pressed_in told) self.new }
+        ensures none { (told : Told) → IsFramesOf told self.old → IsFalse result
+            → (MayReset told → ⊥) × IsFramesOf told self.new }
     {
         press(&mut self.rewind)
     }

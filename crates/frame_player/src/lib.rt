@@ -2,8 +2,9 @@
 //!
 //! Builds on the rewinder (`snapshot`) and on what reads the inputs of a job (`memory_player`). `Frames::begin` makes a
 //! console of a cartridge, a boot ROM and a table. `frame` plays one frame with the pads of that frame, and hands out its
-//! picture and its samples. `keep` stores a save state in a slot, and `back` returns to it. `specs/Told.antt` has what
-//! the calls so far told the console, `specs/Frames.antt` what each call does. Only `begin` allocates.
+//! picture and its samples. `reset` presses the reset button. `keep` stores a save state in a slot, and `back` returns
+//! to it. `specs/Told.antt` has what the calls so far told the console, `specs/Frames.antt` what each call does. Only
+//! `begin` allocates.
 #![tactic(auto)]
 
 mod begin;

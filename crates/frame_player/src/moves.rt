@@ -43,8 +43,10 @@ pub(crate) fn go_back(rewind: &mut Rewind, slot: u8)
 /// Presses the reset button at the end of the path, if it may be pressed there. Returns whether it was.
 pub(crate) fn press(rewind: &mut Rewind) -> bool
     requires stands { (told : Told) × (other : Way) × StandsAt told other rewind.old }
-    ensures pressed { (told : Told) (other : Way) → StandsAt told other rewind.old → IsTrue result → MayReset told × StandsAt (pressed_in told) other rewind.new }
-    ensures none { (told : Told) (other : Way) → StandsAt told other rewind.old → IsFalse result → (MayReset told → ⊥) × StandsAt told other rewind.new }
+    ensures pressed { (told : Told) (other : Way) → StandsAt told other rewind.old → IsTrue result
+        → MayReset told × StandsAt (pressed_in told) other rewind.new }
+    ensures none { (told : Told) (other : Way) → StandsAt told other rewind.old → IsFalse result
+        → (MayReset told → ⊥) × StandsAt told other rewind.new }
 {
     if !rewind.may_reset() {
         return false;

@@ -3,16 +3,19 @@ use Rattle.std.proofs.Common.{◌≡◌, ℕ, ◌+◌, ◌<◌, ◌≤◌, false
 use Rattle.snes_defs.specs.declared.cart.Job.{Job}
 use Rattle.snes_defs.specs.Script.{Script, RiseWithin, frames_of, is_reset}
 use Rattle.clock_ratio.specs.Stamp.{end_stamp_of}
-use Rattle.console_steps.specs.ConsoleState.{ConsoleState}
+use Rattle.side_law.specs.SerialRun.{IsUnderway, after_turns}
+use Rattle.side_law.proofs.SerialRuns.{run_is_over}
+use Rattle.console_steps.specs.ConsoleState.{ConsoleState, console_moves}
 use Rattle.console_machine.specs.Side.{ConsoleValue}
 use Rattle.console_machine.specs.Side as console_side
 use Rattle.console_machine.specs.Playing.{console_pressed}
-use Rattle.audio_side.specs.Sound.{AudioValue, SoundState}
+use Rattle.audio_side.specs.Sound.{AudioValue, SoundState, sound_moves}
 use Rattle.audio_side.specs.Sound as sound_side
 use Rattle.audio_side.specs.Playing.{sound_pressed}
 use Rattle.plan_drive.specs.Paths.{Path, Paths, MayPress, pressed, reset_there}
 use Rattle.snapshot.specs.declared.run.Run.{Run}
 use Rattle.snapshot.specs.declared.rewind.Rewind.{Rewind}
+use Rattle.snapshot.specs.Path.{PathEmits, start_of, end_of_path}
 use Rattle.snapshot.specs.Positions.{IsDone, IsRested}
 use Rattle.snapshot.proofs.Copying.{done_own, done_script, done_region}
 use Rattle.snapshot.proofs.Resets.{frames_pressed, rise_within, rise_snoc, rise_last, rise_below}
@@ -86,3 +89,15 @@ pressed_rested job n paths r frame x y counts room rises stands waits sound_stan
       );
       slots = h.slots;
     }
+
+-- THE BUTTON EMITS NOTHING: what the run of the path with the press emits up to there is what the run of the path emits
+pub pressed_emits : (job : Job) (n : ℕ) (path : Path) (video audio : List ℕ) → MayPress path → PathEmits job n path video audio → PathEmits job n (pressed path) video audio
+pressed_emits job n path video audio may h =
+    let few = (rise_last 1 36000 path.resets (frames_of path.spans) may).1 in
+    let now = after_turns console_moves sound_moves (start_of job n path) h.turns in
+    let underway : IsUnderway console_moves sound_moves (start_of job n path) (end_of_path job.region path) now video audio =
+    record { turns = h.turns; now_is = refl; not_past = h.runs.first; video_is = h.video_is; audio_is = h.audio_is } in
+    let past = h.runs.past in
+    run_is_over console_moves sound_moves (start_of job n (pressed path)) (end_of_path job.region (pressed path))
+    (record now { console = console_pressed now.console (frames_of path.spans); sound = sound_pressed now.sound (frames_of path.spans) }) video audio
+    (presses_on job n path now video audio few may underway past) (record { console = past.console; sound = past.sound })

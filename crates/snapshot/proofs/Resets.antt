@@ -28,7 +28,7 @@ pub rise_last : (least most : ℕ) (xs : List ℕ) (f : ℕ) → RiseWithin leas
 rise_last least most [] f h = (h.0, h.1)
 rise_last least most (x ∷ xs) f (above, below, rest) = let last = rise_last (x + 1) most xs f rest in (omega (arith, above, last.0), last.1)
 
-rise_below : (least most : ℕ) (xs : List ℕ) (f n : ℕ) → RiseWithin least most (xs ++ f ∷ []) → f ≤ n → is_reset xs n ≡ false
+pub rise_below : (least most : ℕ) (xs : List ℕ) (f n : ℕ) → RiseWithin least most (xs ++ f ∷ []) → f ≤ n → is_reset xs n ≡ false
 rise_below least most [] f n h le = refl
 rise_below least most (x ∷ xs) f n (above, below, rest) le =
     let last = (rise_last (x + 1) most xs f rest).0 in

@@ -55,9 +55,9 @@ room_unseen job n m path video audio few h =
         past = record { console = omega (arith, console_past, stamp); sound = omega (arith, sound_past, sound) };
         first = λ k lt later.
             let r = same k (omega (arith, lt)) in
-            let then = alike_stamp region f few s t agree (after_turns console_moves sound_moves a k).console (after_turns console_moves sound_moves b k).console r.now.console in
+            let stood = alike_stamp region f few s t agree (after_turns console_moves sound_moves a k).console (after_turns console_moves sound_moves b k).console r.now.console in
             let heard = ap (λ (x : SerialState ConsoleState SoundState). sound_moves.stamp x.sound) r.now.else_same in
-            h.runs.first k lt (record { console = omega (arith, later.console, then); sound = omega (arith, later.sound, heard) });
+            h.runs.first k lt (record { console = omega (arith, later.console, stood); sound = omega (arith, later.sound, heard) });
       };
       video_is = runs.video ∙ h.video_is;
       audio_is = runs.audio ∙ h.audio_is;

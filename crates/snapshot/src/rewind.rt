@@ -110,7 +110,8 @@ impl Rewind {
     /// Whether the reset button may be pressed at the end of the path: there are frames before it, and the button was
     /// not pressed there.
     pub fn may_reset(&self) -> bool
-        ensures { (job : Job) (n : ℕ) (paths : Paths) → IsRested job n paths self.now → IsTrue result ↔ MayPress paths.path }
+        ensures { (job : Job) (n : ℕ) (paths : Paths) → IsRested job n paths self.now
+            → IsTrue result ↔ MayPress paths.path }
     {
         let frames = self.run.frames();
         may_press(frames, self.run.is_reset_in(frames))
@@ -119,8 +120,10 @@ impl Rewind {
     /// Presses the reset button at the end of the path, with the first step after it. The path must have frames, and
     /// the button must not have been pressed there. Nothing is allocated.
     pub fn reset(&mut self)
-        requires rested { (job : Job) × (n : ℕ) × (paths : Paths) × IsRested job n paths self.old × (length paths.path.resets < n) × MayPress paths.path }
-        ensures reset { (job : Job) (n : ℕ) (paths : Paths) → IsRested job n paths self.old → IsRested job n (reset_there paths) self.new }
+        requires rested { (job : Job) × (n : ℕ) × (paths : Paths) × IsRested job n paths self.old
+            × (length paths.path.resets < n) × MayPress paths.path }
+        ensures reset { (job : Job) (n : ℕ) (paths : Paths) → IsRested job n paths self.old
+            → IsRested job n (reset_there paths) self.new }
         ensures slots { slot_count self.new ≡ slot_count self.old }
         ensures waits { StepsNone self.old self.new }
     {

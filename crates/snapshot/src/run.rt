@@ -42,6 +42,13 @@ pub struct Run {
     stepped: u64,
 }
 
+/// The number of resets for which a path of `spans` spans has memory, or that for which the script of the job has.
+fn room_for(job: &Job, spans: usize) -> usize
+    ensures { result ≡ max job.now.script.room spans }
+{
+    job.script.room().max(spans)
+}
+
 /// Returns the machines of a job at their start, with an empty path and memory for `spans` spans and resets. Fails only if
 /// allocation fails.
 pub fn first_run(alloc: Global, job: &Job, spans: usize) -> Result<Run, NoMemory>
@@ -52,7 +59,7 @@ pub fn first_run(alloc: Global, job: &Job, spans: usize) -> Result<Run, NoMemory
     let mut console = ConsoleSide::new(alloc, job)?;
     console.reserve(spans)?;
     let mut sound = AudioSide::new(alloc, job)?;
-    sound.reserve(job.script.room().max(spans))?;
+    sound.reserve(room_for(job, spans))?;
     Ok(Run {
         serial: Serial::new(console, sound),
         end: 0,
@@ -141,9 +148,16 @@ impl Run {
         requires room { length self.old.serial.console.rest.script.resets < self.old.serial.console.rest.script.room }
         requires rises { RiseWithin 1 36000 (self.old.serial.console.rest.script.resets ++ frame ∷ []) }
         requires sound_room { length self.old.serial.sound.clock.resets < self.old.serial.sound.clock.room }
-        ensures pressed { self.new ≡ record self.old { serial = record self.old.serial { console = value_pressed self.old.serial.console frame; sound = audio_pressed self.old.serial.sound frame } } }
-        ensures stands { (w : ConsoleState) → console_side.StandsAt self.old.serial.console w → console_side.StandsAt self.new.serial.console (console_pressed w frame) }
-        ensures sound_stands { (m : SoundState) → sound_side.StandsAt self.old.serial.sound m → sound_side.StandsAt self.new.serial.sound (sound_pressed m frame) }
+        ensures pressed { self.new ≡ record self.old {
+          serial = record self.old.serial {
+            console = value_pressed self.old.serial.console frame;
+            sound = audio_pressed self.old.serial.sound frame;
+          };
+        } }
+        ensures stands { (w : ConsoleState) → console_side.StandsAt self.old.serial.console w
+            → console_side.StandsAt self.new.serial.console (console_pressed w frame) }
+        ensures sound_stands { (m : SoundState) → sound_side.StandsAt self.old.serial.sound m
+            → sound_side.StandsAt self.new.serial.sound (sound_pressed m frame) }
     {
         self.serial.console().press(frame);
         self.serial.sound().press(frame);

@@ -1,6 +1,6 @@
 // The calls for a console that the caller holds between frames.
 ghost use Rattle.std.specs.Prelude.{◌≡◌, ◌≢◌, if◌then◌else◌};
-ghost use Rattle.frame_player.specs.Told.{told_first, gone_on, kept_in, back_to, pressed_in, word_of};
+ghost use Rattle.frame_player.specs.Told.{MayReset, told_first, gone_on, kept_in, back_to, pressed_in, word_of};
 ghost use Rattle.frame_player.specs.Frames.{FramePlayed};
 ghost use Rattle.kept_frames.specs.Left.{AsLeft};
 ghost use Rattle.snes_library.specs.declared.fault.Fault.{Fault};
@@ -151,6 +151,7 @@ pub extern "C" fn snes_back(alloc: Global, console: &mut SnesConsole, slot: u32)
 pub extern "C" fn snes_reset(alloc: Global, console: &mut SnesConsole) -> u32
     requires left { AsLeft console.old }
     ensures left { AsLeft console.new }
+    ensures may { result ≡ 0 → MayReset console.old.kept.told }
     ensures pressed { result ≡ 0 → Holds console.old console.new (pressed_in console.old.kept.told) }
     ensures ends { result ≢ 0 → Stays console.old console.new × EndsReset console.old result }
 {
