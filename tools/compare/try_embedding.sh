@@ -11,6 +11,9 @@
 top=$(cd "$(dirname "${BASH_SOURCE[0]}")/../.." && pwd) || exit 1
 frames=${1:-60}
 snes=${SNES:-$top/snes}
+# ./snes tells how far a build is; a built program has no such word.
+quiet=(--quiet)
+[ -z "${SNES-}" ] || quiet=()
 scene=${SCENE:-$top/scene}
 library=$top/crates/snes_library/out/libsnes_library.a
 [ -z "${LIBRARY-}" ] || library=$(readlink -f "$LIBRARY")
@@ -39,7 +42,7 @@ cc -O2 -Wall -Wextra -Werror -o frame "$top/embed/frame.c" "$top/embed/heap.c" "
 cc -shared -fPIC -O2 -Wall -Wextra -Werror -o libsnes.so -Wl,--whole-archive "$library" -Wl,--no-whole-archive "$top/embed/heap.c" || exit 1
 "$scene" scene >/dev/null || exit 1
 inputs=(scene/scene.sfc scene/boot.bin scene/table.bin scene/script.txt)
-"$snes" --quiet serial --cart "${inputs[0]}" --boot "${inputs[1]}" --table "${inputs[2]}" --script "${inputs[3]}" \
+"$snes" "${quiet[@]}" serial --cart "${inputs[0]}" --boot "${inputs[1]}" --table "${inputs[2]}" --script "${inputs[3]}" \
   --frames "$frames" --video video.raw --audio audio.raw >/dev/null || exit 1
 video_size=$(stat -c %s video.raw)
 sound_size=$(stat -c %s audio.raw)
@@ -116,7 +119,7 @@ with_resets ntsc >resets.txt
 with_resets pal >resets_pal.txt
 cc -std=c11 -O2 -Wall -Wextra -Werror -o frames "$top/embed/frames.c" "$top/embed/heap.c" "$library" || exit 1
 serial() {
-  "$snes" --quiet serial --cart scene/game.sfc --boot scene/boot.bin --table scene/table.bin --script "$1" --frames "$2" \
+  "$snes" "${quiet[@]}" serial --cart scene/game.sfc --boot scene/boot.bin --table scene/table.bin --script "$1" --frames "$2" \
     --video video.raw --audio audio.raw >/dev/null || exit 1
 }
 compare() {
