@@ -2,7 +2,7 @@
 use Rattle.std.specs.Prelude.{◌≡◌, ℕ, List, [], ◌∷◌, ◌++◌}
 use Rattle.snes_defs.specs.declared.cart.Job.{Job}
 use Rattle.input_files.specs.declared.plan.PlanStep.{PlanStep}
-use Rattle.input_files.specs.declared.plan.PlanStep.TheVariants.{Go, Keep, Back}
+use Rattle.input_files.specs.declared.plan.PlanStep.TheVariants.{Go, Keep, Back, Reset}
 use Rattle.plan_drive.specs.Paths.{Path, Paths, no_paths, after_step, path_job, goes_of}
 
 -- by what the run of a path's job emits
@@ -26,6 +26,7 @@ module _ (emits : (path : Path) → (video audio : List ℕ) → Type 0) where
       × (go_audio ++ more_audio ≡ audio)
   Joins (Keep slot ∷ rest) paths video audio = Joins rest (after_step paths (Keep slot)) video audio
   Joins (Back slot ∷ rest) paths video audio = Joins rest (after_step paths (Back slot)) video audio
+  Joins (Reset ∷ rest) paths video audio = Joins rest (after_step paths Reset) video audio
 
 -- WHAT A PLAN EMITS that is played on the machines of a job, by what runs of jobs emit: each piece is that of the
 -- uninterrupted run of its path, however the plan went back

@@ -2,11 +2,11 @@
 -- path; and the paths of a plan.
 use Rattle.std.specs.Prelude.{ℕ, ◌+◌, ◌==◌, max, List, [], ◌∷◌, ◌++◌, if◌then◌else◌}
 use Rattle.snes_defs.specs.declared.cart.Job.{Job}
-use Rattle.snes_defs.specs.declared.region.Region.TheVariants.{Ntsc}
+use Rattle.snes_defs.specs.declared.region.Region.{Region}
 use Rattle.snes_defs.specs.declared.script.Span.{Span}
 use Rattle.snes_defs.specs.Script.{Script, RiseWithin, frames_of}
 use Rattle.input_files.specs.declared.plan.PlanStep.{PlanStep}
-use Rattle.input_files.specs.declared.plan.PlanStep.TheVariants.{Go, Keep, Back}
+use Rattle.input_files.specs.declared.plan.PlanStep.TheVariants.{Go, Keep, Back, Reset}
 
 -- A PATH: the spans that a console has played since the start of its job, and the frames with which the button was
 -- pressed: each is the end of the path that was gone until then
@@ -59,25 +59,28 @@ abbrev pub after_step : Paths → PlanStep → Paths
 after_step p (Go count pad1 pad2) = gone p (record { count = count; pad1 = pad1; pad2 = pad2 })
 after_step p (Keep slot) = kept p slot
 after_step p (Back slot) = back p slot
+after_step p Reset = reset_there p
 
 abbrev pub after_steps : List PlanStep → Paths → Paths
 after_steps [] p = p
 after_steps (step ∷ rest) p = after_steps rest (after_step p step)
 
--- THE JOB of a path: the machines of a job, played with an Ntsc script of just the path; the run ends with the path. The
--- script has memory for n spans and n resets, at which no machine looks
-abbrev pub path_script : ℕ → Path → Script
-path_script n path = record { region = Ntsc; spans = path.spans; resets = path.resets; room = n }
+-- THE JOB of a path: the machines of a job, played in its region with a script of just the path; the run ends with the
+-- path. The script has memory for n spans and n resets, at which no machine looks
+abbrev pub path_script : Region → ℕ → Path → Script
+path_script region' n path = record { region = region'; spans = path.spans; resets = path.resets; room = n }
 
 abbrev pub path_job : Job → ℕ → Path → Job
-path_job job n path = record { cart = job.cart; boot = job.boot; table = job.table; script = path_script n path; frames = frames_of path.spans; region = Ntsc }
+path_job job n path = record { cart = job.cart; boot = job.boot; table = job.table; script = path_script job.region n path; frames = frames_of path.spans; region = job.region }
 
--- How much memory a plan needs: a span for each of its goes, and the slots up to the highest that it names.
+-- How much memory a plan needs: a span for each of its goes, a reset for each of its presses, and the slots up to the
+-- highest that it names. One number counts both.
 abbrev pub goes_of : List PlanStep → ℕ
 goes_of [] = 0
 goes_of (Go count pad1 pad2 ∷ rest) = goes_of rest + 1
 goes_of (Keep slot ∷ rest) = goes_of rest
 goes_of (Back slot ∷ rest) = goes_of rest
+goes_of (Reset ∷ rest) = goes_of rest + 1
 
 -- where n are needed by what went before
 abbrev pub slots_from : List PlanStep → ℕ → ℕ
@@ -85,6 +88,7 @@ slots_from [] n = n
 slots_from (Go count pad1 pad2 ∷ rest) n = slots_from rest n
 slots_from (Keep slot ∷ rest) n = slots_from rest (max n (slot + 1))
 slots_from (Back slot ∷ rest) n = slots_from rest (max n (slot + 1))
+slots_from (Reset ∷ rest) n = slots_from rest n
 
 abbrev pub slots_of : List PlanStep → ℕ
 slots_of steps = slots_from steps 0

@@ -3,8 +3,9 @@ ghost use Rattle.input_files.specs.Plan.{frames_in};
 ghost use Rattle.plan_drive.specs.Paths.{no_paths};
 ghost use Rattle.plan_drive.specs.Samples.{samples_to, samples_in};
 
-use clock_ratio::{end_stamp, samples_before};
+use clock_ratio::{end_stamp_in, samples_before_in};
 use input_files::{Plan, PlanStep};
+use snes_defs::Region;
 
 /// The length of a plan.
 #[derive(Clone, Copy, Debug, PartialEq, Eq)]
@@ -16,18 +17,19 @@ pub struct Lengths {
 }
 
 /// The number of samples before the end of the first `frames` frames.
-fn samples_to(frames: u32) -> u64
+fn samples_to(region: Region, frames: u32) -> u64
     requires { frames ≤ 36000 }
-    ensures { result ≡ samples_to frames }
+    ensures { result ≡ samples_to region frames }
 {
-    samples_before(end_stamp(frames))
+    samples_before_in(region, end_stamp_in(region, frames))
 }
 
 /// The number of frames and of samples that the goes of a plan last.
 pub fn measure(plan: &Plan) -> Lengths
-    ensures frames { result.frames ≡ frames_in plan.now }
-    ensures samples { result.samples ≡ samples_in plan.now no_paths }
+    ensures frames { result.frames ≡ frames_in plan.now.steps }
+    ensures samples { result.samples ≡ samples_in plan.now.region plan.now.steps no_paths }
 {
+    let region = plan.region();
     let mut frames = 0u32;
     let mut samples = 0u64;
     // The length of the path, and the path that each slot holds.
@@ -36,12 +38,13 @@ pub fn measure(plan: &Plan) -> Lengths
     for step in plan.steps() {
         match *step {
             PlanStep::Go { count, .. } => {
-                samples += samples_to(path + count) - samples_to(path);
+                samples += samples_to(region, path + count) - samples_to(region, path);
                 frames += count;
                 path += count;
             }
             PlanStep::Keep(slot) => held[slot as usize] = path,
             PlanStep::Back(slot) => path = held[slot as usize],
+            PlanStep::Reset => {}
         }
     }
     Lengths { frames, samples }
