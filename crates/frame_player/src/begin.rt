@@ -2,8 +2,7 @@ ghost use Rattle.std.specs.Prelude.{◌≡◌, ◌+◌, ◌≤◌, [], IfOk, IfE
 ghost use Rattle.frame_player.specs.Told.{told_first, IsJobOf, region_number};
 ghost use Rattle.frame_player.specs.Frames.{IsFramesOf, EndsBegin};
 ghost use Rattle.snapshot.specs.Positions.{IsRested, slot_count};
-ghost use Rattle.plan_drive.specs.Paths.{empty_path, no_paths};
-ghost use Rattle.snapshot.specs.Path.{script_in};
+ghost use Rattle.plan_drive.specs.Paths.{empty_path, no_paths, path_script};
 
 use crate::console::Frames;
 use crate::ends::BeginEnd;
@@ -46,7 +45,7 @@ pub struct ConsoleInputs<'a> {
 /// Reads the inputs, the cartridge first, and returns the job of the empty path.
 #[tactic(auto, using(crate::proofs::Begins::jobs))]
 fn job_of(alloc: Global, inputs: ConsoleInputs<'_>) -> Result<Job, BeginEnd>
-    ensures script { IfOk result (λ job. job.script ≡ script_in job.region 0 empty_path) }
+    ensures script { IfOk result (λ job. job.script ≡ path_script job.region 0 empty_path) }
     ensures job { IfOk result (IsJobOf (told_first inputs.entry.cart.now inputs.entry.boot.now inputs.entry.table.now
         (region_number inputs.entry.region) inputs.entry.most inputs.entry.slots)) }
     ensures ends { IfErr result (EndsBegin inputs.entry.cart.now inputs.entry.boot.now inputs.entry.table.now
@@ -85,7 +84,7 @@ fn in_region(alloc: Global, job: Job, region: Region) -> Job
     ensures boot { result.boot ≡ job.boot }
     ensures table { result.table ≡ job.table }
     ensures region { result.region ≡ region }
-    ensures script { result.script ≡ script_in region 0 empty_path }
+    ensures script { result.script ≡ path_script region 0 empty_path }
 {
     let Job {
         cart,
@@ -131,7 +130,7 @@ impl Frames {
 /// Makes the console of a job.
 #[tactic(auto, using(crate::proofs::Begins::begins))]
 fn made(alloc: Global, job: &Job, most: u32, slots: u32) -> Result<Frames, NoMemory>
-    requires script { job.now.script ≡ script_in job.now.region 0 empty_path }
+    requires script { job.now.script ≡ path_script job.now.region 0 empty_path }
     requires few { slots ≤ 64 }
     ensures rested { IfOk result (λ f. IsRested job.now most no_paths f.rewind) }
     ensures slots { IfOk result (λ f. slot_count f.rewind ≡ slots + 1) }

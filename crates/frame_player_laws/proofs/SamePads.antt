@@ -2,7 +2,7 @@
 -- are one run.
 use Rattle.std.proofs.Common.{◌≡◌, ℕ, ◌<◌, ◌≤◌, false, List, refl, ap, sym, subst, ◌∙◌, arith}
 use Rattle.snes_defs.specs.declared.cart.Job.{Job}
-use Rattle.plan_drive.specs.Paths.{Path}
+use Rattle.plan_drive.specs.Paths.{Path, path_script}
 use Rattle.snes_defs.specs.Script.{Script, frames_of, is_reset, pads_at}
 use Rattle.clock_ratio.specs.Stamp.{end_stamp_of}
 use Rattle.side_law.specs.Serial.{SerialState, serial_of}
@@ -13,7 +13,7 @@ use Rattle.console_steps.specs.ConsoleState.{ConsoleState, console_moves, consol
 use Rattle.audio_side.specs.HardwareState.{table_of}
 use Rattle.audio_side.specs.Clock.{reset_frames}
 use Rattle.audio_side.specs.Sound.{SoundState, sound_start, sound_moves}
-use Rattle.snapshot.specs.Path.{PathEmits, script_in, start_of, end_of_path, console_of_path, sound_of_path}
+use Rattle.snapshot.specs.Path.{PathEmits, start_of, end_of_path, console_of_path, sound_of_path}
 use Rattle.snapshot.proofs.Clocks.{Agree, Alike, words_harmless, words_of}
 use Rattle.snapshot.proofs.Runs.{SameRun, same_runs, alike_stamp, starts_own, words_twice}
 use Rattle.snapshot.proofs.Rooms.{output_roomy}
@@ -21,7 +21,7 @@ use Rattle.frame_player_laws.specs.Scripts.{HaveSamePads}
 
 module _ (job : Job) (n : ℕ) (path : Path) (t : Script) (resets : t.resets ≡ path.resets)
     (pads : (k : ℕ) → k < frames_of path.spans → pads_at t.spans k ≡ pads_at path.spans k) where
-  abbrev agree : Agree (frames_of path.spans) (script_in job.region n path) t
+  abbrev agree : Agree (frames_of path.spans) (path_script job.region n path) t
   agree =
       let f = frames_of path.spans in
       record {
@@ -41,7 +41,7 @@ module _ (job : Job) (n : ℕ) (path : Path) (t : Script) (resets : t.resets ≡
   other_start =
       serial_of (console_start job.cart t job.region) (sound_of_path job.region t.room t.resets job.boot job.table)
 
-  starts_alike : Alike (frames_of path.spans) (script_in job.region n path) t agree (console_of_path job.region job.cart n path)
+  starts_alike : Alike (frames_of path.spans) (path_script job.region n path) t agree (console_of_path job.region job.cart n path)
       (console_start job.cart t job.region)
   starts_alike =
       let f = frames_of path.spans in
@@ -67,7 +67,7 @@ module _ (job : Job) (n : ℕ) (path : Path) (t : Script) (resets : t.resets ≡
   same_output video audio few h =
       let region = job.region in
       let f = frames_of path.spans in
-      let s = script_in region n path in
+      let s = path_script region n path in
       let a = start_of job n path in
       let start : SameRun region f few s t agree a other_start = record { console = starts_alike; else_same = refl } in
       let same = λ (k : ℕ) (le : k ≤ h.turns).
@@ -116,7 +116,7 @@ pub same_pads : (job : Job) (n m : ℕ) (path other : Path) (video audio : List 
     → PathEmits job n path video audio → PathEmits job m other video audio
 same_pads job n m path other video audio h resets few emits =
     let region = job.region in
-    let t = script_in region m other in
+    let t = path_script region m other in
     let Emitted : ℕ → Type 0
     = λ frames. IsOutput console_moves sound_moves (start_of job m other) (end_stamp_of region frames) video audio in
     subst Emitted h.lasts (same_output job n path t resets (λ k lt. sym (h.pads k lt)) video audio few emits)

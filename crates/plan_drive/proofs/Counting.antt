@@ -10,7 +10,7 @@ use Rattle.snes_defs.specs.Script.{frames_of}
 use Rattle.input_files.specs.declared.plan.PlanStep.{PlanStep}
 use Rattle.input_files.specs.declared.plan.PlanStep.TheVariants.{Go, Keep, Back, Reset}
 use Rattle.input_files.specs.Plan.{frames_in}
-use Rattle.plan_drive.specs.Paths.{Paths, no_paths, kept, reset_there, after_step}
+use Rattle.plan_drive.specs.Paths.{Paths, no_paths, kept, after_step}
 use Rattle.plan_drive.specs.Samples.{samples_to, samples_in}
 
 -- one span more
@@ -138,7 +138,7 @@ module _ (region : Region) (steps rest : List PlanStep) (frames samples path : �
 module _ (region : Region) (steps rest : List PlanStep) (frames samples path : ℕ) (held : List ℕ) where
   pub counted_reset : Counted region steps (Reset ∷ rest) frames samples path held → Counted region steps rest frames samples path held
   counted_reset h = record {
-    paths = reset_there h.paths;
+    paths = after_step h.paths Reset;
     lasts = record { size = h.lasts.size; path_is = h.lasts.path_is; path_most = h.lasts.path_most; held_is = h.lasts.held_is; held_most = h.lasts.held_most };
     frames_left = h.frames_left;
     samples_left = h.samples_left;

@@ -3,7 +3,7 @@ use Rattle.std.specs.Prelude.{◌≡◌, ℕ, List, [], ◌∷◌, ◌++◌}
 use Rattle.snes_defs.specs.declared.cart.Job.{Job}
 use Rattle.input_files.specs.declared.plan.PlanStep.{PlanStep}
 use Rattle.input_files.specs.declared.plan.PlanStep.TheVariants.{Go, Keep, Back, Reset}
-use Rattle.plan_drive.specs.Paths.{Path, Paths, no_paths, after_step, path_job, goes_of}
+use Rattle.plan_drive.specs.Paths.{Path, Paths, no_paths, after_step, path_job, room_of}
 
 -- by what the run of a path's job emits
 module _ (emits : (path : Path) → (video audio : List ℕ) → Type 0) where
@@ -31,4 +31,4 @@ module _ (emits : (path : Path) → (video audio : List ℕ) → Type 0) where
 -- WHAT A PLAN EMITS that is played on the machines of a job, by what runs of jobs emit: each piece is that of the
 -- uninterrupted run of its path, however the plan went back
 abbrev pub PlanEmits : (Job → List ℕ → List ℕ → Type 0) → Job → List PlanStep → List ℕ → List ℕ → Type 0
-PlanEmits emits job steps = Joins (λ path. emits (path_job job (goes_of steps) path)) steps no_paths
+PlanEmits emits job steps = Joins (λ path. emits (path_job job (room_of steps) path)) steps no_paths

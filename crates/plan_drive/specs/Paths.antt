@@ -1,10 +1,10 @@
 -- A path: the spans that a console has played from the start of its job, one after another, and its resets; the job of a
 -- path; and the paths of a plan.
-use Rattle.std.specs.Prelude.{ℕ, ◌+◌, ◌==◌, max, List, [], ◌∷◌, ◌++◌, if◌then◌else◌}
+use Rattle.std.specs.Prelude.{ℕ, ◌+◌, ◌==◌, nat_lt, not, ◌&&◌, Bool, max, List, [], ◌∷◌, ◌++◌, if◌then◌else◌}
 use Rattle.snes_defs.specs.declared.cart.Job.{Job}
 use Rattle.snes_defs.specs.declared.region.Region.{Region}
 use Rattle.snes_defs.specs.declared.script.Span.{Span}
-use Rattle.snes_defs.specs.Script.{Script, RiseWithin, frames_of}
+use Rattle.snes_defs.specs.Script.{Script, RiseWithin, frames_of, is_reset}
 use Rattle.input_files.specs.declared.plan.PlanStep.{PlanStep}
 use Rattle.input_files.specs.declared.plan.PlanStep.TheVariants.{Go, Keep, Back, Reset}
 
@@ -28,6 +28,17 @@ pressed path = record { spans = path.spans; resets = path.resets ++ frames_of pa
 -- it may be pressed there: not before the first frame, nor twice, nor past the last frame that a script may have
 abbrev pub MayPress : Path → Type 0
 MayPress path = RiseWithin 1 36000 (path.resets ++ frames_of path.spans ∷ [])
+
+-- the same as a test, of a path whose resets rise
+abbrev pub can_press : Path → Bool
+can_press path = nat_lt 0 (frames_of path.spans) && not (is_reset path.resets (frames_of path.spans))
+
+-- a path after a `reset` of a plan: a press, if it may be. The reader refuses a plan with another one
+abbrev pub after_reset : Path → Path
+after_reset path = record {
+  spans = path.spans;
+  resets = if can_press path then path.resets ++ frames_of path.spans ∷ [] else path.resets;
+}
 
 -- THE PATHS of a plan on its way: the one that it is on, and the one that each slot holds
 pub record Paths : Type 0 where
@@ -59,7 +70,7 @@ abbrev pub after_step : Paths → PlanStep → Paths
 after_step p (Go count pad1 pad2) = gone p (record { count = count; pad1 = pad1; pad2 = pad2 })
 after_step p (Keep slot) = kept p slot
 after_step p (Back slot) = back p slot
-after_step p Reset = reset_there p
+after_step p Reset = record { path = after_reset p.path; held = p.held }
 
 abbrev pub after_steps : List PlanStep → Paths → Paths
 after_steps [] p = p
@@ -68,19 +79,19 @@ after_steps (step ∷ rest) p = after_steps rest (after_step p step)
 -- THE JOB of a path: the machines of a job, played in its region with a script of just the path; the run ends with the
 -- path. The script has memory for n spans and n resets, at which no machine looks
 abbrev pub path_script : Region → ℕ → Path → Script
-path_script region' n path = record { region = region'; spans = path.spans; resets = path.resets; room = n }
+path_script region n path = record { region = region; spans = path.spans; resets = path.resets; room = n }
 
 abbrev pub path_job : Job → ℕ → Path → Job
 path_job job n path = record { cart = job.cart; boot = job.boot; table = job.table; script = path_script job.region n path; frames = frames_of path.spans; region = job.region }
 
--- How much memory a plan needs: a span for each of its goes, a reset for each of its presses, and the slots up to the
--- highest that it names. One number counts both.
-abbrev pub goes_of : List PlanStep → ℕ
-goes_of [] = 0
-goes_of (Go count pad1 pad2 ∷ rest) = goes_of rest + 1
-goes_of (Keep slot ∷ rest) = goes_of rest
-goes_of (Back slot ∷ rest) = goes_of rest
-goes_of (Reset ∷ rest) = goes_of rest + 1
+-- How much memory a plan needs: room for a span of each go and for each reset, where one number serves both lists; and
+-- the slots up to the highest that it names.
+abbrev pub room_of : List PlanStep → ℕ
+room_of [] = 0
+room_of (Go count pad1 pad2 ∷ rest) = room_of rest + 1
+room_of (Keep slot ∷ rest) = room_of rest
+room_of (Back slot ∷ rest) = room_of rest
+room_of (Reset ∷ rest) = room_of rest + 1
 
 -- where n are needed by what went before
 abbrev pub slots_from : List PlanStep → ℕ → ℕ

@@ -18,7 +18,7 @@ pub trait PlanPlayer: Player {
     /// The machines of a job, and all the memory that a plan needs.
     type Planned: Drop;
 
-    // The machines are at the start of the job, and have the memory for a plan of these steps.
+    // The machines are at the start of the job, and have the memory for the plan.
     ghost plans: { Self.Planned → Job → PlanValue → Type 0 };
 
     /// Makes the machines of a job without a script, of the plan's region, and allocates all the memory that a plan needs.

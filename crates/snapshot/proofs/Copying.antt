@@ -10,8 +10,8 @@ use Rattle.console_machine.specs.Playing.{rest_with_room}
 use Rattle.audio_side.specs.HardwareState.{table_of}
 use Rattle.audio_side.specs.Playing.{clock_with_room}
 use Rattle.snapshot.specs.declared.run.Run.{Run}
-use Rattle.plan_drive.specs.Paths.{Path, Paths, kept, back}
-use Rattle.snapshot.specs.Path.{script_in, start_of, end_of_path}
+use Rattle.plan_drive.specs.Paths.{Path, Paths, kept, back, path_script}
+use Rattle.snapshot.specs.Path.{start_of, end_of_path}
 use Rattle.snapshot.specs.declared.rewind.Rewind.{Rewind}
 use Rattle.snapshot.specs.Positions.{IsDone, IsRested, CanCopy, HoldsPath, copy_of}
 use Rattle.snapshot.proofs.Effects.{rom_of}
@@ -21,9 +21,9 @@ use Rattle.snapshot.proofs.Runs.{own_at, starts_own, turns_keep}
 pub done_own : (job : Job) (n : ℕ) (path : Path) (r : Run) (video audio : List ℕ) (d : IsDone job n path r video audio) → own_at job n path d.at
 done_own job n path r video audio d =
     subst (λ w. own_at job n path w) d.underway.now_is
-    (turns_keep job.region (board_of job.cart) (script_in job.region n path) job.cart.rom job.boot (table_of job.table) (end_of_path job.region path) (start_of job n path) d.underway.turns (ends_within job.region (frames_of path.spans) d.few) (starts_own job n path) d.underway.not_past)
+    (turns_keep job.region (board_of job.cart) (path_script job.region n path) job.cart.rom job.boot (table_of job.table) (end_of_path job.region path) (start_of job n path) d.underway.turns (ends_within job.region (frames_of path.spans) d.few) (starts_own job n path) d.underway.not_past)
 
-pub done_script : (job : Job) (n : ℕ) (path : Path) (r : Run) (video audio : List ℕ) → IsDone job n path r video audio → r.serial.console.rest.script ≡ script_in job.region n path
+pub done_script : (job : Job) (n : ℕ) (path : Path) (r : Run) (video audio : List ℕ) → IsDone job n path r video audio → r.serial.console.rest.script ≡ path_script job.region n path
 done_script job n path r video audio d = ap (λ q. q.script) d.stands.console.at.rest ∙ (done_own job n path r video audio d).own.script_is
 
 -- the machines are of the region of the job
@@ -70,7 +70,7 @@ module _ (job : Job) (n : ℕ) (p q : Path) (a b : Run) (va aa vb ab : List ℕ)
         sound_room = subst (λ m. length a.serial.sound.clock.resets ≤ m) (sym sound_room_b) (subst (λ xs. length xs ≤ n) (sym sound_resets_a) x.reset_room);
       }
 
-  same_room : (r : BusState) → r.script ≡ script_in job.region n p → rest_with_room r n ≡ r
+  same_room : (r : BusState) → r.script ≡ path_script job.region n p → rest_with_room r n ≡ r
   same_room r is = ap (λ m. rest_with_room r m) (sym (ap (λ s. s.room) is))
 
   room_b : b.serial.console.rest.script.room ≡ n

@@ -6,17 +6,17 @@ use Rattle.snes_defs.specs.declared.region.Region.{Region}
 use Rattle.snes_defs.specs.Script.{frames_of}
 use Rattle.side_law.specs.Serial.{SerialState, serial_of, is_console_first, console_step, sound_step, turn, console_emits, sound_emits}
 use Rattle.side_law.specs.SerialRun.{after_turns, console_output, sound_output, IsPast, IsOutput}
-use Rattle.plan_drive.specs.Paths.{Path}
+use Rattle.plan_drive.specs.Paths.{Path, path_script}
 use Rattle.console_bus.specs.BusState.{board_of}
 use Rattle.console_steps.specs.ConsoleState.{ConsoleState, console_moves}
 use Rattle.audio_side.specs.HardwareState.{table_of}
 use Rattle.audio_side.specs.Sound.{SoundState, sound_act, processor_after, hardware_before_end, sound_start, sound_moves}
 use Rattle.audio_side.specs.Playing.{sound_with_room}
-use Rattle.snapshot.specs.Path.{PathEmits, script_in, start_of, end_of_path, console_of_path}
+use Rattle.snapshot.specs.Path.{PathEmits, start_of, end_of_path, console_of_path}
 use Rattle.snapshot.proofs.Clocks.{Agree, Alike, nothing_harmless}
 use Rattle.snapshot.proofs.Runs.{SameRun, same_runs, alike_stamp, starts_own}
 
-rooms_agree : (region : Region) (n m : ℕ) (path : Path) → Agree (frames_of path.spans) (script_in region n path) (script_in region m path)
+rooms_agree : (region : Region) (n m : ℕ) (path : Path) → Agree (frames_of path.spans) (path_script region n path) (path_script region m path)
 rooms_agree region n m path = record {
   pads = λ k lt. refl;
   change = λ io. io;
@@ -28,7 +28,7 @@ rooms_agree region n m path = record {
   sound = λ k lt. refl;
 }
 
-starts_roomy : (region : Region) (cart : Cart) (n m : ℕ) (path : Path) → Alike (frames_of path.spans) (script_in region n path) (script_in region m path) (rooms_agree region n m path) (console_of_path region cart n path) (console_of_path region cart m path)
+starts_roomy : (region : Region) (cart : Cart) (n m : ℕ) (path : Path) → Alike (frames_of path.spans) (path_script region n path) (path_script region m path) (rooms_agree region n m path) (console_of_path region cart n path) (console_of_path region cart m path)
 unfolding rooms_agree
 starts_roomy region cart n m path = record { before = λ lt. refl; begun = λ is. refl; within = omega arith }
 
@@ -36,8 +36,8 @@ pub room_unseen : (job : Job) (n m : ℕ) (path : Path) (video audio : List ℕ)
 room_unseen job n m path video audio few h =
     let region = job.region in
     let f = frames_of path.spans in
-    let s = script_in region n path in
-    let t = script_in region m path in
+    let s = path_script region n path in
+    let t = path_script region m path in
     let agree = rooms_agree region n m path in
     let a = start_of job n path in
     let b = start_of job m path in

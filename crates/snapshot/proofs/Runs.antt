@@ -28,8 +28,8 @@ use Rattle.audio_side.specs.HardwareState.{table_of, hardware_at_start}
 use Rattle.audio_side.specs.Clock.{is_reset_due, reset_frames}
 use Rattle.audio_side.specs.Sound.{SoundState, sound_moves, sound_next}
 use Rattle.audio_side.specs.Playing.{sound_pressed}
-use Rattle.plan_drive.specs.Paths.{Path, MayPress, longer, pressed}
-use Rattle.snapshot.specs.Path.{script_in, start_of, end_of_path, console_of_path}
+use Rattle.plan_drive.specs.Paths.{Path, MayPress, longer, pressed, path_script}
+use Rattle.snapshot.specs.Path.{start_of, end_of_path, console_of_path}
 use Rattle.snapshot.proofs.Numbers.{longest, some_lines, early_clock, frame_before, frame_from, ends_within, ends_rise}
 use Rattle.snapshot.proofs.Clocks.{IsTimed, Agree, Alike, console_put, words_of, nothing_harmless, words_harmless}
 use Rattle.snapshot.proofs.ConsoleStates.{IsOwn, step_own, step_alike, step_act, clocks_timed, effect_timed}
@@ -269,10 +269,10 @@ pub words_twice : (io : IoRegisters) (a b c d : ℕ) → with_words (framed io a
 unfolding framed
 words_twice io a b c d = refl
 
-pub goes_agree : (region : Region) (n : ℕ) (path : Path) (span : Span) → Agree (frames_of path.spans) (script_in region n path) (script_in region n (longer path span))
+pub goes_agree : (region : Region) (n : ℕ) (path : Path) (span : Span) → Agree (frames_of path.spans) (path_script region n path) (path_script region n (longer path span))
 goes_agree region n path span =
     let f = frames_of path.spans in
-    let t = script_in region n (longer path span) in
+    let t = path_script region n (longer path span) in
     record {
       pads = pads_before path.spans span;
       change = words_of t f;
@@ -286,7 +286,7 @@ goes_agree region n path span =
 
 -- a reset more, which is seen in its own frame alone
 pub resets_agree : (region : Region) (n : ℕ) (path : Path) → reset_frames (pressed path).resets 36001 ≡ reset_frames path.resets 36001 ++ frames_of path.spans ∷ []
-    → Agree (frames_of path.spans) (script_in region n path) (script_in region n (pressed path))
+    → Agree (frames_of path.spans) (path_script region n path) (path_script region n (pressed path))
 resets_agree region n path more =
     let f = frames_of path.spans in
     record {
@@ -303,7 +303,7 @@ resets_agree region n path more =
 -- ---- a run that was finished goes on under the longer path
 
 abbrev pub own_at : Job → ℕ → Path → SerialState ConsoleState SoundState → Type 0
-own_at job n path w = IsOf job.region (board_of job.cart) (script_in job.region n path) job.cart.rom job.boot (table_of job.table) w
+own_at job n path w = IsOf job.region (board_of job.cart) (path_script job.region n path) job.cart.rom job.boot (table_of job.table) w
 
 replicate_dropped : (n : ℕ) (xs : List ℕ) → drop n (replicate n 0 ++ xs) ≡ xs
 replicate_dropped zero xs = refl
@@ -335,11 +335,11 @@ put_same t m resets room =
     ∙ ap (λ v. record m { clock = record m.clock { room = v } }) (sym room)
 
 -- at the start of a path that goes on by a span
-goes_alike : (region : Region) (cart : Cart) (n : ℕ) (path : Path) (span : Span) → Alike (frames_of path.spans) (script_in region n path) (script_in region n (longer path span)) (goes_agree region n path span) (console_of_path region cart n path) (console_of_path region cart n (longer path span))
+goes_alike : (region : Region) (cart : Cart) (n : ℕ) (path : Path) (span : Span) → Alike (frames_of path.spans) (path_script region n path) (path_script region n (longer path span)) (goes_agree region n path span) (console_of_path region cart n path) (console_of_path region cart n (longer path span))
 unfolding goes_agree
 goes_alike region cart n path span =
-    let s = script_in region n path in
-    let t = script_in region n (longer path span) in
+    let s = path_script region n path in
+    let t = path_script region n (longer path span) in
     let w = console_of_path region cart n path in
     let f = frames_of path.spans in
     record {
@@ -351,7 +351,7 @@ goes_alike region cart n path span =
 
 -- of a path with a reset more, which does not stand in frame 0
 presses_alike : (region : Region) (cart : Cart) (n : ℕ) (path : Path) (more : reset_frames (pressed path).resets 36001 ≡ reset_frames path.resets 36001 ++ frames_of path.spans ∷ []) → 0 < frames_of path.spans
-    → Alike (frames_of path.spans) (script_in region n path) (script_in region n (pressed path)) (resets_agree region n path more) (console_of_path region cart n path) (console_of_path region cart n (pressed path))
+    → Alike (frames_of path.spans) (path_script region n path) (path_script region n (pressed path)) (resets_agree region n path more) (console_of_path region cart n path) (console_of_path region cart n (pressed path))
 presses_alike region cart n path more some = record { before = λ lt. refl; begun = λ is. absurd (omega (arith, is, some)); within = omega arith }
 
 pub frames_more : (path : List Span) (span : Span) → frames_of (path ++ span ∷ []) ≡ frames_of path + span.count
@@ -367,19 +367,19 @@ ended_frame region f w t past =
 -- ---- under a path that agrees with one that has come to its end
 
 module _ (job : Job) (n : ℕ) (path next : Path) (few : frames_of path.spans ≤ 36000)
-    (agree : Agree (frames_of path.spans) (script_in job.region n path) (script_in job.region n next))
-    (starts : SameRun job.region (frames_of path.spans) few (script_in job.region n path) (script_in job.region n next) agree (start_of job n path) (start_of job n next))
+    (agree : Agree (frames_of path.spans) (path_script job.region n path) (path_script job.region n next))
+    (starts : SameRun job.region (frames_of path.spans) few (path_script job.region n path) (path_script job.region n next) agree (start_of job n path) (start_of job n next))
     (later : end_of_path job.region path ≤ end_of_path job.region next) where
   next_runs : (w now : SerialState ConsoleState SoundState) (video audio : List ℕ)
       → IsUnderway console_moves sound_moves (start_of job n path) (end_of_path job.region path) w video audio → IsPast console_moves sound_moves (end_of_path job.region path) w
       → (own_at job n path w → w.console.rest.frame ≡ frames_of path.spans
-      → record w { console = console_put (script_in job.region n next) agree.change agree.extra w.console; sound = sound_put (script_in job.region n next) w.sound } ≡ now)
+      → record w { console = console_put (path_script job.region n next) agree.change agree.extra w.console; sound = sound_put (path_script job.region n next) w.sound } ≡ now)
       → IsUnderway console_moves sound_moves (start_of job n next) (end_of_path job.region next) now video audio
   next_runs w now video audio under past is_now =
       let region = job.region in
       let f = frames_of path.spans in
-      let s = script_in region n path in
-      let t = script_in region n next in
+      let s = path_script region n path in
+      let t = path_script region n next in
       let a = start_of job n path in
       let b = start_of job n next in
       let own = starts_own job n path in
@@ -408,7 +408,7 @@ unfolding goes_agree
 goes_on job n path span w video audio few under past =
     let region = job.region in
     let f = frames_of path.spans in
-    let t = script_in region n (longer path span) in
+    let t = path_script region n (longer path span) in
     let more = frames_more path.spans span in
     next_runs job n path (longer path span) (omega (arith, few)) (goes_agree region n path span)
     (record { console = goes_alike region job.cart n path span; else_same = refl })
@@ -428,7 +428,7 @@ unfolding resets_agree
 presses_on job n path w video audio few may under past =
     let region = job.region in
     let f = frames_of path.spans in
-    let t = script_in region n (pressed path) in
+    let t = path_script region n (pressed path) in
     let more = frames_pressed path.resets f may in
     let some = (rise_last 1 36000 path.resets f may).0 in
     next_runs job n path (pressed path) few (resets_agree region n path more)

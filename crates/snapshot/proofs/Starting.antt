@@ -14,13 +14,13 @@ use Rattle.audio_side.specs.Sound.{AudioValue, SoundState, sound_start, sound_mo
 use Rattle.audio_side.specs.Sound as sound_side
 use Rattle.audio_side.specs.Clock.{Clock}
 use Rattle.audio_side.specs.Playing.{sound_with_room}
-use Rattle.plan_drive.specs.Paths.{empty_path}
+use Rattle.plan_drive.specs.Paths.{empty_path, path_script}
 use Rattle.snapshot.proofs.Resets.{no_frames}
-use Rattle.snapshot.specs.Path.{script_in, start_of, end_of_path, console_of_path, sound_of_path}
+use Rattle.snapshot.specs.Path.{start_of, end_of_path, console_of_path, sound_of_path}
 use Rattle.snapshot.specs.Positions.{IsDone}
 
 pub first_done : (job : Job) (spans : ℕ) (s : Serial ConsoleValue AudioValue) (old new : ConsoleValue) (sound sound_new : AudioValue)
-    → job.script ≡ script_in job.region job.script.room empty_path
+    → job.script ≡ path_script job.region job.script.room empty_path
     → console_side.StandsAt old (console_start job.cart job.script job.region)
     → ((w : ConsoleState) → console_side.StandsAt old w → console_side.StandsAt new (console_with_room w (max old.rest.script.room (length old.rest.script.spans + spans))))
     → sound_side.StandsAt sound (sound_start job.region job.script.resets job.boot job.table)
@@ -33,7 +33,7 @@ first_done job spans s old new sound sound_new script starts roomy sounds sound_
     let old_script : old.rest.script ≡ job.script = ap (λ r. r.script) starts.at.rest in
     let room : max old.rest.script.room (length old.rest.script.spans + spans) ≡ n =
     ap (λ v. max v.room (length v.spans + spans)) old_script ∙ ap (λ v. max job.script.room (length v.spans + spans)) script ∙ ap (max job.script.room) (omega arith) in
-    let console_state : (v : Script) → v ≡ script_in job.region job.script.room empty_path → console_with_room (console_start job.cart v job.region) n ≡ console_of_path job.region job.cart n empty_path =
+    let console_state : (v : Script) → v ≡ path_script job.region job.script.room empty_path → console_with_room (console_start job.cart v job.region) n ≡ console_of_path job.region job.cart n empty_path =
     λ v e. ap (λ x. console_with_room (console_start job.cart x job.region) n) e in
     let console = subst (λ w. console_side.StandsAt new w) (console_state job.script script)
     (subst (λ m. console_side.StandsAt new (console_with_room (console_start job.cart job.script job.region) m)) room (roomy (console_start job.cart job.script job.region) starts)) in

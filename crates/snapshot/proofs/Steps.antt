@@ -13,10 +13,10 @@ use Rattle.side_law.proofs.SerialRuns.{output_begins}
 use Rattle.console_steps.specs.ConsoleState.{ConsoleState, console_moves}
 use Rattle.audio_side.specs.Sound.{SoundState, sound_moves}
 use Rattle.input_files.specs.declared.plan.PlanStep.{PlanStep}
-use Rattle.input_files.specs.declared.plan.PlanStep.TheVariants.{Go, Keep, Back}
+use Rattle.input_files.specs.declared.plan.PlanStep.TheVariants.{Go, Keep, Back, Reset}
 use Rattle.input_files.specs.Plan.{frames_in, NamesBelow}
 use Rattle.run_drive.specs.Played.{IsPlayable, PlayedWhole, PlayedFirst}
-use Rattle.plan_drive.specs.Paths.{Path, Paths, no_paths, longer, kept, after_step, after_steps, goes_of, slots_from, slots_of}
+use Rattle.plan_drive.specs.Paths.{Path, Paths, no_paths, longer, kept, can_press, after_step, after_steps, room_of, slots_from, slots_of}
 use Rattle.plan_drive.specs.Joins.{Joins}
 use Rattle.snapshot.specs.declared.rewind.Rewind.{Rewind}
 use Rattle.snapshot.specs.Path.{PathEmits, start_of, end_of_path}
@@ -97,6 +97,9 @@ module _ (job : Job) (n : ℕ) where
   back_within : (most slot : ℕ) (paths : Paths) → AreWithin most paths → AreWithin most (after_step paths (Back slot))
   back_within most slot paths h = record { path = h.held slot; held = h.held }
 
+  reset_within : (most : ℕ) (paths : Paths) → AreWithin most paths → AreWithin most (after_step paths Reset)
+  reset_within most paths h = record { path = h.path; held = h.held }
+
   -- some steps emit something
   pub record Emitted (steps : List PlanStep) (paths : Paths) : Type 0 where
     pub video : List ℕ
@@ -120,6 +123,9 @@ module _ (job : Job) (n : ℕ) where
   steps_emit (Back slot ∷ rest) paths most within few =
       let next = steps_emit rest (after_step paths (Back slot)) most (back_within most slot paths within) (omega (arith, few)) in
       record { video = next.video; audio = next.audio; joins = next.joins }
+  steps_emit (Reset ∷ rest) paths most within few =
+      let next = steps_emit rest (after_step paths Reset) most (reset_within most paths within) (omega (arith, few)) in
+      record { video = next.video; audio = next.audio; joins = next.joins }
 
   -- a plan emits something
   pub plan_emits : (steps : List PlanStep) → frames_in steps ≤ 36000 → IsPlayable (Joins (PathEmits job n) steps no_paths)
@@ -142,9 +148,11 @@ pub record Reached (job : Job) (n : ℕ) (steps rest : List PlanStep) (holds : S
   pub frames_left : frames + frames_in rest ≡ frames_in steps
   pub within : AreWithin job n frames paths
   pub goes : ℕ
-  pub goes_left : goes + goes_of rest ≡ goes_of steps
+  pub goes_left : goes + room_of rest ≡ room_of steps
   pub spans : length paths.path.spans ≤ goes
+  pub resets : length paths.path.resets ≤ goes
   pub held_spans : (slot : ℕ) → length (paths.held slot).spans ≤ goes
+  pub held_resets : (slot : ℕ) → length (paths.held slot).resets ≤ goes
   pub video_taken : holds Console video
   pub audio_taken : holds Sound audio
   pub stepped : HasStepped job n steps rest paths start r
@@ -164,7 +172,9 @@ reached_first job n steps holds r rested video audio few = record {
   goes = 0;
   goes_left = omega arith;
   spans = omega arith;
+  resets = omega arith;
   held_spans = λ slot. omega arith;
+  held_resets = λ slot. omega arith;
   video_taken = video;
   audio_taken = audio;
   stepped = stepped_first job n steps r few;
@@ -215,7 +225,9 @@ module _ (job : Job) (n : ℕ) (steps rest : List PlanStep) (now later : Side �
         goes = h.goes + 1;
         goes_left = omega (arith, goes);
         spans = omega (arith, size, spans);
+        resets = let le = h.resets in omega (arith, le);
         held_spans = λ slot. let le = h.held_spans slot in omega (arith, le);
+        held_resets = λ slot. let le = h.held_resets slot in omega (arith, le);
         video_taken = gave.video_taken;
         audio_taken = gave.audio_taken;
         stepped = stepped_go job n steps rest count pad1 pad2 h.paths start r mid after h.stepped none on
@@ -253,6 +265,10 @@ module _ (job : Job) (n : ℕ) (steps rest : List PlanStep) (now later : Side �
   shorter true goes p q h k = h
   shorter false goes p q h k = k
 
+  fewer : (b : Bool) (goes : ℕ) (p q : Path) → length p.resets ≤ goes → length q.resets ≤ goes → length (if b then p else q).resets ≤ goes
+  fewer true goes p q h k = h
+  fewer false goes p q h k = k
+
   pub reached_keep : (slot : ℕ) (h : Reached job n steps (Keep slot ∷ rest) now start r) → IsRested job n (kept h.paths slot) after → StepsNone r after
       → Reached job n steps rest now start after
   reached_keep slot h rested none = record {
@@ -268,7 +284,9 @@ module _ (job : Job) (n : ℕ) (steps rest : List PlanStep) (now later : Side �
     goes = h.goes;
     goes_left = h.goes_left;
     spans = h.spans;
+    resets = h.resets;
     held_spans = λ k. shorter (k == slot) h.goes h.paths.path (h.paths.held k) h.spans (h.held_spans k);
+    held_resets = λ k. fewer (k == slot) h.goes h.paths.path (h.paths.held k) h.resets (h.held_resets k);
     video_taken = h.video_taken;
     audio_taken = h.audio_taken;
     stepped = stepped_none job n steps rest (Keep slot) h.paths start r after (λ more goes. goes) h.stepped none;
@@ -289,10 +307,41 @@ module _ (job : Job) (n : ℕ) (steps rest : List PlanStep) (now later : Side �
     goes = h.goes;
     goes_left = h.goes_left;
     spans = h.held_spans slot;
+    resets = h.held_resets slot;
     held_spans = h.held_spans;
+    held_resets = h.held_resets;
     video_taken = h.video_taken;
     audio_taken = h.audio_taken;
     stepped = stepped_none job n steps rest (Back slot) h.paths start r after (λ more goes. goes) h.stepped none;
+  }
+
+  -- a press of the button, or none
+  one_more : (b : Bool) (resets : List ℕ) (frames goes : ℕ) → length resets ≤ goes
+      → length (if b then resets ++ frames ∷ [] else resets) ≤ goes + 1
+  one_more true resets frames goes le = let size = length-append resets (frames ∷ []) in omega (arith, size, le)
+  one_more false resets frames goes le = omega (arith, le)
+
+  pub reached_reset : (h : Reached job n steps (Reset ∷ rest) now start r) → IsRested job n (after_step h.paths Reset) after → StepsNone r after
+      → Reached job n steps rest now start after
+  reached_reset h rested none = record {
+    paths = after_step h.paths Reset;
+    video = h.video;
+    audio = h.audio;
+    rested = rested;
+    leads = h.leads;
+    so_far = h.so_far;
+    frames = h.frames;
+    frames_left = h.frames_left;
+    within = reset_within job n h.frames h.paths h.within;
+    goes = h.goes + 1;
+    goes_left = let left = h.goes_left in omega (arith, left);
+    spans = let le = h.spans in omega (arith, le);
+    resets = one_more (can_press h.paths.path) h.paths.path.resets (frames_of h.paths.path.spans) h.goes h.resets;
+    held_spans = λ slot. let le = h.held_spans slot in omega (arith, le);
+    held_resets = λ slot. let le = h.held_resets slot in omega (arith, le);
+    video_taken = h.video_taken;
+    audio_taken = h.audio_taken;
+    stepped = stepped_none job n steps rest Reset h.paths start r after (λ more goes. goes) h.stepped none;
   }
 
 -- all steps are made
@@ -329,12 +378,14 @@ slots_rise : (steps : List PlanStep) (n : ℕ) → n ≤ slots_from steps n
 slots_rise [] n = omega arith
 slots_rise (Go count pad1 pad2 ∷ rest) n = slots_rise rest n
 slots_rise (Keep slot ∷ rest) n = let rises = slots_rise rest (max n (slot + 1)) in omega (arith, rises)
+slots_rise (Reset ∷ rest) n = slots_rise rest n
 slots_rise (Back slot ∷ rest) n = let rises = slots_rise rest (max n (slot + 1)) in omega (arith, rises)
 
 names_from : (steps : List PlanStep) (n m : ℕ) → slots_from steps n ≤ m → NamesBelow m steps
 names_from [] n m le = tt
 names_from (Go count pad1 pad2 ∷ rest) n m le = names_from rest n m le
 names_from (Keep slot ∷ rest) n m le = let rises = slots_rise rest (max n (slot + 1)) in (omega (arith, rises, le), names_from rest (max n (slot + 1)) m le)
+names_from (Reset ∷ rest) n m le = names_from rest n m le
 names_from (Back slot ∷ rest) n m le = let rises = slots_rise rest (max n (slot + 1)) in (omega (arith, rises, le), names_from rest (max n (slot + 1)) m le)
 
 pub names_below : (steps : List PlanStep) (m : ℕ) → slots_of steps ≤ m → NamesBelow m steps

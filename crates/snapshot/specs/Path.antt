@@ -3,22 +3,18 @@ use Rattle.std.specs.Prelude.{ℕ, List}
 use Rattle.snes_defs.specs.declared.cart.Job.{Job}
 use Rattle.snes_defs.specs.declared.cart.Cart.{Cart}
 use Rattle.snes_defs.specs.declared.region.Region.{Region}
-use Rattle.snes_defs.specs.Script.{Script, frames_of}
+use Rattle.snes_defs.specs.Script.{frames_of}
 use Rattle.clock_ratio.specs.Stamp.{end_stamp_of}
 use Rattle.side_law.specs.Serial.{SerialState, serial_of}
 use Rattle.side_law.specs.SerialRun.{IsOutput}
 use Rattle.console_steps.specs.ConsoleState.{ConsoleState, console_start, console_moves}
 use Rattle.audio_side.specs.Sound.{SoundState, sound_start, sound_moves}
 use Rattle.audio_side.specs.Playing.{sound_with_room}
-use Rattle.plan_drive.specs.Paths.{Path}
-
--- the script of a path in a region: just the path, and memory for n spans and n resets, at which no machine looks
-abbrev pub script_in : Region → ℕ → Path → Script
-script_in region n path = record { region = region; spans = path.spans; resets = path.resets; room = n }
+use Rattle.plan_drive.specs.Paths.{Path, path_script}
 
 -- both sides before their first step, with this memory
 abbrev pub console_of_path : Region → Cart → ℕ → Path → ConsoleState
-console_of_path region cart n path = console_start cart (script_in region n path) region
+console_of_path region cart n path = console_start cart (path_script region n path) region
 
 abbrev pub sound_of_path : Region → ℕ → List ℕ → List ℕ → List ℕ → SoundState
 sound_of_path region n resets boot table = sound_with_room (sound_start region resets boot table) n

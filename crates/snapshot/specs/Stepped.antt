@@ -7,7 +7,7 @@ use Rattle.console_steps.specs.ConsoleState.{console_moves}
 use Rattle.audio_side.specs.Sound.{sound_moves}
 use Rattle.audio_side.specs.Clock.{stamp_now}
 use Rattle.input_files.specs.declared.plan.PlanStep.{PlanStep}
-use Rattle.input_files.specs.declared.plan.PlanStep.TheVariants.{Go, Keep, Back}
+use Rattle.input_files.specs.declared.plan.PlanStep.TheVariants.{Go, Keep, Back, Reset}
 use Rattle.plan_drive.specs.Paths.{Path, Paths, no_paths, after_step}
 use Rattle.snapshot.specs.declared.run.Run.{Run}
 use Rattle.snapshot.specs.declared.rewind.Rewind.{Rewind}
@@ -72,6 +72,7 @@ module _ (job : Job) (n : ℕ) where
       × (rise + more ≡ sum)
   GoesLast (Keep slot ∷ rest) paths sum = GoesLast rest (after_step paths (Keep slot)) sum
   GoesLast (Back slot ∷ rest) paths sum = GoesLast rest (after_step paths (Back slot)) sum
+  GoesLast (Reset ∷ rest) paths sum = GoesLast rest (after_step paths Reset) sum
 
   -- THE STEPS OF A PLAN are those of its goes, and no others
   pub record StepsByGoes (steps : List PlanStep) (before after : Rewind) : Type 0 where

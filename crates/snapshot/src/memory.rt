@@ -1,8 +1,7 @@
 // How much memory a plan needs, and runs at their start.
 ghost use Rattle.std.specs.Prelude.{◌≡◌, ◌<◌, ℕ, length, max, slice_index_or, IfOk};
 ghost use Rattle.snapshot.specs.declared.run.Run.{Run};
-ghost use Rattle.plan_drive.specs.Paths.{empty_path, goes_of, slots_of};
-ghost use Rattle.snapshot.specs.Path.{script_in};
+ghost use Rattle.plan_drive.specs.Paths.{empty_path, room_of, slots_of, path_script};
 ghost use Rattle.snapshot.specs.Positions.{HoldsPath};
 
 use crate::run::{Run, first_run};
@@ -10,9 +9,9 @@ use input_files::PlanStep;
 use snes_defs::{Job, NoMemory};
 use std::alloc::Global;
 
-/// The number of goes in a plan.
-pub fn count_goes(steps: &[PlanStep]) -> usize
-    ensures { result ≡ goes_of steps.now }
+/// For how many spans, and for how many resets, a plan needs memory.
+pub fn count_room(steps: &[PlanStep]) -> usize
+    ensures { result ≡ room_of steps.now }
 {
     let mut count = 0;
     for step in steps {
@@ -20,6 +19,7 @@ pub fn count_goes(steps: &[PlanStep]) -> usize
             PlanStep::Go { .. } => count += 1,
             PlanStep::Keep(_) => {}
             PlanStep::Back(_) => {}
+            PlanStep::Reset => count += 1,
         }
     }
     count
@@ -35,6 +35,7 @@ pub fn count_slots(steps: &[PlanStep]) -> usize
             PlanStep::Go { .. } => {}
             PlanStep::Keep(slot) => count = count.max(*slot as usize + 1),
             PlanStep::Back(slot) => count = count.max(*slot as usize + 1),
+            PlanStep::Reset => {}
         }
     }
     count
@@ -47,7 +48,7 @@ pub fn first_runs(
     spans: usize,
     count: usize,
 ) -> Result<Vec<Run>, NoMemory>
-    requires { job.now.script ≡ script_in job.now.region job.now.script.room empty_path }
+    requires { job.now.script ≡ path_script job.now.region job.now.script.room empty_path }
     ensures count { IfOk result (λ runs. length runs.items ≡ count) }
     ensures starts { IfOk result (λ runs. (k : ℕ) (other : Run) → k < length runs.items → HoldsPath job.now (max job.now.script.room spans) empty_path (slice_index_or runs.items k other)) }
 {

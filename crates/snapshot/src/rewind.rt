@@ -1,18 +1,19 @@
 ghost use Rattle.std.specs.Prelude.{◌≡◌, ◌+◌, ◌<◌, ◌≤◌, ◌↔◌, ℕ, false, List, [], length, max, OnOk, IfOk, IfSome, IsSome, IsNone, IsTrue};
 ghost use Rattle.snes_defs.specs.declared.cart.Job.{Job};
 ghost use Rattle.snes_defs.specs.Script.{frames_of};
-ghost use Rattle.plan_drive.specs.Paths.{Path, Paths, empty_path, no_paths, gone, reset_there, MayPress, kept, back, goes_of, slots_of};
+ghost use Rattle.input_files.specs.declared.plan.PlanStep.TheVariants.{Reset};
+ghost use Rattle.plan_drive.specs.Paths.{Path, Paths, empty_path, no_paths, gone, reset_there, MayPress, kept, back, after_step, room_of, slots_of, path_script};
 ghost use Rattle.side_law.specs.Serial.{SerialState, turn};
 ghost use Rattle.console_steps.specs.ConsoleState.{ConsoleState, console_moves};
 ghost use Rattle.console_machine.specs.Playing.{console_played};
 ghost use Rattle.audio_side.specs.Sound.{SoundState, sound_moves};
 ghost use Rattle.run_drive.specs.Played.{IsPlayable};
 ghost use Rattle.plan_drive.specs.Joins.{Joins};
-ghost use Rattle.snapshot.specs.Path.{PathEmits, script_in};
+ghost use Rattle.snapshot.specs.Path.{PathEmits};
 ghost use Rattle.snapshot.specs.Positions.{IsRested, IsGoing, StandsIn, HasEnded, next_side, slot_count, video_waiting, audio_waiting};
 ghost use Rattle.snapshot.specs.Stepped.{stepped_of, StepsNone, StepsOn};
 
-use crate::memory::{count_goes, count_slots, first_runs};
+use crate::memory::{count_room, count_slots, first_runs};
 use crate::run::{Run, copy_run, first_run};
 use input_files::Plan;
 use snes_defs::{Job, NoMemory, Side, Span};
@@ -46,7 +47,7 @@ impl Rewind {
         spans: usize,
         slots: usize,
     ) -> Result<Rewind, NoMemory>
-        requires script { job.now.script ≡ script_in job.now.region job.now.script.room empty_path }
+        requires script { job.now.script ≡ path_script job.now.region job.now.script.room empty_path }
         ensures rested { IfOk result (λ r. IsRested job.now (max job.now.script.room spans) no_paths r) }
         ensures slots { IfOk result (λ r. slot_count r ≡ slots) }
         ensures stepped { IfOk result (λ r. stepped_of r ≡ 0) }
@@ -61,15 +62,15 @@ impl Rewind {
     ///
     /// Allocates all memory that the plan needs, and fails only if allocation fails.
     pub fn new(alloc: Global, job: &Job, plan: &Plan) -> Result<Rewind, NoMemory>
-        requires script { job.now.script ≡ script_in job.now.region job.now.script.room empty_path }
-        ensures rested { IfOk result (λ r. IsRested job.now (max job.now.script.room (goes_of plan.now)) no_paths r) }
-        ensures slots { IfOk result (λ r. slot_count r ≡ slots_of plan.now) }
+        requires script { job.now.script ≡ path_script job.now.region job.now.script.room empty_path }
+        ensures rested { IfOk result (λ r. IsRested job.now (max job.now.script.room (room_of plan.now.steps)) no_paths r) }
+        ensures slots { IfOk result (λ r. slot_count r ≡ slots_of plan.now.steps) }
         ensures stepped { IfOk result (λ r. stepped_of r ≡ 0) }
-        ensures ends { OnOk result (IsPlayable (Joins (PathEmits job.now (max job.now.script.room (goes_of plan.now))) plan.now no_paths)) }
+        ensures ends { OnOk result (IsPlayable (Joins (PathEmits job.now (max job.now.script.room (room_of plan.now.steps))) plan.now.steps no_paths)) }
     {
-        let goes = count_goes(plan.steps());
+        let room = count_room(plan.steps());
         let slots = count_slots(plan.steps());
-        Rewind::with_room(alloc, job, goes, slots)
+        Rewind::with_room(alloc, job, room, slots)
     }
 
     /// The number of frames that the path lasts.
@@ -115,6 +116,20 @@ impl Rewind {
     {
         let frames = self.run.frames();
         may_press(frames, self.run.is_reset_in(frames))
+    }
+
+    /// Presses the reset button at the end of the path, if it may be pressed there. Nothing is allocated.
+    pub fn reset_if_may(&mut self)
+        requires rested { (job : Job) × (n : ℕ) × (paths : Paths) × IsRested job n paths self.old
+            × (length paths.path.resets < n) }
+        ensures reset { (job : Job) (n : ℕ) (paths : Paths) → IsRested job n paths self.old
+            → IsRested job n (after_step paths Reset) self.new }
+        ensures slots { slot_count self.new ≡ slot_count self.old }
+        ensures waits { StepsNone self.old self.new }
+    {
+        if self.may_reset() {
+            self.reset();
+        }
     }
 
     /// Presses the reset button at the end of the path, with the first step after it. The path must have frames, and

@@ -15,9 +15,8 @@ ghost use Rattle.audio_side.specs.Sound as sound_side;
 ghost use Rattle.audio_side.specs.Sound.{SoundState, sound_moves};
 ghost use Rattle.audio_side.specs.Clock.{stamp_now};
 ghost use Rattle.audio_side.specs.Playing.{audio_pressed, sound_pressed};
-ghost use Rattle.plan_drive.specs.Paths.{empty_path};
+ghost use Rattle.plan_drive.specs.Paths.{empty_path, path_script};
 ghost use Rattle.run_drive.specs.Run.{TookFirst};
-ghost use Rattle.snapshot.specs.Path.{script_in};
 ghost use Rattle.snapshot.specs.Driven.{Since, TookOn, Ends};
 ghost use Rattle.snapshot.specs.Positions.{CanCopy, IsDone, copy_of};
 ghost use Rattle.snapshot.specs.Stepped.{counted, rise_from, rise_of};
@@ -52,7 +51,7 @@ fn room_for(job: &Job, spans: usize) -> usize
 /// Returns the machines of a job at their start, with an empty path and memory for `spans` spans and resets. Fails only if
 /// allocation fails.
 pub fn first_run(alloc: Global, job: &Job, spans: usize) -> Result<Run, NoMemory>
-    requires { job.now.script ≡ script_in job.now.region job.now.script.room empty_path }
+    requires { job.now.script ≡ path_script job.now.region job.now.script.room empty_path }
     ensures done { IfOk result (λ r. IsDone job.now (max job.now.script.room spans) empty_path r [] []) }
     ensures stepped { IfOk result (λ r. r.stepped ≡ 0) }
 {

@@ -1,5 +1,5 @@
 use Rattle.std.proofs.Common.{max, Result, Ok, Err, IfOk, OnOk, ap, subst, ◌∙◌}
-use Rattle.plan_drive.specs.Paths.{no_paths, goes_of}
+use Rattle.plan_drive.specs.Paths.{no_paths, room_of}
 use Rattle.snapshot.specs.Positions.{IsRested}
 use Rattle.snapshot.proofs.Steps.{plan_emits}
 use Rattle.snapshot.proofs.rewind.Rewind.new.Goals as goal
@@ -12,9 +12,9 @@ in_any_case (Err error) h = tt
 pub returns-clause-rested : goal.returns-clause-rested
 returns-clause-rested c =
     let job = c.args.job.now in
-    subst (λ goes. IfOk c.with_room.result (λ r. IsRested job (max job.script.room goes) no_paths r)) (c.count_goes-goes.ensures ∙ ap goes_of c.steps.ensures.all) c.with_room.ensures.rested
+    subst (λ room. IfOk c.with_room.result (λ r. IsRested job (max job.script.room room) no_paths r)) (c.count_room-room.ensures ∙ ap room_of c.steps.ensures.all) c.with_room.ensures.rested
 
 pub returns-clause-ends : goal.returns-clause-ends
 returns-clause-ends c =
     let job = c.args.job.now in
-    in_any_case c.with_room.result (plan_emits job (max job.script.room (goes_of c.args.plan.now)) c.args.plan.now c.steps.ensures.few)
+    in_any_case c.with_room.result (plan_emits job (max job.script.room (room_of c.args.plan.now.steps)) c.args.plan.now.steps c.steps.ensures.few)

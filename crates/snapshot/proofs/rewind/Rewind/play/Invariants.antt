@@ -8,7 +8,7 @@ use Rattle.snapshot.proofs.rewind.Rewind.play.Given as goal
 
 abbrev pub invariant-loop-step : goal.invariant-loop-step
 invariant-loop-step g l = record {
-  reached : (job : Job) (n : ℕ) → IsRested job n no_paths l.initial.self → Reached job n l.plan (drop l.step-index l.step-items) (g.K.Sink.holds l.sink) l.initial.self l.self;
+  reached : (job : Job) (n : ℕ) → IsRested job n no_paths l.initial.self → Reached job n l.plan.steps (drop l.step-index l.step-items) (g.K.Sink.holds l.sink) l.initial.self l.self;
   names : NamesBelow (slot_count l.self) (drop l.step-index l.step-items);
   only : g.K.Sink.only_takes l.initial.sink l.sink;
 }
