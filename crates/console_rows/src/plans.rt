@@ -5,7 +5,6 @@
 //! again. The clauses of the rewinder say so (`steps` of `Rewind::play`); here a run is measured.
 
 ghost use Rattle.std.specs.Prelude.{◌≡◌, []};
-ghost use Rattle.snes_defs.specs.declared.region.Region.TheVariants.{Ntsc};
 ghost use Rattle.plan_drive.specs.Paths.{empty_path, path_script};
 
 mod jobs;
@@ -32,8 +31,7 @@ const RETURNS: &[u8] = b"go 4 0500 0000\nkeep 0\nback 0\nback 0\nkeep 1\nback 1\
 
 /// Plays a plan from the start of a job, and returns by how many stamps the machines were stepped.
 fn play_job(alloc: Global, job: &Job, plan: &Plan) -> Result<Option<u64>, NoMemory>
-    requires script { job.now.script ≡ path_script 0 empty_path }
-    requires region { job.now.region ≡ Ntsc }
+    requires script { job.now.script ≡ path_script job.now.region 0 empty_path }
 {
     let mut rewind = Rewind::new(alloc, job, plan)?;
     let mut buffer = [0u8; 1024];

@@ -15,13 +15,14 @@ pub struct Planned {
 
 impl PlanPlayer for Console {
     ghost use Rattle.std.specs.Prelude.{◌≡◌, ◌≤◌, vec_len};
-    ghost use Rattle.snes_defs.specs.declared.region.Region.TheVariants.{Ntsc};
-    ghost use Rattle.plan_drive.specs.Paths.{no_paths, goes_of, slots_of};
+    ghost use Rattle.plan_drive.specs.Paths.{no_paths, room_of, slots_of};
     ghost use Rattle.snapshot.specs.Positions.{IsRested, slot_count};
 
     type Planned = Planned;
 
-    ghost plans = { λ planned job steps. IsRested (record job { region = Ntsc }) (goes_of steps) no_paths planned.rewind × (slots_of steps ≤ slot_count planned.rewind) × (vec_len planned.buffer ≡ 65536) };
+    ghost plans = { λ planned job plan. IsRested job (room_of plan.steps) no_paths planned.rewind
+        × (slots_of plan.steps ≤ slot_count planned.rewind)
+        × (vec_len planned.buffer ≡ 65536) };
 
     fn ready_plan(alloc: Global, job: &Job, plan: &Plan) -> Result<Planned, NoMemory> {
         let rewind = Rewind::new(alloc, job, plan)?;

@@ -8,8 +8,7 @@ use Rattle.cart_map.specs.declared.refused.CartRefused.TheVariants.{TooLong}
 use Rattle.cart_map.specs.Accept.{verdict, image_of}
 use Rattle.input_files.specs.Table.{IsTableFile, IsFirstLarge, IsRefusedAt}
 use Rattle.input_files.specs.Script.{script_of}
-use Rattle.input_files.specs.Plan.{plan_of}
-use Rattle.input_files.specs.declared.plan.PlanStep.{PlanStep}
+use Rattle.input_files.specs.Plan.{PlanValue, plan_of}
 use Rattle.frame_sums.specs.SumsFile.{SumsIn, sums_of_file}
 use Rattle.shelf.specs.declared.shelves.Input.TheVariants as input
 use Rattle.spc_player.specs.SoundFile.{refusal_of}
@@ -166,8 +165,8 @@ plan_refused bytes line few h =
     let short : nat_lt 1048576 (length bytes) ≡ false = le-ltb 1048576 (length bytes) few in
     subst (λ b. MatchBool b (line ≡ 0) (plan_of bytes ≡ Err line)) (sym short) h
 
-pub plan_accepted : (bytes : List ℕ) (steps : List PlanStep) → length bytes ≤ 1048576 → IsPlanIn bytes steps → AreAccepted input.Plan bytes
-plan_accepted bytes steps few h = record { unrefused = go }
+pub plan_accepted : (bytes : List ℕ) (value : PlanValue) → length bytes ≤ 1048576 → IsPlanIn bytes value → AreAccepted input.Plan bytes
+plan_accepted bytes value few h = record { unrefused = go }
   where
     go : (cause : Why) → input_of cause ≡ input.Plan → ¬ AreRefused bytes cause
     go (why.Cart cause) is refused = cc
@@ -175,7 +174,7 @@ plan_accepted bytes steps few h = record { unrefused = go }
     go (why.Table entry) is refused = cc
     go (why.Spc cause) is refused = cc
     go (why.Script line) is refused = cc
-    go (why.Plan line) is refused = not_both (plan_of bytes) steps line h (bad_plan_line bytes line few refused)
+    go (why.Plan line) is refused = not_both (plan_of bytes) value line h (bad_plan_line bytes line few refused)
     go (why.Sums line) is refused = cc
 
 pub ruleset plan = (plan_longer, plan_refused, plan_accepted)

@@ -7,8 +7,7 @@ use Rattle.cart_map.specs.Accept.{verdict, image_of, rom_of}
 use Rattle.spc_player.specs.SoundFile.{refusal_of}
 use Rattle.input_files.specs.Table.{IsRefusedAt}
 use Rattle.input_files.specs.Script.{script_of}
-use Rattle.input_files.specs.Plan.{plan_of}
-use Rattle.input_files.specs.declared.plan.PlanStep.{PlanStep}
+use Rattle.input_files.specs.Plan.{PlanValue, plan_of}
 use Rattle.frame_sums.specs.SumsFile.{SumsIn, sums_of_file}
 use Rattle.shelf.specs.declared.shelves.Input.{Input}
 use Rattle.shelf.specs.declared.shelves.Input.TheVariants as input
@@ -49,8 +48,8 @@ pub record IsCartIn (bytes : List ℕ) (cart : Cart) : Type 0 where
 abbrev pub IsScriptIn : List ℕ → Script → Type 0
 IsScriptIn bytes script = script_of bytes ≡ Ok script
 
-abbrev pub IsPlanIn : List ℕ → List PlanStep → Type 0
-IsPlanIn bytes steps = plan_of bytes ≡ Ok steps
+abbrev pub IsPlanIn : List ℕ → PlanValue → Type 0
+IsPlanIn bytes plan = plan_of bytes ≡ Ok plan
 
 abbrev pub IsSumsIn : List ℕ → SumsIn → Type 0
 IsSumsIn bytes sums = sums_of_file bytes ≡ Ok sums

@@ -6,8 +6,7 @@ use Rattle.shelf.specs.declared.shelves.Input.TheVariants.{Cart, Boot, Table, Pl
 use Rattle.shelf.specs.declared.shelves.Out.{Out}
 use Rattle.shelf.specs.declared.shelves.Out.TheVariants.{Video, Sound}
 use Rattle.input_files.specs.Table.{IsTableFile}
-use Rattle.input_files.specs.Plan.{frames_in}
-use Rattle.input_files.specs.declared.plan.PlanStep.{PlanStep}
+use Rattle.input_files.specs.Plan.{PlanValue, frames_in}
 use Rattle.plan_drive.specs.Paths.{no_paths}
 use Rattle.plan_drive.specs.Joins.{PlanEmits}
 use Rattle.plan_drive.specs.Samples.{samples_in}
@@ -27,25 +26,26 @@ rewind_form = record {
   outputs = Video ∷ (Sound ∷ []);
 }
 
--- the machines of the job are those that the inputs make, and the steps are those of the plan, as far as they are told: each
--- was read so
-pub record ShowsPlan (told : Input → Option (List ℕ)) (job : Job) (steps : List PlanStep) : Type 0 where
+-- the machines of the job are those that the inputs make, in the region of the plan, and the plan is that of its file, as
+-- far as they are told: each was read so
+pub record ShowsPlan (told : Input → Option (List ℕ)) (job : Job) (value : PlanValue) : Type 0 where
   pub cart : IfSome (told Cart) (λ bytes. IsCartIn bytes job.cart)
   pub boot : IfSome (told Boot) (λ bytes. job.boot ≡ bytes)
   pub table : IfSome (told Table) (λ bytes. IsTableFile bytes job.table)
-  pub plan : IfSome (told Plan) (λ bytes. IsPlanIn bytes steps)
+  pub plan : IfSome (told Plan) (λ bytes. IsPlanIn bytes value)
+  pub region : job.region ≡ value.region
 
 -- the line of a plan that was played: the frames and the samples of its goes
-abbrev pub plan_line : List PlanStep → List ℕ
-plan_line steps = line_of (frames_text (frames_in steps) (samples_in steps no_paths))
+abbrev pub plan_line : PlanValue → List ℕ
+plan_line plan = line_of (frames_text (frames_in plan.steps) (samples_in plan.region plan.steps no_paths))
 
 -- video and sound are what the plan emits, played on these machines, and the line is the plan's
 pub record MakesRewind (emits : Job → List ℕ → List ℕ → Type 0) (order : Order) (told : Input → Option (List ℕ)) (contents : Out → List ℕ) (line : List ℕ) : Type 0 where
   pub job : Job
-  pub steps : List PlanStep
-  pub shows : ShowsPlan told job steps
-  pub emitted : PlanEmits emits job steps (contents Video) (contents Sound)
-  pub says : line ≡ plan_line steps
+  pub plan : PlanValue
+  pub shows : ShowsPlan told job plan
+  pub emitted : PlanEmits emits job plan.steps (contents Video) (contents Sound)
+  pub says : line ≡ plan_line plan
 
 abbrev pub rewind : (Job → List ℕ → List ℕ → Type 0) → Command
 rewind emits = record { form = rewind_form; Makes = MakesRewind emits; differs = never }

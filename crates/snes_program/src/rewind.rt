@@ -1,6 +1,5 @@
 ghost use Rattle.std.specs.Prelude.{◌≡◌, ℕ, List, [], Option, OnOk, IfErr};
 ghost use Rattle.snes_defs.specs.declared.cart.Job.{Job};
-ghost use Rattle.snes_defs.specs.declared.region.Region.TheVariants.{Ntsc};
 ghost use Rattle.shelf.specs.declared.shelves.Input.{Input};
 ghost use Rattle.shelf.specs.Told.{Holds, HasRisen};
 ghost use Rattle.run_drive.specs.Outputs.{OnlyFills, output_of};
@@ -21,7 +20,7 @@ use port_wire::Gate;
 use run_drive::out_of;
 use run_io::{Asked, Form, Line, frames_line};
 use shelf::{Input, Out, Shelf};
-use snes_defs::{Job, NoMemory, Region, Side, Spans};
+use snes_defs::{Job, NoMemory, Side, Spans};
 use std::alloc::Global;
 use std::marker::PhantomData;
 use std::thread::Threads;
@@ -56,20 +55,21 @@ impl<P: PlanPlayer> Rewind<P> {
     }
 }
 
-/// Returns the machines that the inputs make, as an NTSC job without a script, and the plan.
+/// Returns the machines that the inputs make, as a job without a script in the region of the plan, and the plan.
 fn machines_of(alloc: Global, files: <PlanFiles as Loads>::Value) -> (Job, Plan)
-    ensures script { result.0.script ≡ path_script 0 empty_path }
-    ensures region { result.0.region ≡ Ntsc }
+    ensures script { result.0.script ≡ path_script result.0.region 0 empty_path }
+    ensures region { result.0.region ≡ result.1.region }
     ensures shows { (told : Input → Option (List ℕ)) → ⟦<PlanFiles as Loads>⟧.reads told files → ShowsPlan told result.0 result.1 }
 {
     let (cart, (boot, (table, plan))) = files;
+    let region = plan.region();
     let job = Job {
         cart,
         boot,
         table,
-        script: Spans::of(alloc, Vec::new(alloc)),
+        script: Spans::versioned(Vec::new(alloc), region, Vec::new(alloc)),
         frames: 0,
-        region: Region::Ntsc,
+        region,
     };
     (job, plan)
 }
@@ -91,8 +91,8 @@ fn play_into<P: PlanPlayer, H: Shelf>(
     requires at_start { (job : Job) × P.plans planned job plan.now }
     requires video_created { Holds ((H.shown shelf.old).written Out.Video) [] }
     requires sound_created { Holds ((H.shown shelf.old).written Out.Sound) [] }
-    ensures whole { OnOk result ((job : Job) → P.plans planned job plan.now → PlayedWhole (PlanEmits P.emits job plan.now) (λ side bytes. Holds ((H.shown shelf.new).written (output_of side)) bytes)) }
-    ensures first { (job : Job) → P.plans planned job plan.now → PlayedFirst (PlanEmits P.emits job plan.now) (λ side bytes. Holds ((H.shown shelf.new).written (output_of side)) bytes) }
+    ensures whole { OnOk result ((job : Job) → P.plans planned job plan.now → PlayedWhole (PlanEmits P.emits job plan.now.steps) (λ side bytes. Holds ((H.shown shelf.new).written (output_of side)) bytes)) }
+    ensures first { (job : Job) → P.plans planned job plan.now → PlayedFirst (PlanEmits P.emits job plan.now.steps) (λ side bytes. Holds ((H.shown shelf.new).written (output_of side)) bytes) }
     ensures failed { IfErr result (λ side. HasRisen ((H.shown shelf.old).write_faults (output_of side)) ((H.shown shelf.new).write_faults (output_of side))) }
     ensures only { OnlyFills (H.shown shelf.old) (H.shown shelf.new) }
 {
@@ -112,7 +112,7 @@ impl<P: PlanPlayer> Performs for Rewind<P> {
 
     ghost command = { rewind P.emits };
 
-    ghost is_ready = { λ order told ready. (job : Job) × ShowsPlan told job ready.plan × P.plans ready.planned job ready.plan × IsPlayable (PlanEmits P.emits job ready.plan) × (ready.line ≡ plan_line ready.plan) };
+    ghost is_ready = { λ order told ready. (job : Job) × ShowsPlan told job ready.plan × P.plans ready.planned job ready.plan × IsPlayable (PlanEmits P.emits job ready.plan.steps) × (ready.line ≡ plan_line ready.plan) };
 
     fn form() -> Form {
         Form {

@@ -1,5 +1,4 @@
 ghost use Rattle.std.specs.Prelude.{◌≡◌, [], IfSome};
-ghost use Rattle.snes_defs.specs.declared.region.Region.TheVariants.{Ntsc};
 ghost use Rattle.plan_drive.specs.Paths.{empty_path, path_script};
 
 use cart_map::accept;
@@ -14,8 +13,7 @@ const TALK: [u8; 15] = [
 
 /// Returns the job of an image, with the demo's boot ROM and table.
 fn job_of(alloc: Global, image: Vec<u8>) -> Option<Job>
-    ensures script { IfSome result (λ job. job.script ≡ path_script 0 empty_path) }
-    ensures region { IfSome result (λ job. job.region ≡ Ntsc) }
+    ensures script { IfSome result (λ job. job.script ≡ path_script job.region 0 empty_path) }
 {
     Some(Job {
         cart: accept(image).ok()?,
@@ -29,8 +27,7 @@ fn job_of(alloc: Global, image: Vec<u8>) -> Option<Job>
 
 /// Returns the job of a cartridge of 32 KiB that reads and writes the ports all the time.
 pub fn talking_job(alloc: Global) -> Option<Job>
-    ensures script { IfSome result (λ job. job.script ≡ path_script 0 empty_path) }
-    ensures region { IfSome result (λ job. job.region ≡ Ntsc) }
+    ensures script { IfSome result (λ job. job.script ≡ path_script job.region 0 empty_path) }
 {
     let mut image = vec![in alloc; 0u8; 32_768].ok()?;
     let bytes = image.as_mut_slice();

@@ -1,7 +1,6 @@
 use Rattle.std.proofs.Common.{ℕ, subst, rules, arith}
-use Rattle.snes_defs.specs.declared.region.Region.{Region}
 use Rattle.run_drive.specs.Played.{IsPlayable}
-use Rattle.plan_drive.specs.Paths.{no_paths, goes_of}
+use Rattle.plan_drive.specs.Paths.{no_paths}
 use Rattle.plan_drive.specs.Joins.{Joins}
 use Rattle.snapshot.specs.Path.{PathEmits}
 use Rattle.snapshot.specs.Positions.{IsRested}
@@ -9,15 +8,13 @@ use Rattle.job_player.proofs.Planning.{room_for, own_script, playable}
 use Rattle.job_player.proofs.planned.ConsolePlanPlayer.ready_plan.Goals as goal
 
 pub new-requires : goal.new-requires
-new-requires c = record { script = own_script c.args.job.now c.requires.script c.requires.region }
+new-requires c = record { script = own_script c.args.job.now c.requires.script }
 
 pub returns-clause-starts : goal.returns-clause-starts
 returns-clause-starts c =
     let job = c.args.job.now in
-    let steps = c.args.plan.now in
     let slots = c.in_ok-rewind.ensures.slots in (
-      subst (λ (r : Region). IsRested (record job { region = r }) (goes_of steps) no_paths c.in_ok-rewind.rewind) c.requires.region
-          (subst (λ (n : ℕ). IsRested job n no_paths c.in_ok-rewind.rewind) (room_for job steps c.requires.script) c.in_ok-rewind.ensures.rested),
+      subst (λ (n : ℕ). IsRested job n no_paths c.in_ok-rewind.rewind) (room_for job c.args.plan.now.steps c.requires.script) c.in_ok-rewind.ensures.rested,
       omega (arith, slots),
       search rules,
     )
@@ -25,7 +22,6 @@ returns-clause-starts c =
 pub returns-clause-ends : goal.returns-clause-ends
 returns-clause-ends c =
     let job = c.args.job.now in
-    let steps = c.args.plan.now in
+    let steps = c.args.plan.now.steps in
     playable job steps
-    (subst (λ (r : Region). IsPlayable (Joins (PathEmits (record job { region = r }) (goes_of steps)) steps no_paths)) c.requires.region
-    (subst (λ (n : ℕ). IsPlayable (Joins (PathEmits job n) steps no_paths)) (room_for job steps c.requires.script) c.in_ok-rewind.ensures.ends))
+    (subst (λ (n : ℕ). IsPlayable (Joins (PathEmits job n) steps no_paths)) (room_for job steps c.requires.script) c.in_ok-rewind.ensures.ends)
