@@ -1,5 +1,5 @@
 -- How long the steps of a plan are, counted one after another.
-use Rattle.std.proofs.Common.{◌≡◌, ℕ, ◌+◌, ◌-◌, ◌*◌, ◌<◌, ◌≤◌, ◌==◌, Bool, true, false, List, [], ◌∷◌, ◌++◌, length, slice_set, slice_index_or, replicate, drop, drop-cons, suc, refl, ap, sym, ◌∙◌, subst, ⊎_elim, arith, if◌then◌else◌, length-set}
+use Rattle.std.proofs.Common.{◌≡◌, ℕ, ◌+◌, ◌-◌, ◌*◌, ◌<◌, ◌≤◌, ◌==◌, true, false, List, [], ◌∷◌, ◌++◌, length, slice_set, slice_index_or, replicate, drop, drop-cons, suc, refl, ap, sym, ◌∙◌, subst, ⊎_elim, arith, if◌then◌else◌, length-set}
 use Rattle.std.proofs.lemmas.Bool.{cases_eq}
 use Rattle.std.proofs.lemmas.Bool.Decides.{nat_tests}
 use Rattle.std.proofs.lemmas.List.{get_or-set_same, get_or-set_other, get_or-replicate}

@@ -1,6 +1,7 @@
 // Why a call for a held console was not done, and how that is told.
 ghost use Rattle.std.specs.Prelude.{◌≡◌};
-ghost use Rattle.snes_library.specs.Fault.{IsFaultTold, status_of_fault, cause_of_fault, place_of_fault, fault_of_begin, fault_of_frame};
+ghost use Rattle.snes_library.specs.Fault.{IsFaultTold, status_of_fault, cause_of_fault, place_of_fault};
+ghost use Rattle.snes_library.specs.Fault.{fault_of_begin, fault_of_frame};
 
 use crate::answer::{SnesAnswer, cause, place, status};
 use frame_player::{BeginEnd, FrameEnd};
@@ -43,6 +44,9 @@ pub(crate) fn of_frame(end: FrameEnd) -> Fault
     }
 }
 
+/// The status of a call that refuses what it is given, or when it is called.
+pub(crate) const REFUSED: u32 = 3;
+
 /// Returns the status of a fault.
 pub(crate) fn fault_status(fault: Fault) -> u32
     ensures { result ≡ status_of_fault fault }
@@ -50,8 +54,8 @@ pub(crate) fn fault_status(fault: Fault) -> u32
     match fault {
         Fault::Empty => 6,
         Fault::Full => 7,
-        Fault::Region => 3,
-        Fault::Slot => 3,
+        Fault::Region => REFUSED,
+        Fault::Slot => REFUSED,
         Fault::End(end) => status(end),
     }
 }

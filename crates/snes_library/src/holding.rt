@@ -4,11 +4,12 @@ ghost use Rattle.frame_player.specs.Told.{MayReset, told_first, gone_on, kept_in
 ghost use Rattle.frame_player.specs.Frames.{FramePlayed};
 ghost use Rattle.kept_frames.specs.Left.{AsLeft};
 ghost use Rattle.snes_library.specs.declared.fault.Fault.{Fault};
-ghost use Rattle.snes_library.specs.Holding.{HasEnded, HasBegun, Holds, Stays, EndsBegun, EndsPlayed, EndsMoved, EndsReset};
+ghost use Rattle.snes_library.specs.Holding.{HasEnded, HasBegun, Holds, Stays};
+ghost use Rattle.snes_library.specs.Holding.{EndsBegun, EndsPlayed, EndsMoved, EndsReset};
 ghost use Rattle.snes_library.specs.Fault.{IsFaultTold};
 
 use crate::answer::SnesAnswer;
-use crate::fault::{Fault, fault_status, fault_told, of_begin, of_frame};
+use crate::fault::{Fault, REFUSED, fault_status, fault_told, of_begin, of_frame};
 use frame_player::{ConsoleInputs, Frames};
 use kept_frames::SnesConsole;
 use memory_player::End;
@@ -17,9 +18,10 @@ use std::alloc::Global;
 
 /// Makes a console before its first frame, and returns a status: 0 if it was done.
 ///
-/// The cartridge, the boot ROM and the table are the bytes of the files that `snes serial` takes. No bytes of the last two
-/// stand for the free ones. `region` is 0 for NTSC, 1 for PAL. A path may last `most` frames, 1 to 36,000. There are
-/// `slots` slots for save states, at most 64. All that the console will need is allocated here, and freed by `snes_end`.
+/// The cartridge, the boot ROM and the table are the bytes of the files that `snes serial` takes. No bytes of the last
+/// two stand for the free ones. `region` is 0 for NTSC, 1 for PAL. A path may last `most` frames, 1 to 36,000. There are
+/// `slots` slots for save states, at most 64. All that the console will need is allocated here, and freed by
+/// `snes_end`.
 #[unsafe(no_mangle)]
 pub extern "C" fn snes_begin(
     alloc: Global,
@@ -37,6 +39,7 @@ pub extern "C" fn snes_begin(
     ensures begun { result ≡ 0
         → HasBegun console.old console.new (told_first cart.now boot.now table.now region most slots) }
     ensures done { result ≡ 0 → (answer.new.cause ≡ 0) × (answer.new.place ≡ 0) }
+    ensures counts { result ≡ 0 → (answer.new.video ≡ 0) × (answer.new.sound ≡ 0) }
     ensures ends { result ≢ 0 → Stays console.old console.new × (fault : Fault) × IsFaultTold fault result answer.new
         × EndsBegun console.old cart.now boot.now table.now region most slots fault }
 {
@@ -70,8 +73,8 @@ pub extern "C" fn snes_begin(
 
 /// Plays a frame with these pads, and returns a status: 0 if it was done.
 ///
-/// The picture stands at the front of `video`, and the samples at the front of `sound`. `answer` says how many bytes they
-/// have. A pad has from bit 15 down B, Y, Select, Start, Up, Down, Left, Right, A, X, L, R; its low four bits count as
+/// The picture stands at the front of `video`, and the samples at the front of `sound`. `answer` says how many bytes
+/// they have. A pad has from bit 15 down B, Y, Select, Start, Up, Down, Left, Right, A, X, L, R; its low four bits count as
 /// 0. At every other status the console and both rooms are as they were.
 #[unsafe(no_mangle)]
 pub extern "C" fn snes_frame(
@@ -89,6 +92,7 @@ pub extern "C" fn snes_frame(
         video.old sound.old video.new sound.new answer.new.video answer.new.sound }
     ensures on { result ≡ 0
         → Holds console.old console.new (gone_on console.old.kept.told (word_of pad1) (word_of pad2)) }
+    ensures done { result ≡ 0 → (answer.new.cause ≡ 0) × (answer.new.place ≡ 0) }
     ensures ends { result ≢ 0 → Stays console.old console.new × (fault : Fault) × IsFaultTold fault result answer.new
         × EndsPlayed console.old (word_of pad1) (word_of pad2) video.old sound.old video.new sound.new fault }
 {
@@ -168,7 +172,7 @@ pub extern "C" fn snes_reset(alloc: Global, console: &mut SnesConsole) -> u32
     let mut frames = console.take(alloc);
     if !frames.reset() {
         console.fill(frames);
-        return fault_status(Fault::Slot);
+        return REFUSED;
     }
     console.tell_reset();
     console.fill(frames);

@@ -1,9 +1,9 @@
 // The console for programs that are not written in Rattle: a static library.
 //
 // `snes_play` plays a whole job. It is a thin layer over `memory_player`: a player that has both sides of the console,
-// and no lock and no thread. `snes_begin`, `snes_frame`, `snes_reset`, `snes_keep`, `snes_back` and `snes_end` are for a console that
-// the caller holds between frames (`kept_frames`, `frame_player`). `embed/snes.h` declares the calls for C.
-// `docs/use/EMBEDDING.md` says what is proved of them, and which duties of a caller nothing checks.
+// and no lock and no thread. `snes_begin`, `snes_frame`, `snes_reset`, `snes_keep`, `snes_back` and `snes_end` are for
+// a console that the caller holds between frames (`kept_frames`, `frame_player`). `embed/snes.h` declares the calls
+// for C. `docs/use/EMBEDDING.md` says what is proved of them, and which duties of a caller nothing checks.
 #![tactic(auto)]
 
 ghost use Rattle.std.specs.Prelude.{◌≡◌, ◌≢◌};
@@ -43,8 +43,12 @@ pub extern "C" fn snes_play(
     sound: &mut [u8],
     answer: &mut SnesAnswer,
 ) -> u32
-    ensures whole { result ≡ 0 → PlayedInto Emits (told_of cart.now boot.now table.now script.now) frames video.old sound.old video.new sound.new answer.new.video answer.new.sound }
-    ensures ends { result ≢ 0 → (end : End) × IsToldAs end result answer.new × EndsShort Emits (told_of cart.now boot.now table.now script.now) frames video.old sound.old video.new sound.new end }
+    ensures whole { result ≡ 0 → PlayedInto Emits (told_of cart.now boot.now table.now script.now) frames
+        video.old sound.old video.new sound.new answer.new.video answer.new.sound }
+    ensures done { result ≡ 0 → (answer.new.cause ≡ 0) × (answer.new.place ≡ 0) }
+    ensures ends { result ≢ 0 → (end : End) × IsToldAs end result answer.new
+        × EndsShort Emits (told_of cart.now boot.now table.now script.now) frames
+        video.old sound.old video.new sound.new end }
 {
     let inputs = Inputs {
         cart,

@@ -1,5 +1,4 @@
-use Rattle.std.proofs.Common.{◌≡◌, ◌≤◌, ◌+◌, ◌-◌, ◌<◌, ℕ, List, [], ◌∷◌, drop, length, replicate, refl, ap, sym, subst, ◌∙◌}
-use Rattle.input_files.specs.declared.plan.PlanStep.{PlanStep}
+use Rattle.std.proofs.Common.{◌≤◌, ◌+◌, ◌-◌, drop, replicate, ap, sym, subst, ◌∙◌}
 use Rattle.input_files.specs.declared.plan.PlanStep.TheVariants.{Go, Keep, Back, Reset}
 use Rattle.input_files.specs.Plan.{frames_in, NamesBelow}
 use Rattle.plan_drive.specs.Samples.{samples_to}

@@ -1,4 +1,4 @@
-use Rattle.std.proofs.Common.{◌≡◌, ◌≤◌, drop}
+use Rattle.std.proofs.Common.{◌≤◌, drop}
 use Rattle.input_files.specs.Plan.{frames_in, NamesBelow}
 use Rattle.plan_drive.proofs.Counting.{Counted}
 use Rattle.plan_drive.proofs.lengths.measure.Given as goal
