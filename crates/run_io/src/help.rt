@@ -22,7 +22,8 @@ snes make NUMBER --out FILE\n\
 snes demo NUMBER --frames N\n\
 \x20           run that cartridge in memory, and print the sums of what it put out\n\
 snes rewind --cart FILE --boot FILE --table FILE --plan FILE --video FILE --audio FILE\n\
-\x20           play a plan: lines go COUNT PAD1 PAD2, keep SLOT, back SLOT (docs/use/REWIND.md)\n\
+\x20           play a plan: lines go COUNT PAD1 PAD2, keep SLOT, back SLOT, reset, and first region pal\n\
+\x20           for a PAL console (docs/use/REWIND.md)\n\
 snes sums --cart FILE [--boot FILE] [--table FILE] [--script FILE] --frames N --sums FILE\n\
 \x20           run a cartridge as serial does, and write the SHA-256 of each picture, of its samples and of all\n\
 snes check --cart FILE [--boot FILE] [--table FILE] [--script FILE] --frames N --sums FILE\n\
