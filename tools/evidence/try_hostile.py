@@ -172,7 +172,8 @@ class Try:
             self.files[name] = self.random_text([b"version 2 ntsc", b"version 2 pal", b"", b"reset", b"1 0000 ffff", b"2  8000   0001", b"36000 0 0",
                                                  b"00001 ABCD abcd", b"35999 0000 0000", b"0 0000 0000", b"1 0000 0000 "])
         elif option == "plan":
-            self.files[name] = self.random_text([b"go 1 0000 ffff", b"keep 0", b"back 0", b"keep  7", b"back 7", b"", b"go 0 1234 abcd", b"back 3", b"keep 8"])
+            self.files[name] = self.random_text([b"go 1 0000 ffff", b"keep 0", b"back 0", b"keep  7", b"back 7", b"", b"go 0 1234 abcd", b"back 3", b"keep 8",
+                                                 b"reset", b"go 1 0000 ffff", b"region pal", b"region ntsc", b"reset "])
         elif option == "boot":
             self.files[name] = dice.randbytes(64)
         elif option == "spc":
@@ -302,7 +303,7 @@ def main():
     data = f"{lab.TOP}/crates/snes_run/data"
     inputs = {"cart": lab.read(f"{data}/red.sfc"), "boot": lab.read(f"{data}/boot.bin"), "table": lab.read(f"{data}/table.bin"),
               "script": b"version 2 ntsc\n1 8000 0000\nreset\n2 0000 1000\n", "spc": lab.sound_file(),
-              "plan": b"go 1 0000 0000\nkeep 0\ngo 1 8000 0000\nback 0\ngo 0 0000 8000\n"}
+              "plan": b"region pal\ngo 1 0000 0000\nkeep 0\nreset\ngo 1 8000 0000\nback 0\ngo 0 0000 8000\n"}
     numbers = range(given.count) if given.case is None else [given.case]
     failed, formed, began, told = 0, 0, time.time(), 0.0
     with tempfile.TemporaryDirectory(prefix="snes-hostile-") as work, multiprocessing.Pool(given.jobs) as pool:

@@ -141,18 +141,26 @@ def script(data):
 
 def goes_of(data):
     """What a plan adds up to, and the first line at which it is refused, or none."""
-    total, kept = 0, set()
+    total, kept, begun = 0, {}, False
+    # The length of the path, and the frame of its last reset.
+    path = last = 0
     for number, line in enumerate(lines_of(data), 1):
         if line == b"":
+            continue
+        if re.fullmatch(rb"region +(ntsc|pal)", line) and not begun:
             pass
         elif (found := re.fullmatch(rb"go +([0-9]{1,5})" + PADS, line)) and total + int(found[1]) <= 36_000:
             total += int(found[1])
+            path += int(found[1])
         elif found := re.fullmatch(rb"keep +([0-7])", line):
-            kept.add(found[1])
+            kept[found[1]] = path, last
         elif (found := re.fullmatch(rb"back +([0-7])", line)) and found[1] in kept:
-            pass
+            path, last = kept[found[1]]
+        elif line == b"reset" and last < path:
+            last = path
         else:
             return total, number
+        begun = True
     return total, None
 
 
