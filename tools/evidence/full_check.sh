@@ -18,6 +18,7 @@
 #     tags         the tags that ./look prints of sound files at random (try_tags.py)
 #     music        the commands that take music out of a cartridge; voices beside ffmpeg's player, if it is there (try_music.py)
 #     states       what snes dump and snes spc write of cartridges at random (try_states.py, try_sound_files.py)
+#     plans        what snes rewind writes of plans at random, beside serial (try_plans.py)
 #     edges        the cases of try_edges.py by the built programs; 10,000 hostile inputs and command lines (try_hostile.py);
 #                  each fault of tools/evidence/edges is told (try_edge_faults.sh)
 #     allocations  each request for memory is refused once (refuse_each_allocation.sh)
@@ -47,7 +48,7 @@ watched=${CONSOLE_ROWS:-$top/crates/console_rows/out/console_rows}
 commit=$(git -C "$top" rev-parse --short HEAD) || exit 2
 read -r kit _ < <(rt version) || exit 2
 parts=("$@")
-[ $# -gt 0 ] || parts=(edits device ends bench lint tags music states edges allocations soak rows workers bodies)
+[ $# -gt 0 ] || parts=(edits device ends bench lint tags music states plans edges allocations soak rows workers bodies)
 
 # A full device, a device that takes everything, a name that can't be made: what the program says and its status.
 device() {
@@ -174,6 +175,10 @@ states() {
   item sounds "$(sum_of "$snes" "$top/tools/evidence/try_sound_files.py")" "$top/tools/evidence/try_sound_files.py" "$snes"
 }
 
+plans() {
+  item random "$(sum_of "$snes" "$top/tools/evidence/try_plans.py")" "$top/tools/evidence/try_plans.py" "$snes"
+}
+
 # The programs and scripts that the cases are tried with.
 edges() {
   local fault name programs=()
@@ -262,7 +267,7 @@ for part in "${parts[@]}"; do
   started=$(date +%s) items=0 noted=0 bad=0 only=
   [[ $part != *:* ]] || { only=${part#*:} && part=${part%%:*}; }
   case $part in
-    edits | ends | bench | lint | tags | music | states | edges | allocations | soak | rows | workers | bodies) $part ;;
+    edits | ends | bench | lint | tags | music | states | plans | edges | allocations | soak | rows | workers | bodies) $part ;;
     device) item all now device ;;
     *) echo "no part of this name: $part" ;;
   esac
