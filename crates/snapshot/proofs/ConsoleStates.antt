@@ -88,8 +88,31 @@ step_own board script rom w d got h =
 next_frame_is : (n : ℕ) → n < 65535 → next_frame n ≡ n + 1
 next_frame_is n lt = grind (arith, nat_tests)
 
-abbrev after_one : ConsoleState → ConsoleState
+abbrev pub after_one : ConsoleState → ConsoleState
 after_one w = after_events (moved w) (events_next w)
+
+-- where the beam and the frame are one clock on
+pub record OneOn (own : Region) (w n : ConsoleState) : Type 0 where
+  pub dot : n.rest.beam.h ≡ (if w.rest.beam.h == 1363 then 0 else w.rest.beam.h + 1)
+  pub line : n.rest.beam.v ≡ (if w.rest.beam.h == 1363 then (if w.rest.beam.v + 1 == lines_of own then 0 else w.rest.beam.v + 1) else w.rest.beam.v)
+  pub frame : n.rest.frame ≡ (if n.rest.beam.h == 0 then (if n.rest.beam.v == 0 then w.rest.frame + 1 else w.rest.frame) else w.rest.frame)
+
+pub one_on : (own : Region) (w : ConsoleState) → IsTimed own w → w.rest.frame < 65535 → OneOn own w (after_one w)
+one_on own w t few =
+    let o = overscan_of w in
+    let b = w.rest.beam in
+    let n = after_one w in
+    let beam = events_beam (moved w) (events_next w) in
+    let dot : n.rest.beam.h ≡ next_h b.h = ap (λ x. x.h) beam ∙ beam_dot o b in
+    record {
+      dot = dot ∙ next_line_clock b.h;
+      line = ap (λ x. x.v) beam ∙ beam_line o b ∙ ap (λ r. next_v r b.v b.h) t.region ∙ next_line own b.v b.h;
+      frame = place_frame (moved w) (happens_next o b)
+          ∙ ap (λ l. if l then (if (beam_next o b).v == 0 then next_frame w.rest.frame else w.rest.frame) else w.rest.frame) (begins_line o b)
+          ∙ ap (λ h. if h == 0 then (if (beam_next o b).v == 0 then next_frame w.rest.frame else w.rest.frame) else w.rest.frame) (sym dot)
+          ∙ ap (λ (x : BeamValue). if n.rest.beam.h == 0 then (if x.v == 0 then next_frame w.rest.frame else w.rest.frame) else w.rest.frame) (sym beam)
+          ∙ ap (λ m. if n.rest.beam.h == 0 then (if n.rest.beam.v == 0 then m else w.rest.frame) else w.rest.frame) (next_frame_is w.rest.frame few);
+    }
 
 pub one_timed : (own : Region) (w : ConsoleState) → IsTimed own w → w.rest.frame < 65535 → IsTimed own (after_one w)
 one_timed own w t few =
@@ -97,19 +120,11 @@ one_timed own w t few =
     let b = w.rest.beam in
     let n = after_one w in
     let beam = events_beam (moved w) (events_next w) in
-    let dot : n.rest.beam.h ≡ next_h b.h = ap (λ x. x.h) beam ∙ beam_dot o b in
-    let line : n.rest.beam.v ≡ (if b.h == 1363 then (if b.v + 1 == lines_of own then 0 else b.v + 1) else b.v) =
-    ap (λ x. x.v) beam ∙ beam_line o b ∙ ap (λ r. next_v r b.v b.h) t.region ∙ next_line own b.v b.h in
-    let frame : n.rest.frame ≡ (if n.rest.beam.h == 0 then (if n.rest.beam.v == 0 then w.rest.frame + 1 else w.rest.frame) else w.rest.frame) =
-    place_frame (moved w) (happens_next o b)
-    ∙ ap (λ l. if l then (if (beam_next o b).v == 0 then next_frame w.rest.frame else w.rest.frame) else w.rest.frame) (begins_line o b)
-    ∙ ap (λ h. if h == 0 then (if (beam_next o b).v == 0 then next_frame w.rest.frame else w.rest.frame) else w.rest.frame) (sym dot)
-    ∙ ap (λ (x : BeamValue). if n.rest.beam.h == 0 then (if x.v == 0 then next_frame w.rest.frame else w.rest.frame) else w.rest.frame) (sym beam)
-    ∙ ap (λ m. if n.rest.beam.h == 0 then (if n.rest.beam.v == 0 then m else w.rest.frame) else w.rest.frame) (next_frame_is w.rest.frame few) in
-    let so = timed_so own w.rest.frame b.v b.h n.rest.frame n.rest.beam.v n.rest.beam.h w.clock t.clock t.line t.dot few (dot ∙ next_line_clock b.h) line frame in
+    let on = one_on own w t few in
+    let so = timed_so own w.rest.frame b.v b.h n.rest.frame n.rest.beam.v n.rest.beam.h w.clock t.clock t.line t.dot few on.dot on.line on.frame in
     record { region = ap (λ x. x.region) beam ∙ beam_region o b ∙ t.region; clock = events_clock (moved w) (events_next w) ∙ so.0; line = so.1; dot = so.2 }
 
-one_later : (w : ConsoleState) → (after_one w).clock ≡ w.clock + 1
+pub one_later : (w : ConsoleState) → (after_one w).clock ≡ w.clock + 1
 one_later w = events_clock (moved w) (events_next w)
 
 pub clocks_timed : (own : Region) (k : ℕ) (w : ConsoleState) → IsTimed own w → w.clock + k < frame_clocks own * 65535 → IsTimed own (after_clocks w k)

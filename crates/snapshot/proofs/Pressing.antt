@@ -1,5 +1,5 @@
 -- The button pressed where a path ends.
-use Rattle.std.proofs.Common.{◌≡◌, ℕ, ◌+◌, ◌<◌, ◌≤◌, false, List, [], ◌∷◌, ◌++◌, length, length-append, refl, ap, sym, ◌∙◌, subst, arith}
+use Rattle.std.proofs.Common.{◌≡◌, ℕ, ◌<◌, ◌≤◌, nat_lt, not, ◌&&◌, Bool, true, false, List, [], ◌∷◌, ◌++◌, length, length-append, refl, ap, sym, ◌∙◌, subst, arith, lt-ltb, ltb-true, if◌then◌else◌}
 use Rattle.snes_defs.specs.declared.cart.Job.{Job}
 use Rattle.snes_defs.specs.Script.{Script, RiseWithin, frames_of, is_reset}
 use Rattle.clock_ratio.specs.Stamp.{end_stamp_of}
@@ -12,7 +12,8 @@ use Rattle.console_machine.specs.Playing.{console_pressed}
 use Rattle.audio_side.specs.Sound.{AudioValue, SoundState, sound_moves}
 use Rattle.audio_side.specs.Sound as sound_side
 use Rattle.audio_side.specs.Playing.{sound_pressed}
-use Rattle.plan_drive.specs.Paths.{Path, Paths, MayPress, pressed, reset_there}
+use Rattle.input_files.specs.declared.plan.PlanStep.TheVariants.{Reset}
+use Rattle.plan_drive.specs.Paths.{Path, Paths, MayPress, can_press, pressed, reset_there, after_step}
 use Rattle.snapshot.specs.declared.run.Run.{Run}
 use Rattle.snapshot.specs.declared.rewind.Rewind.{Rewind}
 use Rattle.snapshot.specs.Path.{PathEmits, start_of, end_of_path}
@@ -45,6 +46,38 @@ pub may_not : (path : Path) → MayPress path → (0 < frames_of path.spans) × 
 may_not path may =
     let last = (rise_last 1 36000 path.resets (frames_of path.spans) may).0 in
     (omega (arith, last), rise_below 1 36000 path.resets (frames_of path.spans) (frames_of path.spans) may (omega arith))
+
+-- the test says so
+both_true : (a b : Bool) → (a && not b) ≡ true → (a ≡ true) × (b ≡ false)
+both_true true true e = cc
+both_true true false e = (refl, refl)
+both_true false b e = cc
+
+can_so : (path : Path) → MayPress path → can_press path ≡ true
+can_so path may =
+    let both = may_not path may in
+    ap (λ b. nat_lt 0 (frames_of path.spans) && not b) both.1 ∙ ap (λ a. a && true) (lt-ltb 0 (frames_of path.spans) both.0)
+
+may_so : (path : Path) → frames_of path.spans ≤ 36000 → RiseWithin 1 (frames_of path.spans) path.resets → can_press path ≡ true → MayPress path
+may_so path few rise can =
+    let both = both_true (nat_lt 0 (frames_of path.spans)) (is_reset path.resets (frames_of path.spans)) can in
+    may_press path few rise (ltb-true 0 (frames_of path.spans) both.0) both.1
+
+-- a reset line of a plan: with a press, and without one
+abbrev with_press : Path → Bool → Path
+with_press path b = record { spans = path.spans; resets = if b then path.resets ++ frames_of path.spans ∷ [] else path.resets }
+
+module _ (job : Job) (n : ℕ) (paths : Paths) (r : Rewind) where
+  pub after_press : MayPress paths.path → IsRested job n (reset_there paths) r → IsRested job n (after_step paths Reset) r
+  after_press may h =
+      subst (λ b. IsRested job n (record { path = with_press paths.path b; held = paths.held }) r) (sym (can_so paths.path may)) h
+
+  pub after_none : (MayPress paths.path → ⊥) → IsRested job n paths r → IsRested job n (after_step paths Reset) r
+  after_none none h = go (can_press paths.path) refl
+    where
+      go : (b : Bool) → can_press paths.path ≡ b → IsRested job n (after_step paths Reset) r
+      go true can = let (video, audio, d) = h.now in absurd (none (may_so paths.path d.few d.rise can))
+      go false can = subst (λ b. IsRested job n (record { path = with_press paths.path b; held = paths.held }) r) (sym can) h
 
 -- a rewinder whose machines have the reset
 pub pressed_rested : (job : Job) (n : ℕ) (paths : Paths) (r : Rewind) (frame : ℕ) (x : ConsoleValue) (y : AudioValue)

@@ -1,5 +1,5 @@
-use Rattle.std.proofs.Common.{◌≡◌, ◌+◌, ◌<◌, [], ◌∷◌, ◌++◌, refl, ap, sym, subst, length}
-use Rattle.snes_defs.specs.Script.{Script, RiseWithin, frames_of}
+use Rattle.std.proofs.Common.{◌<◌, [], ◌∷◌, ◌++◌, refl, ap, sym, subst, length}
+use Rattle.snes_defs.specs.Script.{Script, RiseWithin}
 use Rattle.console_steps.specs.ConsoleState.{ConsoleState}
 use Rattle.console_machine.specs.Side as console_side
 use Rattle.console_machine.specs.Playing.{console_pressed, value_pressed}
