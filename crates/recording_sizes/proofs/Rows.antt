@@ -26,7 +26,7 @@ draws (HdmaLine ∷ es) = draws es
 draws (Timer ∷ es) = draws es
 
 draws_joined : (xs ys : List Event) → draws (xs ++ ys) ≡ draws xs + draws ys
-draws_joined [] ys = refl
+draws_joined [] ys = omega arith
 draws_joined (Line ∷ xs) ys = draws_joined xs ys
 draws_joined (Blank ∷ xs) ys = draws_joined xs ys
 draws_joined (HdmaFrame ∷ xs) ys = draws_joined xs ys
@@ -123,6 +123,10 @@ top_row : one (is_row 0 0) ≡ 0
 unfolding is_row
 top_row = refl
 
+first_place : rows_by 0 0 ≡ 0 + one (is_row 0 0)
+unfolding rows_by is_row
+first_place = refl
+
 enough_lines : (region : Region) (v : ℕ) → v + 1 ≡ lines_of region → 239 ≤ v
 enough_lines Ntsc v is = omega (arith, is)
 enough_lines Pal v is = omega (arith, is)
@@ -158,7 +162,7 @@ rows_so region frame v h frame' v' h' line dot dot_is line_is frame_is = ⊎_eli
         (λ last.
         let l : v' ≡ 0 = grind (arith, nat_tests) in
         let f : frame' ≡ frame + 1 = grind (arith, nat_tests) in
-        let rows = at 0 0 0 l d (frame_top 0 ∙ sym top_row) in
+        let rows = at 0 0 0 l d first_place in
         let none : one (is_row v' h') ≡ 0 = ap (λ x. one (is_row x h')) l ∙ ap (λ x. one (is_row 0 x)) d ∙ top_row in
         let all = frame_ends v (enough_lines region v last) in
         omega (arith, rows, none, all, here, f))

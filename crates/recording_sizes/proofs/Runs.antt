@@ -168,6 +168,7 @@ module _ (own : Region) (f : ℕ) (few : f ≤ 36000) where
       → HasEmitted (turn console_moves sound_moves w) (video + length (console_emits console_moves sound_moves w)) (audio + length (sound_emits console_moves sound_moves w))
   turn_emits w video audio h short = go (turn_of console_moves sound_moves w)
     where
+      end : ℕ
       end = end_stamp_of own f
 
       go : TurnOf console_moves sound_moves w
@@ -216,7 +217,7 @@ module _ (own : Region) (f : ℕ) (few : f ≤ 36000) where
       let audio_is = ap length out.audio_is in
       let samples = samples_at_end own f end.sound.clock.cycle (subst (λ n. end_stamp_of own f ≤ n) sound_is past.sound) all.sound_near in
       let made = all.audio_is in
-      record { video = omega (arith, size, top, frame, video_is); audio = omega (arith, made, samples, audio_is) }
+      record { video_size = omega (arith, size, top, frame, video_is); audio_size = omega (arith, made, samples, audio_is) }
 
 -- a console and a sound side before their first step have emitted nothing
 pub nothing_emitted : (own : Region) (f : ℕ) (few : f ≤ 36000) (w : SerialState ConsoleState SoundState)

@@ -18,11 +18,11 @@ returns c = λ told job pad1 pad2 picture samples is few frame.
     (path_size job told.most (path_told told) beyond.first_video beyond.first_audio (omega (arith, frames, few)) beyond.first) in
     let after = subst (λ k. HaveSizesOf job.region k (beyond.first_video ++ picture) (beyond.first_audio ++ samples)) frames_after
     (path_size job told.most (path_told (gone_on told pad1 pad2)) (beyond.first_video ++ picture) (beyond.first_audio ++ samples) (omega (arith, frames_after, few)) beyond.whole) in
-    let video = before.video in
-    let more_video = after.video in
+    let video = before.video_size in
+    let more_video = after.video_size in
     let video_size = length-append beyond.first_video picture in
-    let audio = before.audio in
-    let more_audio = after.audio in
+    let audio = before.audio_size in
+    let more_audio = after.audio_size in
     let audio_size = length-append beyond.first_audio samples in
     let most = few_samples job.region n in
     (omega (arith, video, more_video, video_size), omega (arith, audio, more_audio, audio_size, most))
