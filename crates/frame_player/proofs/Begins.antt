@@ -32,13 +32,12 @@ job_told cart boot table region most slots frames read job shows same_cart same_
 
 -- a console whose machines are at their start
 pub begun : (cart boot table : List ℕ) (region most slots : ℕ) (job : Job) (f : Frames) → IsJobOf (told_first cart boot table region most slots) job
-    → IsRested job most no_paths f.rewind → slot_count f.rewind ≡ slots + 1 → f.most ≡ most → f.slots ≡ slots → most ≤ 36000 → slots ≤ 64
+    → IsRested job most no_paths f.rewind → slot_count f.rewind ≡ slots → f.most ≡ most → f.slots ≡ slots → f.region ≡ job.region → most ≤ 36000 → slots ≤ 64
     → IsFramesOf (told_first cart boot table region most slots) f
-begun cart boot table region most slots job f is rested count most_is slots_is few slots_few =
+begun cart boot table region most slots job f is rested count most_is slots_is region_is few slots_few =
     let told = told_first cart boot table region most slots in
     let size : length told.held ≡ slots = length-replicate slots no_way in
     record {
-      spare = no_way;
       stands = record {
         job = job;
         is = is;
@@ -46,13 +45,13 @@ begun cart boot table region most slots job f is rested count most_is slots_is f
         rested = rested;
         path_is = refl;
         held_are = λ k lt. ap path_of (sym (get_or-replicate slots k no_way no_way (omega (arith, lt, size))));
-        spare_is = refl;
-        slots = count ∙ ap (λ n. n + 1) (sym size);
+        slots = count ∙ sym size;
         slots_few = omega (arith, slots_few, size);
         few = few;
       };
       most_is = most_is;
       slots_is = slots_is ∙ sym size;
+      region_is = region_is ∙ is.region;
     }
 
 pub ruleset jobs = (job_told)

@@ -3,3 +3,4 @@ pub mod Jobs
 pub mod Paths
 pub mod Puts
 pub mod Standing
+pub mod Sizes

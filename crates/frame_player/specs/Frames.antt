@@ -1,6 +1,8 @@
 -- What each call of a console does.
-use Rattle.std.specs.Prelude.{◌≡◌, ℕ, ◌+◌, ◌<◌, ◌≤◌, List, [], length, min, slice_index_or, ◌⊎◌}
+use Rattle.std.specs.Prelude.{◌≡◌, ℕ, ◌+◌, ◌-◌, ◌*◌, ◌<◌, ◌≤◌, List, [], length, min, slice_index_or, ◌⊎◌}
 use Rattle.snes_defs.specs.declared.cart.Job.{Job}
+use Rattle.snes_defs.specs.declared.region.Region.{Region}
+use Rattle.clock_ratio.specs.Stamp.{end_stamp_of, samples_before_of}
 use Rattle.snes_defs.specs.declared.ports.Side.{Side}
 use Rattle.snes_defs.specs.declared.ports.Side.TheVariants.{Console, Sound}
 use Rattle.plan_drive.specs.Paths.{Paths}
@@ -14,27 +16,26 @@ use Rattle.frame_player.specs.declared.ends.BeginEnd.TheVariants as begin
 use Rattle.frame_player.specs.declared.ends.FrameEnd.{FrameEnd}
 use Rattle.frame_player.specs.declared.ends.FrameEnd.TheVariants as frame
 use Rattle.frame_player.specs.declared.console.Frames.{Frames}
-use Rattle.frame_player.specs.Told.{Told, Way, IsJobOf, boot_of, gone_on, no_way, path_of, path_told, table_of}
+use Rattle.frame_player.specs.Told.{Told, IsJobOf, boot_of, gone_on, no_way, path_of, path_told, region_of, table_of}
 
--- A REWINDER STANDS at the path that was told. Its slots hold the paths that were told, and one slot more holds a spare
-pub record StandsAt (told : Told) (spare : Way) (r : Rewind) : Type 0 where
+-- A REWINDER STANDS at the path that was told, and its slots hold the paths that were told
+pub record StandsAt (told : Told) (r : Rewind) : Type 0 where
   pub job : Job
   pub is : IsJobOf told job
   pub paths : Paths
   pub rested : IsRested job told.most paths r
   pub path_is : paths.path ≡ path_told told
   pub held_are : (k : ℕ) → k < length told.held → paths.held k ≡ path_of (slice_index_or told.held k no_way)
-  pub spare_is : paths.held (length told.held) ≡ path_of spare
-  pub slots : slot_count r ≡ length told.held + 1
+  pub slots : slot_count r ≡ length told.held
   pub slots_few : length told.held ≤ 64
   pub few : told.most ≤ 36000
 
 -- THE CONSOLE of what was told
 pub record IsFramesOf (told : Told) (f : Frames) : Type 0 where
-  pub spare : Way
-  pub stands : StandsAt told spare f.rewind
+  pub stands : StandsAt told f.rewind
   pub most_is : f.most ≡ told.most
   pub slots_is : f.slots ≡ length told.held
+  pub region_is : f.region ≡ region_of told.region
 
 -- WHAT A FRAME HANDS OUT: what the serial console emits for the job with the pads and resets of the path and with the pads
 -- of this frame, beyond what it emits for the job with those of the path
@@ -44,14 +45,19 @@ IsFrameOf told pad1 pad2 picture samples =
     → IsBeyond job told.most (path_told told) (path_told (gone_on told pad1 pad2)) picture samples
 
 -- a rewinder went on by a frame, and these rooms took what it emits
-pub record WentOn (told : Told) (spare : Way) (pad1 pad2 : ℕ)
+pub record WentOn (told : Told) (pad1 pad2 : ℕ)
     (holds : Side → List ℕ → Type 0) (r : Rewind) : Type 0 where
   pub picture : List ℕ
   pub samples : List ℕ
   pub is : IsFrameOf told pad1 pad2 picture samples
   pub picture_taken : holds Console picture
   pub samples_taken : holds Sound samples
-  pub stands : StandsAt (gone_on told pad1 pad2) spare r
+  pub stands : StandsAt (gone_on told pad1 pad2) r
+
+-- how many bytes the samples of a frame have, by its number from 0: those between its beginning and its end
+abbrev pub samples_size : Region → ℕ → ℕ
+samples_size region frame =
+    4 * (samples_before_of region (end_stamp_of region (frame + 1)) - samples_before_of region (end_stamp_of region frame))
 
 -- the room of a side among two, and the most that a frame has of it
 abbrev pub room_of : (video_room sound_room : ℕ) → Side → ℕ

@@ -133,11 +133,12 @@ fn made(alloc: Global, job: &Job, most: u32, slots: u32) -> Result<Frames, NoMem
     requires script { job.now.script ≡ path_script job.now.region 0 empty_path }
     requires few { slots ≤ 64 }
     ensures rested { IfOk result (λ f. IsRested job.now most no_paths f.rewind) }
-    ensures slots { IfOk result (λ f. slot_count f.rewind ≡ slots + 1) }
+    ensures slots { IfOk result (λ f. slot_count f.rewind ≡ slots) }
     ensures most_is { IfOk result (λ f. f.most ≡ most) }
     ensures slots_is { IfOk result (λ f. f.slots ≡ slots) }
+    ensures region_is { IfOk result (λ f. f.region ≡ job.now.region) }
 {
-    let rewind = Rewind::with_room(alloc, job, most as usize, slots as usize + 1)?;
+    let rewind = Rewind::with_room(alloc, job, most as usize, slots as usize)?;
     let Ok(buffer) = vec![in alloc; 0u8; BUFFER] else {
         return Err(NoMemory);
     };
@@ -149,5 +150,6 @@ fn made(alloc: Global, job: &Job, most: u32, slots: u32) -> Result<Frames, NoMem
         bytes: FrameBytes { video, sound },
         most,
         slots: slots as u8,
+        region: job.region,
     })
 }

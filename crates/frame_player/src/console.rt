@@ -2,6 +2,7 @@ ghost use Rattle.std.specs.Prelude.{◌≡◌, ◌≤◌, vec_len};
 
 use crate::frame_bytes::FrameBytes;
 use snapshot::Rewind;
+use snes_defs::Region;
 
 /// A console between two frames, and its save states.
 #[derive(Drop)]
@@ -11,8 +12,9 @@ pub struct Frames {
     pub(crate) bytes: FrameBytes,
     /// How many frames a path may last.
     pub(crate) most: u32,
-    /// How many slots the caller has. The rewinder has one more: where a frame begins is stored there while it is played.
+    /// How many slots there are.
     pub(crate) slots: u8,
+    pub(crate) region: Region,
     ghost drains: { 1024 ≤ vec_len buffer },
     ghost picture_fits: { vec_len bytes.video.bytes ≡ 244736 },
     ghost samples_fit: { vec_len bytes.sound.bytes ≡ 2560 },

@@ -1,5 +1,5 @@
 // A sink for the bytes of one frame. It takes all bytes, and keeps those that fit.
-ghost use Rattle.std.specs.Prelude.{◌≡◌, ◌≢◌, ◌≤◌, ℕ, List, [], length, min, OnOk, OnErr, IfOk, nat_lt};
+ghost use Rattle.std.specs.Prelude.{◌≡◌, ◌≢◌, ◌≤◌, ℕ, List, [], length, OnOk, OnErr, IfOk};
 ghost use Rattle.snes_defs.specs.declared.ports.Side.{Side};
 ghost use Rattle.run_drive.specs.Run.{Adds, AddsSome};
 ghost use Rattle.frame_player.specs.FrameBytes.{Takes, TakesOf, SameRooms};
@@ -28,13 +28,6 @@ impl SideBytes {
             return Err(NoMemory);
         };
         Ok(SideBytes { bytes, count: 0 })
-    }
-
-    /// Whether more bytes came than fit into the room, or into one of `size` bytes.
-    pub(crate) fn is_beyond(&self, size: usize) -> bool
-        ensures { result ≡ nat_lt (min (length self.now.bytes.items) size) self.now.count }
-    {
-        self.count > self.bytes.len().min(size)
     }
 
     /// Copies the bytes to the front of a room of the caller, and returns how many they are.

@@ -1,15 +1,28 @@
-ghost use Rattle.std.specs.Prelude.{◌≡◌, ◌<◌, ◌≤◌, ℕ, List, length, min, IfOk, IfErr, IfSome, IsNone, IsTrue, IsFalse};
+ghost use Rattle.std.specs.Prelude.{◌≡◌, ◌<◌, ◌≤◌, ℕ, List, length, min, IfOk, IfErr, IsTrue, IsFalse};
 ghost use Rattle.snes_defs.specs.declared.ports.Side.{Side};
 ghost use Rattle.memory_player.specs.Filled.{in_front};
 ghost use Rattle.frame_player.specs.Told.{Told, MayReset, gone_on, kept_in, back_to, pressed_in, word_of};
-ghost use Rattle.frame_player.specs.FrameBytes.{TakesOf, side_of};
-ghost use Rattle.frame_player.specs.Frames.{IsFramesOf, FramePlayed, EndsFrame, room_of, most_of};
+ghost use Rattle.frame_player.specs.FrameBytes.{TakesOf};
+ghost use Rattle.frame_player.specs.Frames.{IsFramesOf, FramePlayed, EndsFrame, samples_size};
 
+use crate::begin::FRAME_BYTES;
 use crate::console::Frames;
 use crate::ends::FrameEnd;
-use crate::moves::{go, go_back, keep_in, load, press, save};
+use crate::moves::{go, go_back, keep_in, press};
+use clock_ratio::{end_stamp_in, samples_before_in};
 use memory_player::Counts;
-use snes_defs::{Side, Span};
+use snes_defs::{Region, Side, Span};
+
+/// How many bytes the samples of a frame have, the frames of the path counted from 0.
+fn sound_bytes(region: Region, frame: u32) -> usize
+    requires { frame < 36000 }
+    ensures exact { result ≡ samples_size region frame }
+    ensures few { result ≤ 2560 }
+{
+    let before = samples_before_in(region, end_stamp_in(region, frame));
+    let after = samples_before_in(region, end_stamp_in(region, frame + 1));
+    4 * (after - before) as usize
+}
 
 impl Frames {
     /// Plays a frame with these pads, and copies its picture and its samples to the front of both rooms.
@@ -33,10 +46,16 @@ impl Frames {
             → IfErr result (EndsFrame told (word_of pad1) (word_of pad2) video.old sound.old video.new sound.new) }
         ensures stays { (told : Told) → IsFramesOf told self.old → IfErr result (λ end. IsFramesOf told self.new) }
     {
-        if self.rewind.frames() >= self.most {
+        let frames = self.rewind.frames();
+        if frames >= self.most {
             return Err(FrameEnd::Frames);
         }
-        save(&mut self.rewind, self.slots);
+        if video.len() < FRAME_BYTES {
+            return Err(FrameEnd::TooShort(Side::Console));
+        }
+        if sound.len() < sound_bytes(self.region, frames) {
+            return Err(FrameEnd::TooShort(Side::Sound));
+        }
         let span = Span {
             count: 1,
             pad1: pad1 / 16 * 16,
@@ -48,27 +67,7 @@ impl Frames {
             self.buffer.as_mut_slice(),
             &mut self.bytes,
         );
-        if let Some(side) = self.longer(video.len(), sound.len()) {
-            load(&mut self.rewind, self.slots);
-            return Err(FrameEnd::TooShort(side));
-        }
         Ok(self.hand_out(video, sound))
-    }
-
-    /// Returns the side whose bytes of the last frame are longer than a room, if there is one, the console's first.
-    fn longer(&self, video_room: usize, sound_room: usize) -> Option<Side>
-        ensures none { IsNone result → (self.now.bytes.video.count ≤ min video_room 244736)
-            × (self.now.bytes.sound.count ≤ min sound_room 2560) }
-        ensures some { IfSome result (λ side.
-            min (room_of video_room sound_room side) (most_of side) < (side_of self.now.bytes side).count) }
-    {
-        if self.bytes.video.is_beyond(video_room) {
-            return Some(Side::Console);
-        }
-        if self.bytes.sound.is_beyond(sound_room) {
-            return Some(Side::Sound);
-        }
-        None
     }
 
     /// Copies the bytes of the last frame to the rooms of the caller.

@@ -8,17 +8,17 @@ tell on off = cc
 
 pub reset-requires : goal.reset-requires
 reset-requires c =
-    let (told, other, h) = c.requires.stands in
+    let (told, h) = c.requires.stands in
     let may = (c.may_reset.ensures h.job told.most h.paths h.rested).0 c.if-may_reset.true in
-    record { rested = (h.job, told.most, h.paths, h.rested, reset_fits told other c.args.rewind.now h may, may) }
+    record { rested = (h.job, told.most, h.paths, h.rested, reset_fits told c.args.rewind.now h may, may) }
 
 pub returns-then-may_reset-clause-pressed : goal.returns-then-may_reset-clause-pressed
-returns-then-may_reset-clause-pressed c = λ told other h on.
+returns-then-may_reset-clause-pressed c = λ told h on.
     let may = (c.may_reset.ensures h.job told.most h.paths h.rested).0 c.if-may_reset.true in
-    (may_told told other c.args.rewind.now h may, pressed_so told other c.args.rewind.now c.reset.new.self h c.reset.ensures.reset c.reset.ensures.slots)
+    (may_told told c.args.rewind.now h may, pressed_so told c.args.rewind.now c.reset.new.self h c.reset.ensures.reset c.reset.ensures.slots)
 
 pub returns-clause-none : goal.returns-clause-none
-returns-clause-none c = λ told other h off. (
-  λ may. (let on = (c.may_reset.ensures h.job told.most h.paths h.rested).1 (may_press told other c.args.rewind.now h may) in tell on c.if-may_reset.false),
+returns-clause-none c = λ told h off. (
+  λ may. (let on = (c.may_reset.ensures h.job told.most h.paths h.rested).1 (may_press told c.args.rewind.now h may) in tell on c.if-may_reset.false),
   h,
 )

@@ -2,7 +2,7 @@ use Rattle.std.proofs.Common.{refl}
 use Rattle.side_law.specs.Serial.{serial_of}
 use Rattle.job_player.specs.Start.{console_of, sound_of}
 use Rattle.recording_sizes.proofs.Runs.{output_size, nothing_emitted}
-use Rattle.recording_sizes.proofs.sizes.a_recording_has_its_size.Goals as goal
+use Rattle.frame_player_laws.proofs.sizes.a_recording_has_its_size.Goals as goal
 
 pub returns : goal.returns
 returns c = λ job video audio few out.
