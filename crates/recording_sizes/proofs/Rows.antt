@@ -9,7 +9,7 @@ use Rattle.beam.specs.declared.events.Event.TheVariants.{Line, Blank, HdmaFrame,
 use Rattle.beam.specs.declared.events.Happens.{Happens}
 use Rattle.beam.specs.Events.{BeamValue, one_if, events_of, happens_next, happens_at, lines_of, next_h, next_v}
 use Rattle.console_bus.specs.BusState.{BusState}
-use Rattle.console_bus.specs.Happenings.{emitted_at, row_bytes, byte_of_dots, shown_dot}
+use Rattle.console_bus.specs.Happenings.{row_bytes, byte_of_dots, shown_dot}
 use Rattle.console_steps.specs.ConsoleState.{ConsoleState, after_event, bytes_of_events}
 use Rattle.console_steps.proofs.RowBytes.{length-list_of}
 

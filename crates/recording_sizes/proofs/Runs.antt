@@ -1,14 +1,14 @@
 -- What a serial run has emitted, by where its two sides are.
-use Rattle.std.proofs.Common.{◌≡◌, ℕ, zero, suc, ◌+◌, ◌*◌, ◌/◌, ◌<◌, ◌≤◌, List, [], ◌++◌, length, length-append, refl, sym, ap, subst, ◌∙◌, ⊎_elim, arith, if◌then◌else◌}
+use Rattle.std.proofs.Common.{◌≡◌, ℕ, zero, suc, ◌+◌, ◌*◌, ◌/◌, ◌<◌, ◌≤◌, List, [], length, length-append, refl, sym, ap, subst, ◌∙◌, ⊎_elim, arith, if◌then◌else◌}
 use Rattle.std.proofs.lemmas.Bool.{cases_lt}
 use Rattle.snes_defs.specs.declared.region.Region.{Region}
 use Rattle.snes_defs.specs.declared.region.Region.TheVariants.{Ntsc, Pal}
 use Rattle.snes_defs.specs.declared.ports.Side.TheVariants.{Console, Sound}
 use Rattle.clock_ratio.specs.Stamp.{rate_of, end_stamp_of}
 use Rattle.beam.specs.Events.{lines_of, happens_next, next_h, next_v}
-use Rattle.side_law.specs.Serial.{SerialState, turn, console_step, sound_step, console_emits, sound_emits, console_got, sound_got, is_console_first}
+use Rattle.side_law.specs.Serial.{SerialState, turn, console_step, sound_step, console_emits, sound_emits, console_got, sound_got}
 use Rattle.side_law.specs.SerialRun.{IsPast, IsOutput, after_turns, console_output, sound_output}
-use Rattle.side_law.proofs.SerialKeeps.{TurnOf, by_console, by_sound, turn_of, turn_console, turn_sound}
+use Rattle.side_law.proofs.SerialKeeps.{TurnOf, by_console, by_sound, turn_of}
 use Rattle.console_steps.specs.ConsoleState.{ConsoleState, Due, due_of, due_clocks, effect, rest_after, moved, events_next, overscan_of, after_clocks, bytes_in, bytes_of_events, console_after, bytes_after, console_moves}
 use Rattle.console_machine.specs.Keeping.{effect_beam}
 use Rattle.console_machine.specs.SideLaws.{due_step}
@@ -16,14 +16,14 @@ use Rattle.audio_side.specs.Sound.{SoundState, sound_moves, hardware_before_end}
 use Rattle.snapshot.proofs.Effects.{effect_keeps}
 use Rattle.snapshot.proofs.Numbers.{frame_clocks, clock_at, few_frames, early_clock, ends_within, longest, some_lines}
 use Rattle.snapshot.proofs.Clocks.{IsTimed, events_beam, beam_line, beam_dot}
-use Rattle.snapshot.proofs.ConsoleStates.{after_one, one_on, one_timed, one_later, clocks_timed, effect_timed}
+use Rattle.snapshot.proofs.ConsoleStates.{after_one, one_on, one_timed, one_later, effect_timed}
 use Rattle.snes_defs.specs.declared.cart.Job.{Job}
 use Rattle.snes_defs.specs.Script.{frames_of}
 use Rattle.plan_drive.specs.Paths.{Path}
 use Rattle.snapshot.specs.Path.{PathEmits, start_of}
 use Rattle.recording_sizes.specs.Sizes.{HaveSizesOf}
 use Rattle.recording_sizes.proofs.Rows.{bytes_size, draws, draws_of, draws_next, one, is_row, rows_by, rows_so, frame_top}
-use Rattle.recording_sizes.proofs.Samples.{one_at, emitted_size, samples_so, samples_at_end}
+use Rattle.recording_sizes.proofs.Samples.{emitted_size, samples_so, samples_at_end}
 
 -- ---- the console
 

@@ -1,6 +1,3 @@
-use Rattle.std.proofs.Common.{refl}
-use Rattle.snes_defs.specs.Script.{frames_of}
-use Rattle.snapshot.specs.Path.{start_of}
 use Rattle.recording_sizes.proofs.Runs.{path_size}
 use Rattle.recording_sizes.proofs.sizes.a_path_has_its_size.Goals as goal
 
