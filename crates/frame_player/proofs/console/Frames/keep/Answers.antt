@@ -10,9 +10,9 @@ returns-clause-kept c = λ told h is.
     let lt : c.args.slot < length told.held = omega (arith, slots, short) in (
       lt,
       record {
-        spare = h.spare;
-        stands = c.keep_in.ensures.kept told h.spare h.stands lt;
+        stands = c.keep_in.ensures.kept told h.stands lt;
         most_is = h.most_is;
         slots_is = slots ∙ sym (length-set told.held c.args.slot (way_of told));
+        region_is = h.region_is;
       },
     )
