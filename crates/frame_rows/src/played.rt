@@ -35,14 +35,16 @@ impl Played {
         }
     }
 
-    /// Plays a frame with this pad of controller 1.
-    fn play(&mut self, pad: u16) -> Result<(), FrameEnd>
+    /// Plays a frame with this pad of controller 1, into rooms of so many bytes, at most 244,736 and 2,560.
+    pub fn play_into(&mut self, pad: u16, video: usize, sound: usize) -> Result<(), FrameEnd>
         requires { IsConsole self.old }
         ensures { IsConsole self.new }
     {
-        let video = self.video.as_mut_slice();
-        let sound = self.sound.as_mut_slice();
-        match self.console.frame(pad, 0, video, sound) {
+        let video = video.min(self.video.len());
+        let sound = sound.min(self.sound.len());
+        let picture = &mut self.video.as_mut_slice()[..video];
+        let samples = &mut self.sound.as_mut_slice()[..sound];
+        match self.console.frame(pad, 0, picture, samples) {
             Ok(counts) => {
                 self.samples = self.samples.saturating_add(counts.sound / 4);
                 Ok(())
@@ -57,7 +59,7 @@ impl Played {
         ensures { IsConsole self.new }
     {
         for _ in 0..frames {
-            match self.play(pad) {
+            match self.play_into(pad, 244_736, 2_560) {
                 Ok(()) => {}
                 Err(end) => return Err(end),
             }
@@ -65,32 +67,6 @@ impl Played {
         let low = self.video.first().copied().unwrap_or(0);
         let high = self.video.get(1).copied().unwrap_or(0);
         Ok(u16::from(low) + 256 * u16::from(high))
-    }
-
-    /// Plays a frame into a room of 100 bytes for its picture, and returns why that was not done.
-    pub fn play_short_picture(&mut self) -> Option<FrameEnd>
-        requires { IsConsole self.old }
-        ensures { IsConsole self.new }
-    {
-        let mut short = [7u8; 100];
-        let sound = self.sound.as_mut_slice();
-        match self.console.frame(0, 0, &mut short, sound) {
-            Ok(_) => None,
-            Err(end) => Some(end),
-        }
-    }
-
-    /// Plays a frame into a room of 100 bytes for its samples, and returns why that was not done.
-    pub fn play_short_sound(&mut self) -> Option<FrameEnd>
-        requires { IsConsole self.old }
-        ensures { IsConsole self.new }
-    {
-        let mut short = [7u8; 100];
-        let video = self.video.as_mut_slice();
-        match self.console.frame(0, 0, video, &mut short) {
-            Ok(_) => None,
-            Err(end) => Some(end),
-        }
     }
 
     /// Stores the state in a slot.

@@ -78,11 +78,15 @@ fn a_reset_shuts_the_door(rt: HostRuntime) -> Result<(), Fail> {
 #[test]
 fn a_room_too_short_changes_nothing(rt: HostRuntime) -> Result<(), Fail> {
     let mut played = Played::begin(rt.alloc(), Region::Ntsc).ok_or("no console")?;
-    let picture = FrameEnd::TooShort(Side::Console);
-    assert_eq!(rt; played.play_short_picture(), Some(picture));
-    let samples = FrameEnd::TooShort(Side::Sound);
-    assert_eq!(rt; played.play_short_sound(), Some(samples));
-    assert_eq!(rt; played.dot_after(5, 0), Ok(RED));
+    let picture = Err(FrameEnd::TooShort(Side::Console));
+    let samples = Err(FrameEnd::TooShort(Side::Sound));
+    assert_eq!(rt; played.play_into(0, 244_735, 2_560), picture);
+    // The first two frames have 532 samples, the third has 533.
+    assert_eq!(rt; played.play_into(0, 244_736, 2_127), samples);
+    assert_eq!(rt; played.play_into(0, 244_736, 2_128), Ok(()));
+    assert_eq!(rt; played.play_into(0, 244_736, 2_128), Ok(()));
+    assert_eq!(rt; played.play_into(0, 244_736, 2_131), samples);
+    assert_eq!(rt; played.dot_after(3, 0), Ok(RED));
     assert_eq!(rt; played.samples, 2_662);
     Ok(())
 }
