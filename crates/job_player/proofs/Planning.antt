@@ -1,7 +1,7 @@
 -- The memory of a plan that is played on a job without a script, and the job of a path.
 use Rattle.std.proofs.Common.{◌≡◌, ℕ, List, [], ◌∷◌, ◌++◌, max, ap, sym, ◌∙◌, arith}
 use Rattle.snes_defs.specs.declared.cart.Job.{Job}
-use Rattle.snes_defs.specs.Script.{Script, frames_of}
+use Rattle.snes_defs.specs.Script.{Script}
 use Rattle.snes_defs.specs.declared.ports.Side.{Side}
 use Rattle.input_files.specs.declared.plan.PlanStep.{PlanStep}
 use Rattle.input_files.specs.declared.plan.PlanStep.TheVariants.{Go, Keep, Back, Reset}
