@@ -3,7 +3,6 @@ use Rattle.std.proofs.Common.{◌≡◌, ◌≤◌, ℕ, List, [], Option, IfSom
 use Rattle.snes_defs.specs.declared.cart.Job.{Job}
 use Rattle.shelf.specs.declared.shelves.Input.{Input}
 use Rattle.shelf.specs.declared.shelves.Input.TheVariants.{Sums}
-use Rattle.shelf.specs.declared.shelves.Out.{Out}
 use Rattle.shelf.specs.Shown.{Shown}
 use Rattle.run_drive.specs.Played.{IsPlayable}
 use Rattle.run_io.specs.declared.options.Count.TheVariants.{Frames}

@@ -1,5 +1,5 @@
 -- Words that are in a form ask for its command, and others for nothing.
-use Rattle.std.proofs.Common.{◌≡◌, List, ℕ, Option, None, Some, subst, sym}
+use Rattle.std.proofs.Common.{◌≡◌, List, ℕ, None, Some, subst, sym}
 use Rattle.run_io.specs.Form.{Order, order_in}
 use Rattle.snes_program.specs.Command.{Command}
 use Rattle.snes_program.specs.Commands.{ordered, asks, IsNothing}

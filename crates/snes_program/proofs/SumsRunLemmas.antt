@@ -1,5 +1,5 @@
 -- What is put to the output for sums is what `sums` makes.
-use Rattle.std.proofs.Common.{◌≡◌, ◌≤◌, ℕ, List, [], ◌∷◌, length, Option, refl, sym, ap, ◌∙◌, subst, arith}
+use Rattle.std.proofs.Common.{◌≡◌, ◌≤◌, ℕ, List, [], ◌∷◌, Option, refl, sym, ap, ◌∙◌}
 use Rattle.snes_defs.specs.declared.cart.Job.{Job}
 use Rattle.shelf.specs.declared.shelves.Input.{Input}
 use Rattle.shelf.specs.declared.shelves.Out.TheVariants.{Sums}

@@ -1,4 +1,4 @@
-use Rattle.std.proofs.Common.{rules, ◌≡◌, ℕ, Bool, true, false, nat_eq}
+use Rattle.std.proofs.Common.{rules, ◌≡◌, true, false, nat_eq}
 use Rattle.run_io.specs.Settings.{count_set}
 use Rattle.run_io.specs.Form.{order_by}
 use Rattle.snes_program.specs.Play.{play_settings}
