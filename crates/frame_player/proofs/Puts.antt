@@ -93,10 +93,6 @@ whole_count s bytes c le h = sym (held_count s bytes c le h)
 pub whole_front : (s bytes : List ℕ) (c : ℕ) → c ≤ length s → Takes s c bytes → take c s ≡ bytes
 whole_front s bytes c le h = had_front s bytes c le h
 
--- no more are counted than came
-pub few_counted : (s bytes : List ℕ) (c : ℕ) → Takes s c bytes → c ≤ length bytes
-few_counted s bytes c h = let is = h.count_is in omega (arith, is)
-
 pub ruleset copies = (whole_count, whole_front)
 
 -- the room of one side is filled, and that of the other stays

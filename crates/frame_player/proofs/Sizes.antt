@@ -1,12 +1,11 @@
 -- How many bytes the next frame of a console has, before it is played: which rooms are too short for it.
-use Rattle.std.proofs.Common.{◌≡◌, ℕ, ◌+◌, ◌-◌, ◌*◌, ◌<◌, ◌≤◌, min, List, [], ◌∷◌, ◌++◌, length, length-append, refl, ap, sym, ◌∙◌, subst, arith}
+use Rattle.std.proofs.Common.{◌≡◌, ℕ, ◌+◌, ◌<◌, ◌≤◌, min, List, [], ◌∷◌, ◌++◌, length, length-append, refl, ap, sym, ◌∙◌, subst, arith}
 use Rattle.snes_defs.specs.declared.cart.Job.{Job}
-use Rattle.snes_defs.specs.declared.ports.Side.{Side}
 use Rattle.snes_defs.specs.declared.ports.Side.TheVariants.{Console, Sound}
 use Rattle.snes_defs.specs.declared.region.Region.{Region}
 use Rattle.snes_defs.specs.declared.script.Span.{Span}
 use Rattle.snes_defs.specs.Script.{frames_of}
-use Rattle.plan_drive.specs.Paths.{Path, longer}
+use Rattle.plan_drive.specs.Paths.{longer}
 use Rattle.snapshot.specs.declared.rewind.Rewind.{Rewind}
 use Rattle.snapshot.specs.Positions.{IsBeyond}
 use Rattle.snapshot.proofs.Steps.{goes_further}
@@ -15,9 +14,9 @@ use Rattle.recording_sizes.proofs.Runs.{path_size}
 use Rattle.recording_sizes.proofs.Samples.{few_samples}
 use Rattle.frame_player.specs.declared.console.Frames.{Frames}
 use Rattle.frame_player.specs.declared.frame_bytes.FrameBytes.{FrameBytes}
-use Rattle.frame_player.specs.FrameBytes.{Takes, TakesOf}
-use Rattle.frame_player.specs.Told.{Told, IsJobOf, gone_on, path_told, region_of, spans_of}
-use Rattle.frame_player.specs.Frames.{StandsAt, WentOn, IsFramesOf, IsFrameOf, FramePlayed, EndsFrame, IsLonger, RoomsStay, samples_size}
+use Rattle.frame_player.specs.FrameBytes.{TakesOf}
+use Rattle.frame_player.specs.Told.{Told, IsJobOf, gone_on, path_told, region_of}
+use Rattle.frame_player.specs.Frames.{WentOn, IsFramesOf, IsFrameOf, EndsFrame, samples_size}
 use Rattle.frame_player.specs.declared.ends.FrameEnd.TheVariants as frame
 use Rattle.frame_player.specs.Joined.{spans_frames}
 use Rattle.frame_player.proofs.Jobs.{same_beyond}
