@@ -97,6 +97,22 @@ fn judge(alloc: Global, keeps: bool, case: &Case, task: Task) -> Result<Verdict,
     Ok(verdict)
 }
 
+/// Runs a case that is dealt to a worker, and adds the verdict on it.
+fn add_judged(
+    alloc: Global,
+    keeps: bool,
+    wave: &[Case],
+    dealt: Dealt,
+    done: &mut Vec<Judged>,
+) -> Result<(), AllocError> {
+    let Dealt { place, task } = dealt;
+    if let Some(case) = wave.get(place) {
+        let verdict = judge(alloc, keeps, case, task)?;
+        done.push(Judged { place, verdict })?;
+    }
+    Ok(())
+}
+
 /// Runs the cases that are dealt to a worker.
 fn work(
     alloc: Global,
@@ -106,11 +122,7 @@ fn work(
 ) -> Result<Vec<Judged>, AllocError> {
     let mut done = Vec::new(alloc);
     for dealt in hand {
-        let Dealt { place, task } = dealt;
-        if let Some(case) = wave.get(place) {
-            let verdict = judge(alloc, keeps, case, task)?;
-            done.push(Judged { place, verdict })?;
-        }
+        add_judged(alloc, keeps, wave, dealt, &mut done)?;
     }
     Ok(done)
 }
@@ -124,33 +136,40 @@ fn empty_hands(alloc: Global, count: usize) -> Result<Vec<Vec<Dealt>>, AllocErro
     Ok(hands)
 }
 
-/// The verdicts, in the order of the cases. A case without one can't have been run.
+/// The verdict on a case. A case without one can't have been run.
+fn verdict_in(alloc: Global, slot: Option<Verdict>) -> Result<Verdict, AllocError> {
+    match slot {
+        Some(verdict) => Ok(verdict),
+        None => Verdict::fault(alloc, String::from_str(alloc, "no worker has run it")?),
+    }
+}
+
+/// The verdicts, in the order of the cases.
 fn in_order(alloc: Global, found: Vec<Option<Verdict>>) -> Result<Vec<Verdict>, AllocError> {
     let mut verdicts = Vec::new(alloc);
     for slot in found {
-        match slot {
-            Some(verdict) => verdicts.push(verdict)?,
-            None => {
-                let reason = String::from_str(alloc, "no worker has run it")?;
-                verdicts.push(Verdict::fault(alloc, reason)?)?;
-            }
-        }
+        verdicts.push(verdict_in(alloc, slot)?)?;
     }
     Ok(verdicts)
 }
 
+/// Puts the verdicts of a worker to the places of their cases.
+fn put_list(found: &mut [Option<Verdict>], list: Vec<Judged>) {
+    for judged in list {
+        let Judged { place, verdict } = judged;
+        if let Some(slot) = found.get_mut(place) {
+            *slot = Some(verdict);
+        }
+    }
+}
+
 /// Puts the verdicts of the workers to the places of their cases.
 fn put_in(
-    found: &mut Vec<Option<Verdict>>,
+    found: &mut [Option<Verdict>],
     lists: Vec<Result<Vec<Judged>, AllocError>>,
 ) -> Result<(), AllocError> {
     for list in lists {
-        for judged in list? {
-            let Judged { place, verdict } = judged;
-            if let Some(slot) = found.get_mut(place) {
-                *slot = Some(verdict);
-            }
-        }
+        put_list(found, list?);
     }
     Ok(())
 }
@@ -213,7 +232,7 @@ fn judge_into<R: Files + Print + AllocGlobal + Threads + Sync>(
     found: &mut Vec<Option<Verdict>>,
 ) -> Result<()> {
     let lists = run_wave(rt, wanted, workers, wave, found)?;
-    Ok(put_in(found, lists)?)
+    Ok(put_in(found.as_mut_slice(), lists)?)
 }
 
 /// Judges the cases of a wave. The verdicts are in the order of the cases. `before` is how many cases are before it.

@@ -10,6 +10,7 @@ use anyhow::Result;
 use bench_cases::{Case, FrameCheck, MemoryCheck, Sum, is_heard_as, is_silent, is_sum_met};
 use bench_report::{Golden, Shot, Verdict};
 use frame_sums::{SumPair, SumsFile};
+use golden_frame::Found;
 use sha2::{Digest, Sha256};
 use std::alloc::Global;
 
@@ -170,19 +171,32 @@ impl<'a> Judging<'a> {
         Ok(())
     }
 
+    /// Tells what the comparison of the picture of a frame with a golden PNG found.
+    fn tell_png(
+        &mut self,
+        frame: u32,
+        picture: &[u8],
+        png: &GoldenPng,
+        found: &Found,
+    ) -> Result<()> {
+        let Some(place) = found.place else {
+            return Ok(());
+        };
+        let line = png.line_of(self.alloc, found.differing, place)?;
+        self.verdict.fail(line)?;
+        if self.keeps {
+            self.keep_png(frame, picture, png, found.turned())?;
+        }
+        Ok(())
+    }
+
     /// Compares the picture of a frame with its golden PNGs.
     fn check_pngs(&mut self, frame: u32, picture: &[u8]) -> Result<()> {
         let (alloc, compared) = (self.alloc, self.compared);
         for png in compared.pngs.as_slice() {
             if png.at == frame {
                 let found = png.compare(alloc, picture)?;
-                if let Some(place) = found.place {
-                    self.verdict
-                        .fail(png.line_of(alloc, found.differing, place)?)?;
-                    if self.keeps {
-                        self.keep_png(frame, picture, png, found.turned())?;
-                    }
-                }
+                self.tell_png(frame, picture, png, &found)?;
             }
         }
         Ok(())

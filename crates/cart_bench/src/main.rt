@@ -31,7 +31,7 @@ use clap::ArgMatches;
 use companion_words::{DONE, FAULT, NO, Program, answer, command, exit_of};
 use jobs::{Crew, judge_wave};
 use standard_streams::hold_standard_streams;
-use std::alloc::Global;
+use std::alloc::{AllocError, Global};
 use std::io::IsTerminal;
 use std::process::ExitCode;
 use std::rt::{Env, Files};
@@ -46,17 +46,23 @@ fn folder_of<'a>(name: &'a str) -> &'a str {
     }
 }
 
+/// Adds the cases of this name to a list.
+fn add_named(name: &str, all: Vec<Case>, list: &mut Vec<Case>) -> Result<(), AllocError> {
+    for case in all {
+        if case.name.as_str() == name {
+            list.push(case)?;
+        }
+    }
+    Ok(())
+}
+
 /// The cases that are run: all, or that of the name that is given.
 fn chosen(alloc: Global, name: Option<&str>, all: Vec<Case>) -> Result<Vec<Case>> {
     let Some(name) = name else {
         return Ok(all);
     };
     let mut list = Vec::new(alloc);
-    for case in all {
-        if case.name.as_str() == name {
-            list.push(case)?;
-        }
-    }
+    add_named(name, all, &mut list)?;
     if list.is_empty() {
         bail!("no case has the name that --case gives");
     }
@@ -88,6 +94,13 @@ fn tell_case<R: Files + Print + AllocGlobal>(
     }
 }
 
+/// A verdict without its pictures and sound.
+fn forgotten(verdict: Verdict) -> Verdict {
+    let mut verdict = verdict;
+    verdict.forget();
+    verdict
+}
+
 /// Tells the verdicts on the cases of a wave, and keeps them without their pictures and sound.
 fn tell_wave<R: Files + Print + AllocGlobal>(
     rt: &R,
@@ -98,11 +111,9 @@ fn tell_wave<R: Files + Print + AllocGlobal>(
     verdicts: &mut Vec<Verdict>,
 ) -> Result<()> {
     for (case, verdict) in wave.iter().zip(judged) {
-        let mut verdict = verdict;
         let number = verdicts.len().saturating_add(1);
         tell_case(rt, is_tap, number, case, &verdict, page)?;
-        verdict.forget();
-        verdicts.push(verdict)?;
+        verdicts.push(forgotten(verdict))?;
     }
     Ok(())
 }
