@@ -4,15 +4,13 @@ ghost use Rattle.std.specs.Prelude.{◌<◌, ◌≤◌};
 
 use crate::films::{self, Frames};
 use crate::regions::{MOST_FRAMES, name_of, region_of, samples_upto};
-use crate::sounds::Sounds;
+use crate::sounds::{Sounds, open_sounds};
 use anyhow::{Context, Result, bail, ensure};
 use clap::ArgMatches;
-use film_avi::{
-    Layout, PART_FRAMES, PICTURE_BYTES, file_head, indexes, part_head, push_head, push_turned,
-};
+use film_avi::{Layout, PART_FRAMES, PICTURE_BYTES, indexes, part_head, push_head, push_turned};
 use film_formats::{FRAME_BYTES, SAMPLE_BYTES};
 use snes_defs::Region;
-use std::alloc::Global;
+use std::alloc::{AllocError, Global};
 use std::collections::VecDeque;
 use std::io::{BufWriter, Read, Seek, SeekFrom, Write};
 use std::rt::Files;
@@ -29,6 +27,14 @@ struct Chunks<'a, F: Read + Drop> {
 }
 
 impl<F: Read + Drop> Chunks<'_, F> {
+    /// The chunk of the frame that was read last.
+    fn chunk(&self, alloc: Global) -> Result<Vec<u8>, AllocError> {
+        let mut chunk = Vec::new(alloc);
+        push_head(&mut chunk, b"00db", PICTURE_BYTES)?;
+        push_turned(&mut chunk, self.frames.frame())?;
+        Ok(chunk)
+    }
+
     /// Reads ahead.
     fn fill(&mut self, alloc: Global) -> Result<()> {
         for _ in self.ahead.len()..AHEAD {
@@ -36,9 +42,7 @@ impl<F: Read + Drop> Chunks<'_, F> {
                 break;
             }
             if self.frames.next()? {
-                let mut chunk = Vec::new(alloc);
-                push_head(&mut chunk, b"00db", PICTURE_BYTES)?;
-                push_turned(&mut chunk, self.frames.frame())?;
+                let chunk = self.chunk(alloc)?;
                 self.ahead.push_back(chunk)?;
             } else {
                 self.ended = true;
@@ -69,23 +73,57 @@ struct Making<'a, F: Read + Drop, W: Write + Drop> {
 }
 
 impl<F: Read + Drop, W: Write + Drop> Making<'_, F, W> {
+    /// Writes the chunk of the next picture, and returns false if there is none.
+    fn write_picture(&mut self, alloc: Global) -> Result<bool> {
+        match self.chunks.next(alloc)? {
+            Some(picture) => {
+                self.out.write_all(picture.as_slice())?;
+                Ok(true)
+            }
+            None => Ok(false),
+        }
+    }
+
+    /// Writes the chunk of the next frame's samples.
+    fn write_sound(&mut self, alloc: Global) -> Result<()> {
+        let sound = self.sounds.next()?;
+        let mut head = Vec::new(alloc);
+        push_head(&mut head, b"01wb", sound.len() as u64)?;
+        self.out.write_all(head.as_slice())?;
+        self.out.write_all(sound)?;
+        Ok(())
+    }
+
     /// Writes the chunks of a part's frames, as many as are left, and returns how many.
     fn write_chunks(&mut self, alloc: Global) -> Result<u32> {
         let mut written = 0u32;
         for frame in 0..PART_FRAMES {
-            let Some(picture) = self.chunks.next(alloc)? else {
+            if !self.write_picture(alloc)? {
                 break;
-            };
-            self.out.write_all(picture.as_slice())?;
-            let sound = self.sounds.next()?;
-            let mut head = Vec::new(alloc);
-            push_head(&mut head, b"01wb", sound.len() as u64)?;
-            self.out.write_all(head.as_slice())?;
-            self.out.write_all(sound)?;
+            }
+            self.write_sound(alloc)?;
             written = frame + 1;
         }
         Ok(written)
     }
+}
+
+/// Writes the head of a part.
+fn write_part_head<W: Write>(alloc: Global, out: &mut W, layout: Layout, part: u32) -> Result<()>
+    requires { part < 32 }
+{
+    let head = part_head(alloc, layout, part)?;
+    out.write_all(head.as_slice())?;
+    Ok(())
+}
+
+/// Writes the indexes of a part.
+fn write_indexes<W: Write>(alloc: Global, out: &mut W, layout: Layout, part: u32) -> Result<()>
+    requires { part < 32 }
+{
+    let index = indexes(alloc, layout, part)?;
+    out.write_all(index.as_slice())?;
+    Ok(())
 }
 
 /// Writes all parts, whose heads say that there are `told` frames, and returns how many there are.
@@ -100,12 +138,10 @@ fn write_parts<F: Read + Drop, W: Write + Drop>(
     let told = Layout::new(region, told);
     let mut frames = 0u32;
     for part in 0..20u32 {
-        let head = part_head(alloc, told, part)?;
-        making.out.write_all(head.as_slice())?;
+        write_part_head(alloc, &mut making.out, told, part)?;
         let written = making.write_chunks(alloc)?;
         frames = frames.saturating_add(written).min(MOST_FRAMES);
-        let index = indexes(alloc, Layout::new(region, frames), part)?;
-        making.out.write_all(index.as_slice())?;
+        write_indexes(alloc, &mut making.out, Layout::new(region, frames), part)?;
         if making.chunks.is_over(alloc)? {
             break;
         }
@@ -124,13 +160,10 @@ fn write_heads<W: Write + Seek + Drop>(
     layout: Layout,
 ) -> Result<()> {
     let last = layout.parts().saturating_sub(1);
-    let head = part_head(alloc, layout, last)?;
     out.seek(SeekFrom::Start(layout.start(last)))?;
-    out.write_all(head.as_slice())?;
-    let head = file_head(alloc, layout)?;
+    write_part_head(alloc, out, layout, last)?;
     out.seek(SeekFrom::Start(0))?;
-    out.write_all(head.as_slice())?;
-    Ok(())
+    write_part_head(alloc, out, layout, 0)
 }
 
 /// The frames of a film whose length is known. It has to be a whole number of them.
@@ -161,33 +194,46 @@ fn check_sound<R: Files>(rt: &R, name: &str, region: Region, frames: u32) -> Res
     }
 }
 
-/// Obeys `look avi VIDEO AUDIO OUT`. If the number of frames can't be known before, as of a pipe, OUT has to be a
-/// file. Two heads in it are then written again at the end.
-pub fn write_avi<R: Files + Print + AllocGlobal>(rt: &R, words: &ArgMatches<'_>) -> Result<u8> {
-    let alloc = rt.alloc();
-    let video = words.get_str("VIDEO").unwrap_or("-");
-    let audio = words.get_str("AUDIO").unwrap_or("-");
-    let name = words.get_str("OUT").unwrap_or("-");
-    let region = region_of(rt, words, video, audio);
-    let known = known_frames(rt, video)?;
-    if let Some(frames) = known {
-        check_sound(rt, audio, region, frames)?;
+/// The names of the files of an AVI: the film, its sound, and the AVI itself.
+#[derive(Clone, Copy)]
+struct Names<'a> {
+    video: &'a str,
+    audio: &'a str,
+    out: &'a str,
+}
+
+impl<'a> Names<'a> {
+    /// Opens the film and its sound, and creates the AVI.
+    fn open<R: Files + AllocGlobal>(
+        self,
+        rt: &R,
+        region: Region,
+    ) -> Result<Making<'a, R::File, R::File>> {
+        let chunks = Chunks {
+            frames: films::open_film(rt, self.video)?,
+            ahead: VecDeque::new(rt.alloc()),
+            ended: false,
+        };
+        let sounds = open_sounds(rt, self.audio, region)?;
+        let out = films::create_buffered(rt, self.out, &[self.video, self.audio])?;
+        Ok(Making {
+            chunks,
+            sounds,
+            out,
+        })
     }
-    let frames = Frames::new(alloc, video, films::open(rt, video)?)?;
-    let sounds = Sounds::new(alloc, audio, films::open(rt, audio)?, region)?;
-    let chunks = Chunks {
-        frames,
-        ahead: VecDeque::new(alloc),
-        ended: false,
-    };
-    let out = BufWriter::new(alloc, films::create(rt, name, &[video, audio])?)?;
-    let mut making = Making {
-        chunks,
-        sounds,
-        out,
-    };
+}
+
+/// Writes an AVI whose number of frames is known before or is not.
+fn write_whole<F: Read + Drop, W: Write + Seek + Drop>(
+    alloc: Global,
+    making: &mut Making<'_, F, W>,
+    region: Region,
+    known: Option<u32>,
+    name: &str,
+) -> Result<()> {
     let told = known.unwrap_or(MOST_FRAMES).min(MOST_FRAMES);
-    let frames = write_parts(alloc, &mut making, region, told)?;
+    let frames = write_parts(alloc, making, region, told)?;
     if known != Some(frames) && frames <= MOST_FRAMES {
         write_heads(alloc, &mut making.out, Layout::new(region, frames)).context(format_args!(
             "cannot go back in {name}"
@@ -196,6 +242,23 @@ pub fn write_avi<R: Files + Print + AllocGlobal>(rt: &R, words: &ArgMatches<'_>)
     making
         .out
         .flush()
-        .context(format_args!("cannot write {name}"))?;
+        .context(format_args!("cannot write {name}"))
+}
+
+/// Obeys `look avi VIDEO AUDIO OUT`. If the number of frames can't be known before, as of a pipe, OUT has to be a
+/// file. Two heads in it are then written again at the end.
+pub fn write_avi<R: Files + Print + AllocGlobal>(rt: &R, words: &ArgMatches<'_>) -> Result<u8> {
+    let names = Names {
+        video: words.get_str("VIDEO").unwrap_or("-"),
+        audio: words.get_str("AUDIO").unwrap_or("-"),
+        out: words.get_str("OUT").unwrap_or("-"),
+    };
+    let region = region_of(rt, words, names.video, names.audio);
+    let known = known_frames(rt, names.video)?;
+    if let Some(frames) = known {
+        check_sound(rt, names.audio, region, frames)?;
+    }
+    let mut making = names.open(rt, region)?;
+    write_whole(rt.alloc(), &mut making, region, known, names.out)?;
     Ok(0)
 }

@@ -1,9 +1,8 @@
 //! The tags of a sound file, for `look tags`.
 
 use crate::films;
-use anyhow::{Context, Result, bail};
+use anyhow::{Result, bail};
 use clap::ArgMatches;
-use film_formats::{Piece, read_piece};
 use sound_tags::NotSoundFile;
 use std::alloc::Global;
 use std::io::{self, Write};
@@ -16,14 +15,7 @@ const ROOM: usize = 1_048_577;
 /// Reads the first bytes of a file: all of them, if it is not too long for a sound file.
 fn first_bytes<R: Files + AllocGlobal>(rt: &R, name: &str) -> Result<Vec<u8>> {
     let mut bytes = vec![in rt.alloc(); 0u8; ROOM]?;
-    let mut file = films::open(rt, name)?;
-    let count = match read_piece(&mut file, bytes.as_mut_slice()).context(format_args!(
-        "cannot read {name}"
-    ))? {
-        Piece::Whole => ROOM,
-        Piece::End => 0,
-        Piece::Cut(count) => count,
-    };
+    let count = films::read_into(rt, name, bytes.as_mut_slice())?;
     bytes.truncate(count);
     Ok(bytes)
 }
