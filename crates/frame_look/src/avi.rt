@@ -203,6 +203,15 @@ struct Names<'a> {
 }
 
 impl<'a> Names<'a> {
+    /// The frames of the film, if its length is known. The sound has to have as many.
+    fn known<R: Files>(self, rt: &R, region: Region) -> Result<Option<u32>> {
+        let known = known_frames(rt, self.video)?;
+        if let Some(frames) = known {
+            check_sound(rt, self.audio, region, frames)?;
+        }
+        Ok(known)
+    }
+
     /// Opens the film and its sound, and creates the AVI.
     fn open<R: Files + AllocGlobal>(
         self,
@@ -247,18 +256,14 @@ fn write_whole<F: Read + Drop, W: Write + Seek + Drop>(
 
 /// Obeys `look avi VIDEO AUDIO OUT`. If the number of frames can't be known before, as of a pipe, OUT has to be a
 /// file. Two heads in it are then written again at the end.
-pub fn write_avi<R: Files + Print + AllocGlobal>(rt: &R, words: &ArgMatches<'_>) -> Result<u8> {
+pub fn write_avi<R: Files + Print + AllocGlobal>(rt: &R, words: &ArgMatches<'_>) -> Result<()> {
     let names = Names {
-        video: words.get_str("VIDEO").unwrap_or("-"),
-        audio: words.get_str("AUDIO").unwrap_or("-"),
-        out: words.get_str("OUT").unwrap_or("-"),
+        video: films::name_in(words, "VIDEO"),
+        audio: films::name_in(words, "AUDIO"),
+        out: films::name_in(words, "OUT"),
     };
     let region = region_of(rt, words, names.video, names.audio);
-    let known = known_frames(rt, names.video)?;
-    if let Some(frames) = known {
-        check_sound(rt, names.audio, region, frames)?;
-    }
+    let known = names.known(rt, region)?;
     let mut making = names.open(rt, region)?;
-    write_whole(rt.alloc(), &mut making, region, known, names.out)?;
-    Ok(0)
+    write_whole(rt.alloc(), &mut making, region, known, names.out)
 }

@@ -143,8 +143,8 @@ pub fn say_difference<R: Files + Print + AllocGlobal>(
     rt: &R,
     words: &ArgMatches<'_>,
 ) -> Result<u8> {
-    let first = words.get_str("A").unwrap_or("-");
-    let second = words.get_str("B").unwrap_or("-");
+    let first = films::name_in(words, "A");
+    let second = films::name_in(words, "B");
     if words.get_flag("state") {
         let lines = words.get_one::<u64>("lines").unwrap_or(20);
         return crate::state_apart::say_difference(rt, first, second, lines);

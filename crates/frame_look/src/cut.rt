@@ -3,7 +3,7 @@
 use crate::films::{self, Frames};
 use crate::regions::{name_of, region_of_sound, samples_upto};
 use crate::sounds::open_sounds;
-use anyhow::{Context, Result, ensure};
+use anyhow::{Result, ensure};
 use clap::ArgMatches;
 use film_formats::SAMPLE_BYTES;
 use snes_defs::Region;
@@ -33,8 +33,7 @@ fn write_frames<F: Read + Drop, W: Write>(
 ) -> Result<()> {
     for number in span.from..span.upto() {
         frames.reach(number)?;
-        file.write_all(frames.frame())
-            .context(format_args!("cannot write {out}"))?;
+        films::write_to(file, out, frames.frame())?;
     }
     Ok(())
 }
@@ -84,17 +83,16 @@ fn cut_audio<R: Files + AllocGlobal>(
 }
 
 /// Obeys `look cut FILM FROM COUNT OUT`.
-pub fn write_cut<R: Files + Print + AllocGlobal>(rt: &R, words: &ArgMatches<'_>) -> Result<u8> {
-    let name = words.get_str("FILM").unwrap_or("-");
-    let out = words.get_str("OUT").unwrap_or("-");
+pub fn write_cut<R: Files + Print + AllocGlobal>(rt: &R, words: &ArgMatches<'_>) -> Result<()> {
+    let name = films::name_in(words, "FILM");
+    let out = films::name_in(words, "OUT");
     let span = Span {
         from: words.get_one::<u64>("FROM").unwrap_or(0),
         count: words.get_one::<u64>("COUNT").unwrap_or(0),
     };
     if words.get_flag("audio") {
-        cut_audio(rt, words, name, span, out)?;
+        cut_audio(rt, words, name, span, out)
     } else {
-        cut_video(rt, name, span, out)?;
+        cut_video(rt, name, span, out)
     }
-    Ok(0)
 }

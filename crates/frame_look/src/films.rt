@@ -3,12 +3,21 @@
 ghost use Rattle.std.specs.Prelude.{◌≡◌, ◌<◌, length, vec_len};
 
 use anyhow::{Context, Result, bail, ensure};
+use clap::ArgMatches;
 use film_formats::{FRAME_BYTES, Piece, read_piece};
 use std::alloc::{AllocError, Global};
 use std::fs::{self, Metadata, OpenFile, OpenOptions};
 use std::io::{BufWriter, Read, Seek, SeekFrom, Write};
 use std::os::unix::fs::MetadataExt;
 use std::rt::Files;
+
+/// The name of a file in the command line; `-` if it is left out.
+pub fn name_in<'a>(words: &'a ArgMatches<'_>, word: &str) -> &'a str {
+    match words.get_str(word) {
+        Some(name) => name,
+        None => "-",
+    }
+}
 
 /// The path of a name that is read; `-` is standard input.
 fn input_path(name: &str) -> &str {
@@ -90,11 +99,16 @@ pub fn create_buffered<R: Files + AllocGlobal>(
     Ok(BufWriter::new(rt.alloc(), create(rt, name, inputs)?)?)
 }
 
+/// Writes bytes to the file of a name.
+pub fn write_to<W: Write>(file: &mut W, name: &str, bytes: &[u8]) -> Result<()> {
+    file.write_all(bytes)
+        .context(format_args!("cannot write {name}"))
+}
+
 /// Writes a whole file of a name, which may be no input.
 pub fn write<R: Files>(rt: &R, name: &str, inputs: &[&str], bytes: &[u8]) -> Result<()> {
     let mut file = create(rt, name, inputs)?;
-    file.write_all(bytes)
-        .context(format_args!("cannot write {name}"))
+    write_to(&mut file, name, bytes)
 }
 
 /// The length of a regular file, or none for anything else, such as a pipe.

@@ -6,14 +6,23 @@ use clap::ArgMatches;
 use film_formats::frame_png;
 use std::rt::Files;
 
+/// The PNG of a film's frame of this number, each of its rows so many times.
+fn png_of<R: Files + AllocGlobal>(
+    rt: &R,
+    name: &str,
+    number: u64,
+    times: usize,
+) -> Result<Vec<u8>> {
+    let frames = films::open_at(rt, name, number)?;
+    Ok(frame_png(rt.alloc(), frames.frame(), times)?)
+}
+
 /// Obeys `look png VIDEO FRAME OUT`.
-pub fn write_png<R: Files + Print + AllocGlobal>(rt: &R, words: &ArgMatches<'_>) -> Result<u8> {
-    let name = words.get_str("VIDEO").unwrap_or("-");
+pub fn write_png<R: Files + Print + AllocGlobal>(rt: &R, words: &ArgMatches<'_>) -> Result<()> {
+    let name = films::name_in(words, "VIDEO");
     let wanted = words.get_one::<u64>("FRAME").unwrap_or(0);
-    let out = words.get_str("OUT").unwrap_or("-");
+    let out = films::name_in(words, "OUT");
     let times = if words.get_flag("raw") { 1 } else { 2 };
-    let frames = films::open_at(rt, name, wanted)?;
-    let file = frame_png(rt.alloc(), frames.frame(), times)?;
-    films::write(rt, out, &[name], file.as_slice())?;
-    Ok(0)
+    let file = png_of(rt, name, wanted, times)?;
+    films::write(rt, out, &[name], file.as_slice())
 }

@@ -107,7 +107,7 @@ fn compare<F: Read + Drop>(a: &mut Samples<'_, F>, b: &mut Samples<'_, F>) -> Re
     for number in 0..u64::MAX {
         match (a.next()?, b.next()?) {
             (Some(first), Some(second)) => {
-                let _is_first = found.count(place_of(number, first, second));
+                let _is_the_first = found.count(place_of(number, first, second));
             }
             (Some(_), None) => {
                 found.only_first = a.count_rest()?.saturating_add(1);

@@ -177,13 +177,12 @@ fn read_sheet<R: Files + AllocGlobal>(
 }
 
 /// Obeys `look sheet VIDEO OUT --every FRAMES`.
-pub fn write_sheet<R: Files + Print + AllocGlobal>(rt: &R, words: &ArgMatches<'_>) -> Result<u8> {
-    let name = words.get_str("VIDEO").unwrap_or("-");
-    let out = words.get_str("OUT").unwrap_or("-");
+pub fn write_sheet<R: Files + Print + AllocGlobal>(rt: &R, words: &ArgMatches<'_>) -> Result<()> {
+    let name = films::name_in(words, "VIDEO");
+    let out = films::name_in(words, "OUT");
     let every = words.get_one::<u32>("every").unwrap_or(60);
     let mut sheet = Sheet::new(rt.alloc());
     read_sheet(rt, name, every as u64, &mut sheet)?;
     let file = sheet.png(rt.alloc())?;
-    films::write(rt, out, &[name], file.as_slice())?;
-    Ok(0)
+    films::write(rt, out, &[name], file.as_slice())
 }

@@ -66,8 +66,7 @@ impl<'a, F: Read + Drop> Sounds<'a, F> {
         out: &str,
     ) -> Result<()> {
         for _ in 0..count {
-            to.write_all(self.next()?)
-                .context(format_args!("cannot write {out}"))?;
+            films::write_to(to, out, self.next()?)?;
         }
         to.flush().context(format_args!("cannot write {out}"))
     }
@@ -174,8 +173,7 @@ impl Making<'_> {
         to: &mut BufWriter<W>,
     ) -> Result<()> {
         let Making { name, out, known } = self;
-        to.write_all(header)
-            .context(format_args!("cannot write {out}"))?;
+        films::write_to(to, out, header)?;
         let copied = copy_samples(alloc, name, from, to).context(format_args!(
             "cannot write {out}"
         ))?;
@@ -183,8 +181,7 @@ impl Making<'_> {
             let header = header_of(alloc, name, copied)?;
             to.seek(SeekFrom::Start(0))
                 .context(format_args!("cannot go back in {out}"))?;
-            to.write_all(header.as_slice())
-                .context(format_args!("cannot write {out}"))?;
+            films::write_to(to, out, header.as_slice())?;
         }
         to.flush().context(format_args!("cannot write {out}"))
     }
@@ -192,15 +189,14 @@ impl Making<'_> {
 
 /// Obeys `look wav AUDIO OUT`. The header has the length. If that isn't known before, as of a pipe, OUT has to be a
 /// file, whose header is written again at the end.
-pub fn write_wav<R: Files + Print + AllocGlobal>(rt: &R, words: &ArgMatches<'_>) -> Result<u8> {
+pub fn write_wav<R: Files + Print + AllocGlobal>(rt: &R, words: &ArgMatches<'_>) -> Result<()> {
     let alloc = rt.alloc();
-    let name = words.get_str("AUDIO").unwrap_or("-");
-    let out = words.get_str("OUT").unwrap_or("-");
+    let name = films::name_in(words, "AUDIO");
+    let out = films::name_in(words, "OUT");
     let mut from = films::open(rt, name)?;
     let known = films::length(rt, name);
     let header = header_of(alloc, name, known.unwrap_or(0))?;
     let mut to = films::create_buffered(rt, out, &[name])?;
     let making = Making { name, out, known };
-    making.write(alloc, header.as_slice(), &mut from, &mut to)?;
-    Ok(0)
+    making.write(alloc, header.as_slice(), &mut from, &mut to)
 }

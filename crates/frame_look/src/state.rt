@@ -369,11 +369,10 @@ fn say_whole<R: Print>(rt: &R, state: &State) -> Result<()> {
 }
 
 /// `look state FILE`.
-pub fn say_state<R: Files + Print + AllocGlobal>(rt: &R, words: &ArgMatches<'_>) -> Result<u8> {
-    let state = State::read(rt, words.get_str("FILE").unwrap_or("-"))?;
+pub fn say_state<R: Files + Print + AllocGlobal>(rt: &R, words: &ArgMatches<'_>) -> Result<()> {
+    let state = State::read(rt, films::name_in(words, "FILE"))?;
     match words.get_str("memory") {
-        Some(name) => say_memory(rt, &state, words, name)?,
-        None => say_whole(rt, &state)?,
+        Some(name) => say_memory(rt, &state, words, name),
+        None => say_whole(rt, &state),
     }
-    Ok(0)
 }

@@ -6,7 +6,6 @@ use crate::sounds::{Sounds, open_sounds};
 use anyhow::{Result, bail};
 use clap::ArgMatches;
 use sha2::{Digest, Sha256};
-use std::alloc::Global;
 use std::collections::VecDeque;
 use std::io::{BufWriter, Read, Write};
 use std::rt::Files;
@@ -206,25 +205,34 @@ fn sounds_in<'a, R: Files + AllocGlobal>(
     Ok(Some(open_sounds(rt, audio, region)?))
 }
 
+/// Prints the sums of pictures, and those of the sound that is named, if one is.
+fn say_with_sound<R: Files + Print + AllocGlobal>(
+    rt: &R,
+    words: &ArgMatches<'_>,
+    video: &str,
+    pictures: &mut Pictures<'_, R::File>,
+) -> Result<()> {
+    let form = if words.get_flag("json") {
+        Form::Json
+    } else {
+        Form::Csv
+    };
+    let mut heard = Heard {
+        sounds: sounds_in(rt, words, video)?,
+        all: Sha256::new(),
+    };
+    let mut out = BufWriter::new(rt.alloc(), io::writer(rt))?;
+    write_sums(pictures, &mut heard, &mut out, form)
+}
+
 /// Obeys `look sums VIDEO [AUDIO]`.
-pub fn say_sums<R: Files + Print + AllocGlobal>(rt: &R, words: &ArgMatches<'_>) -> Result<u8> {
-    let video = words.get_str("VIDEO").unwrap_or("-");
+pub fn say_sums<R: Files + Print + AllocGlobal>(rt: &R, words: &ArgMatches<'_>) -> Result<()> {
+    let video = films::name_in(words, "VIDEO");
     let mut pictures = Pictures {
         frames: films::open_film(rt, video)?,
         all: Sha256::new(),
         ahead: VecDeque::new(rt.alloc()),
         ended: false,
     };
-    let mut heard = Heard {
-        sounds: sounds_in(rt, words, video)?,
-        all: Sha256::new(),
-    };
-    let form = if words.get_flag("json") {
-        Form::Json
-    } else {
-        Form::Csv
-    };
-    let mut out = BufWriter::new(rt.alloc(), io::writer(rt))?;
-    write_sums(&mut pictures, &mut heard, &mut out, form)?;
-    Ok(0)
+    say_with_sound(rt, words, video, &mut pictures)
 }

@@ -39,10 +39,10 @@ fn lines(alloc: Global, name: &str, file: &[u8]) -> Result<Vec<u8>> {
 }
 
 /// Obeys `look tags FILE`.
-pub fn say_tags<R: Files + Print + AllocGlobal>(rt: &R, words: &ArgMatches<'_>) -> Result<u8> {
-    let name = words.get_str("FILE").unwrap_or("-");
+pub fn say_tags<R: Files + Print + AllocGlobal>(rt: &R, words: &ArgMatches<'_>) -> Result<()> {
+    let name = films::name_in(words, "FILE");
     let file = first_bytes(rt, name)?;
     let text = lines(rt.alloc(), name, file.as_slice())?;
     io::writer(rt).write_all(text.as_slice())?;
-    Ok(0)
+    Ok(())
 }
