@@ -1,10 +1,9 @@
 //! Reads a bench file: the cases of its TOML.
 
 use crate::fields::Fields;
-use crate::plan::{Address, Case, Expected, FrameCheck, Memory, MemoryCheck, Reach};
-use crate::sums::Sum;
 use crate::warnings::no_warnings_in;
 use anyhow::{Context, Result, anyhow, bail};
+use bench_checks::{Address, Case, Expected, FrameCheck, Memory, MemoryCheck, Reach, Sum};
 use snes_defs::{MOST_FRAMES, Region};
 use std::alloc::Global;
 use toml::Table;

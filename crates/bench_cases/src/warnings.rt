@@ -1,8 +1,8 @@
 //! What a case says of the warnings of `lint`: that there are none, and what may be broken all the same.
 
 use crate::fields::Fields;
-use crate::plan::NoWarnings;
 use anyhow::{Result, bail};
+use bench_checks::NoWarnings;
 use lint_rules::{Rule, rule_named};
 use std::alloc::Global;
 

@@ -1,9 +1,8 @@
 //! The page of what failed: pictures side by side, and the sound to play.
 
 use crate::escape::push_escaped;
-use crate::verdict::{End, Golden, Shot, Verdict};
 use anyhow::{Context, Result, bail};
-use bench_cases::Case;
+use bench_checks::{Case, End, Golden, Shot, Verdict};
 use film_formats::{FRAME_BYTES, frame_png, marked_png, wav_header};
 use std::alloc::{AllocError, Global};
 use std::fs;

@@ -1,10 +1,8 @@
 //! The report of all cases: lines for people, TAP, or JUnit's XML.
 
-use crate::counts::Counts;
 use crate::escape::push_escaped;
-use crate::verdict::{End, Verdict};
 use anyhow::{Context, Result};
-use bench_cases::Case;
+use bench_checks::{Case, Counts, End, Verdict};
 use std::alloc::{AllocError, Global};
 
 /// The word with which the line of a case begins.

@@ -5,7 +5,7 @@ ghost use Rattle.frame_sums.specs.SumsFile.{sums_of_file};
 
 use crate::inputs::{fault_of, load};
 use anyhow::{Result, bail};
-use bench_cases::read_golden;
+use bench_checks::read_golden;
 use file_shelf::FileShelf;
 use frame_sums::{FrameSums, SumsFile, put_sums};
 use run_drive::Sink;

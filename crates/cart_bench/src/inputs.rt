@@ -1,7 +1,7 @@
 //! Reads the files of a case, as `snes` takes them.
 
 use anyhow::{Error, Result, anyhow, bail};
-use bench_cases::Case;
+use bench_checks::Case;
 use cart_map::{CartEnd, CartRefused, accept};
 use file_shelf::FileShelf;
 use free_files::{free_boot_rom, interpolation_table};

@@ -7,8 +7,7 @@ ghost use Rattle.std.specs.Prelude.{◌<◌};
 
 use crate::cases::{Ready, Task, Wanted, judge_task, ready_case};
 use anyhow::Result;
-use bench_cases::Case;
-use bench_report::{End, Verdict};
+use bench_checks::{Case, End, Verdict};
 use std::alloc::{AllocError, Global};
 use std::rt::Files;
 use std::thread;

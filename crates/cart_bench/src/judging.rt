@@ -7,8 +7,9 @@ use crate::pictures::GoldenPng;
 use crate::places::compare_memory;
 use crate::played::{Awaited, Emitted, Played};
 use anyhow::Result;
-use bench_cases::{Case, FrameCheck, MemoryCheck, Sum, is_heard_as, is_silent, is_sum_met};
-use bench_report::{Golden, Shot, Verdict};
+use bench_checks::{
+    Case, FrameCheck, Golden, MemoryCheck, Shot, Sum, Verdict, is_heard_as, is_silent, is_sum_met,
+};
 use frame_sums::{SumPair, SumsFile};
 use sha2::{Digest, Sha256};
 use std::alloc::Global;

@@ -2,7 +2,7 @@
 
 use crate::inputs::{load, name_in};
 use anyhow::{Result, anyhow};
-use bench_cases::{Address, Case};
+use bench_checks::{Address, Case};
 use file_shelf::FileShelf;
 use std::alloc::Global;
 use std::rt::Files;

@@ -24,8 +24,9 @@ mod watching;
 mod words;
 
 use anyhow::{Context, Result, bail};
-use bench_cases::{Case, read_cases};
-use bench_report::{Counts, Page, Verdict, counts_of, junit_text, print_case, print_counts};
+use bench_cases::read_cases;
+use bench_checks::{Case, Counts, Verdict, counts_of};
+use bench_report::{Page, junit_text, print_case, print_counts};
 use cases::Wanted;
 use clap::ArgMatches;
 use companion_words::{DONE, FAULT, NO, Program, answer, command, exit_of};

@@ -1,7 +1,7 @@
 //! The bytes of the console's memories.
 
 use audio_side::AudioSide;
-use bench_cases::Memory;
+use bench_checks::Memory;
 use cart_map::Place;
 use console_bus::Bus;
 use console_machine::ConsoleSide;

@@ -2,7 +2,7 @@
 
 use crate::inputs::{load, name_in};
 use anyhow::{Result, bail};
-use bench_cases::Case;
+use bench_checks::Case;
 use file_shelf::FileShelf;
 use film_formats::{Colour, FRAME_BYTES};
 use golden_frame::{Found, Golden, Place};

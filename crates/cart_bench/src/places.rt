@@ -2,7 +2,7 @@
 
 use crate::memories::{byte_at, name_of};
 use crate::played::Played;
-use bench_cases::{Address, Expected, MemoryCheck};
+use bench_checks::{Address, Expected, MemoryCheck};
 use std::alloc::{AllocError, Global};
 
 /// The bytes of a place as far as the memory goes, so many at most.

@@ -3,7 +3,7 @@
 use crate::judging::Judging;
 use crate::watching::Watching;
 use anyhow::Result;
-use bench_cases::{is_without_warnings, warnings_in};
+use bench_checks::{is_without_warnings, warnings_in};
 use lint_rules::{Finding, Findings, Severity, Unit};
 use lint_watch::{Sources, front_of, remaining, watch_job};
 use snes_defs::{Cart, Job};

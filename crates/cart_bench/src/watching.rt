@@ -3,7 +3,7 @@
 use crate::inputs::{load, name_in};
 use crate::labels::SYMBOLS;
 use anyhow::{Result, bail};
-use bench_cases::{Case, NoWarnings};
+use bench_checks::{Case, NoWarnings};
 use file_shelf::FileShelf;
 use lint_watch::{Allowed, Sources};
 use std::alloc::Global;

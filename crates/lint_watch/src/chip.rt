@@ -1,7 +1,8 @@
 //! Accesses to the registers of the processor's chip, 4016 to 437F.
 
-use crate::watch::{Now, Watch, check_vector, tell};
+use crate::watch::{Watch, check_vector, tell};
 use console_bus::Bus;
+use lint_moments::Now;
 use lint_rules::{
     Asked, Findings, Moment, Rule, arithmetic_rule, channel_rule, enable_rule, latch_rule,
     pad_rule, speed_rule, timer_rule,

@@ -1,8 +1,9 @@
 //! What is shown on a line: registers that nothing has written, the backdrop of high resolution, and objects that are turned over.
 
-use crate::watch::{Now, Watch, tell};
+use crate::watch::{Watch, tell};
 use clock_ratio::{CONSOLE_RATE, PAL_CONSOLE_RATE};
 use console_bus::Bus;
+use lint_moments::Now;
 use lint_rules::{
     Findings, Masks, Moment, Object, Rule, Screen, backdrop_rule, flip_rule, unset_rule,
 };

@@ -1,15 +1,15 @@
 //! The two machines of a job, and their steps one after another, each shown to the rules.
 
 use crate::header::check_file;
-use crate::ports::Ports;
 use crate::seen::{Kind, finish, look_at, tell_dma};
 use crate::sound_watch::SoundWatch;
-use crate::watch::{Now, Watch};
+use crate::watch::Watch;
 use anyhow::{Result, bail};
 use audio_side::AudioSide;
 use clock_ratio::{console_first, end_stamp_in};
 use console_machine::ConsoleSide;
 use dma_hdma::Dma;
+use lint_moments::{Now, Ports};
 use lint_rules::Findings;
 use serial_console::Serial;
 use side_law::Machine;

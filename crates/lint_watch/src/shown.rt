@@ -1,6 +1,7 @@
 //! Which places of the picture unit's memories nothing has written, and which of them a line shows.
 
-use crate::ports::{CGRAM, OAM, Ports, VRAM, oam_place, vram_place};
+use crate::ports::{CGRAM, OAM, VRAM};
+use lint_moments::{Ports, oam_place, vram_place};
 use lint_rules::Written;
 use std::alloc::{AllocError, Global};
 

@@ -4,7 +4,8 @@ ghost use Rattle.std.specs.Prelude.{◌<◌};
 
 use crate::lines::object_of;
 use crate::shown::{ShownMemories, Tally};
-use crate::watch::{Now, Watch};
+use crate::watch::Watch;
+use lint_moments::Now;
 use lint_rules::{
     Cause, Depth, Finding, Findings, Object, ObjectTiles, Plane, Rule, Screen, Scroll, Turned,
     Unit, colour_of, depth_of, is_outside, turned_map_word, turned_tile_word, value_of,

@@ -1,7 +1,7 @@
 //! What the rules have to know of the sound side's past, and each of its steps as they see it.
 
-use crate::watch::Now;
 use audio_side::AudioSide;
+use lint_moments::Now;
 use lint_rules::{
     Cause, Echo, EndxPolls, Finding, Findings, Rule, Unit, Written, key_off_rule, key_on_rule,
     selector_rule,

@@ -2,10 +2,11 @@
 
 use crate::chip::ChipAccess;
 use crate::seen::{Kind, Seen};
-use crate::watch::{Now, Watch, at_of, check_b, tell};
+use crate::watch::{Watch, at_of, check_b, tell};
 use cart_map::Place;
 use console_bus::Bus;
 use dma_hdma::Move;
+use lint_moments::Now;
 use lint_rules::{
     Access, Findings, address_rule, opcode_rule, picture_rule, stack_rule, transfer_rule,
 };

@@ -1,9 +1,9 @@
 -- How a case ended, by what is known of it, and how many cases ended how.
 use Rattle.std.specs.Prelude.{Bool, true, false, nat_eq, if◌then◌else◌, List, count_by, vec_len}
-use Rattle.bench_report.specs.declared.verdict.Verdict.{Verdict}
-use Rattle.bench_report.specs.declared.verdict.End.{End}
-use Rattle.bench_report.specs.declared.verdict.End.TheVariants.{Passed, Failed, Fault}
-use Rattle.bench_report.specs.declared.counts.Counts.{Counts}
+use Rattle.bench_checks.specs.declared.verdict.Verdict.{Verdict}
+use Rattle.bench_checks.specs.declared.verdict.End.{End}
+use Rattle.bench_checks.specs.declared.verdict.End.TheVariants.{Passed, Failed, Fault}
+use Rattle.bench_checks.specs.declared.counts.Counts.{Counts}
 
 -- a case that could not be run is a fault; else it failed if a line says what is not as expected
 abbrev pub end_of : Verdict → End

@@ -2,7 +2,7 @@
 
 ghost use Rattle.std.specs.Prelude.{◌≡◌, ◌+◌, ◌*◌, ◌↔◌, ◌==◌, IsTrue, count_by};
 ghost use Rattle.std.specs.List.{list_all};
-ghost use Rattle.bench_cases.specs.Expected.{size_of, IsWithin, AreMet, IsSumMet, IsInTime, IsHeardAs, is_warning, IsWithoutWarnings};
+ghost use Rattle.bench_checks.specs.Expected.{size_of, IsWithin, AreMet, IsSumMet, IsInTime, IsHeardAs, is_warning, IsWithoutWarnings};
 
 use crate::plan::{Expected, Reach};
 use crate::sums::Sum;

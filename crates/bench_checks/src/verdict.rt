@@ -51,8 +51,8 @@ pub struct Verdict {
 
 impl Verdict {
     ghost use Rattle.std.specs.Prelude.{◌≡◌, ◌+◌, false, true, vec_len, OnOk};
-    ghost use Rattle.bench_report.specs.Ends.{end_of};
-    ghost use Rattle.bench_report.specs.declared.verdict.End.TheVariants.{Passed};
+    ghost use Rattle.bench_checks.specs.Ends.{end_of};
+    ghost use Rattle.bench_checks.specs.declared.verdict.End.TheVariants.{Passed};
 
     /// Returns the verdict on a case in which nothing is wrong so far.
     pub fn new(alloc: Global) -> Verdict

@@ -1,7 +1,7 @@
 //! How many cases ended how.
 
 ghost use Rattle.std.specs.Prelude.{◌≡◌, count_by};
-ghost use Rattle.bench_report.specs.Ends.{is_passed, is_failed, is_fault, counts_of};
+ghost use Rattle.bench_checks.specs.Ends.{is_passed, is_failed, is_fault, counts_of};
 
 use crate::verdict::End;
 

@@ -1,8 +1,8 @@
 -- When bytes, sums, samples, instructions and warnings are as a bench file expects them.
 use Rattle.std.specs.Prelude.{◌≡◌, ℕ, ◌+◌, ◌*◌, ◌<◌, ◌≤◌, Bool, true, false, List, length, vec_len, slice_index, Option, Some, None, IsSome, count_by}
-use Rattle.bench_cases.specs.declared.plan.Expected.{Expected}
-use Rattle.bench_cases.specs.declared.plan.Expected.TheVariants.{Byte, Word, Bytes}
-use Rattle.bench_cases.specs.declared.sums.Sum.{Sum}
+use Rattle.bench_checks.specs.declared.plan.Expected.{Expected}
+use Rattle.bench_checks.specs.declared.plan.Expected.TheVariants.{Byte, Word, Bytes}
+use Rattle.bench_checks.specs.declared.sums.Sum.{Sum}
 use Rattle.lint_rules.specs.declared.rule.Severity.{Severity}
 use Rattle.lint_rules.specs.declared.rule.Severity.TheVariants.{Warning, Note}
 
