@@ -7,8 +7,8 @@ use Rattle.snes_defs.specs.declared.region.Region.TheVariants.{Ntsc, Pal}
 use Rattle.input_files.specs.Table.{IsTableFile}
 use Rattle.plan_drive.specs.Paths.{no_paths}
 use Rattle.snapshot.specs.Positions.{IsRested, slot_count}
-use Rattle.snes_program.specs.Job.{ShowsJob}
-use Rattle.snes_program.specs.Kinds.{IsCartIn}
+use Rattle.snes_commands.specs.Job.{ShowsJob}
+use Rattle.snes_commands.specs.Kinds.{IsCartIn}
 use Rattle.memory_player.specs.Inputs.{told_of}
 use Rattle.frame_player.specs.declared.console.Frames.{Frames}
 use Rattle.frame_player.specs.Told.{told_first, IsJobOf, boot_of, table_of, region_of, region_number, no_way, path_of}

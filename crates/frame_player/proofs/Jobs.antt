@@ -10,7 +10,7 @@ use Rattle.snes_defs.specs.declared.cart.Job.{Job}
 use Rattle.snes_defs.specs.declared.cart.MapKind.{MapKind}
 use Rattle.plan_drive.specs.Paths.{Path}
 use Rattle.input_files.specs.Table.{IsTableFile}
-use Rattle.snes_program.specs.Kinds.{IsCartIn}
+use Rattle.snes_commands.specs.Kinds.{IsCartIn}
 use Rattle.snapshot.specs.Positions.{IsBeyond}
 use Rattle.frame_player.specs.Told.{Told, IsJobOf}
 

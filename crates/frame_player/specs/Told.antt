@@ -9,7 +9,7 @@ use Rattle.plan_drive.specs.Paths.{Path}
 use Rattle.free_files.specs.Boot.{free_boot}
 use Rattle.free_files.specs.Interpolation.{interpolation, table_bytes}
 use Rattle.input_files.specs.Table.{IsTableFile}
-use Rattle.snes_program.specs.Kinds.{IsCartIn}
+use Rattle.snes_commands.specs.Kinds.{IsCartIn}
 
 -- a path: both pads of each frame, and the frames that begin with a press of the reset button
 pub record Way : Type 0 where

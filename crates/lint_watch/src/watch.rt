@@ -7,8 +7,8 @@ use cart_map::Place;
 use console_bus::Bus;
 use lint_moments::Now;
 use lint_rules::{
-    Asked, At, Cause, Finding, Findings, Polls, Rule, Unit, Written, edge_rule, interrupt_rule,
-    picture_rule, register_rule, status_rule,
+    Asked, At, Cause, Finding, Findings, Moment, Polls, Rule, Unit, Written, edge_rule,
+    interrupt_rule, picture_rule, register_rule, status_rule,
 };
 use snes_defs::{Cart, MapKind};
 use std::alloc::{AllocError, Global};

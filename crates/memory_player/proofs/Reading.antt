@@ -1,8 +1,8 @@
 -- The first input that is not accepted ends the reading.
 use Rattle.std.proofs.Common.{ℕ, List, inl, inr}
 use Rattle.shelf.specs.declared.shelves.Input.TheVariants as input
-use Rattle.snes_program.specs.Kinds.{AreAccepted}
-use Rattle.snes_program.proofs.KindLemmas.{cart_accepted, boot_accepted, table_accepted, script_longer, script_refused, script_accepted}
+use Rattle.snes_commands.specs.Kinds.{AreAccepted}
+use Rattle.snes_commands.proofs.KindLemmas.{cart_accepted, boot_accepted, table_accepted, script_longer, script_refused, script_accepted}
 use Rattle.memory_player.specs.declared.inputs.End.{End}
 use Rattle.memory_player.specs.declared.inputs.End.TheVariants.{Frames, Refused, NoMemory, TooShort}
 use Rattle.memory_player.specs.Inputs.{told_of, EndsInput, EndsInputs}

@@ -3,10 +3,10 @@ use Rattle.std.specs.Prelude.{◌≡◌, ℕ, List, [], ◌∷◌, Option, Some}
 use Rattle.shelf.specs.declared.shelves.Input.{Input}
 use Rattle.shelf.specs.declared.shelves.Input.TheVariants.{Cart, Boot, Table, Script}
 use Rattle.run_io.specs.Lists.{FirstThat}
-use Rattle.snes_program.specs.Kinds.{input_of, AreRefused}
-use Rattle.snes_program.specs.Loads.{TellsAccepted, TellsRefused}
-use Rattle.snes_program.specs.declared.status.Why as program
-use Rattle.snes_program.specs.declared.status.Why.TheVariants as of_program
+use Rattle.snes_commands.specs.Kinds.{input_of, AreRefused}
+use Rattle.snes_commands.specs.Loads.{TellsAccepted, TellsRefused}
+use Rattle.snes_commands.specs.declared.status.Why as program
+use Rattle.snes_commands.specs.declared.status.Why.TheVariants as of_program
 use Rattle.memory_player.specs.declared.inputs.Why.{Why}
 use Rattle.memory_player.specs.declared.inputs.Why.TheVariants as why
 use Rattle.memory_player.specs.declared.inputs.End.{End}

@@ -4,7 +4,7 @@ use Rattle.snes_defs.specs.declared.cart.Job.{Job}
 use Rattle.snes_defs.specs.declared.ports.Side.{Side}
 use Rattle.snes_defs.specs.declared.ports.Side.TheVariants.{Console, Sound}
 use Rattle.shelf.specs.declared.shelves.Input.{Input}
-use Rattle.snes_program.specs.Job.{ShowsJob}
+use Rattle.snes_commands.specs.Job.{ShowsJob}
 use Rattle.memory_player.specs.declared.inputs.End.{End}
 use Rattle.memory_player.specs.declared.inputs.End.TheVariants.{Frames, Refused, NoMemory, TooShort}
 use Rattle.memory_player.specs.Filled.{in_front}

@@ -1,8 +1,8 @@
 ghost use Rattle.std.specs.Prelude.{◌≡◌, ℕ, IfOk, OnOk, IfErr};
 ghost use Rattle.shelf.specs.declared.shelves.Input.TheVariants as input;
 ghost use Rattle.input_files.specs.Table.{IsTableFile};
-ghost use Rattle.snes_program.specs.Job.{ShowsJob};
-ghost use Rattle.snes_program.specs.Kinds.{AreAccepted, IsCartIn, IsScriptIn};
+ghost use Rattle.snes_commands.specs.Job.{ShowsJob};
+ghost use Rattle.snes_commands.specs.Kinds.{AreAccepted, IsCartIn, IsScriptIn};
 ghost use Rattle.memory_player.specs.Inputs.{told_of, EndsInput, EndsInputs};
 
 use cart_map::{CartEnd, CartRefused, accept};

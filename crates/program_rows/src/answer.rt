@@ -2,7 +2,8 @@ use job_player::{Console, SoundTaker};
 use port_wire::Gate;
 use run_io::Argv;
 use shelf::Shelf;
-use snes_program::{Status, snes};
+use snes_commands::Status;
+use snes_program::snes;
 use std::thread::Threads;
 
 /// Calls the program with arguments over a shelf, with this gate for its workers, and returns its status. It is the

@@ -5,7 +5,7 @@ use file_shelf::FileShelf;
 use port_wire::OpenGate;
 use run_io::Argv;
 use shelf::Out;
-use snes_program::Status;
+use snes_commands::Status;
 use std::rt::Files;
 use std::thread::Threads;
 use std::{fs, io};

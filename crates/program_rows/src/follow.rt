@@ -5,7 +5,7 @@ use crate::show::{Detail, show_answer, show_outputs};
 use memory_shelves::ShelfCall;
 use port_wire::Gate;
 use shelf::Out;
-use snes_program::Status;
+use snes_commands::Status;
 use std::alloc::Global;
 use std::rt::Files;
 use std::thread::Threads;

@@ -4,7 +4,7 @@ use memory_shelves::{MemShelf, ShelfCall};
 use port_wire::{Gate, OpenGate};
 use run_io::Argv;
 use shelf::Out;
-use snes_program::Status;
+use snes_commands::Status;
 use std::alloc::Global;
 use std::str;
 use std::thread::Threads;

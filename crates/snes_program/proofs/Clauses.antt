@@ -9,19 +9,19 @@ use Rattle.shelf.specs.Told.{Holds, HasRisen}
 use Rattle.shelf.specs.Shown.{Shown, IsKept, OnlyPuts}
 use Rattle.run_io.specs.Form.{Order}
 use Rattle.run_io.specs.Lists.{AllOf, FirstThat, IsOneOf}
-use Rattle.snes_program.specs.declared.status.Why.{Why}
-use Rattle.snes_program.specs.declared.status.Status.{Status}
-use Rattle.snes_program.specs.declared.status.Status.TheVariants.{Ok, Usage, LoadFault, Refused, WriteFault, NoMemory, Differs}
-use Rattle.snes_program.specs.Kinds.{AreRefused, AreAccepted}
-use Rattle.snes_program.specs.Loads.{told_in, ShowsAccepted, ShowsRefused, TellsAccepted, TellsRefused, HasFailed, EndsInput, EndsInputs}
-use Rattle.snes_program.specs.Command.{Command}
-use Rattle.snes_program.specs.Commands.{Wish, Nothing, Asks, IfAsks, IsNothing}
-use Rattle.snes_program.specs.Said.{IsSaid}
-use Rattle.snes_program.specs.Status.{refusal_of}
-use Rattle.snes_program.specs.Ends.{due_of, OnlySays, IsNamed, IsMade, IsBegun, IsLeft, IsDone, IsWriteFault, IsAnswered, EndsShort, EndsCall, EndsWish}
+use Rattle.snes_commands.specs.declared.status.Why.{Why}
+use Rattle.snes_commands.specs.declared.status.Status.{Status}
+use Rattle.snes_commands.specs.declared.status.Status.TheVariants.{Ok, Usage, LoadFault, Refused, WriteFault, NoMemory, Differs}
+use Rattle.snes_commands.specs.Kinds.{AreRefused, AreAccepted}
+use Rattle.snes_commands.specs.Loads.{told_in, ShowsAccepted, ShowsRefused, TellsAccepted, TellsRefused, HasFailed, EndsInput, EndsInputs}
+use Rattle.snes_commands.specs.Command.{Command}
+use Rattle.snes_commands.specs.Wish.{Wish, Nothing, Asks, IfAsks, IsNothing}
+use Rattle.snes_commands.specs.Said.{IsSaid}
+use Rattle.snes_commands.specs.Status.{refusal_of}
+use Rattle.snes_commands.specs.Ends.{due_of, OnlySays, IsNamed, IsMade, IsBegun, IsLeft, IsDone, IsWriteFault, IsAnswered, EndsShort, EndsCall, EndsWish}
 use Rattle.snes_program.specs.Snes.{OrNoMemory, IsEarly, IsLate, IsOver, IsDue, IsFaultBefore, AreBegun, IsClean}
-use Rattle.snes_program.proofs.KindLemmas.{one_cause}
-use Rattle.snes_program.proofs.Lists.{all_map, all_both, one_of, all_at}
+use Rattle.snes_commands.proofs.KindLemmas.{one_cause}
+use Rattle.snes_commands.proofs.Lists.{all_map, all_both, one_of, all_at}
 
 -- THE FIRST INPUT THAT ISN'T ACCEPTED DECIDES
 -- what is told can't be both refused and accepted

@@ -5,12 +5,12 @@ use Rattle.shelf.specs.Told.{HasRisen}
 use Rattle.shelf.specs.Shown.{Shown}
 use Rattle.run_io.specs.Form.{Order}
 use Rattle.run_io.specs.Lists.{AllOf, FirstThat}
-use Rattle.snes_program.specs.declared.status.Why.{Why}
-use Rattle.snes_program.specs.declared.status.Status.{Status}
-use Rattle.snes_program.specs.declared.status.Status.TheVariants.{Ok, Usage, LoadFault, Refused, WriteFault, NoMemory, Differs}
-use Rattle.snes_program.specs.Loads.{told_in, TellsAccepted, TellsRefused, HasFailed}
-use Rattle.snes_program.specs.Command.{Command}
-use Rattle.snes_program.specs.Ends.{due_of, IsBegun}
+use Rattle.snes_commands.specs.declared.status.Why.{Why}
+use Rattle.snes_commands.specs.declared.status.Status.{Status}
+use Rattle.snes_commands.specs.declared.status.Status.TheVariants.{Ok, Usage, LoadFault, Refused, WriteFault, NoMemory, Differs}
+use Rattle.snes_commands.specs.Loads.{told_in, TellsAccepted, TellsRefused, HasFailed}
+use Rattle.snes_commands.specs.Command.{Command}
+use Rattle.snes_commands.specs.Ends.{due_of, IsBegun}
 
 -- the answer of a command that was done, by some line (Ok, if it compares nothing), or want of memory in its place
 abbrev pub OrNoMemory : Command → Status → Type 0

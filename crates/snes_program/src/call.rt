@@ -1,59 +1,16 @@
-ghost use Rattle.run_io.specs.Form.{order_by, Fits};
-ghost use Rattle.snes_program.specs.Commands.{asks, asked_by, asked};
-ghost use Rattle.snes_program.specs.Ends.{EndsCall, EndsWish};
+ghost use Rattle.snes_commands.specs.Ends.{EndsWish};
+ghost use Rattle.snes_program.specs.Commands.{asked_by, asked};
 
-use crate::check::Check;
-use crate::command::Performs;
-use crate::demo::Demo;
-use crate::dump::Dump;
-use crate::help::{Help, Version};
-use crate::make::Make;
-use crate::perform::perform;
-use crate::play::Play;
-use crate::rewind::Rewind;
-use crate::run::{Run, Way};
-use crate::say::{refuse, say};
-use crate::sound_file::SoundFile;
-use crate::status::Status;
-use crate::sums_run::SumsRun;
 use plan_drive::PlanPlayer;
 use port_wire::Gate;
 use run_drive::StatePlayer;
-use run_io::{Argv, Asked, Word, read_form};
+use run_io::{Argv, Word};
 use shelf::Shelf;
+use snes_commands::{
+    Check, Demo, Dump, Help, Make, Play, Rewind, Run, SoundFile, Status, SumsRun, Version, Way,
+    call, refuse,
+};
 use std::thread::Threads;
-
-/// Performs a command, prints how it ended, and returns the status.
-fn commanded<C: Performs, R: AllocGlobal + Threads, H: Shelf>(
-    command: &C,
-    rt: &R,
-    gate: &dyn Gate,
-    asked: &Asked<'_>,
-    shelf: &mut H,
-) -> Status
-    requires { Fits C.command.form (order_by asked.now) }
-    ensures { EndsCall C.command (order_by asked.now) (H.shown shelf.old) (H.shown shelf.new) result }
-{
-    let outcome = perform(command, rt, gate, asked, shelf);
-    say::<C, H>(shelf, outcome)
-}
-
-/// Reads the arguments after a command's name by its form, and performs the command.
-#[tactic(auto, using(crate::proofs::Ending::reads))]
-fn call<C: Performs, R: AllocGlobal + Threads, H: Shelf>(
-    command: &C,
-    rt: &R,
-    gate: &dyn Gate,
-    words: &[Word],
-    shelf: &mut H,
-) -> Status
-    ensures { EndsWish (asks C.command words.now) (H.shown shelf.old) (H.shown shelf.new) result }
-{
-    match read_form(&C::form(), words) {
-        Some(asked) => commanded(command, rt, gate, &asked, shelf),
-        None => refuse(shelf, Status::Usage),
-    }
-}
 
 /// Calls the command of this name. THE COMMANDS are listed here, and in `asked_by`.
 #[tactic(auto, unfolding(crate::specs::Commands::asked_by))]
@@ -112,7 +69,7 @@ fn call_named<P: PlanPlayer + StatePlayer, Z: StatePlayer, R: AllocGlobal + Thre
 }
 
 /// Performs the command that the arguments ask for, prints how it ended, and returns the status.
-#[tactic(auto, using(crate::proofs::Ending::reads))]
+#[tactic(auto, using(snes_commands::proofs::Ending::reads))]
 pub(crate) fn performed<
     P: PlanPlayer + StatePlayer,
     Z: StatePlayer,

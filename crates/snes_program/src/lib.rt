@@ -1,48 +1,13 @@
-// The program `snes`: everything that its commands do, for any player of jobs and any shelf of files.
+// The program `snes`: which command its words ask for, and the one call that `main` makes.
 //
-// Builds on the readers of arguments and files, on the player of sound files, and on the trait `Player`. It knows no
-// console: a `Player` makes one from a job and plays it. `docs/use/COMMANDS.md` describes the arguments, files and
-// lines.
-//
-// What all commands share is in `call`, `perform`, `loads`, `outputs` and `say`. Each command has a file of its own
-// (`run`, `play`, `make`, `demo`, `rewind`, `dump`, `sound_file`, `help`), and its meaning is in `specs/`. Each kind of
-// input has a file too: `cart`, `boot`, `spc`, `table`, `script`, `plan`. `CONTRIBUTING.md` says how to add one.
+// The contract of `snes` (`top`) is the theorem: it holds for any player of jobs and any shelf of files. `call` has the
+// commands by their names, and `mistakes` says what is wrong in words that ask for none. `snes_commands` has what each
+// command does.
 #![tactic(auto)]
 
-mod boot;
 mod call;
-mod cart;
-mod check;
-mod command;
-mod demo;
-mod dump;
-mod free;
-mod help;
-mod job;
-mod loads;
-mod make;
 mod mistakes;
-mod outputs;
-mod perform;
-mod plan;
-mod play;
-mod put_whole;
-mod rewind;
-mod run;
-mod say;
-mod script;
-mod sound_file;
-mod sound_out;
-mod spc;
-mod status;
-mod sums;
-mod sums_file;
-mod sums_run;
-mod table;
-mod tagging;
 mod top;
 
 pub use mistakes::explain;
-pub use say::refusal_line;
-pub use status::{Status, Why};
 pub use top::snes;

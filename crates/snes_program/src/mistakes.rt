@@ -1,32 +1,13 @@
 ghost use Rattle.std.specs.Prelude.{MatchOption};
-ghost use Rattle.snes_program.specs.Commands.{asks, asked_by, asked, IsNothing};
+ghost use Rattle.snes_commands.specs.Wish.{IsNothing};
+ghost use Rattle.snes_program.specs.Commands.{asked_by, asked};
 
-use crate::check::Check;
-use crate::command::Performs;
-use crate::demo::Demo;
-use crate::dump::Dump;
-use crate::help::{Help, Version};
-use crate::make::Make;
-use crate::play::Play;
-use crate::rewind::Rewind;
-use crate::run::Run;
-use crate::sound_file::SoundFile;
-use crate::sums_run::SumsRun;
 use plan_drive::PlanPlayer;
 use run_drive::StatePlayer;
-use run_io::{Argv, Fault, Mistake, Word, mistake_in, read_form};
-
-/// Returns the mistake in the arguments after a command's name; none if they have its form.
-#[tactic(auto, using(crate::proofs::Explaining::explains))]
-fn explain_form<C: Performs>(words: &[Word]) -> Option<Mistake<'_>>
-    ensures { MatchOption result (¬ IsNothing (asks C.command words.now)) (λ mistake. IsNothing (asks C.command words.now)) }
-{
-    let form = C::form();
-    match read_form(&form, words) {
-        Some(_) => None,
-        None => Some(mistake_in(&form, words)),
-    }
-}
+use run_io::{Argv, Fault, Mistake, Word};
+use snes_commands::{
+    Check, Demo, Dump, Help, Make, Play, Rewind, Run, SoundFile, SumsRun, Version, explain_form,
+};
 
 /// Returns the mistake in the arguments after this name, if there is one. The commands are listed as in `call_named`.
 #[tactic(auto, unfolding(crate::specs::Commands::asked_by))]

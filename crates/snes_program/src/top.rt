@@ -4,21 +4,22 @@ ghost use Rattle.shelf.specs.declared.shelves.Out.{Out};
 ghost use Rattle.shelf.specs.Told.{HasRisen};
 ghost use Rattle.shelf.specs.Shown.{IsPassedOver, IsKept, OnlyPuts};
 ghost use Rattle.run_io.specs.Lists.{AllOf, IsOneOf};
-ghost use Rattle.snes_program.specs.declared.status.Why.{Why};
-ghost use Rattle.snes_program.specs.Loads.{EndsInputs};
-ghost use Rattle.snes_program.specs.Ends.{OnlySays, IsMade, IsLeft, IsAnswered};
-ghost use Rattle.snes_program.specs.Said.{IsSaid};
-ghost use Rattle.snes_program.specs.Status.{refusal_of};
-ghost use Rattle.snes_program.specs.Commands.{asked, IfAsks, IsNothing};
+ghost use Rattle.snes_commands.specs.declared.status.Why.{Why};
+ghost use Rattle.snes_commands.specs.Loads.{EndsInputs};
+ghost use Rattle.snes_commands.specs.Ends.{OnlySays, IsMade, IsLeft, IsAnswered};
+ghost use Rattle.snes_commands.specs.Said.{IsSaid};
+ghost use Rattle.snes_commands.specs.Status.{refusal_of};
+ghost use Rattle.snes_commands.specs.Wish.{IfAsks, IsNothing};
+ghost use Rattle.snes_program.specs.Commands.{asked};
 ghost use Rattle.snes_program.specs.Snes.{OrNoMemory, IsEarly, IsLate, IsOver, IsDue, IsFaultBefore, AreBegun, IsClean};
 
 use crate::call::performed;
-use crate::status::Status;
 use plan_drive::PlanPlayer;
 use port_wire::Gate;
 use run_drive::StatePlayer;
 use run_io::Argv;
 use shelf::Shelf;
+use snes_commands::Status;
 use std::thread::Threads;
 
 /// Runs the program `snes` with its arguments, and returns how it ended.

@@ -3,7 +3,8 @@ use file_shelf::Cause;
 use job_player::{Console, SoundTaker};
 use run_io::{Argv, Line, Mistake, input_given, output_given};
 use shelf::Out;
-use snes_program::{Status, explain, refusal_line};
+use snes_commands::{Status, refusal_line};
+use snes_program::explain;
 use std::io;
 
 /// Returns a line without its end, as text.
