@@ -63,8 +63,9 @@ impl PictureMemories {
         match register {
             0x04 => self.write_oam(ports.oam.address),
             0x16 | 0x17 => {
-                let address = aimed(ports.vram.address, register == 0x16, byte);
-                self.fetched = remap(ports.vram.remap, address) % 32_768;
+                let mut port = ports.vram;
+                port.address = aimed(port.address, register == 0x16, byte);
+                self.fetched = vram_place(&port);
             }
             0x18 => self.vram.write(2 * usize::from(vram_place(&ports.vram))),
             0x19 => self
