@@ -1,0 +1,4 @@
+pub mod Accepted
+pub mod Puts
+pub mod Stands
+pub mod Sums
