@@ -1,10 +1,10 @@
 //! Writes a LoROM header into a copy of a cartridge that has none.
 //!
-//! `header --help` lists its arguments. `header_writer` decides which files get a header, and writes it. The code here opens
-//! files and says what was done. `docs/use/CARTRIDGES.md` has the rule.
+//! `header --help` lists its arguments. `header_writer` decides which files get a header, and writes it. The code here
+//! opens files and says what was done. `docs/use/CARTRIDGES.md` has the rule.
 //!
-//! The status is 0 if the copy is written, 1 if the file is refused, and 2 if a file could not be read or written, or if the
-//! command line is invalid.
+//! The status is 0 if the copy is written, 1 if the file is refused, and 2 if a file could not be read or written, or
+//! if the command line is invalid.
 #![tactic(auto)]
 
 mod files;

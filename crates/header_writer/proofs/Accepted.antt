@@ -7,9 +7,10 @@ use Rattle.cart_map.specs.declared.refused.CartRefused.TheVariants.{NoHeader}
 use Rattle.cart_map.specs.Accept.{image_of, rom_of, stands, is_map_byte, judged, verdict}
 use Rattle.header_writer.specs.declared.refused.HeaderRefused.TheVariants.{TooShort, TooLong, HasHeader, Reset}
 use Rattle.header_writer.specs.Refusal.{has_header, refusal}
-use Rattle.header_writer.specs.Checksum.{size_byte, checksum}
+use Rattle.header_writer.specs.Checksum.{size_byte, checksum, StatesChecksum}
 use Rattle.header_writer.specs.Written.{front_of, with_bytes, with_kind, with_header, sums}
 use Rattle.header_writer.proofs.Puts.{image_is, Fits_in, put_size, put_front, byte_in, byte_outside}
+use Rattle.header_writer.proofs.Seen.{stated}
 use Rattle.header_writer.proofs.Stands.{rom_byte, lorom_stands, hirom_stands}
 
 -- an image that is not refused
@@ -154,3 +155,13 @@ header_put title old size long =
     (kind_stays titled file2 0x7fdc last
     (kind_stays titled file1 0x7fd9 rest (kind_put titled long0) (omega arith) (omega arith) fits2)
     (omega arith) (omega arith) fits3)
+
+-- and it states its checksum
+pub header_stated : (title old : List ℕ) → length title ≡ 21 → front_of old + 32768 ≤ length old → StatesChecksum (image_of (with_header title old))
+header_stated title old size long =
+    let titled = with_bytes 0x7fc0 title old in
+    let kind : List ℕ = 0x20 ∷ 0x00 ∷ size_byte (length (image_of titled)) ∷ 0x00 ∷ [] in
+    let fits0 : Fits_in 0x7fc0 title old = omega arith in
+    let long0 = room_stays 0x7fc0 title old fits0 long in
+    let fits1 : Fits_in 0x7fd5 kind titled = omega arith in
+    stated (with_kind titled) (room_stays 0x7fd5 kind titled fits1 long0)

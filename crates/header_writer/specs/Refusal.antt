@@ -1,5 +1,6 @@
 -- Into which files a header is written, and why not into the others: this project's own rule.
-use Rattle.std.specs.Prelude.{ℕ, Bool, true, false, nat_lt, nat_eq, if◌then◌else◌, ◌||◌, List, length, drop, take, slice_index, Option, Some, None}
+use Rattle.std.specs.Prelude.{ℕ, Bool, true, false, nat_lt, nat_eq, if◌then◌else◌, ◌||◌, List, length, drop, take}
+use Rattle.std.specs.Prelude.{slice_index, Option, Some, None}
 use Rattle.std.specs.List.{list_all}
 use Rattle.snes_defs.specs.declared.cart.MapKind.TheVariants.{LoRom, HiRom}
 use Rattle.cart_map.specs.Accept.{rom_of, stands}

@@ -1,5 +1,5 @@
--- What is written into a file. The fields of a header are those of the Super Nintendo Development Manual and of fullsnes,
--- "SNES Cartridge ROM Header".
+-- What is written into a file. The fields of a header are those of the Super Nintendo Development Manual and of
+-- fullsnes, "SNES Cartridge ROM Header".
 use Rattle.std.specs.Prelude.{ℕ, ◌+◌, ◌-◌, ◌/◌, ◌%◌, nat_eq, if◌then◌else◌, List, [], ◌∷◌, length}
 use Rattle.std.specs.List.{splice}
 use Rattle.cart_map.specs.Accept.{image_of}

@@ -1,48 +1,53 @@
 //! The checksum of an image, and the size byte that goes with it.
 ghost use Rattle.std.specs.Prelude.{◌≡◌, ◌*◌, ◌%◌, ◌^◌, ◌≤◌, sum};
-ghost use Rattle.header_writer.specs.Checksum.{size_byte, seen_sum, checksum};
+ghost use Rattle.header_writer.specs.Checksum.{doublings, size_byte, seen_sum, checksum};
 
-/// Returns the ROM size byte for an image of `size` bytes: the least n for which it fits into 2^n KiB.
-#[tactic(auto, unfolding(crate::specs::Checksum::size_byte))]
-pub(crate) fn size_byte(size: usize) -> u8
-    ensures size { result ≡ size_byte size }
-    ensures least { 5 ≤ result }
-    ensures most { result ≤ 12 }
+/// Returns how often 32 KiB are doubled until an image of `size` bytes fits in.
+#[tactic(auto, unfolding(crate::specs::Checksum::doublings))]
+fn doublings(size: usize) -> u8
+    ensures doublings { result ≡ doublings size }
+    ensures most { result ≤ 7 }
 {
     if size <= 0x8000 {
-        5
+        0
     } else if size <= 0x1_0000 {
-        6
+        1
     } else if size <= 0x2_0000 {
-        7
+        2
     } else if size <= 0x4_0000 {
-        8
+        3
     } else if size <= 0x8_0000 {
-        9
+        4
     } else if size <= 0x10_0000 {
-        10
+        5
     } else if size <= 0x20_0000 {
-        11
+        6
     } else {
-        12
+        7
     }
 }
 
-/// Returns the bytes of 2^n KiB.
-fn window(size_byte: u8) -> usize
-    requires least { 5 ≤ size_byte }
-    requires most { size_byte ≤ 12 }
-    ensures { result ≡ 1024 * 2 ^ size_byte }
+/// Returns the ROM size byte for an image of `size` bytes.
+pub(crate) fn size_byte(size: usize) -> u8
+    ensures { result ≡ size_byte size }
 {
-    match size_byte {
-        5 => 0x8000,
-        6 => 0x1_0000,
-        7 => 0x2_0000,
-        8 => 0x4_0000,
-        9 => 0x8_0000,
-        10 => 0x10_0000,
-        11 => 0x20_0000,
-        12 => 0x40_0000,
+    5 + doublings(size)
+}
+
+/// Returns the bytes of 32 KiB that are doubled so many times.
+fn window(doubled: u8) -> usize
+    requires { doubled ≤ 7 }
+    ensures { result ≡ 32768 * 2 ^ doubled }
+{
+    match doubled {
+        0 => 0x8000,
+        1 => 0x1_0000,
+        2 => 0x2_0000,
+        3 => 0x4_0000,
+        4 => 0x8_0000,
+        5 => 0x10_0000,
+        6 => 0x20_0000,
+        7 => 0x40_0000,
         _ => unreachable!(),
     }
 }
@@ -80,6 +85,6 @@ fn seen_sum(doubled: u8, window: usize, bytes: &[u8]) -> u16
 pub(crate) fn checksum(image: &[u8]) -> u16
     ensures { result ≡ checksum image.now }
 {
-    let size = size_byte(image.len());
-    seen_sum(size - 5, window(size), image)
+    let doubled = doublings(image.len());
+    seen_sum(doubled, window(doubled), image)
 }

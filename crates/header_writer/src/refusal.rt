@@ -1,5 +1,5 @@
 //! Into which files a header is written.
-ghost use Rattle.std.specs.Prelude.{◌≡◌, ◌||◌, nat_eq, true, false, length, slice_index, Option, None, Some, ◌≤◌, ◌<◌, take, drop};
+ghost use Rattle.std.specs.Prelude.{◌≡◌, ◌≤◌, ◌||◌, nat_eq, length, slice_index, None};
 ghost use Rattle.snes_defs.specs.declared.cart.MapKind.TheVariants.{LoRom, HiRom};
 ghost use Rattle.std.specs.List.{list_all};
 ghost use Rattle.cart_map.specs.Accept.{rom_of, is_map_byte};
