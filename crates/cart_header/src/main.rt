@@ -58,7 +58,7 @@ fn say_refused<R: Print>(rt: &R, name: &str, file: Vec<u8>, cause: HeaderRefused
         HeaderRefused::TooLong => println!(rt; "{name} is too long: snes takes at most 4 MiB")?,
         HeaderRefused::HasHeader => say_header(rt, name, file)?,
         HeaderRefused::Reset(byte) => println!(rt;
-            "{name} is no LoROM program: its reset vector leads below 8000 (byte 7FFD is {byte:02X})"
+            "{name} is not a LoROM program: its reset vector leads below 8000 (byte 7FFD is {byte:02X})"
         )?,
         HeaderRefused::InUse => println!(rt;
             "{name} uses its bytes 7FC0 to 7FDF: --least writes four of them only, 7FD5 to 7FD8"
