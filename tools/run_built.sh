@@ -4,8 +4,8 @@
 #   tools/run_built.sh TOOL CRATE [WORD..]
 #
 # TOOL is the name under which messages are printed, CRATE the crate of the program, the words are the program's.
-# File names are those of the folder in which it is called. `./snes`, `./scene`, `./look`, `./trace`, `./lint` and
-# `./bench` are calls of it.
+# File names are those of the folder in which it is called. `./snes`, `./scene`, `./look`, `./trace`, `./lint`,
+# `./bench` and `./header` are calls of it.
 #
 # The program is built where it is missing or was built from other sources. What it was built from is kept beside it,
 # in crates/CRATE/out/CRATE.sums: the checksum of the sources of the crates that it stands on, and that of the program.

@@ -4,8 +4,8 @@
 #   tools/run_unproved.sh TOOL CRATE [WORD..]
 #
 # TOOL is the name for messages, CRATE the crate of the program, the words are the program's. File names are those of the
-# folder in which it is called. `./snes --unproved`, and so `./look`, `./trace`, `./lint`, `./scene`
-# and `./bench`, are calls of it.
+# folder in which it is called. `./snes --unproved`, and so `./look`, `./trace`, `./lint`, `./scene`,
+# `./bench` and `./header`, are calls of it.
 #
 # The program is built of the same sources, without checks, by tools/lab/unproved/build.sh, which says how. Nobody has proved it: the
 # toolchain's prover does not run. So it can't be taken for the proved one. It is unproved/TOOL-unproved, in a folder that git

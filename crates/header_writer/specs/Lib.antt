@@ -1,0 +1,3 @@
+pub mod Checksum
+pub mod Refusal
+pub mod Written
