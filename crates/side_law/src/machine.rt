@@ -4,9 +4,11 @@ ghost use Rattle.snes_defs.specs.declared.region.Region.{Region};
 ghost use Rattle.clock_ratio.specs.Stamp.{least_of, most_of};
 ghost use Rattle.side_law.specs.Moves.{Moves, IsLawful, IsAtPorts, taken};
 ghost use Rattle.side_law.specs.Quiet.{HasGoneQuietly};
+ghost use Rattle.side_law.specs.Gone.{HasGone};
 ghost use Rattle.side_law.specs.Sides.{HasTalked};
 
 use crate::pause::Pause;
+use crate::ports::{Ports, Stop, call};
 use snes_defs::{Act, Region};
 
 /// A machine that runs by steps, each at a stamp, and touches four ports that another machine shares.
@@ -117,6 +119,15 @@ pub trait Machine: Send {
             && Self::MOST <= Self::CAP - waiting - Self::MOST
     }
 
+    /// Whether the buffer has room for the bytes of one step.
+    #[inline(always)]
+    fn has_room(&self) -> bool
+        ensures { IsTrue result ↔ (length (waiting self.now) + MOST ≤ CAP) }
+    {
+        let waiting = self.pending();
+        waiting <= Self::CAP && Self::MOST <= Self::CAP - waiting
+    }
+
     /// Moves out the first of the buffered bytes, all or as many as fit, and returns how many.
     fn drain(&mut self, into: &mut [u8]) -> usize
         ensures count { result ≡ min (length (waiting self.old)) (length into.old) }
@@ -172,6 +183,45 @@ pub trait Machine: Send {
         ensures same_region { region_of self.new ≡ region_of self.old }
     {
         let _before = before;
+    }
+
+    /// Runs steps in order, each begun before the stamp `until` and its call at the ports made by `ports`, and returns why
+    /// it stopped. How many it runs is left to the machine. It runs none after one whose call is refused, and none that
+    /// may emit without room for its bytes (`Ports::room`, `CAP`).
+    ///
+    /// Each stop has a cause, so a caller that calls again gets on: `Stop::Until` comes only at `until` or without room,
+    /// and `Stop::Refused` only if the ports refuse the next step's call.
+    #[inline(always)]
+    fn advance<P: Ports>(&mut self, until: u64, ports: &mut P) -> Stop
+        requires early { until ≤ 2 ^ 62 }
+        requires in_order { P.clock ports.old ≤ stamp_of self.old }
+        requires in_time { until ≤ (P.times ports.old).before }
+        requires apart { (P.times ports.old).rise ≤ least_of (region_of self.old) }
+        ensures gone { (m : State) (p : P.State) → stands self.old m → P.stands ports.old p → HasGone moves P.calls until MOST CAP (stands self.new) (P.stands ports.new) (waiting self.old) (waiting self.new) result m p }
+        ensures forward { stamp_of self.old ≤ stamp_of self.new }
+        ensures emitted { (at : ℕ) → result ≡ Stop.Emitted at → (stamp_of self.old ≤ at) × (at < until) × (at < stamp_of self.new) }
+        ensures fits { length (waiting self.old) ≤ CAP → length (waiting self.new) ≤ CAP }
+        ensures in_order { P.clock ports.new ≤ stamp_of self.new }
+        ensures times { P.times ports.new ≡ P.times ports.old }
+        ensures same_region { region_of self.new ≡ region_of self.old }
+    {
+        'steps: while self.stamp() < until {
+            let at = self.stamp();
+            let waited = self.pending();
+            if at >= ports.room(waited) || !self.has_room() {
+                return Stop::Until;
+            }
+            let Some(got) = call(ports, at, self.act()) else {
+                return Stop::Refused;
+            };
+            self.step(got);
+            let waits = self.pending();
+            if waits > waited {
+                ports.emitted(at, waits);
+                return Stop::Emitted(at);
+            }
+        }
+        Stop::Until
     }
 
     // The state of a value is valid in its region, and has its stamp.
