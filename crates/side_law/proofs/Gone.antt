@@ -3,6 +3,8 @@ use Rattle.std.proofs.Common.{◌≡◌, ℕ, zero, suc, ◌+◌, ◌<◌, ◌�
 use Rattle.snes_defs.specs.declared.region.Region.{Region}
 use Rattle.snes_defs.specs.declared.ports.Act.{Act}
 use Rattle.snes_defs.specs.declared.ports.Act.TheVariants.{Quiet, Read, Write, Clear}
+use Rattle.clock_ratio.specs.Stamp.{least_of, most_of}
+use Rattle.clock_ratio.proofs.Numbers.{numbers}
 use Rattle.side_law.specs.Moves.{Moves, IsLawful, taken}
 use Rattle.side_law.specs.declared.ports.Stop.TheVariants.{Until, Emitted, Refused}
 use Rattle.side_law.specs.Gone.{Calls, Over, HasMoved, IsAnswered, IsRefused, Goes, GoneBy, Gone, IsFull, IsOnWay, HasGone}
@@ -37,25 +39,51 @@ module _ {State Ports : Type 0} (moves : Moves State) (calls : Calls Ports) (unt
 
 -- of a lawful machine
 module _ {State Ports : Type 0} (region : Region) (valid : State → Type 0) (most : ℕ) (moves : Moves State) (lawful : IsLawful region valid most moves) (calls : Calls Ports) (until : ℕ) where
-  -- what steps keep: the state is valid, the stamp has not fallen, and is not beyond the last step before `until`
+  -- what steps keep
   pub record HasRisen (x y : Over State Ports) : Type 0 where
     pub is_valid : valid y.own
+    -- the stamp has not fallen, and is higher if they emitted
     pub forward : moves.stamp x.own ≤ moves.stamp y.own
     pub longer : length x.waits ≤ length y.waits
+    pub rose : length x.waits < length y.waits → moves.stamp x.own < moves.stamp y.own
+    -- and no further than the longest step from `until`
+    pub below : (bound : ℕ) → moves.stamp x.own ≤ bound → until + most_of region ≤ bound → moves.stamp y.own ≤ bound
 
-  pub goes_up : (x y : Over State Ports) → valid x.own → Goes moves calls until x y → HasRisen x y
-  goes_up x y is_valid goes = record {
-    is_valid = subst valid goes.own (lawful.stays_valid x.own goes.got is_valid goes.byte);
-    forward = subst (λ m. moves.stamp x.own ≤ moves.stamp m) goes.own (let up = lawful.rises x.own goes.got is_valid goes.byte in omega (arith, up));
-    longer = omega (arith, ap length goes.waits, length-append x.waits (moves.bytes x.own goes.got));
-  }
+  -- one step
+  pub record HasStepped (x y : Over State Ports) : Type 0 where
+    pub is_valid : valid y.own
+    pub up : moves.stamp x.own + least_of region ≤ moves.stamp y.own
+    pub at_most : moves.stamp y.own ≤ moves.stamp x.own + most_of region
+    pub longer : length x.waits ≤ length y.waits
+    pub emits_at_most : length y.waits ≤ length x.waits + most
+
+  pub goes_up : (x y : Over State Ports) → valid x.own → Goes moves calls until x y → HasStepped x y
+  goes_up x y is_valid goes =
+      let few = lawful.emits_at_most x.own goes.got is_valid goes.byte in
+      let joined = ap length goes.waits in
+      let sum = length-append x.waits (moves.bytes x.own goes.got) in
+      record {
+        is_valid = subst valid goes.own (lawful.stays_valid x.own goes.got is_valid goes.byte);
+        up = subst (λ m. moves.stamp x.own + least_of region ≤ moves.stamp m) goes.own (lawful.rises x.own goes.got is_valid goes.byte);
+        at_most = subst (λ m. moves.stamp m ≤ moves.stamp x.own + most_of region) goes.own (lawful.rises_at_most x.own goes.got is_valid goes.byte);
+        longer = omega (arith, joined, sum);
+        emits_at_most = omega (arith, joined, sum, few);
+      }
 
   rises_by : (n : ℕ) (x y : Over State Ports) → valid x.own → GoneBy moves calls until n x y → HasRisen x y
-  rises_by zero x y is_valid same = subst (HasRisen x) same (record { is_valid = is_valid; forward = omega arith; longer = omega arith })
+  rises_by zero x y is_valid same =
+      subst (HasRisen x) same (record { is_valid = is_valid; forward = omega arith; longer = omega arith; rose = λ some. absurd (omega (arith, some)); below = λ bound here there. here })
   rises_by (suc n) x y is_valid (last, before, goes) =
       let h = rises_by n x last is_valid before in
       let k = goes_up last y h.is_valid goes in
-      record { is_valid = k.is_valid; forward = omega (arith, h.forward, k.forward); longer = omega (arith, h.longer, k.longer) }
+      let some = (numbers region).rises in
+      record {
+        is_valid = k.is_valid;
+        forward = omega (arith, h.forward, k.up);
+        longer = omega (arith, h.longer, k.longer);
+        rose = λ grew. omega (arith, h.forward, k.up, some);
+        below = λ bound here there. omega (arith, goes.early, k.at_most, there);
+      }
 
   pub gone_up : (x y : Over State Ports) → valid x.own → Gone moves calls until x y → HasRisen x y
   gone_up x y is_valid gone = rises_by gone.steps x y is_valid gone.made

@@ -105,12 +105,6 @@ pub fn call<P: Ports>(ports: &mut P, at: u64, act: Act) -> Option<u8>
                 None
             }
         }
-        Act::Clear(mask) => {
-            if ports.clear(at, mask) {
-                Some(0)
-            } else {
-                None
-            }
-        }
+        Act::Clear(mask) => { if ports.clear(at, mask) { Some(0) } else { None } }
     }
 }

@@ -1,4 +1,4 @@
-use Rattle.std.proofs.Common.{rules, ◌≡◌, ℕ, inl, inr, refl, sym, subst, arith}
+use Rattle.std.proofs.Common.{rules, ◌≡◌, inl, inr, refl, sym, subst, arith}
 use Rattle.side_law.specs.Moves.{taken}
 use Rattle.std.proofs.lemmas.Grind.{common_steps}
 use Rattle.side_law.specs.Gone.{IsFull}
@@ -15,7 +15,7 @@ returns-then-at-room-clause-gone g c = λ m p stands stand.
     let room = c.room.ensures way.ports way.ports_stand in
     let full : IsFull M.moves P.calls c.args.until M.MOST M.CAP (way_to M.moves P.calls c.args.until (M.stands c.steps.self) (P.stands c.steps.ports) (M.waiting c.args.self.now) (M.waiting c.steps.self) m p way) =
     elim c.then-at-room.branch [
-      then-at-room-via-then-at-room w ↦ inl (omega (arith, w.if-at-room.true, is, subst (λ n. P.calls.room way.ports n ≡ c.room.result) c.pending-waited.ensures room))
+      | then-at-room-via-then-at-room w ↦ inl (omega (arith, w.if-at-room.true, is, subst (λ n. P.calls.room way.ports n ≡ c.room.result) c.pending-waited.ensures room))
       | then-at-room-via-else-at-room+then-not-has_room w ↦ inr (grind (arith, w.if-not-has_room.ensures))
     ] in
     stops_until M.moves P.calls c.args.until (M.stands c.steps.self) (P.stands c.steps.ports) (M.waiting c.args.self.now) (M.waiting c.steps.self) m p M.MOST M.CAP way (inr full)
