@@ -1,3 +1,4 @@
+pub mod ByteSteps
 pub mod Lead
 pub mod LeadBegins
 pub mod Led

@@ -2,14 +2,17 @@
 //
 // Builds on the trait of a machine. `Serial` is the plain program against which everything that runs the two machines
 // in another order is compared. Its turn is exactly `turn` of the definitions of `side_law`, for any two machines.
-// `leading` runs many steps of a side, ahead of the other by quiet ones.
+// `leading` runs many steps of a side, ahead of the other by quiet ones. `lead_by` does so by one call of the machine,
+// with `Bytes` as its ports.
 //
 // The side whose turn it is needs room for the bytes of one step: `Machine::ready` before each turn is enough. The
 // earlier stamp is at most 2^62. `docs/proof/RUNS.md` has the rule.
 #![tactic(auto)]
 
+mod bytes;
 mod leading;
 mod ports;
 mod serial;
 
+pub use bytes::{Bytes, lead_by};
 pub use serial::{Serial, step};

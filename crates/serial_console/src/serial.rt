@@ -32,7 +32,7 @@ fn kept(mask: u8, bit: u8, byte: u8) -> u8
 
 /// The four bytes with those of the mask zeroed.
 #[inline(always)]
-fn cleared(mask: u8, bytes: [u8; 4]) -> [u8; 4]
+pub(crate) fn cleared(mask: u8, bytes: [u8; 4]) -> [u8; 4]
     ensures { result ≡ cleared_from 0 mask bytes }
 {
     let [first, second, third, fourth] = bytes;
