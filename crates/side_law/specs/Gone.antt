@@ -29,6 +29,10 @@ pub record HasMoved {Ports : Type 0} (stands leads : Ports → Type 0) : Type 0 
   pub now_stands : stands to
   pub led : leads to
 
+-- from each state in which the ports stood a call led to one in which they stand
+abbrev pub Leads : {Ports : Type 0} → (Ports → Type 0) → (Ports → Type 0) → (Ports → Ports → Type 0) → Type 0
+Leads stood stands leads = (p : _) → stood p → HasMoved stands (leads p)
+
 -- a machine, the ports behind it, and the bytes that wait in it
 pub record Over (State Ports : Type 0) : Type 0 where
   pub own : State

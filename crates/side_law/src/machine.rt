@@ -197,7 +197,9 @@ pub trait Machine: Send {
         requires in_order { P.clock ports.old ≤ stamp_of self.old }
         requires in_time { until ≤ (P.times ports.old).before }
         requires apart { (P.times ports.old).rise ≤ least_of (region_of self.old) }
-        ensures gone { (m : State) (p : P.State) → stands self.old m → P.stands ports.old p → HasGone moves P.calls until MOST CAP (stands self.new) (P.stands ports.new) (waiting self.old) (waiting self.new) result m p }
+        ensures gone { (m : State) (p : P.State) → stands self.old m → P.stands ports.old p
+            → HasGone moves P.calls until MOST CAP (stands self.new) (P.stands ports.new)
+            (waiting self.old) (waiting self.new) result m p }
         ensures forward { stamp_of self.old ≤ stamp_of self.new }
         ensures emitted { (at : ℕ) → result ≡ Stop.Emitted at → (stamp_of self.old ≤ at) × (at < until) × (at < stamp_of self.new) }
         ensures fits { length (waiting self.old) ≤ CAP → length (waiting self.new) ≤ CAP }

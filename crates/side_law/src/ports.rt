@@ -1,7 +1,7 @@
 // What is behind the ports of a machine, and why a machine stops that advances over them.
 ghost use Rattle.std.specs.Prelude.{◌≡◌, ◌+◌, ◌<◌, ◌≤◌, ℕ, IfSome, None, IsTrue, false};
 ghost use Rattle.side_law.specs.Moves.{IsAtPorts};
-ghost use Rattle.side_law.specs.Gone.{Calls, Times, HasMoved, IsAnswered, IsRefused};
+ghost use Rattle.side_law.specs.Gone.{Calls, Times, Leads, IsAnswered, IsRefused};
 
 use snes_defs::Act;
 
@@ -43,8 +43,8 @@ pub trait Ports {
         requires port { port < 4 }
         requires in_order { clock self.old ≤ at }
         requires in_time { at < (times self.old).before }
-        ensures answered { IfSome result (λ byte. (p : State) → stands self.old p → HasMoved (stands self.new) (calls.answers at (Act.Read port) byte p)) }
-        ensures refused { result ≡ None → (p : State) → stands self.old p → HasMoved (stands self.new) (calls.refuses at (Act.Read port) p) }
+        ensures answered { IfSome result (λ byte. Leads (stands self.old) (stands self.new) (calls.answers at (Act.Read port) byte)) }
+        ensures refused { result ≡ None → Leads (stands self.old) (stands self.new) (calls.refuses at (Act.Read port)) }
         ensures clock { clock self.new ≤ at + (times self.old).rise }
         ensures waits { result ≡ None → clock self.new ≤ at }
         ensures times { times self.new ≡ times self.old };
@@ -54,8 +54,8 @@ pub trait Ports {
         requires port { port < 4 }
         requires in_order { clock self.old ≤ at }
         requires in_time { at < (times self.old).before }
-        ensures answered { IsTrue result → (p : State) → stands self.old p → HasMoved (stands self.new) (calls.answers at (Act.Write port byte) 0 p) }
-        ensures refused { result ≡ false → (p : State) → stands self.old p → HasMoved (stands self.new) (calls.refuses at (Act.Write port byte) p) }
+        ensures answered { IsTrue result → Leads (stands self.old) (stands self.new) (calls.answers at (Act.Write port byte) 0) }
+        ensures refused { result ≡ false → Leads (stands self.old) (stands self.new) (calls.refuses at (Act.Write port byte)) }
         ensures clock { clock self.new ≤ at + (times self.old).rise }
         ensures waits { result ≡ false → clock self.new ≤ at }
         ensures times { times self.new ≡ times self.old };
@@ -65,8 +65,8 @@ pub trait Ports {
         requires mask { (1 ≤ mask) × (mask ≤ 15) }
         requires in_order { clock self.old ≤ at }
         requires in_time { at < (times self.old).before }
-        ensures answered { IsTrue result → (p : State) → stands self.old p → HasMoved (stands self.new) (calls.answers at (Act.Clear mask) 0 p) }
-        ensures refused { result ≡ false → (p : State) → stands self.old p → HasMoved (stands self.new) (calls.refuses at (Act.Clear mask) p) }
+        ensures answered { IsTrue result → Leads (stands self.old) (stands self.new) (calls.answers at (Act.Clear mask) 0) }
+        ensures refused { result ≡ false → Leads (stands self.old) (stands self.new) (calls.refuses at (Act.Clear mask)) }
         ensures clock { clock self.new ≤ at + (times self.old).rise }
         ensures waits { result ≡ false → clock self.new ≤ at }
         ensures times { times self.new ≡ times self.old };
@@ -77,7 +77,7 @@ pub trait Ports {
 
     /// A step that began at a stamp has emitted, and this many bytes are buffered now.
     fn emitted(&mut self, at: u64, waiting: usize)
-        ensures told { (p : State) → stands self.old p → HasMoved (stands self.new) (calls.told at waiting p) }
+        ensures told { Leads (stands self.old) (stands self.new) (calls.told at waiting) }
         ensures clock { clock self.new ≤ clock self.old }
         ensures times { times self.new ≡ times self.old };
 }
@@ -89,8 +89,8 @@ pub fn call<P: Ports>(ports: &mut P, at: u64, act: Act) -> Option<u8>
     requires at_ports { IsAtPorts act }
     requires in_order { P.clock ports.old ≤ at }
     requires in_time { at < (P.times ports.old).before }
-    ensures answered { IfSome result (λ got. (p : P.State) → P.stands ports.old p → HasMoved (P.stands ports.new) (IsAnswered P.calls at act got p)) }
-    ensures refused { result ≡ None → (p : P.State) → P.stands ports.old p → HasMoved (P.stands ports.new) (IsRefused P.calls at act p) }
+    ensures answered { IfSome result (λ got. Leads (P.stands ports.old) (P.stands ports.new) (IsAnswered P.calls at act got)) }
+    ensures refused { result ≡ None → Leads (P.stands ports.old) (P.stands ports.new) (IsRefused P.calls at act) }
     ensures clock { P.clock ports.new ≤ at + (P.times ports.old).rise }
     ensures waits { result ≡ None → P.clock ports.new ≤ at }
     ensures times { P.times ports.new ≡ P.times ports.old }
