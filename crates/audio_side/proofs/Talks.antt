@@ -119,7 +119,7 @@ abbrev side_with : SpcState → HardwareState → Clock → List ℕ → List �
 side_with s b k incoming out = record { own = state_with s b k; incoming = incoming; outgoing = out }
 
 -- an access in a free cycle is a step of the sound side
-talk_step : (fast : Bool) (before : ℕ) (s : SpcState) (b : HardwareState) (k : Clock) (got : ℕ) → (effect b (next_of s)).timer2.on ≡ fast → IsFree fast before k
+pub talk_step : (fast : Bool) (before : ℕ) (s : SpcState) (b : HardwareState) (k : Clock) (got : ℕ) → (effect b (next_of s)).timer2.on ≡ fast → IsFree fast before k
     → sound_next (state_with s b k) got ≡ state_with (moved_on s (given b (next_of s) got)) (effect b (next_of s)) (gone_on k)
 talk_step fast before s b k got on free =
     let made : hardware_before_end (state_with s b k) ≡ effect b (next_of s) = not_reset_hardware s b k free.no_reset in
@@ -128,7 +128,7 @@ talk_step fast before s b k got on free =
     (ap (passed k.cycle) made ∙ ends_nothing fast k.cycle (effect b (next_of s)) on free.no_end)
 
 -- its act is that of the access
-talk_act : (fast : Bool) (before : ℕ) (s : SpcState) (b : HardwareState) (k : Clock) → IsFree fast before k → sound_act (state_with s b k) ≡ act_of (next_of s)
+pub talk_act : (fast : Bool) (before : ℕ) (s : SpcState) (b : HardwareState) (k : Clock) → IsFree fast before k → sound_act (state_with s b k) ≡ act_of (next_of s)
 unfolding sound_act
 talk_act fast before s b k free = rw free.no_reset refl
 

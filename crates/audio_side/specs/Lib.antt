@@ -9,6 +9,7 @@ pub mod SoundLaws
 pub mod FromParts
 pub mod Kept
 pub mod Runs
+pub mod PortRuns
 pub mod Talks
 pub mod Follows
 pub mod Stem

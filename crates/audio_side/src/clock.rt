@@ -221,6 +221,15 @@ impl CycleClock {
         }
     }
 
+    /// The stamp of the cycle that is this many later.
+    #[inline(always)]
+    pub fn stamp_after(&self, cycles: u8) -> u64
+        requires { stamp_now self.now + rate_of self.now.region Sound * cycles ≤ 2 ^ 62 }
+        ensures { result ≡ stamp_now (later cycles self.now) }
+    {
+        self.stamp + self.rate * cycles as u64
+    }
+
     /// Moves the clock on by this many cycles.
     #[inline(always)]
     pub fn go_on_by(&mut self, cycles: u8)

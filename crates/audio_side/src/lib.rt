@@ -6,6 +6,7 @@
 //! step reads a port, the caller passes it the incoming byte. The other side's bytes are not part of this machine.
 #![tactic(auto)]
 
+mod advance;
 mod apart;
 mod clock;
 mod from_parts;
@@ -13,6 +14,7 @@ mod hardware;
 mod instructions;
 mod kept;
 mod parts;
+mod port_runs;
 mod side;
 mod step;
 mod talking;
