@@ -6,8 +6,9 @@ use Rattle.snes_defs.specs.declared.ports.Act.TheVariants.{Quiet, Read, Write, C
 use Rattle.clock_ratio.specs.Stamp.{least_of, most_of}
 use Rattle.clock_ratio.proofs.Numbers.{numbers}
 use Rattle.side_law.specs.Moves.{Moves, IsLawful, taken}
+use Rattle.side_law.specs.declared.ports.Stop.{Stop}
 use Rattle.side_law.specs.declared.ports.Stop.TheVariants.{Until, Emitted, Refused}
-use Rattle.side_law.specs.Gone.{Calls, Over, HasMoved, IsAnswered, IsRefused, Goes, GoneBy, Gone, IsFull, IsOnWay, HasGone}
+use Rattle.side_law.specs.Gone.{Calls, Over, HasMoved, IsAnswered, IsRefused, Goes, GoneBy, Gone, IsFull, HasStopped, IsOnWay, HasGone}
 
 -- a step takes what its call got
 pub taken_answered : {Ports : Type 0} (calls : Calls Ports) (at : ℕ) (act : Act) (got : ℕ) (p q : Ports) → IsAnswered calls at act got p q → taken act got ≡ got
@@ -178,3 +179,27 @@ module _ {State Ports : Type 0} (moves : Moves State) (calls : Calls Ports) (unt
       ports_stand = here;
       stopped = record { last = way_to h; gone = h.gone; goes = goes; at_is = at_is; some = some };
     }
+
+-- what was done before a stop
+stopped_after : {State Ports : Type 0} (moves : Moves State) (calls : Calls Ports) (until most cap : ℕ) (stop : Stop) (x y z : Over State Ports)
+    → Gone moves calls until x y → HasStopped moves calls until most cap stop y z → HasStopped moves calls until most cap stop x z
+stopped_after moves calls until most cap Until x y z before h = record { gone = gone_then moves calls until x y z before h.gone; ends = h.ends }
+stopped_after moves calls until most cap (Emitted at) x y z before h =
+    record { last = h.last; gone = gone_then moves calls until x y h.last before h.gone; goes = h.goes; at_is = h.at_is; some = h.some }
+stopped_after moves calls until most cap Refused x y z before h =
+    record { called = h.called; gone = gone_then moves calls until x y (record z { ports = h.called }) before h.gone; early = h.early; refused = h.refused }
+
+-- steps after steps, and why they stop
+module _ {State Ports : Type 0} (moves : Moves State) (calls : Calls Ports) (until : ℕ) (stands next : State → Type 0) (stand have : Ports → Type 0) (waited waits more : List ℕ)
+    (m : State) (p : Ports) (h : IsOnWay moves calls until stands stand waited waits m p) where
+  pub way_after : IsOnWay moves calls until next have waits more h.to h.ports → IsOnWay moves calls until next have waited more m p
+  way_after after = record { to = after.to; now_stands = after.now_stands; ports = after.ports; ports_stand = after.ports_stand; gone = gone_then moves calls until _ _ _ h.gone after.gone }
+
+  pub stops_after : (most cap : ℕ) (stop : Stop) → HasGone moves calls until most cap next have waits more stop h.to h.ports → HasGone moves calls until most cap next have waited more stop m p
+  stops_after most cap stop after = record {
+    to = after.to;
+    now_stands = after.now_stands;
+    ports = after.ports;
+    ports_stand = after.ports_stand;
+    stopped = stopped_after moves calls until most cap stop _ _ _ h.gone after.stopped;
+  }
