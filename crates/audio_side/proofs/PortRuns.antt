@@ -1,30 +1,29 @@
 -- Accesses over ports: of the memory and the registers, of the ports, and as the processor's next; and runs of them.
-use Rattle.std.proofs.Common.{◌≡◌, ◌∙◌, ◌+◌, ◌-◌, ◌*◌, ◌<◌, ◌≤◌, ℕ, Bool, zero, suc, List, [], ◌++◌, length, refl, sym, ap, subst, arith}
+use Rattle.std.proofs.Common.{◌≡◌, ◌∙◌, ◌+◌, ◌*◌, ◌<◌, ◌≤◌, ℕ, Bool, zero, suc, List, ◌++◌, length, refl, sym, ap, subst, arith}
 use Rattle.std.proofs.lemmas.List.{append-nil}
-use mathlib.Core.Logic.{∥∥₁_map}
 use Rattle.snes_defs.specs.declared.ports.Act.{Act}
-use Rattle.snes_defs.specs.declared.ports.Act.TheVariants.{Quiet, Read, Write, Clear}
+use Rattle.snes_defs.specs.declared.ports.Act.TheVariants.{Quiet, Read, Write}
 use Rattle.snes_defs.specs.declared.ports.Side.TheVariants.{Sound}
 use Rattle.clock_ratio.specs.Stamp.{least_of, rate_of}
 use Rattle.spc_tables.specs.declared.access.SpcAccess.{SpcAccess}
 use Rattle.spc_tables.specs.declared.access.SpcAccess.TheVariants as Access
 use Rattle.spc_modes.specs.Plan.{first_access}
-use Rattle.side_law.specs.Gone.{Calls, Over, HasMoved, Leads, IsAnswered, IsRefused, Goes, Gone}
-use Rattle.side_law.proofs.Gone.{gone_none, gone_on, gone_then}
+use Rattle.side_law.specs.declared.ports.Stop.TheVariants.{Refused}
+use Rattle.side_law.specs.Moves.{taken}
+use Rattle.side_law.specs.Gone.{Calls, Over, HasMoved, Leads, IsAnswered, IsRefused, Goes, Gone, IsOnWay, HasGone}
+use Rattle.side_law.proofs.Gone.{gone_none, gone_on, gone_then, goes_silently, goes_emitting, way_to, way_on}
 use Rattle.spc700.specs.Instruction.{SpcState, moved_on, next_of}
-use Rattle.spc700.specs.Stands.{Stands, Advances, access_of}
+use Rattle.spc700.specs.Stands.{Stands, access_of}
 use Rattle.spc700.specs.declared.processor.Spc.{Spc}
 use Rattle.audio_side.specs.HardwareState.{HardwareState}
 use Rattle.audio_side.specs.declared.timer.Timer.{Timer}
 use Rattle.audio_side.specs.Clock.{Clock, gone_on as clock_on, stamp_now}
-use Rattle.audio_side.specs.Effect.{act_of, act_of_load, act_of_store, after_load, effect, given, loaded, stored, emitted}
-use Rattle.audio_side.specs.Follows.{Follows}
-use Rattle.audio_side.specs.PortRuns.{Makes, HasMade, PortRun, IsHeld}
+use Rattle.audio_side.specs.Effect.{act_of, act_of_load, act_of_store, after_load, effect, given, loaded, stored}
+use Rattle.audio_side.specs.PortRuns.{Makes, HasMade, HasTaken, PortRun, IsHeld}
 use Rattle.audio_side.specs.Runs.{later, IsFree, AreFree, PlainAccesses, HasRun}
-use Rattle.audio_side.specs.Sound.{SoundState, hardware_before_end, sound_moves}
+use Rattle.audio_side.specs.Sound.{AudioValue, SoundState, StandsAt, hardware_before_end, sound_act, sound_moves, sound_next}
 use Rattle.audio_side.specs.SoundLaws.{rises_in}
-use Rattle.audio_side.proofs.Follows.{moves_by}
-use Rattle.audio_side.proofs.Moves.{state_with}
+use Rattle.audio_side.proofs.Moves.{same_state, state_with}
 use Rattle.audio_side.proofs.Runs.{emits_none, later_more, later_none}
 use Rattle.audio_side.proofs.Talks.{talk_step, talk_act}
 
@@ -232,3 +231,68 @@ module _ {Ports : Type 0} (calls : Calls Ports) (until : ℕ) (k : Clock) (waits
         gone = run.gone;
         on = run.on;
       }
+
+-- ---- steps of the sound side
+
+module _ {Ports : Type 0} (calls : Calls Ports) (until : ℕ) (old new : AudioValue) (m : SoundState) (p : Ports) (h : StandsAt old m) (n : ℕ) (clock : new.clock ≡ later n old.clock) where
+  -- a run over ports is steps
+  pub run_on_way : (stand : Ports → Type 0) (run : PortRun calls until new.processor new.hardware old.clock n (λ to. stand) old.waiting m.processor old.hardware p)
+      → IsOnWay sound_moves calls until (StandsAt new) stand old.waiting old.waiting m p
+  run_on_way stand run =
+      let end : Over SoundState Ports = over calls until old.waiting run.to new.hardware (later n old.clock) run.ports in
+      let R : SoundState → Type 0 = λ from. Gone sound_moves calls until (record { own = from; ports = p; waits = old.waiting }) end in
+      record {
+        to = state_with run.to new.hardware (later n old.clock);
+        now_stands = record { processor = run.stands; hardware = refl; clock = clock };
+        ports = run.ports;
+        ports_stand = run.ports_stand;
+        gone = subst R (same_state old m h) run.gone;
+      }
+
+  -- and so is one whose next access was refused
+  pub run_refused : (fast : Bool) (most cap : ℕ) (stand : Ports → Type 0) → IsFree fast until (later n old.clock)
+      → (run : PortRun calls until new.processor new.hardware old.clock n (IsHeld calls old.clock n stand) old.waiting m.processor old.hardware p)
+      → HasGone sound_moves calls until most cap (StandsAt new) stand old.waiting old.waiting Refused m p
+  run_refused fast most cap stand free run =
+      let to = state_with run.to new.hardware (later n old.clock) in
+      let moved = run.ports_stand in
+      let end : Over SoundState Ports = over calls until old.waiting run.to new.hardware (later n old.clock) run.ports in
+      let R : SoundState → Type 0 = λ from. Gone sound_moves calls until (record { own = from; ports = p; waits = old.waiting }) end in
+      record {
+        to = to;
+        now_stands = record { processor = run.stands; hardware = refl; clock = clock };
+        ports = moved.to;
+        ports_stand = moved.now_stands;
+        stopped = record {
+          called = run.ports;
+          gone = subst R (same_state old m h) run.gone;
+          early = free.early;
+          refused = subst (λ (a : Act). IsRefused calls (stamp_now (later n old.clock)) a run.ports moved.to) (sym (talk_act fast until run.to new.hardware (later n old.clock) free)) moved.led;
+        };
+      }
+
+-- the next step, after others
+module _ {Ports : Type 0} (calls : Calls Ports) (until : ℕ) (stands : SoundState → Type 0) (stand : Ports → Type 0) (waited waits more : List ℕ) (m : SoundState) (p : Ports)
+    (way : IsOnWay sound_moves calls until stands stand waited waits m p) (new : AudioValue) (have : Ports → Type 0)
+    (took : HasTaken calls new have waits more way.to way.ports) (early : stamp_now way.to.clock < until) where
+  abbrev taken_to : SoundState
+  taken_to = sound_next way.to (taken (sound_act way.to) took.got)
+
+  -- that emitted nothing
+  pub way_silently : length more ≤ length waits → IsOnWay sound_moves calls until (StandsAt new) have waited more m p
+  way_silently few =
+      let at = way_to sound_moves calls until stands stand waited waits m p way in
+      let goes = goes_silently sound_moves calls until (stamp_now way.to.clock) (sound_act way.to) at took.got took.ports more refl refl early took.small took.answered took.waits_is few in
+      way_on sound_moves calls until stands stand waited waits m p (StandsAt new) have more way taken_to took.ports goes took.now_stands took.ports_stand
+
+  -- that emitted, and of which the ports were told
+  pub way_emitting : (at waiting : ℕ) (last : Ports → Type 0) → at ≡ stamp_now way.to.clock → length more ≡ waiting → length waits < waiting
+      → at < calls.room way.ports (length waits) → Leads have last (calls.told at waiting)
+      → IsOnWay sound_moves calls until (StandsAt new) last waited more m p
+  way_emitting at waiting last at_is is some room told =
+      let x = way_to sound_moves calls until stands stand waited waits m p way in
+      let after = told took.ports took.ports_stand in
+      let answered = subst (λ s. IsAnswered calls s (sound_act way.to) took.got way.ports took.ports) (sym at_is) took.answered in
+      let goes = goes_emitting sound_moves calls until at (sound_act way.to) x took.got took.ports more (sym at_is) refl (omega (arith, early, at_is)) took.small answered took.waits_is
+      after.to waiting is some room after.led in
+      way_on sound_moves calls until stands stand waited waits m p (StandsAt new) last more way taken_to after.to goes took.now_stands after.now_stands

@@ -1,18 +1,17 @@
 -- Runs of accesses while the other side stands still: none, one more; and that a run in free cycles is made of steps that
 -- emit nothing, with the bytes at the ports.
-use Rattle.std.proofs.Common.{◌≡◌, ◌∙◌, ◌+◌, ◌-◌, ◌<◌, ◌≤◌, ℕ, Bool, zero, suc, List, [], refl, sym, ap, subst, arith}
+use Rattle.std.proofs.Common.{◌≡◌, ◌∙◌, ◌+◌, ◌-◌, ℕ, Bool, zero, suc, List, refl, sym, ap, subst, arith}
 use mathlib.Core.Logic.{∥∥₁_map}
 use Rattle.snes_defs.specs.declared.ports.Act.{Act}
-use Rattle.snes_defs.specs.declared.ports.Act.TheVariants.{Quiet}
 use Rattle.side_law.specs.Serial.{got_of, incoming_after, outgoing_after}
-use Rattle.side_law.specs.Sides.{SideState, side_step, side_bytes, MayTalk, TalkSteps, HasTalked}
+use Rattle.side_law.specs.Sides.{SideState, side_step, TalkSteps, HasTalked}
 use Rattle.spc700.specs.Instruction.{SpcState, moved_on, next_of}
 use Rattle.spc700.specs.Stands.{Stands}
 use Rattle.spc700.specs.declared.processor.Spc.{Spc}
 use Rattle.audio_side.specs.HardwareState.{HardwareState}
 use Rattle.audio_side.specs.declared.timer.Timer.{Timer}
-use Rattle.audio_side.specs.Clock.{Clock, gone_on, stamp_now}
-use Rattle.audio_side.specs.Effect.{act_of, effect, emitted, given, passed}
+use Rattle.audio_side.specs.Clock.{Clock, gone_on}
+use Rattle.audio_side.specs.Effect.{act_of, effect, given, passed}
 use Rattle.audio_side.specs.Follows.{Follows}
 use Rattle.audio_side.specs.Runs.{later, IsFree, AreFree, PlainAccesses}
 use Rattle.audio_side.specs.Talks.{TalkAccesses, HasTalkRun, TalksOn}

@@ -78,12 +78,7 @@ fn memory_byte(hardware: &Hardware, address: u16) -> u8
 
 /// The byte that a fetch or a read gets.
 #[inline(always)]
-fn byte_at<P: Ports>(
-    hardware: &mut Hardware,
-    address: u16,
-    at: u64,
-    ports: &mut P,
-) -> Option<u8>
+fn byte_at<P: Ports>(hardware: &mut Hardware, address: u16, at: u64, ports: &mut P) -> Option<u8>
     requires in_order { P.clock ports.old ≤ at }
     requires in_time { at < (P.times ports.old).before }
     ensures made { IfSome result (λ byte. (p : P.State) → P.stands ports.old p → Makes P.calls at (Access.Read address) hardware.old hardware.new byte (P.stands ports.new) p) }
@@ -193,12 +188,7 @@ fn load_over<P: Ports>(spc: &mut Spc, hardware: &mut Hardware, at: u64, ports: &
 
 /// Makes the last write.
 #[inline(always)]
-fn write_over<P: Ports>(
-    spc: &mut Spc,
-    hardware: &mut Hardware,
-    at: u64,
-    ports: &mut P,
-) -> Found
+fn write_over<P: Ports>(spc: &mut Spc, hardware: &mut Hardware, at: u64, ports: &mut P) -> Found
     requires known { spc.old.micro.place ≡ WriteLast }
     requires in_order { P.clock ports.old ≤ at }
     requires in_time { at < (P.times ports.old).before }
@@ -223,12 +213,7 @@ fn write_over<P: Ports>(
 
 /// Makes an access of any kind.
 #[inline(always)]
-fn other_over<P: Ports>(
-    spc: &mut Spc,
-    hardware: &mut Hardware,
-    at: u64,
-    ports: &mut P,
-) -> Found
+fn other_over<P: Ports>(spc: &mut Spc, hardware: &mut Hardware, at: u64, ports: &mut P) -> Found
     requires in_order { P.clock ports.old ≤ at }
     requires in_time { at < (P.times ports.old).before }
     ensures made { result ≡ Found.Made → (s : SpcState) (p : P.State) → Stands spc.old s → P.stands ports.old p → HasMade P.calls at spc.new hardware.old hardware.new (P.stands ports.new) s p }

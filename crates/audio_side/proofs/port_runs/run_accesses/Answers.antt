@@ -1,6 +1,5 @@
-use Rattle.std.proofs.Common.{rules, ◌≡◌, ◌-◌, ◌+◌, ◌≤◌, ℕ, refl, sym, subst, arith}
+use Rattle.std.proofs.Common.{rules, ◌-◌, ◌+◌, ◌≤◌, refl, sym, subst, arith}
 use Rattle.std.proofs.lemmas.Grind.{common_steps}
-use Rattle.spc700.specs.declared.processor.Spc.{Spc}
 use Rattle.audio_side.specs.HardwareState.{HardwareState}
 use Rattle.audio_side.specs.PortRuns.{PortRun, IsHeld}
 use Rattle.audio_side.proofs.Follows.{follows_runs}
@@ -44,7 +43,7 @@ accesses-preserved g c = record {
   times = search rules;
   runs = λ runs. c.make_any.ensures.runs (
       follows_runs c.accesses.spc c.make_all.new.spc c.accesses.hardware c.make_all.new.hardware c.accesses.left c.make_all.new.left c.make_all.ensures (c.accesses.invariant.runs runs)
-    );
+      );
 }
 
 pub returns-then-left-eq0-clause-made : goal.returns-then-left-eq0-clause-made
@@ -77,8 +76,8 @@ returns-in-Left-clause-made g c = λ done until waits s p free stands stand.
 
 pub returns-in-Left-clause-runs : goal.returns-in-Left-clause-runs
 returns-in-Left-clause-runs g c = λ runs. c.make_any.ensures.runs (
-  follows_runs c.accesses.spc c.make_all.new.spc c.accesses.hardware c.make_all.new.hardware c.accesses.left c.make_all.new.left c.make_all.ensures (c.accesses.invariant.runs runs)
-)
+    follows_runs c.accesses.spc c.make_all.new.spc c.accesses.hardware c.make_all.new.hardware c.accesses.left c.make_all.new.left c.make_all.ensures (c.accesses.invariant.runs runs)
+    )
 
 pub returns-in-Refused-clause-refused : goal.returns-in-Refused-clause-refused
 returns-in-Refused-clause-refused g c = λ held until waits s p free stands stand.
@@ -98,5 +97,5 @@ returns-in-Refused-clause-refused g c = λ held until waits s p free stands stan
 
 pub returns-in-Refused-clause-runs : goal.returns-in-Refused-clause-runs
 returns-in-Refused-clause-runs g c = λ runs. c.make_any.ensures.runs (
-  follows_runs c.accesses.spc c.make_all.new.spc c.accesses.hardware c.make_all.new.hardware c.accesses.left c.make_all.new.left c.make_all.ensures (c.accesses.invariant.runs runs)
-)
+    follows_runs c.accesses.spc c.make_all.new.spc c.accesses.hardware c.make_all.new.hardware c.accesses.left c.make_all.new.left c.make_all.ensures (c.accesses.invariant.runs runs)
+    )
