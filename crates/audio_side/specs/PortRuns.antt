@@ -3,7 +3,7 @@
 use Rattle.std.specs.Prelude.{◌≡◌, ℕ, ◌<◌, List, ◌++◌}
 use Rattle.spc_tables.specs.declared.access.SpcAccess.{SpcAccess}
 use Rattle.side_law.specs.Moves.{taken}
-use Rattle.side_law.specs.Gone.{Calls, HasMoved, IsAnswered, IsRefused, Gone}
+use Rattle.side_law.specs.Gone.{Calls, HasMoved, Leads, IsAnswered, IsRefused, Gone}
 use Rattle.spc700.specs.Instruction.{SpcState, moved_on, next_of}
 use Rattle.spc700.specs.Stands.{Stands}
 use Rattle.spc700.specs.declared.processor.Spc.{Spc}
@@ -35,6 +35,14 @@ pub record HasMade {Ports : Type 0} (calls : Calls Ports) (at : ℕ) (spc : Spc)
   pub processor : Stands spc (moved_on s (given b (next_of s) got))
   pub leaves : effect b (next_of s) ≡ b'
   pub on : b'.timer2.on ≡ b.timer2.on
+
+-- from each state in which the processor and the ports stood the next access was made
+abbrev pub MakesNext : {Ports : Type 0} → Calls Ports → ℕ → Spc → Spc → HardwareState → HardwareState → (Ports → Type 0) → (Ports → Type 0) → Type 0
+MakesNext calls at old new b b' stood stand = (s : SpcState) (p : _) → Stands old s → stood p → HasMade calls at new b b' stand s p
+
+-- or its call was refused
+abbrev pub RefusesNext : {Ports : Type 0} → Calls Ports → ℕ → Spc → (Ports → Type 0) → (Ports → Type 0) → Type 0
+RefusesNext calls at old stood stand = (s : SpcState) → Stands old s → Leads stood stand (IsRefused calls at (act_of (next_of s)))
 
 -- so many cycles from a clock led from a processor, its hardware and its ports to these
 pub record PortRun {Ports : Type 0} (calls : Calls Ports) (until : ℕ) (spc : Spc) (b' : HardwareState) (k : Clock) (n : ℕ) (stand : SpcState → Ports → Type 0)

@@ -29,9 +29,11 @@ impl Parts {
         requires in_time { until ≤ (P.times ports.old).before }
         requires apart { (P.times ports.old).rise ≤ least_of self.old.clock.region }
         ensures gone { result ≡ false → (m : SoundState) (p : P.State) → StandsAt (value_of self.old) m → P.stands ports.old p
-            → IsOnWay sound_moves P.calls until (StandsAt (value_of self.new)) (P.stands ports.new) self.old.waiting.items self.new.waiting.items m p }
+            → IsOnWay sound_moves P.calls until (StandsAt (value_of self.new)) (P.stands ports.new)
+            self.old.waiting.items self.new.waiting.items m p }
         ensures refused { IsTrue result → (m : SoundState) (p : P.State) → StandsAt (value_of self.old) m → P.stands ports.old p
-            → HasGone sound_moves P.calls until 4 4096 (StandsAt (value_of self.new)) (P.stands ports.new) self.old.waiting.items self.new.waiting.items Stop.Refused m p }
+            → HasGone sound_moves P.calls until 4 4096 (StandsAt (value_of self.new)) (P.stands ports.new)
+            self.old.waiting.items self.new.waiting.items Stop.Refused m p }
         ensures forward { stamp_now self.old.clock ≤ stamp_now self.new.clock }
         ensures in_order { P.clock ports.new ≤ stamp_now self.new.clock }
         ensures times { P.times ports.new ≡ P.times ports.old }
@@ -65,7 +67,8 @@ impl Parts {
         requires in_time { stamp_now self.old.clock < (P.times ports.old).before }
         requires apart { (P.times ports.old).rise ≤ least_of self.old.clock.region }
         ensures taken { IsTrue result → (m : SoundState) (p : P.State) → StandsAt (value_of self.old) m → P.stands ports.old p
-            → HasTaken P.calls (value_of self.new) (P.stands ports.new) self.old.waiting.items self.new.waiting.items m p }
+            → HasTaken P.calls (value_of self.new) (P.stands ports.new)
+            self.old.waiting.items self.new.waiting.items m p }
         ensures refused { result ≡ false → (m : SoundState) → StandsAt (value_of self.old) m
             → Leads (P.stands ports.old) (P.stands ports.new) (IsRefused P.calls (stamp_now self.old.clock) (sound_act m)) }
         ensures stays { result ≡ false → value_of self.new ≡ value_of self.old }
@@ -97,7 +100,8 @@ impl Parts {
         requires in_time { until ≤ (P.times ports.old).before }
         requires apart { (P.times ports.old).rise ≤ least_of self.old.clock.region }
         ensures gone { (m : SoundState) (p : P.State) → StandsAt (value_of self.old) m → P.stands ports.old p
-            → HasGone sound_moves P.calls until 4 4096 (StandsAt (value_of self.new)) (P.stands ports.new) self.old.waiting.items self.new.waiting.items result m p }
+            → HasGone sound_moves P.calls until 4 4096 (StandsAt (value_of self.new)) (P.stands ports.new)
+            self.old.waiting.items self.new.waiting.items result m p }
         ensures forward { stamp_now self.old.clock ≤ stamp_now self.new.clock }
         ensures not_emitted { (at : ℕ) → ¬ (result ≡ Stop.Emitted at) }
         ensures in_order { P.clock ports.new ≤ stamp_now self.new.clock }

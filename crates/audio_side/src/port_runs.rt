@@ -6,12 +6,12 @@ ghost use Rattle.clock_ratio.specs.Stamp.{least_of, rate_of};
 ghost use Rattle.side_law.specs.Gone.{Leads, IsRefused};
 ghost use Rattle.spc_tables.specs.declared.access.SpcAccess.TheVariants as Access;
 ghost use Rattle.spc_modes.specs.declared.place.Place.TheVariants.{Load, WriteLast};
-ghost use Rattle.spc700.specs.Instruction.{SpcState, next_of};
+ghost use Rattle.spc700.specs.Instruction.{SpcState};
 ghost use Rattle.spc700.specs.Stands.{Stands};
 ghost use Rattle.audio_side.specs.Clock.{stamp_now};
-ghost use Rattle.audio_side.specs.Effect.{act_of, act_of_load, act_of_store, after_load, loaded, stored};
+ghost use Rattle.audio_side.specs.Effect.{act_of_load, act_of_store, after_load, loaded, stored};
 ghost use Rattle.audio_side.specs.HardwareState.{HardwareState};
-ghost use Rattle.audio_side.specs.PortRuns.{Makes, HasMade, PortRun, IsHeld};
+ghost use Rattle.audio_side.specs.PortRuns.{Makes, MakesNext, RefusesNext, PortRun, IsHeld};
 ghost use Rattle.audio_side.specs.Runs.{AreFree, later};
 ghost use Rattle.audio_side.specs.Sound.{IsRunning};
 
@@ -81,8 +81,10 @@ fn memory_byte(hardware: &Hardware, address: u16) -> u8
 fn byte_at<P: Ports>(hardware: &mut Hardware, address: u16, at: u64, ports: &mut P) -> Option<u8>
     requires in_order { P.clock ports.old ≤ at }
     requires in_time { at < (P.times ports.old).before }
-    ensures made { IfSome result (λ byte. (p : P.State) → P.stands ports.old p → Makes P.calls at (Access.Read address) hardware.old hardware.new byte (P.stands ports.new) p) }
-    ensures refused { result ≡ None → Leads (P.stands ports.old) (P.stands ports.new) (IsRefused P.calls at (act_of_load address)) }
+    ensures made { IfSome result (λ byte. (p : P.State) → P.stands ports.old p
+        → Makes P.calls at (Access.Read address) hardware.old hardware.new byte (P.stands ports.new) p) }
+    ensures refused { result ≡ None
+        → Leads (P.stands ports.old) (P.stands ports.new) (IsRefused P.calls at (act_of_load address)) }
     ensures stays { result ≡ None → hardware.new ≡ hardware.old }
     ensures in_order { P.clock ports.new ≤ at + (P.times ports.old).rise }
     ensures waits { result ≡ None → P.clock ports.new ≤ at }
@@ -138,8 +140,10 @@ fn store_at<P: Ports>(
 ) -> Found
     requires in_order { P.clock ports.old ≤ at }
     requires in_time { at < (P.times ports.old).before }
-    ensures made { result ≡ Found.Made → (p : P.State) → P.stands ports.old p → Makes P.calls at (Access.Write address byte) hardware.old hardware.new 0 (P.stands ports.new) p }
-    ensures refused { result ≡ Found.Refused → Leads (P.stands ports.old) (P.stands ports.new) (IsRefused P.calls at (act_of_store address byte)) }
+    ensures made { result ≡ Found.Made → (p : P.State) → P.stands ports.old p
+        → Makes P.calls at (Access.Write address byte) hardware.old hardware.new 0 (P.stands ports.new) p }
+    ensures refused { result ≡ Found.Refused
+        → Leads (P.stands ports.old) (P.stands ports.new) (IsRefused P.calls at (act_of_store address byte)) }
     ensures left { result ≡ Found.Left → ports.new ≡ ports.old }
     ensures stays { result ≢ Found.Made → hardware.new ≡ hardware.old }
     ensures in_order { P.clock ports.new ≤ at + (P.times ports.old).rise }
@@ -170,8 +174,10 @@ fn load_over<P: Ports>(spc: &mut Spc, hardware: &mut Hardware, at: u64, ports: &
     requires known { spc.old.micro.place ≡ Load }
     requires in_order { P.clock ports.old ≤ at }
     requires in_time { at < (P.times ports.old).before }
-    ensures made { result ≡ Found.Made → (s : SpcState) (p : P.State) → Stands spc.old s → P.stands ports.old p → HasMade P.calls at spc.new hardware.old hardware.new (P.stands ports.new) s p }
-    ensures refused { result ≡ Found.Refused → (s : SpcState) → Stands spc.old s → Leads (P.stands ports.old) (P.stands ports.new) (IsRefused P.calls at (act_of (next_of s))) }
+    ensures made { result ≡ Found.Made → MakesNext P.calls at spc.old spc.new
+        hardware.old hardware.new (P.stands ports.old) (P.stands ports.new) }
+    ensures refused { result ≡ Found.Refused → RefusesNext P.calls at spc.old
+        (P.stands ports.old) (P.stands ports.new) }
     ensures left { result ≡ Found.Left → (spc.new ≡ spc.old) × (hardware.new ≡ hardware.old) × (ports.new ≡ ports.old) }
     ensures stays { result ≡ Found.Refused → (spc.new ≡ spc.old) × (hardware.new ≡ hardware.old) }
     ensures runs { IsRunning spc.old → IsRunning spc.new }
@@ -192,8 +198,10 @@ fn write_over<P: Ports>(spc: &mut Spc, hardware: &mut Hardware, at: u64, ports: 
     requires known { spc.old.micro.place ≡ WriteLast }
     requires in_order { P.clock ports.old ≤ at }
     requires in_time { at < (P.times ports.old).before }
-    ensures made { result ≡ Found.Made → (s : SpcState) (p : P.State) → Stands spc.old s → P.stands ports.old p → HasMade P.calls at spc.new hardware.old hardware.new (P.stands ports.new) s p }
-    ensures refused { result ≡ Found.Refused → (s : SpcState) → Stands spc.old s → Leads (P.stands ports.old) (P.stands ports.new) (IsRefused P.calls at (act_of (next_of s))) }
+    ensures made { result ≡ Found.Made → MakesNext P.calls at spc.old spc.new
+        hardware.old hardware.new (P.stands ports.old) (P.stands ports.new) }
+    ensures refused { result ≡ Found.Refused → RefusesNext P.calls at spc.old
+        (P.stands ports.old) (P.stands ports.new) }
     ensures left { result ≡ Found.Left → (spc.new ≡ spc.old) × (hardware.new ≡ hardware.old) × (ports.new ≡ ports.old) }
     ensures stays { result ≡ Found.Refused → (spc.new ≡ spc.old) × (hardware.new ≡ hardware.old) }
     ensures runs { IsRunning spc.old → IsRunning spc.new }
@@ -216,8 +224,10 @@ fn write_over<P: Ports>(spc: &mut Spc, hardware: &mut Hardware, at: u64, ports: 
 fn other_over<P: Ports>(spc: &mut Spc, hardware: &mut Hardware, at: u64, ports: &mut P) -> Found
     requires in_order { P.clock ports.old ≤ at }
     requires in_time { at < (P.times ports.old).before }
-    ensures made { result ≡ Found.Made → (s : SpcState) (p : P.State) → Stands spc.old s → P.stands ports.old p → HasMade P.calls at spc.new hardware.old hardware.new (P.stands ports.new) s p }
-    ensures refused { result ≡ Found.Refused → (s : SpcState) → Stands spc.old s → Leads (P.stands ports.old) (P.stands ports.new) (IsRefused P.calls at (act_of (next_of s))) }
+    ensures made { result ≡ Found.Made → MakesNext P.calls at spc.old spc.new
+        hardware.old hardware.new (P.stands ports.old) (P.stands ports.new) }
+    ensures refused { result ≡ Found.Refused → RefusesNext P.calls at spc.old
+        (P.stands ports.old) (P.stands ports.new) }
     ensures left { result ≡ Found.Left → (spc.new ≡ spc.old) × (hardware.new ≡ hardware.old) × (ports.new ≡ ports.old) }
     ensures stays { result ≡ Found.Refused → (spc.new ≡ spc.old) × (hardware.new ≡ hardware.old) }
     ensures runs { IsRunning spc.old → IsRunning spc.new }
@@ -254,8 +264,10 @@ fn other_over<P: Ports>(spc: &mut Spc, hardware: &mut Hardware, at: u64, ports: 
 fn make_any<P: Ports>(spc: &mut Spc, hardware: &mut Hardware, at: u64, ports: &mut P) -> Found
     requires in_order { P.clock ports.old ≤ at }
     requires in_time { at < (P.times ports.old).before }
-    ensures made { result ≡ Found.Made → (s : SpcState) (p : P.State) → Stands spc.old s → P.stands ports.old p → HasMade P.calls at spc.new hardware.old hardware.new (P.stands ports.new) s p }
-    ensures refused { result ≡ Found.Refused → (s : SpcState) → Stands spc.old s → Leads (P.stands ports.old) (P.stands ports.new) (IsRefused P.calls at (act_of (next_of s))) }
+    ensures made { result ≡ Found.Made → MakesNext P.calls at spc.old spc.new
+        hardware.old hardware.new (P.stands ports.old) (P.stands ports.new) }
+    ensures refused { result ≡ Found.Refused → RefusesNext P.calls at spc.old
+        (P.stands ports.old) (P.stands ports.new) }
     ensures left { result ≡ Found.Left → (spc.new ≡ spc.old) × (hardware.new ≡ hardware.old) × (ports.new ≡ ports.old) }
     ensures stays { result ≡ Found.Refused → (spc.new ≡ spc.old) × (hardware.new ≡ hardware.old) }
     ensures runs { IsRunning spc.old → IsRunning spc.new }
@@ -286,12 +298,16 @@ pub fn run_accesses<P: Ports>(
     requires in_time { stamp_now clock.now + rate_of clock.now.region Sound * left.old ≤ (P.times ports.old).before }
     requires apart { (P.times ports.old).rise ≤ least_of clock.now.region }
     ensures fewer { left.new ≤ left.old }
-    ensures made { result ≡ false → (until : ℕ) (waits : List ℕ) (s : SpcState) (p : P.State) → AreFree hardware.old.timer2.on until left.old clock.now
+    ensures made { result ≡ false → (until : ℕ) (waits : List ℕ) (s : SpcState) (p : P.State)
+        → AreFree hardware.old.timer2.on until left.old clock.now
         → Stands spc.old s → P.stands ports.old p
-        → PortRun P.calls until spc.new hardware.new clock.now (left.old - left.new) (λ to. P.stands ports.new) waits s hardware.old p }
-    ensures refused { IsTrue result → (until : ℕ) (waits : List ℕ) (s : SpcState) (p : P.State) → AreFree hardware.old.timer2.on until left.old clock.now
+        → PortRun P.calls until spc.new hardware.new clock.now (left.old - left.new)
+        (λ to. P.stands ports.new) waits s hardware.old p }
+    ensures refused { IsTrue result → (until : ℕ) (waits : List ℕ) (s : SpcState) (p : P.State)
+        → AreFree hardware.old.timer2.on until left.old clock.now
         → Stands spc.old s → P.stands ports.old p
-        → PortRun P.calls until spc.new hardware.new clock.now (left.old - left.new) (IsHeld P.calls clock.now (left.old - left.new) (P.stands ports.new)) waits s hardware.old p }
+        → PortRun P.calls until spc.new hardware.new clock.now (left.old - left.new)
+        (IsHeld P.calls clock.now (left.old - left.new) (P.stands ports.new)) waits s hardware.old p }
     ensures some_left { IsTrue result → 0 < left.new }
     ensures in_order { P.clock ports.new ≤ stamp_now (later (left.old - left.new) clock.now) }
     ensures times { P.times ports.new ≡ P.times ports.old }

@@ -88,15 +88,23 @@ impl Ports for Bytes {
 #[inline(always)]
 pub fn lead_by<M: Machine>(machine: &mut M, bytes: &mut Bytes, end: u64) -> Stop
     requires early { end ≤ 2 ^ 62 }
-    ensures made { (m : M.State) → M.stands machine.old m → HasLed M.moves bytes.old.first end (M.stands machine.new) (M.waiting machine.old) (M.waiting machine.new) bytes.new.incoming bytes.new.outgoing (record { own = m; incoming = bytes.old.incoming; outgoing = bytes.old.outgoing }) }
+    ensures made { (m : M.State) → M.stands machine.old m
+        → HasLed M.moves bytes.old.first end (M.stands machine.new) (M.waiting machine.old) (M.waiting machine.new)
+        bytes.new.incoming bytes.new.outgoing
+        (record { own = m; incoming = bytes.old.incoming; outgoing = bytes.old.outgoing }) }
     ensures first { bytes.new.first ≡ bytes.old.first }
     ensures hold { bytes.new.hold ≡ bytes.old.hold }
-    ensures few { length (M.waiting machine.old) ≤ 512 + M.MOST → length (M.waiting machine.new) ≤ 512 + M.MOST }
-    ensures one { bytes.old.hold ≤ M.stamp_of machine.old → length (M.waiting machine.old) ≡ 0 → length (M.waiting machine.new) ≤ M.MOST }
-    ensures last { length (M.waiting machine.old) < length (M.waiting machine.new) → (bytes.new.last < end) × (bytes.new.last < M.stamp_of machine.new) }
-    ensures last_stays { length (M.waiting machine.new) ≡ length (M.waiting machine.old) → bytes.new.last ≡ bytes.old.last }
+    ensures few { length (M.waiting machine.old) ≤ 512 + M.MOST
+        → length (M.waiting machine.new) ≤ 512 + M.MOST }
+    ensures one { bytes.old.hold ≤ M.stamp_of machine.old → length (M.waiting machine.old) ≡ 0
+        → length (M.waiting machine.new) ≤ M.MOST }
+    ensures last { length (M.waiting machine.old) < length (M.waiting machine.new)
+        → (bytes.new.last < end) × (bytes.new.last < M.stamp_of machine.new) }
+    ensures last_stays { length (M.waiting machine.new) ≡ length (M.waiting machine.old)
+        → bytes.new.last ≡ bytes.old.last }
     ensures forward { M.stamp_of machine.old ≤ M.stamp_of machine.new }
-    ensures begins { length (M.waiting machine.old) < length (M.waiting machine.new) → M.stamp_of machine.old < M.stamp_of machine.new }
+    ensures begins { length (M.waiting machine.old) < length (M.waiting machine.new)
+        → M.stamp_of machine.old < M.stamp_of machine.new }
     ensures goes_on { M.stamp_of machine.old < bytes.old.first → M.stamp_of machine.old < end
         → M.stamp_of machine.old < room_for bytes.old (length (M.waiting machine.old)) → length (M.waiting machine.old) + M.MOST ≤ M.CAP
         → M.stamp_of machine.old < M.stamp_of machine.new }
