@@ -197,7 +197,7 @@ module _ {C S : Type 0} (cm : Moves C) (sm : Moves S) (first end : ℕ) (from : 
   sound_side w = record { own = w.sound; incoming = w.to_sound; outgoing = w.to_console }
 
   -- a step of the console
-  console_goes : (at : SerialState C S) (video audio : List ℕ) → IsLead cm sm end from at video audio
+  pub console_goes : (at : SerialState C S) (video audio : List ℕ) → IsLead cm sm end from at video audio
       → MayStep cm first end (record { own = at.console; incoming = at.to_console; outgoing = at.to_sound }) → first ≤ sm.stamp at.sound + 1
       → IsLead cm sm end from (console_step cm sm at) (video ++ cm.bytes at.console (got_of (cm.act at.console) at.to_console)) audio
   console_goes at video audio lead may up_to = ⊎_elim

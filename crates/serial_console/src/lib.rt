@@ -9,10 +9,14 @@
 // earlier stamp is at most 2^62. `docs/proof/RUNS.md` has the rule.
 #![tactic(auto)]
 
+mod behind;
 mod bytes;
 mod leading;
 mod ports;
+mod rest;
 mod serial;
 
+pub use behind::Rest;
 pub use bytes::{Bytes, lead_by};
+pub use rest::lead_over;
 pub use serial::{Serial, step};
