@@ -16,13 +16,13 @@ steps-preserved g c = record {
   made = λ m stands.
       let S = g.S.Machine in
       let was = c.steps.invariant.made m stands in
-      let more = c.lead_by-_stop.ensures.made was.to was.now_stands in
-      led_then S.moves c.args.at c.args.self.now.end (S.stands c.steps.self.sound) (S.stands c.lead_by-_stop.new.machine)
-      (S.waiting c.args.self.now.sound) (S.waiting c.steps.self.sound) (S.waiting c.lead_by-_stop.new.machine)
-      c.steps.self.bytes.incoming c.steps.self.bytes.outgoing c.lead_by-_stop.new.bytes.incoming c.lead_by-_stop.new.bytes.outgoing
+      let more = c.lead_by-stop.ensures.made was.to was.now_stands in
+      led_then S.moves c.args.at c.args.self.now.end (S.stands c.steps.self.sound) (S.stands c.lead_by-stop.new.machine)
+      (S.waiting c.args.self.now.sound) (S.waiting c.steps.self.sound) (S.waiting c.lead_by-stop.new.machine)
+      c.steps.self.bytes.incoming c.steps.self.bytes.outgoing c.lead_by-stop.new.bytes.incoming c.lead_by-stop.new.bytes.outgoing
       (record { own = m; incoming = c.args.self.now.bytes.incoming; outgoing = c.args.self.now.bytes.outgoing }) was
-      (subst (λ e. HasLed S.moves c.args.at e (S.stands c.lead_by-_stop.new.machine) (S.waiting c.steps.self.sound) (S.waiting c.lead_by-_stop.new.machine)
-      c.lead_by-_stop.new.bytes.incoming c.lead_by-_stop.new.bytes.outgoing (record { own = was.to; incoming = c.steps.self.bytes.incoming; outgoing = c.steps.self.bytes.outgoing }))
+      (subst (λ e. HasLed S.moves c.args.at e (S.stands c.lead_by-stop.new.machine) (S.waiting c.steps.self.sound) (S.waiting c.lead_by-stop.new.machine)
+      c.lead_by-stop.new.bytes.incoming c.lead_by-stop.new.bytes.outgoing (record { own = was.to; incoming = c.steps.self.bytes.incoming; outgoing = c.steps.self.bytes.outgoing }))
       c.steps.invariant.end more);
   end = c.steps.invariant.end;
 }
