@@ -257,3 +257,7 @@ module _ {State : Type 0} (region : Region) (valid : State → Type 0) (most : �
             let h = gets_on region valid most moves lawful end cap stop from_here to_there is_valid stopped_there (omega (arith, early, is)) (omega (arith, before, is)) (omega (arith, room, is)) fits in
             omega (arith, h, is, is'));
       }
+
+-- there is room before `hold` with at most 512 bytes that wait
+pub room_is : (p : Bytes) (n at : ℕ) → n ≤ 512 → at < p.hold → at < 2 ^ 64 - 1 → at < room_for p n
+room_is p n at few early small = grind (arith, nat_tests)

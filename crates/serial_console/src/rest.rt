@@ -1,38 +1,12 @@
 // The sound side behind the console's ports: it runs up to each call.
 ghost use Rattle.std.specs.Prelude.{◌≡◌, ◌+◌, ◌^◌, ◌<◌, ◌≤◌, ◌++◌, ℕ, List, IsTrue};
 ghost use Rattle.side_law.specs.Serial.{SerialState};
-ghost use Rattle.serial_console.specs.Lead.{HasLed};
 ghost use Rattle.serial_console.specs.Rest.{IsLedOver};
 
 use crate::behind::Rest;
-use crate::bytes::{HELD, lead_by};
+use crate::bytes::HELD;
 use crate::serial::cleared;
 use side_law::{Machine, Ports, Stop};
-
-impl<S: Machine> Rest<S> {
-    /// Runs the sound side's steps before a stamp, up to which it is the earlier side, and maybe quiet ones from there on.
-    /// Returns whether it has reached the stamp: not if too many bytes are buffered.
-    #[inline(always)]
-    fn follow(&mut self, at: u64) -> bool
-        requires early { at < self.old.end }
-        ensures made { (m : S.State) → S.stands self.old.sound m
-            → HasLed S.moves at self.old.end (S.stands self.new.sound) (S.waiting self.old.sound) (S.waiting self.new.sound)
-            self.new.bytes.incoming self.new.bytes.outgoing
-            (record { own = m; incoming = self.old.bytes.incoming; outgoing = self.old.bytes.outgoing }) }
-        ensures there { IsTrue result → at ≤ S.stamp_of self.new.sound }
-        ensures end { self.new.end ≡ self.old.end }
-    {
-        'steps: while self.sound.stamp() < at {
-            if self.sound.pending() > HELD || !self.sound.has_room() {
-                return false;
-            }
-            self.bytes.first = at;
-            self.bytes.hold = at;
-            let _stop = lead_by(&mut self.sound, &mut self.bytes, self.end);
-        }
-        true
-    }
-}
 
 impl<S: Machine> Ports for Rest<S> {
     ghost use Rattle.serial_console.specs.Rest.{RestState, StandsBehind, rest_calls};
@@ -49,16 +23,26 @@ impl<S: Machine> Ports for Rest<S> {
 
     #[inline(always)]
     fn read(&mut self, at: u64, port: u8) -> Option<u8> {
-        if !self.follow(at) {
-            return None;
+        'steps: while self.sound.stamp() < at {
+            if self.sound.pending() > HELD || !self.sound.has_room() {
+                return None;
+            }
+            self.bytes.first = at;
+            self.bytes.hold = at;
+            let _stop = self.sound.advance(self.end, &mut self.bytes);
         }
         Some(self.bytes.outgoing[port as usize])
     }
 
     #[inline(always)]
     fn write(&mut self, at: u64, port: u8, byte: u8) -> bool {
-        if !self.follow(at) {
-            return false;
+        'steps: while self.sound.stamp() < at {
+            if self.sound.pending() > HELD || !self.sound.has_room() {
+                return false;
+            }
+            self.bytes.first = at;
+            self.bytes.hold = at;
+            let _stop = self.sound.advance(self.end, &mut self.bytes);
         }
         self.bytes.incoming[port as usize] = byte;
         true
@@ -66,8 +50,13 @@ impl<S: Machine> Ports for Rest<S> {
 
     #[inline(always)]
     fn clear(&mut self, at: u64, mask: u8) -> bool {
-        if !self.follow(at) {
-            return false;
+        'steps: while self.sound.stamp() < at {
+            if self.sound.pending() > HELD || !self.sound.has_room() {
+                return false;
+            }
+            self.bytes.first = at;
+            self.bytes.hold = at;
+            let _stop = self.sound.advance(self.end, &mut self.bytes);
         }
         self.bytes.outgoing = cleared(mask, self.bytes.outgoing);
         true

@@ -1,6 +1,6 @@
 use Rattle.std.proofs.Common.{◌≡◌, ◌-◌}
 use Rattle.serial_console.specs.Lead.{HasLed}
-use Rattle.serial_console.proofs.behind.Rest.follow.Given as goal
+use Rattle.serial_console.proofs.rest.RestPorts.read.Given as goal
 
 abbrev pub invariant-steps : goal.invariant-steps
 invariant-steps g l =
