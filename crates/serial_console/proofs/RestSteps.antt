@@ -1,5 +1,5 @@
 -- Steps of the console over the sound side behind its ports lead both ahead of a serial console.
-use Rattle.std.proofs.Common.{◌≡◌, ℕ, zero, suc, ◌+◌, ◌<◌, ◌≤◌, ◌⊎◌, List, ◌++◌, length, refl, ap, sym, ◌∙◌, subst, inl, inr, ⊎_elim, append_assoc, arith}
+use Rattle.std.proofs.Common.{◌≡◌, ℕ, zero, suc, ◌+◌, ◌≤◌, ◌⊎◌, List, ◌++◌, length, refl, ap, sym, ◌∙◌, subst, inl, inr, ⊎_elim, append_assoc, arith}
 use Rattle.std.proofs.Math.Nat.{eq-or-lt_of_le}
 use Rattle.snes_defs.specs.declared.region.Region.{Region}
 use Rattle.snes_defs.specs.declared.ports.Act.{Act}
@@ -7,12 +7,12 @@ use Rattle.snes_defs.specs.declared.ports.Act.TheVariants.{Quiet, Read, Write, C
 use Rattle.side_law.specs.declared.ports.Stop.{Stop}
 use Rattle.side_law.specs.declared.ports.Stop.TheVariants.{Until, Emitted, Refused}
 use Rattle.side_law.specs.Moves.{Moves, IsLawful}
-use Rattle.side_law.specs.Gone.{Over, HasMoved, IsAnswered, IsRefused, Goes, GoneBy, Gone, HasStopped, HasGone}
+use Rattle.side_law.specs.Gone.{Over, HasMoved, IsAnswered, IsRefused, Goes, GoneBy, HasStopped, HasGone}
 use Rattle.side_law.proofs.Gone.{goes_up, gone_up}
 use Rattle.side_law.specs.Serial.{SerialState, got_of, incoming_after, outgoing_after, console_step}
-use Rattle.side_law.specs.Sides.{SideState, side_step}
+use Rattle.side_law.specs.Sides.{SideState}
 use Rattle.serial_console.specs.declared.behind.Rest.{Rest}
-use Rattle.serial_console.specs.Lead.{IsLead, MayStep, SideSteps, HasLed}
+use Rattle.serial_console.specs.Lead.{IsLead, SideSteps, HasLed}
 use Rattle.serial_console.specs.Rest.{RestState, StandsBehind, HasFollowed, IsByRest, rest_calls, IsLedOver}
 use Rattle.serial_console.proofs.SideRuns.{console_goes, sound_leads}
 

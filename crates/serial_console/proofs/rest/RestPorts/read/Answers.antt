@@ -1,7 +1,7 @@
-use Rattle.std.proofs.Common.{rules, ◌≡◌, ◌<◌, ◌≤◌, ◌+◌, length, refl, subst, sym, arith}
+use Rattle.std.proofs.Common.{◌<◌, ◌≤◌, ◌+◌, length, refl, subst, arith}
 use Rattle.std.proofs.Math.Bridge.{le_prop}
 use mathlib.Core.Logic.{∥∥₁_elim}
-use Rattle.snes_defs.specs.declared.ports.Act.TheVariants.{Read, Write, Clear}
+use Rattle.snes_defs.specs.declared.ports.Act.TheVariants.{Read}
 use Rattle.serial_console.specs.declared.bytes.Bytes.{Bytes}
 use Rattle.serial_console.specs.Lead.{HasLed}
 use Rattle.serial_console.proofs.ByteSteps.{led_by, led_facts, room_is}
