@@ -1,11 +1,11 @@
 #!/usr/bin/env bash
-# Tries `--unproved` of ./snes, ./look, ./trace, ./lint, ./scene, ./bench and ./stems: whether the programs that it builds put out what the proved
-# ones do, and whether each of them says that it is not proved.
+# Tries `--unproved` of ./snes, ./look, ./trace, ./lint, ./scene, ./bench, ./header and ./stems: whether the programs that it
+# builds put out what the proved ones do, and whether each of them says that it is not proved.
 #
 #     tools/evidence/try_unproved.sh [FOLDER]
 #
-# FOLDER has the proved programs snes_run, frame_look, snes_trace, cart_lint, scene_cart and cart_bench; without it they are those in
-# crates/NAME/out. The programs without a proof are built first if they are not there, and it says how long each took: a minute or
+# FOLDER has the proved programs snes_run, frame_look, snes_trace, cart_lint, scene_cart, cart_bench and cart_header; without it
+# they are those in crates/NAME/out. The programs without a proof are built first if they are not there, and it says how long each took: a minute or
 # two on an idle machine. It says each check; its status is 1 if one failed.
 #
 # This shows for a few frames that a first look sees what the proved program shows. It is no proof of anything.
@@ -33,19 +33,19 @@ proved() {
   "${folder:-$top/crates/$crate/out}/$crate" "$@"
 }
 
-for crate in snes_run frame_look snes_trace cart_lint scene_cart cart_bench; do
+for crate in snes_run frame_look snes_trace cart_lint scene_cart cart_bench cart_header; do
   [ -x "${folder:-$top/crates/$crate/out}/$crate" ] || { echo "try_unproved: there is no proved program of $crate" >&2; exit 2; }
 done
 work=$(mktemp -d) || exit 2
 trap 'rm -rf "$work"' EXIT
 cd "$work" && mkdir proved unproved || exit 2
 # --version of a tool keeps what its program was built from, where that isn't kept yet.
-for tool in snes look trace lint scene bench stems; do "$top/$tool" --version >/dev/null; done
+for tool in snes look trace lint scene bench header stems; do "$top/$tool" --version >/dev/null; done
 list_built() { (cd "$top" && find crates/*/out -printf '%p %s %T@\n' 2>/dev/null | sort); }
 list_built >built_before
 
 # Builds each first, so that the times that are said are those of the builds.
-for tool in snes look trace lint scene bench; do
+for tool in snes look trace lint scene bench header; do
   began=${EPOCHREALTIME/[^0-9]/}
   words=(--help)
   [ "$tool" != snes ] || words=(demo 7 --frames 1)
@@ -130,10 +130,17 @@ check 'lint: finds something' "$(cat unproved/status)" 1
 printf '[[case]]\nname = "scene"\ncart = "s/scene.sfc"\nframes = 2\nsums = "sums.csv"\n' | tee proved/cases.toml >unproved/cases.toml
 alike 'bench' bench cart_bench cases.toml --update --junit results.xml
 check 'bench: sums' "$(wc -l <unproved/sums.csv)" 4
+for side in proved unproved; do
+  python3 -c 'import sys; sys.stdout.buffer.write(bytes(0x7FFD) + b"\x80" + bytes(2))' >$side/bare.sfc
+done
+alike 'header' header cart_header bare.sfc headed.sfc --title "FIRST STEPS"
+check 'header: a header' "$(head -c 32715 unproved/headed.sfc | tail -c 11)" 'FIRST STEPS'
+alike 'snes with that header' snes snes_run sums --cart headed.sfc --frames 2 --sums headed.csv
+check 'snes with that header: status' "$(cat unproved/status)" 0
 
 check 'version: of the wrapper' "$("$top/snes" --unproved --version 2>/dev/null | head -n 1)" "$(proved snes_run --version) (not proved)"
 version=$(proved snes_run --version)
-for tool in snes look trace lint scene bench stems; do
+for tool in snes look trace lint scene bench header stems; do
   check "version: $tool --unproved" "$("$top/$tool" --unproved --version 2>/dev/null | sed -n '1p;3p' | tr '\n' ',')" "${version/snes/$tool} (not proved),$note,"
   check "version: $tool" "$("$top/$tool" --version | sed -n '1p;2s/ .*//p' | tr '\n' ',')" "${version/snes/$tool},commit,"
 done
