@@ -1,4 +1,5 @@
 pub mod Timers
+pub mod Speeds
 pub mod Addresses
 pub mod Pages
 pub mod Zeros

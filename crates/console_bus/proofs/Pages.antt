@@ -16,7 +16,7 @@ use Rattle.cart_map.specs.Place.{IsInside, lies, is_cpu_register, is_system_bank
 use Rattle.console_bus.specs.declared.cart_board.CartBoard.{CartBoard}
 use Rattle.console_bus.specs.Places.{place_at}
 use Rattle.console_bus.specs.declared.address_map.Page.{Page}
-use Rattle.console_bus.specs.Memory.{index_of, IsWhole, IsMemoryAt, page_clocks, IsPageOf, ArePages}
+use Rattle.console_bus.specs.Memory.{index_of, IsWhole, IsPageOf, ArePages}
 
 -- ---- a ROM of whole pages keeps its pages whole
 
@@ -272,30 +272,23 @@ clocks_in_page board number o at fast few within h =
     rw (bank, bank', offset, offset')
     (clocks_inside (nat_lt (number / 8 % 128) 64) fast (number % 8) o (number / 8) within (λ s j. no_memory board (number / 8) (number % 8) at s (omega arith) j h'))
 
--- an access to a page of memory, whether ROM is fast or not
-page_lies : (fast : Bool) (board : CartBoard) (number : ℕ) (page : Page) (o : ℕ) → IsThere board (place_at board (8192 * number + o)) (page.at + o)
-    → page.slow ≡ clocks_of (8192 * number + o) false → page.fast ≡ clocks_of (8192 * number + o) true → page.slow < 256 → page.fast < 256
-    → IsMemoryAt board fast (8192 * number + o) (page.at + o) (page_clocks page fast)
-page_lies true board number page o there slow fast slow_few fast_few = record { place = there.index; lasts = fast; few = fast_few; lies = there.lies; inside = there.inside }
-page_lies false board number page o there slow fast slow_few fast_few = record { place = there.index; lasts = slow; few = slow_few; lies = there.lies; inside = there.inside }
-
 -- a page of memory, from its first address
-pub is_page : (board : CartBoard) (number : ℕ) (page : Page) → 0 < board.rom → number < 2048
+pub is_page : (board : CartBoard) (fast : Bool) (number : ℕ) (page : Page) → 0 < board.rom → number < 2048
     → index_of board (place_at board (8192 * number)) ≡ Some page.at → IsWhole board (place_at board (8192 * number))
-    → page.slow ≡ clocks_of (8192 * number) false → page.fast ≡ clocks_of (8192 * number) true → page.slow < 256 → page.fast < 256 → IsPageOf board number page
-is_page board number page some few h whole slow fast slow_few fast_few = λ kind below o within.
-    page_lies kind board number page o (byte_in_page board number o page.at some few within h whole)
-    (slow ∙ sym (clocks_in_page board number o page.at false few within h)) (fast ∙ sym (clocks_in_page board number o page.at true few within h)) slow_few fast_few
-
-alike : (b : Bool) (x y n : ℕ) → x ≡ n → y ≡ n → (if b then x else y) ≡ n
-alike true x y n h k = h
-alike false x y n h k = k
+    → page.clocks ≡ clocks_of (8192 * number) fast → page.clocks < 256 → IsPageOf board fast number page
+is_page board fast number page some few h whole clocks small = λ below o within.
+    let there = byte_in_page board number o page.at some few within h whole in
+    record {
+      place = there.index;
+      lasts = clocks ∙ sym (clocks_in_page board number o page.at fast few within h);
+      few = small;
+      lies = there.lies;
+      inside = there.inside;
+    }
 
 -- a page that is no memory says nothing
-pub no_page : (board : CartBoard) (number : ℕ) (page : Page) → page.slow ≡ 2000 → page.fast ≡ 2000 → IsPageOf board number page
-no_page board number page slow fast = λ kind below o within.
-    let many : page_clocks page kind ≡ 2000 = alike kind page.fast page.slow 2000 fast slow in
-    absurd (omega (arith, many, below))
+pub no_page : (board : CartBoard) (fast : Bool) (number : ℕ) (page : Page) → page.clocks ≡ 2000 → IsPageOf board fast number page
+no_page board fast number page many = λ below o within. absurd (omega (arith, many, below))
 
 -- the place at a page's first address, by bank and offset
 pub first_place : (board : CartBoard) (number : ℕ) → number < 2048
@@ -304,16 +297,21 @@ first_place board number few =
     let bank : 8192 * number / 0x10000 % 0x100 ≡ 8192 * number / 65536 = omega arith in
     rw bank refl
 
--- a list of pages with one more
-pub one_more : (board : CartBoard) (pages : List Page) (page : Page) → ArePages board pages → IsPageOf board (length pages) page → ArePages board (pages ++ page ∷ [])
+-- a page that lies less than 2,048 pages behind the first one of a speed is of that speed
+pub of_speed : (first number : ℕ) → first % 2048 ≡ 0 → first ≤ 2048 → number < 2048 → nat_le 2048 (first + number) ≡ nat_le 2048 first
+of_speed first number whole few below = grind (arith, nat_tests)
+
+-- the pages so far, and one more
+pub one_more : (board : CartBoard) (pages : List Page) (page : Page) → ArePages board pages
+    → IsPageOf board (nat_le 2048 (length pages)) (length pages % 2048) page → ArePages board (pages ++ page ∷ [])
 one_more board pages page are new = λ number d below.
-    let Holds : Page → Type 0 = λ q. IsPageOf board number q in
+    let Holds : Page → Type 0 = λ q. IsPageOf board (nat_le 2048 number) (number % 2048) q in
     let size : length (pages ++ page ∷ []) ≡ length pages + 1 = length-append pages (page ∷ []) in
     ⊎_elim
     (λ before. subst Holds (sym (get_or-append pages (page ∷ []) d number before)) (are number d before))
     (λ last. (
     let end : number ≡ length pages = omega arith in
-    let Q : ℕ → Type 0 = λ n. IsPageOf board n (slice_index_or (pages ++ page ∷ []) n d) in
-    let R : Page → Type 0 = λ q. IsPageOf board (length pages) q in
+    let Q : ℕ → Type 0 = λ n. IsPageOf board (nat_le 2048 n) (n % 2048) (slice_index_or (pages ++ page ∷ []) n d) in
+    let R : Page → Type 0 = λ q. IsPageOf board (nat_le 2048 (length pages)) (length pages % 2048) q in
     subst Q (sym end) (subst R (sym (get_or-append_seam pages page [] d)) new)))
     (cases_lt number (length pages))

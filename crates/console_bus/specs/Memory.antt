@@ -1,5 +1,5 @@
 -- Where in the memory the byte at an address lies, and how long an access there lasts.
-use Rattle.std.specs.Prelude.{◌≡◌, ℕ, ◌+◌, ◌*◌, ◌<◌, ◌≤◌, ◌%◌, nat_lt, slice_set, if◌then◌else◌, Bool, Option, Some, None, List, length, slice_index_or}
+use Rattle.std.specs.Prelude.{◌≡◌, ℕ, ◌+◌, ◌*◌, ◌<◌, ◌≤◌, ◌%◌, nat_lt, nat_le, slice_set, if◌then◌else◌, Bool, Option, Some, None, List, length, slice_index_or}
 use Rattle.cart_map.specs.declared.places.Place.{Place}
 use Rattle.cart_map.specs.declared.places.Place.TheVariants.{Wram, Rom, Ram, BBus, Cpu, Open}
 use Rattle.cart_map.specs.Place.{IsInside}
@@ -39,15 +39,24 @@ pub record IsMemoryAt (board : CartBoard) (fast : Bool) (addr at clocks : ℕ) :
   pub lies : IsInside board.rom board.ram (place_at board addr)
   pub inside : at < 131072 + board.ram + board.rom
 
--- the clocks that a page says an access lasts
-abbrev pub page_clocks : Page → Bool → ℕ
-page_clocks page fast = if fast then page.fast else page.slow
+-- the map as contracts see it: the cartridge's board, and whether ROM is fast
+pub record MapState : Type 0 where
+  pub board : CartBoard
+  pub fast : Bool
 
 -- the addresses of a page of 8 KiB are memory, one byte after another, where its clocks are fewer than those of a page that is none
-abbrev pub IsPageOf : CartBoard → ℕ → Page → Type 0
-IsPageOf board number page = (fast : Bool) → page_clocks page fast < 2000
-    → (o : ℕ) → o < 8192 → IsMemoryAt board fast (8192 * number + o) (page.at + o) (page_clocks page fast)
+abbrev pub IsPageOf : CartBoard → Bool → ℕ → Page → Type 0
+IsPageOf board fast number page = page.clocks < 2000
+    → (o : ℕ) → o < 8192 → IsMemoryAt board fast (8192 * number + o) (page.at + o) page.clocks
 
--- each page is such a page
+-- the first 2,048 pages are those of slow ROM, in the order of their addresses, and the others those of fast ROM
 abbrev pub ArePages : CartBoard → List Page → Type 0
-ArePages board pages = (number : ℕ) (d : Page) → number < length pages → IsPageOf board number (slice_index_or pages number d)
+ArePages board pages = (number : ℕ) (d : Page) → number < length pages
+    → IsPageOf board (nat_le 2048 number) (number % 2048) (slice_index_or pages number d)
+
+-- all pages are there, and those of the speed of now begin at `first`, which is 0 or 2048
+pub record HasPages (board : CartBoard) (pages : List Page) (first : ℕ) : Type 0 where
+  pub count : length pages ≡ 4096
+  pub are : ArePages board pages
+  pub whole : first % 2048 ≡ 0
+  pub few : first ≤ 2048

@@ -1,8 +1,8 @@
-// The address map as 2,048 pages of 8 KiB, made once: the byte of the memory at an address, and an access's clocks.
-ghost use Rattle.std.specs.Prelude.{◌≡◌, ℕ, ◌<◌, ◌≤◌, ◌+◌, ◌*◌, ◌^◌, false, IfOk, IfSome, IsTrue, length};
-ghost use Rattle.cart_map.specs.Place.{IsInside};
+// The address map as pages of 8 KiB, made once for each speed of ROM: the byte of the memory at an address, and an
+// access's clocks.
+ghost use Rattle.std.specs.Prelude.{◌≡◌, ℕ, ◌<◌, ◌≤◌, ◌+◌, ◌*◌, ◌^◌, Bool, false, IfOk, IfSome, length};
 ghost use Rattle.console_bus.specs.declared.cart_board.CartBoard.{CartBoard};
-ghost use Rattle.console_bus.specs.Memory.{index_of, IsWhole, IsMemoryAt, page_clocks, IsPageOf, ArePages};
+ghost use Rattle.console_bus.specs.Memory.{index_of, IsWhole, IsMemoryAt, IsPageOf, ArePages};
 
 use crate::bus::WORK_RAM;
 use crate::cart_board::CartBoard;
@@ -14,7 +14,7 @@ use std::marker::Model;
 /// The number of addresses in a page.
 const PAGE: u32 = 0x2000;
 
-/// The number of pages.
+/// The number of pages of one speed.
 const PAGES: u32 = 2048;
 
 /// The access time, in clocks, of a page that isn't memory: longer than a line. So one comparison with the clocks
@@ -36,89 +36,93 @@ pub(crate) struct Page {
     /// The byte of the memory at the first address.
     at: u32,
     /// The clocks of an access.
-    slow: u16,
-    /// The clocks of an access while MEMSEL makes ROM fast.
-    fast: u16,
+    clocks: u16,
 }
 
-/// A cartridge's board with its pages. Contracts see it as the board.
+/// A cartridge's board with its pages. Contracts see it as the board and the speed.
 #[derive(Drop)]
 pub(crate) struct AddressMap {
     board: CartBoard,
+    /// The pages while ROM is slow, then those while MEMSEL makes it fast.
     pages: Vec<Page>,
+    /// The number of the first page at the speed of now: 0 or `PAGES`.
+    first: u32,
 }
 
 impl Model for AddressMap {
-    ghost use Rattle.std.specs.Prelude.{◌≡◌, ℕ, ◌<◌, length};
-    ghost use Rattle.console_bus.specs.declared.cart_board.CartBoard.{CartBoard};
-    ghost use Rattle.console_bus.specs.Memory.{ArePages};
+    ghost use Rattle.std.specs.Prelude.{nat_le};
+    ghost use Rattle.console_bus.specs.Memory.{MapState, HasPages};
 
-    ghost Value = { CartBoard };
+    ghost Value = { MapState };
 
-    ghost view = { λ m. m.board };
+    ghost view = { λ m. record { board = m.board; fast = nat_le 2048 m.first } };
 
-    ghost invariant = { λ m. (length m.pages.items ≡ 2048) × ArePages m.board m.pages.items };
+    ghost invariant = { λ m. HasPages m.board m.pages.items m.first };
 }
 
 impl AddressMap {
-    /// Makes the map of a board. Fails only if allocation of the pages fails.
+    /// Makes the map of a board, where ROM is slow. Fails only if allocation of the pages fails.
     pub(crate) fn new(alloc: Global, board: CartBoard) -> Result<AddressMap, NoMemory>
         requires { 0 < board.rom }
-        ensures { IfOk result (λ map. map ≡ board) }
+        ensures { IfOk result (λ map. map ≡ record { board = board; fast = false }) }
     {
         let pages = pages_of(alloc, &board)?;
-        Ok(AddressMap { board, pages })
+        Ok(AddressMap {
+            board,
+            pages,
+            first: 0,
+        })
     }
 
     /// Returns the board.
     #[inline(always)]
     pub(crate) fn board(&self) -> &CartBoard
-        ensures { result.now ≡ self.now }
+        ensures { result.now ≡ self.now.board }
     {
         &self.board
+    }
+
+    /// Sets whether ROM is fast.
+    #[inline(always)]
+    pub(crate) fn set_speed(&mut self, fast: bool)
+        ensures { self.new ≡ record self.old { fast = fast } }
+    {
+        self.first = if fast { PAGES } else { 0 };
     }
 
     /// Returns the access to the memory at an address. None if the page of the address isn't memory, or an access
     /// takes `limit` clocks or more.
     #[inline(always)]
-    pub(crate) fn memory_within(&self, addr: u32, fast: bool, limit: u16) -> Option<MemoryAccess>
+    pub(crate) fn memory_within(&self, addr: u32, limit: u16) -> Option<MemoryAccess>
         requires addr { addr < 2 ^ 24 }
         requires limit { limit ≤ 2000 }
-        ensures memory { IfSome result (λ access. IsMemoryAt self.now fast addr access.at access.clocks) }
+        ensures memory { IfSome result (λ access. IsMemoryAt self.now.board self.now.fast addr access.at access.clocks) }
         ensures within { IfSome result (λ access. access.clocks < limit) }
     {
-        let page = self.pages[(addr / PAGE) as usize];
-        access(page, addr % PAGE, fast, limit)
+        let page = self.pages[(self.first + addr / PAGE) as usize];
+        access(page, addr % PAGE, limit)
     }
 
     /// Returns the access to the memory at an address. None if the page of the address isn't memory.
     #[inline(always)]
-    pub(crate) fn memory_at(&self, addr: u32, fast: bool) -> Option<MemoryAccess>
+    pub(crate) fn memory_at(&self, addr: u32) -> Option<MemoryAccess>
         requires { addr < 2 ^ 24 }
-        ensures { IfSome result (λ access. IsMemoryAt self.now fast addr access.at access.clocks) }
+        ensures { IfSome result (λ access. IsMemoryAt self.now.board self.now.fast addr access.at access.clocks) }
     {
-        self.memory_within(addr, fast, NO_MEMORY)
+        self.memory_within(addr, NO_MEMORY)
     }
-}
-
-/// Returns the clocks of an access to a page.
-#[inline(always)]
-fn page_clocks(page: Page, fast: bool) -> u16
-    ensures { result ≡ page_clocks page fast }
-{
-    if fast { page.fast } else { page.slow }
 }
 
 /// Returns the access `offset` addresses after a page's first. None if it takes `limit` clocks or more.
 #[inline(always)]
-fn access(page: Page, offset: u32, fast: bool, limit: u16) -> Option<MemoryAccess>
+fn access(page: Page, offset: u32, limit: u16) -> Option<MemoryAccess>
     requires offset { offset < 8192 }
     requires limit { limit ≤ 2000 }
-    ensures memory { (board : CartBoard) (number : ℕ) → IsPageOf board number page
+    ensures memory { (board : CartBoard) (fast : Bool) (number : ℕ) → IsPageOf board fast number page
         → IfSome result (λ access. IsMemoryAt board fast (8192 * number + offset) access.at access.clocks) }
     ensures within { IfSome result (λ access. access.clocks < limit) }
 {
-    let clocks = page_clocks(page, fast);
+    let clocks = page.clocks;
     if clocks >= limit {
         return None;
     }
@@ -128,16 +132,16 @@ fn access(page: Page, offset: u32, fast: bool, limit: u16) -> Option<MemoryAcces
     })
 }
 
-/// Makes the pages of a board.
+/// Makes the pages of a board: those of slow ROM, then those of fast ROM.
 #[tactic(auto, using(crate::proofs::Pages::one_more))]
 fn pages_of(alloc: Global, board: &CartBoard) -> Result<Vec<Page>, NoMemory>
     requires { 0 < board.now.rom }
-    ensures count { IfOk result (λ pages. length pages.items ≡ 2048) }
+    ensures count { IfOk result (λ pages. length pages.items ≡ 4096) }
     ensures pages { IfOk result (λ pages. ArePages board.now pages.items) }
 {
     let mut pages = Vec::new(alloc);
-    'pages: for number in 0..PAGES {
-        match pages.push(page_from(board, number)) {
+    'pages: for number in 0..2 * PAGES {
+        match pages.push(page_from(board, number % PAGES, PAGES <= number)) {
             Ok(()) => {}
             Err(_) => return Err(NoMemory),
         }
@@ -147,30 +151,26 @@ fn pages_of(alloc: Global, board: &CartBoard) -> Result<Vec<Page>, NoMemory>
 
 /// Returns a page that isn't memory, or isn't one byte after another.
 fn no_page() -> Page
-    ensures slow { result.slow ≡ 2000 }
-    ensures fast { result.fast ≡ 2000 }
+    ensures { result.clocks ≡ 2000 }
 {
     Page {
         at: 0,
-        slow: NO_MEMORY,
-        fast: NO_MEMORY,
+        clocks: NO_MEMORY,
     }
 }
 
-/// Returns the page of this number of a board.
-
-fn page_from(board: &CartBoard, number: u32) -> Page
+/// Returns the page of this number of a board, at a speed of ROM.
+fn page_from(board: &CartBoard, number: u32, fast: bool) -> Page
     requires some { 0 < board.now.rom }
     requires number { number < 2048 }
-    ensures { IsPageOf board.now number result }
+    ensures { IsPageOf board.now fast number result }
 {
     let first = PAGE * number;
     let place = place_in(board.map, board.rom, board.ram, first);
     match first_byte(board, place) {
         Some(at) => Page {
             at,
-            slow: clocks(first, false) as u16,
-            fast: clocks(first, true) as u16,
+            clocks: clocks(first, fast) as u16,
         },
         None => no_page(),
     }

@@ -25,7 +25,7 @@ pub(crate) const WORK_RAM: usize = 131_072;
 /// The console side without its processor. Contracts see it as a `BusState`.
 #[derive(Drop)]
 pub struct Bus {
-    /// The cartridge's board, with the pages of its address map.
+    /// The cartridge's board, with the pages of its address map at the speed of now.
     pub(crate) map: AddressMap,
     /// The controller script.
     pub(crate) script: Spans,
@@ -60,9 +60,10 @@ impl Model for Bus {
 
     ghost Value = { BusState };
 
-    ghost view = { λ b. record { board = b.map; script = b.script; memory = b.memory.items; port = b.port; io = b.io; channels = b.dma; picture = b.ppu; beam = b.beam; frame = b.frame; last = b.last; refresh = b.refresh; reset = b.reset } };
+    ghost view = { λ b. record { board = b.map.board; script = b.script; memory = b.memory.items; port = b.port; io = b.io; channels = b.dma; picture = b.ppu; beam = b.beam; frame = b.frame; last = b.last; refresh = b.refresh; reset = b.reset } };
 
-    ghost invariant = { λ b. (length b.memory.items ≡ 131072 + b.map.ram + b.map.rom) × (0 < b.map.rom) × (b.port < 131072) × (b.beam.timer ≡ timer_of b.io) × IsInStep b.tiles b.ppu.vram };
+    ghost invariant = { λ b. (length b.memory.items ≡ 131072 + b.map.board.ram + b.map.board.rom) × (0 < b.map.board.rom)
+        × (b.map.fast ≡ b.io.fast) × (b.port < 131072) × (b.beam.timer ≡ timer_of b.io) × IsInStep b.tiles b.ppu.vram };
 }
 
 impl Bus {
@@ -84,7 +85,7 @@ impl Bus {
         requires { addr < 2 ^ 24 }
         ensures { IfSome result (λ access. IsMemoryAt self.now.board self.now.io.fast addr access.at access.clocks) }
     {
-        self.map.memory_at(addr, self.io.fast())
+        self.map.memory_at(addr)
     }
 
     /// Returns the access to the memory at a 24-bit address, if it ends before the beam's next event. So nothing
@@ -95,8 +96,7 @@ impl Bus {
         ensures memory { IfSome result (λ access. IsMemoryAt self.now.board self.now.io.fast addr access.at access.clocks) }
         ensures within { IfSome result (λ access. access.clocks < clocks_left self.now.beam) }
     {
-        self.map
-            .memory_within(addr, self.io.fast(), self.beam.clocks_left())
+        self.map.memory_within(addr, self.beam.clocks_left())
     }
 
     /// Returns a byte of the memory.
@@ -247,7 +247,7 @@ impl Bus {
     }
 
     /// Reads a register of the CPU's chip, 4016 to 437F.
-    #[tactic(auto, unfolding(crate::specs::Places::chip_byte, crate::specs::Places::chip_read), using(crate::proofs::Timers::timer_read))]
+    #[tactic(auto, unfolding(crate::specs::Places::chip_byte, crate::specs::Places::chip_read), using(crate::proofs::Timers::timer_read, crate::proofs::Speeds::fast_read))]
     pub fn read_chip(&mut self, register: u16) -> u8
         ensures byte { result ≡ chip_byte self.old register }
         ensures after { self.new ≡ chip_read self.old register }
@@ -277,11 +277,12 @@ impl Bus {
         }
     }
 
-    /// Writes a register of `Io`, and gives the beam the setting of its timer.
+    /// Writes a register of `Io`. The map gets its speed of ROM, and the beam the setting of its timer.
     fn write_io(&mut self, register: u16, v: u8)
         ensures { self.new ≡ with_io self.old (io_written self.old.io register v) }
     {
         self.io.write(register, v);
+        self.map.set_speed(self.io.fast());
         self.beam.aim(self.io.irq_time());
     }
 }

@@ -31,6 +31,7 @@ impl Bus {
         copy_first(self.memory.as_slice(), into.memory.as_mut_slice(), ram);
         self.script.copy_into(&mut into.script);
         self.io.copy_into(&mut into.io);
+        into.map.set_speed(self.io.fast());
         self.dma.copy_into(&mut into.dma);
         self.ppu.copy_into(&mut into.ppu);
         self.tiles.copy_into(&mut into.tiles);

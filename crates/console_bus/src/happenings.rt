@@ -154,7 +154,7 @@ impl Bus {
 
     /// Begins a frame: clears the NMI flag and the flags of the objects' limits, and gives the pads the frame's
     /// words. A reset is then due if the script has one.
-    #[tactic(auto, unfolding(crate::specs::Happenings::frame_begun), using(crate::proofs::Timers::timer_framed))]
+    #[tactic(auto, unfolding(crate::specs::Happenings::frame_begun), using(crate::proofs::Timers::timer_framed, crate::proofs::Speeds::fast_framed))]
     pub fn begin_frame(&mut self)
         ensures { self.new ≡ frame_begun self.old }
     {
@@ -173,7 +173,7 @@ impl Bus {
 
     /// Begins vertical blank: sets the NMI flag, and runs auto-read if it is on. The address of OAM is reloaded unless
     /// forced blank is set.
-    #[tactic(auto, unfolding(crate::specs::Happenings::blank_begun), using(crate::proofs::Timers::timer_blanked))]
+    #[tactic(auto, unfolding(crate::specs::Happenings::blank_begun), using(crate::proofs::Timers::timer_blanked, crate::proofs::Speeds::fast_blanked))]
     pub fn begin_blank(&mut self)
         ensures { self.new ≡ blank_begun self.old }
     {
@@ -204,7 +204,7 @@ impl Bus {
     }
 
     /// Fires the timer.
-    #[tactic(auto, using(crate::proofs::Timers::timer_timed))]
+    #[tactic(auto, using(crate::proofs::Timers::timer_timed, crate::proofs::Speeds::fast_timed))]
     pub fn fire(&mut self)
         ensures { self.new ≡ record self.old { io = timed self.old.io } }
     {
@@ -263,6 +263,7 @@ impl Bus {
         let (pad1, pad2) = self.script.pads(self.frame as u32);
         let mut io = Io::new();
         io.frame(pad1, pad2);
+        self.map.set_speed(io.fast());
         self.beam.aim(io.irq_time());
         self.io = io;
     }

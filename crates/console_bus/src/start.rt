@@ -21,11 +21,12 @@ impl Bus {
         ensures { IfOk result (λ bus. bus ≡ bus_start cart.now script.now region) }
     {
         let memory = memory_of(alloc, cart)?;
-        let map = AddressMap::new(alloc, board(cart))?;
+        let mut map = AddressMap::new(alloc, board(cart))?;
         let ppu = Ppu::new(alloc)?;
         let tiles = TileCache::new(alloc)?;
         let copied = script.copied(alloc)?;
         let io = first_io(script);
+        map.set_speed(io.fast());
         let mut beam = Beam::new(region);
         beam.aim(io.irq_time());
         Ok(Bus {

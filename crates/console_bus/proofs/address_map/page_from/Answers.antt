@@ -9,8 +9,8 @@ returns-in-Some c =
     let board = c.args.board.now in
     let there = c.place_in-place.ensures.place ∙ first_place board c.args.number c.requires.number in
     let P : Place → Type 0 = λ p. index_of board p ≡ Some c.in-Some.at in
-    is_page board c.args.number _ c.requires.some c.requires.number (subst P there c.in-Some.ensures.index) (subst (IsWhole board) there c.in-Some.ensures.whole)
-    c.clocks.ensures c.clocks-in-Some.ensures (omega arith) (omega arith)
+    is_page board c.args.fast c.args.number _ c.requires.some c.requires.number (subst P there c.in-Some.ensures.index) (subst (IsWhole board) there c.in-Some.ensures.whole)
+    c.clocks.ensures (omega arith)
 
 pub returns-in-None : goal.returns-in-None
-returns-in-None c = no_page c.args.board.now c.args.number _ c.no_page.ensures.slow c.no_page.ensures.fast
+returns-in-None c = no_page c.args.board.now c.args.fast c.args.number _ c.no_page.ensures

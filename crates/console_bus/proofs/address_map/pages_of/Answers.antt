@@ -1,4 +1,4 @@
-use Rattle.std.proofs.Common.{ℕ, ◌∷◌, [], length, length-append, sym, ap, subst, ◌∙◌, arith}
+use Rattle.std.proofs.Common.{ℕ, ◌%◌, nat_le, ◌∷◌, [], length, length-append, sym, ap, subst, ◌∙◌, arith}
 use Rattle.console_bus.specs.Memory.{IsPageOf, ArePages}
 use Rattle.console_bus.proofs.Pages.{one_more}
 use Rattle.console_bus.proofs.address_map.pages_of.Goals as goal
@@ -8,7 +8,7 @@ pages-preserved c =
     let board = c.args.board.now in
     let pages = c.pages.pages.items in
     let page = c.page_from.result in
-    let Holds : ℕ → Type 0 = λ n. IsPageOf board n page in
+    let Holds : ℕ → Type 0 = λ n. IsPageOf board (nat_le 2048 n) (n % 2048) page in
     let size = length-append pages (page ∷ []) in
     let count = c.pages.invariant.count in
     record {

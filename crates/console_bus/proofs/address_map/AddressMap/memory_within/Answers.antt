@@ -1,19 +1,22 @@
-use Rattle.std.proofs.Common.{◌≡◌, ℕ, ◌+◌, ◌*◌, ◌/◌, ◌%◌, IfSome, sym, subst, arith}
-use Rattle.console_bus.specs.declared.cart_board.CartBoard.{CartBoard}
+use Rattle.std.proofs.Common.{◌≡◌, ℕ, ◌+◌, ◌*◌, ◌/◌, ◌%◌, ◌<◌, Bool, nat_le, IfSome, sym, subst, arith}
 use Rattle.console_bus.specs.declared.address_map.Page.{Page}
-use Rattle.console_bus.specs.Memory.{IsMemoryAt, IsPageOf}
+use Rattle.console_bus.specs.Memory.{MapState, IsMemoryAt, IsPageOf}
+use Rattle.console_bus.proofs.Pages.{of_speed}
 use Rattle.console_bus.proofs.address_map.AddressMap.memory_within.Goals as goal
 
 pub returns-clause-memory : goal.returns-clause-memory
 returns-clause-memory c =
     let addr = c.args.addr in
-    let board = c.self.inside.board in
-    let number = addr / 8192 in
-    let there : 8192 * number + addr % 8192 ≡ addr = omega arith in
-    let count = c.self.invariant.0 in
+    let map = c.self.inside in
+    let has = c.self.invariant in
+    let below : addr / 8192 < 2048 = (let h = c.requires.addr in omega arith) in
+    let number = map.first + addr / 8192 in
     let page = c.index-page.result.now in
-    let Holds : Page → Type 0 = λ q. IsPageOf board number q in
-    let is_page = subst Holds (sym c.index-page.ensures) (c.self.invariant.1 number page (let h = c.requires.addr in omega arith)) in
-    let At : ℕ → Type 0 = λ a. IfSome c.access.result (λ access. IsMemoryAt board c.args.fast a access.at access.clocks) in
-    let Of : CartBoard → Type 0 = λ b. IfSome c.access.result (λ access. IsMemoryAt b c.args.fast addr access.at access.clocks) in
-    subst Of c.self.view_is (subst At there (c.access.ensures.memory board number is_page))
+    let found = subst (λ (q : Page). IsPageOf map.board (nat_le 2048 number) (number % 2048) q) (sym c.index-page.ensures) (has.are number page (let count = has.count in let few = has.few in omega arith)) in
+    let same : number % 2048 ≡ addr / 8192 = (let whole = has.whole in let few = has.few in omega arith) in
+    let numbered = subst (λ (n : ℕ). IsPageOf map.board (nat_le 2048 number) n page) same found in
+    let there = subst (λ (b : Bool). IsPageOf map.board b (addr / 8192) page) (of_speed map.first (addr / 8192) has.whole has.few below) numbered in
+    let whole : 8192 * (addr / 8192) + addr % 8192 ≡ addr = omega arith in
+    let At : ℕ → Type 0 = λ a. IfSome c.access.result (λ access. IsMemoryAt map.board (nat_le 2048 map.first) a access.at access.clocks) in
+    let Of : MapState → Type 0 = λ m. IfSome c.access.result (λ access. IsMemoryAt m.board m.fast addr access.at access.clocks) in
+    subst Of c.self.view_is (subst At whole (c.access.ensures.memory map.board (nat_le 2048 map.first) (addr / 8192) there))
