@@ -12,26 +12,30 @@ work=$(mktemp -d) || exit 2
 trap 'rm -rf "$work"' EXIT
 cp -r "$top/examples" "$work" || exit 2
 status=0
-for name in hello game; do
+declare -A made=([hello]="hello" [game]="game" [speed]="sieve mode7 tune")
+for name in hello game speed; do
   folder=$work/examples/$name
   make -s -C "$folder" clean && make -s -C "$folder" || { echo "build_examples: $name could not be built" >&2; exit 2; }
-  sum=$(sha256sum "$folder/$name.sfc" | cut -d ' ' -f 1)
+  # shellcheck disable=SC2046
+  sums=$(cd "$folder" && sha256sum $(printf '%s.sfc ' ${made[$name]}))
   if [ "${1-}" = --write ]; then
-    echo "$sum  $name.sfc" >"$top/examples/$name/SHA256"
+    echo "$sums" >"$top/examples/$name/SHA256"
   fi
-  if [ "$sum  $name.sfc" = "$(cat "$top/examples/$name/SHA256")" ]; then
-    echo "$name.sfc: as pinned, $sum"
-  else
-    echo "$name.sfc: $sum, but examples/$name/SHA256 has $(cut -d ' ' -f 1 "$top/examples/$name/SHA256")"
-    status=1
-  fi
+  while read -r sum file; do
+    if grep -qx "$sum  $file" "$top/examples/$name/SHA256"; then
+      echo "$file: as pinned, $sum"
+    else
+      echo "$file: $sum, but examples/$name/SHA256 has another sum"
+      status=1
+    fi
+  done <<<"$sums"
 done
-images=("$work/examples/game/game.sfc" "$work/examples/hello/hello.sfc" "$top/crates")
+images=("$work/examples" "$top/crates")
 if [ "${1-}" = --write ]; then
   "$top/tools/write_game.py" "${images[@]}" || exit 2
 fi
 if "$top/tools/write_game.py" "${images[@]}" --compare; then
-  echo "the crates free_game and game_rows have these bytes"
+  echo "the crates free_game, speed_carts and game_rows have these bytes"
 else
   status=1
 fi

@@ -1,12 +1,13 @@
 #!/usr/bin/env python3
 """Writes the bytes of the cartridges of examples/ into the crates that have them, or compares them.
 
-  write_game.py GAME HELLO CRATES [--compare]
+  write_game.py EXAMPLES CRATES [--compare]
 
-GAME and HELLO are the built images, CRATES is the folder crates. The game's bytes become statics in
-free_game/src/bytes.rt: those from the first one up to the last that is not zero, in parts of 1,024, and the 64 bytes of header
-and vectors. The other one's become lines of game_rows/data/hello.txt, 32 bytes in each, without lines of zeros. With
---compare nothing is written, and the status is 1 if a file is not what it should be.
+EXAMPLES is the folder with the built images, CRATES is the folder crates. The bytes of the game become statics in
+free_game/src/bytes.rt, those of the cartridges of examples/speed statics in speed_carts/src/bytes.rt: those from the first one up to
+the last that is not zero, in parts of 1,024, and the 64 bytes of header and vectors. Those of hello become lines of
+game_rows/data/hello.txt, 32 bytes in each, without lines of zeros. With --compare nothing is written, and the status is 1
+if a file is not what it should be.
 """
 import sys
 
@@ -18,14 +19,26 @@ def lines_of(data):
     return "".join("    " + " ".join(f"{byte:#04x}," for byte in data[at:at + 16]) + "\n" for at in range(0, len(data), 16))
 
 
-def statics_of(image):
+def statics_of(image, part_name, header_name):
     program = image[:0x7FC0].rstrip(b"\0")
-    text = ("//! The bytes of `examples/game/game.sfc`, written by `tools/write_game.py`: its program from 8000 on, in parts, and\n"
-            "//! what is from FFC0 on.\n\n")
+    text = ""
     for number, at in enumerate(range(0, len(program), PART)):
         part = program[at:at + PART]
-        text += f"pub static PART_{number}: [u8; {len(part)}] = [\n{lines_of(part)}];\n\n"
-    return text + f"pub static HEADER: [u8; 64] = [\n{lines_of(image[0x7FC0:])}];\n"
+        text += f"pub static {part_name}{number}: [u8; {len(part)}] = [\n{lines_of(part)}];\n\n"
+    return text + f"pub static {header_name}: [u8; 64] = [\n{lines_of(image[0x7FC0:])}];\n"
+
+
+def game_of(image):
+    return ("//! The bytes of `examples/game/game.sfc`, written by `tools/write_game.py`: its program from 8000 on, in parts, and\n"
+            "//! what is from FFC0 on.\n\n" + statics_of(image, "PART_", "HEADER"))
+
+
+def speed_of(images):
+    text = ("//! The bytes of the cartridges of `examples/speed`, written by `tools/write_game.py`: of each its program from 8000 on,\n"
+            "//! in parts, and what is from FFC0 on.\n")
+    for name, image in images.items():
+        text += "\n" + statics_of(image, f"{name.upper()}_", f"{name.upper()}_HEADER")
+    return text
 
 
 def patches_of(image):
@@ -37,14 +50,20 @@ def patches_of(image):
 
 
 def main():
-    images = []
-    for name in sys.argv[1:3]:
-        with open(name, "rb") as file:
-            images.append(file.read())
-    crates = sys.argv[3]
-    texts = {crates + "/free_game/src/bytes.rt": statics_of(images[0]), crates + "/game_rows/data/hello.txt": patches_of(images[1])}
+    examples, crates = sys.argv[1:3]
+
+    def image_of(name):
+        with open(f"{examples}/{name}.sfc", "rb") as file:
+            return file.read()
+
+    texts = {
+        "/free_game/src/bytes.rt": game_of(image_of("game/game")),
+        "/speed_carts/src/bytes.rt": speed_of({name: image_of(f"speed/{name}") for name in ("sieve", "mode7", "tune")}),
+        "/game_rows/data/hello.txt": patches_of(image_of("hello/hello")),
+    }
     status = 0
-    for name, text in texts.items():
+    for end, text in texts.items():
+        name = crates + end
         if "--compare" not in sys.argv:
             with open(name, "w", encoding="ascii") as file:
                 file.write(text)

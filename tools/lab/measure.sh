@@ -3,10 +3,12 @@
 #
 #   tools/lab/measure.sh [OTHER..]
 #
-# The jobs: `scene` (the cartridge of ./scene --measured), `seven` (that of `snes make 7`) and `red` (the one of snes_run's stored
-# run: a backdrop, a loop of two instructions, and a sound processor that has halted). For each it prints, of `serial`,
-# the million instructions a frame (callgrind; the difference of a run of 25 frames and one of 5, over 20; a `-` where
-# there is no valgrind), and the frames a second of processor time of `serial`, `run` and `lockless`, by the clock too for the last two:
+# The jobs: `scene` (the cartridge of ./scene --measured), `seven` (that of `snes make 7`), `red` (the one of snes_run's stored
+# run: a backdrop, a loop of two instructions, and a sound processor that has halted), and the other three cartridges of ./scene
+# --measured, whose sources are in examples/speed: `sieve` (work in RAM), `mode7` (a plane that turns, by HDMA on each line)
+# and `tune` (eight voices with an echo, and a console that waits). For each it prints, of `serial`, the million
+# instructions a frame (callgrind; the difference of a run of 25 frames and one of 5, over 20; a `-` where there is no
+# valgrind), and the frames a second of processor time of `serial`, `run` and `lockless`, by the clock too for the last two:
 # the best of RUNS (5) runs of FRAMES (600) frames, the programs in turn. All outputs go to the null device, so that no
 # figure has the writing of files in it. An OTHER is a program with the same words, which is measured beside.
 #
@@ -20,9 +22,13 @@ work=$(mktemp -d) || exit 2
 trap 'rm -rf "$work"' EXIT
 frames=${FRAMES:-600} runs=${RUNS:-5}
 
-# The scene's files, in a folder.
-scene_in() {
-  if [ -n "${SCENE:-}" ]; then cp "$SCENE"/{scene.sfc,boot.bin,table.bin,script.txt} "$1/"; else "$top/scene" --measured "$1" >/dev/null; fi
+# The files of a cartridge of ./scene --measured, in a folder: FOLDER NAME. The tune has a boot ROM and a table of its own.
+measured_in() {
+  local from=${SCENE:-$work/measured} own=
+  [ "$2" != tune ] || own=tune_
+  [ -n "${SCENE:-}" ] || [ -d "$from" ] || "$top/scene" --measured "$from" >/dev/null || return
+  cp "$from/$2.sfc" "$1/cart.sfc" && cp "$from/${own}boot.bin" "$1/boot.bin" && cp "$from/${own}table.bin" "$1/table.bin" &&
+    cp "$from/script.txt" "$1/"
 }
 
 # The files of a job, in $work/JOB: cart.sfc, boot.bin, table.bin, script.txt.
@@ -34,9 +40,9 @@ files_of() {
       cp "$top"/crates/snes_run/data/{boot.bin,table.bin,script.txt} "$folder/" &&
         cp "$top/crates/snes_run/data/red.sfc" "$folder/cart.sfc"
       ;;
-    scene) scene_in "$folder" && mv "$folder/scene.sfc" "$folder/cart.sfc" ;;
+    scene | sieve | mode7 | tune) measured_in "$folder" "$1" ;;
     seven)
-      scene_in "$folder" && rm -f "$folder/scene.sfc" &&
+      measured_in "$folder" scene && rm -f "$folder/cart.sfc" &&
         "$snes" make 7 --out "$folder/cart.sfc" >/dev/null
       ;;
     *)
@@ -78,7 +84,7 @@ seconds() {
 programs=("$snes" "$@")
 printf '%-8s %-28s %14s %16s %13s %16s %18s %21s\n' job program 'M instr/frame' 'serial, proc/s' 'run, proc/s' \
   'run, by clock/s' 'lockless, proc/s' 'lockless, by clock/s'
-for job in ${JOBS:-scene seven red}; do
+for job in ${JOBS:-scene seven red sieve mode7 tune}; do
   files_of "$job" || exit 2
   [ -z "${FILES:-}" ] || { mkdir -p "$FILES" && cp -r "$work/$job" "$FILES/"; } || exit 2
   [ "$runs" != 0 ] || continue

@@ -3,7 +3,7 @@
 
     tools/lab/profile.py PROGRAM JOB ..
 
-A JOB is a folder with cart.sfc, boot.bin, table.bin and script.txt (`FILES=FOLDER RUNS=0 tools/lab/measure.sh` writes three). All
+A JOB is a folder with cart.sfc, boot.bin, table.bin and script.txt (`FILES=FOLDER RUNS=0 tools/lab/measure.sh` writes one for each job). All
 figures are callgrind's, the difference of a run of 25 frames and one of 5, over 20, so the start is not in them; all outputs
 go to the null device. A part has the functions that stay functions of their own in the program: what was built into one
 counts for that one. The second table has those of 1 % and more, with their calls a frame and the instructions of a call.

@@ -4,8 +4,9 @@
 //! `scene_cart FOLDER` writes into FOLDER, which it makes, the cartridge `scene.sfc`, the game `game.sfc`, and what else a
 //! run of them needs: the free boot ROM `boot.bin`, the interpolation table `table.bin` and the empty `script.txt`. Both
 //! cartridges send a sound program to the APU. `scene_cart --measured FOLDER` writes the scene without its tune, with
-//! the demo's boot ROM and table: the files by which speed has always been measured. Without a folder it writes nothing.
-//! It prints the length of each cartridge, once all is written.
+//! the demo's boot ROM and table: the files by which speed has always been measured. Beside them it writes `sieve.sfc` and
+//! `mode7.sfc`, and `tune.sfc` with the free boot ROM `tune_boot.bin` and the table `tune_table.bin`. Without a folder it
+//! writes nothing. It prints the length of each cartridge, once all is written.
 //!
 //! The status is 0 only if all was written and printed, else 2, as of every companion. Standard error says which file could
 //! not be written, and what the system said.
@@ -29,18 +30,33 @@ use free_files::{free_boot_rom, interpolation_table};
 use free_game::game_cartridge;
 use image::{Image, NUMBERS};
 use snes_defs::Table;
+use speed_carts::{mode7_cartridge, sieve_cartridge, tune_cartridge};
 use std::alloc::{AllocError, Global};
 use std::fs;
 use std::process::ExitCode;
 use std::rt::Files;
 
-/// All that a run of the scene needs, and the game, which is not among the files that speed is measured by.
+/// A cartridge beside the scene, and the name of its file.
+#[derive(Drop)]
+struct CartridgeFile {
+    name: &'static str,
+    bytes: Vec<u8>,
+}
+
+impl CartridgeFile {
+    fn of(name: &'static str, bytes: Vec<u8>) -> CartridgeFile {
+        CartridgeFile { name, bytes }
+    }
+}
+
+/// All that a run of the scene needs, and further cartridges: the game, or those that speed is measured by.
 #[derive(Drop)]
 struct Scene {
     cartridge: Image,
-    game: Option<Vec<u8>>,
+    more: Vec<CartridgeFile>,
     boot: [u8; 64],
     table: Table,
+    is_measured: bool,
 }
 
 /// Returns the whole cartridge with its tune or without; `None` if the program doesn't fit.
@@ -61,25 +77,36 @@ fn cartridge(alloc: Global, with_tune: bool) -> Result<Option<Image>, AllocError
     Ok(if code.fits() { Some(image) } else { None })
 }
 
+/// Returns the cartridges beside the scene: those that speed is measured by, or the game.
+fn further(alloc: Global, is_measured: bool) -> Result<Vec<CartridgeFile>, AllocError> {
+    let mut more = Vec::new(alloc);
+    if is_measured {
+        more.push(CartridgeFile::of("sieve.sfc", sieve_cartridge(alloc)?))?;
+        more.push(CartridgeFile::of("mode7.sfc", mode7_cartridge(alloc)?))?;
+        more.push(CartridgeFile::of("tune.sfc", tune_cartridge(alloc)?))?;
+    } else {
+        more.push(CartridgeFile::of("game.sfc", game_cartridge(alloc)?))?;
+    }
+    Ok(more)
+}
+
 /// Returns the files of the scene, or of the one that speed is measured by.
 fn files(alloc: Global, is_measured: bool) -> Result<Option<Scene>, AllocError> {
     let Some(cartridge) = cartridge(alloc, !is_measured)? else {
         return Ok(None);
     };
-    Ok(Some(if is_measured {
-        Scene {
-            cartridge,
-            game: None,
-            boot: demo_boot_rom(),
-            table: demo_table(),
-        }
+    let more = further(alloc, is_measured)?;
+    let (boot, table) = if is_measured {
+        (demo_boot_rom(), demo_table())
     } else {
-        Scene {
-            cartridge,
-            game: Some(game_cartridge(alloc)?),
-            boot: free_boot_rom(),
-            table: interpolation_table(),
-        }
+        (free_boot_rom(), interpolation_table())
+    };
+    Ok(Some(Scene {
+        cartridge,
+        more,
+        boot,
+        table,
+        is_measured,
     }))
 }
 
@@ -105,16 +132,37 @@ fn write_file<R: Files + AllocGlobal>(
     fs::write(rt, path.as_str(), bytes).context(format_args!("cannot write {path}"))
 }
 
-/// Makes a folder, and writes the files into it.
+/// Writes a boot ROM and an interpolation table into a folder.
+fn write_inputs<R: Files + AllocGlobal>(
+    rt: &R,
+    folder: &str,
+    names: (&str, &str),
+    boot: &[u8; 64],
+    table: &Table,
+) -> Result<()> {
+    let table = table_bytes(rt.alloc(), table)?;
+    write_file(rt, folder, names.0, boot.as_slice())?;
+    write_file(rt, folder, names.1, table.as_slice())
+}
+
+/// Makes a folder, and writes the files into it. The tune is sent to the APU, so it gets a boot ROM that takes uploads.
 fn write_all<R: Files + AllocGlobal>(rt: &R, folder: &str, files: &Scene) -> Result<()> {
     fs::create_dir_all(rt, folder).context(format_args!("cannot write {folder}"))?;
-    let table = table_bytes(rt.alloc(), &files.table)?;
     write_file(rt, folder, "scene.sfc", files.cartridge.bytes())?;
-    if let Some(game) = &files.game {
-        write_file(rt, folder, "game.sfc", game.as_slice())?;
+    for one in &files.more {
+        write_file(rt, folder, one.name, one.bytes.as_slice())?;
     }
-    write_file(rt, folder, "boot.bin", files.boot.as_slice())?;
-    write_file(rt, folder, "table.bin", table.as_slice())?;
+    write_inputs(
+        rt,
+        folder,
+        ("boot.bin", "table.bin"),
+        &files.boot,
+        &files.table,
+    )?;
+    if files.is_measured {
+        let names = ("tune_boot.bin", "tune_table.bin");
+        write_inputs(rt, folder, names, &free_boot_rom(), &interpolation_table())?;
+    }
     write_file(rt, folder, "script.txt", b"")
 }
 
@@ -126,7 +174,7 @@ fn print_length<R: Print>(rt: &R, name: &str, bytes: &[u8]) -> Result<()> {
 /// The words of the command line.
 static WORDS: [Word; 2] = words![
     "" Kind::MayBePlaced, "FOLDER" "" "" "where the files go; it is made; without it only the lengths are printed";
-    "" Kind::Flag, "measured" "" "" "the scene without its tune, with the boot ROM and table of snes demo, by which speed is measured";
+    "" Kind::Flag, "measured" "" "" "the files by which speed is measured: the scene without its tune, with the boot ROM and table of snes demo; and sieve.sfc, mode7.sfc, tune.sfc";
 ];
 
 /// This program, as a companion of `snes`.
@@ -158,8 +206,8 @@ impl Companion for SceneCart {
             write_all(rt, folder, &files)?;
         }
         print_length(rt, "scene.sfc", files.cartridge.bytes())?;
-        if let Some(game) = &files.game {
-            print_length(rt, "game.sfc", game.as_slice())?;
+        for one in &files.more {
+            print_length(rt, one.name, one.bytes.as_slice())?;
         }
         Ok(DONE)
     }

@@ -1,6 +1,6 @@
 #!/usr/bin/env bash
 # Prints million instructions a frame of programs that build.sh made: callgrind's difference of a run of 25 frames and one
-# of 5, over 20. The jobs are those of tools/lab/measure.sh.
+# of 5, over 20. The jobs are the first three of tools/lab/measure.sh.
 #
 #   tools/lab/by_rustc/measure.sh PROGRAM..        JOBS="red" only some jobs; SCENE=FOLDER takes the files that ./scene --measured has written there before
 here=$(cd "$(dirname "$(readlink -f "${BASH_SOURCE[0]}")")" && pwd) || exit 2
