@@ -13,7 +13,8 @@ mod words;
 use anyhow::{Context, Result, bail};
 use clap::ArgMatches;
 use companion_words::{Companion, DONE, NO, Program, run};
-use inputs::{Names, Opened, open_job};
+use inputs::{Opened, open_job};
+use job_files::Names;
 use lint_report::{Format, Report, Told, text_of};
 use lint_rules::{Finding, Findings, Rule, Severity, complement_of};
 use lint_watch::{

@@ -235,6 +235,22 @@ fn try_row<R: AllocGlobal + Threads + Files + Sync + Print + Eprint>(
     Ok(true)
 }
 
+/// Runs a row by two workers until a run is to be printed, three times at most. `serially` has what `serial` left.
+fn show_tries<R: AllocGlobal + Threads + Files + Sync + Print + Eprint>(
+    rt: &R,
+    watch: &Watch<'_, R>,
+    gate: &dyn Gate,
+    row: &Row,
+    serially: &SureShelf,
+) -> io::Result<()> {
+    for tried in 1..=MOST_TRIES {
+        if try_row(rt, watch, gate, row, serially, tried)? {
+            return Ok(());
+        }
+    }
+    Ok(())
+}
+
 /// Runs a row by `serial` and by two workers, and prints the result.
 fn show<R: AllocGlobal + Threads + Files + Sync + Print + Eprint>(
     rt: &R,
@@ -245,15 +261,11 @@ fn show<R: AllocGlobal + Threads + Files + Sync + Print + Eprint>(
     let Some(mut serially) = shelf(rt.alloc(), &row.programs) else {
         return println!(rt; "no memory");
     };
-    if !run_serially(rt, row, &mut serially) {
-        return println!(rt; "{} has no serial run beside it", row.command);
+    if run_serially(rt, row, &mut serially) {
+        show_tries(rt, watch, gate, row, &serially)
+    } else {
+        println!(rt; "{} has no serial run beside it", row.command)
     }
-    for tried in 1..=MOST_TRIES {
-        if try_row(rt, watch, gate, row, &serially, tried)? {
-            return Ok(());
-        }
-    }
-    Ok(())
 }
 
 /// Runs all rows, with a watch, which is the gate too.

@@ -1,4 +1,8 @@
-//! Reads the files of a job, as `snes` takes them.
+//! Reads the files of a job, as `snes` takes them, for companions that run one. Each message names the file that was
+//! refused, and says why.
+#![tactic(auto)]
+
+ghost use Rattle.std.specs.Prelude.{◌≡◌, []};
 
 use anyhow::{Result, anyhow, bail};
 use cart_map::{CartEnd, CartRefused, accept};
@@ -33,11 +37,23 @@ pub struct Names<'a> {
     pub script: Option<&'a str>,
 }
 
+/// Reads a whole file of at most `most` bytes into `bytes`.
+fn load_into<R: Files + Print>(
+    rt: &R,
+    name: &str,
+    most: usize,
+    bytes: &mut Vec<u8>,
+) -> std::result::Result<(), LoadEnd>
+    requires { bytes.old.items ≡ [] }
+{
+    let mut shelf = FileShelf::new(rt);
+    shelf.load(name, most, bytes)
+}
+
 /// Reads a whole file of at most `most` bytes.
 fn load<R: Files + Print>(rt: &R, alloc: Global, name: &str, most: usize) -> Result<Vec<u8>> {
-    let mut shelf = FileShelf::new(rt);
     let mut bytes = Vec::new(alloc);
-    match shelf.load(name, most, &mut bytes) {
+    match load_into(rt, name, most, &mut bytes) {
         Ok(()) => Ok(bytes),
         Err(LoadEnd::Failed) => Err(anyhow!("cannot read {name}")),
         Err(LoadEnd::TooLong) => Err(anyhow!("{name} refused: more than {most} bytes")),
@@ -45,15 +61,15 @@ fn load<R: Files + Print>(rt: &R, alloc: Global, name: &str, most: usize) -> Res
     }
 }
 
-/// Reads the cartridge of a file.
-fn cart_of(name: &str, bytes: Vec<u8>) -> Result<Cart> {
+/// Takes the cartridge of a file of this name. None if the file has no header.
+pub fn cart_of(name: &str, bytes: Vec<u8>) -> Result<Option<Cart>> {
     match accept(bytes) {
-        Ok(cart) => Ok(cart),
+        Ok(cart) => Ok(Some(cart)),
         Err(CartEnd::NoMemory) => bail!("no memory"),
         Err(CartEnd::Refused(cause)) => match cause {
             CartRefused::TooShort => bail!("{name} refused: too short for a cartridge"),
             CartRefused::TooLong => bail!("{name} refused: too long for a cartridge"),
-            CartRefused::NoHeader => bail!("{name} refused: no header of a cartridge"),
+            CartRefused::NoHeader => Ok(None),
             CartRefused::Coprocessor(chip) => bail!("{name} refused: coprocessor {chip:02X}"),
             CartRefused::RamSize(size) => bail!("{name} refused: RAM size {size}"),
         },
@@ -95,9 +111,19 @@ fn script_of<R: Files + Print>(rt: &R, alloc: Global, name: Option<&str>) -> Res
     }
 }
 
-/// Reads the job of the files of these names, with as many frames as a job can have.
-pub fn job_of<R: Files + Print>(rt: &R, alloc: Global, names: Names<'_>) -> Result<Job> {
-    let cart = cart_of(names.cart, load(rt, alloc, names.cart, CART)?)?;
+/// Reads the bytes of a cartridge's file.
+pub fn cart_bytes<R: Files + Print>(rt: &R, alloc: Global, name: &str) -> Result<Vec<u8>> {
+    load(rt, alloc, name, CART)
+}
+
+/// Reads the other files of these names, and returns the job of a cartridge with them. It has as many frames as a job
+/// can have.
+pub fn job_with<R: Files + Print>(
+    rt: &R,
+    alloc: Global,
+    names: Names<'_>,
+    cart: Cart,
+) -> Result<Job> {
     let boot = boot_of(rt, alloc, names.boot)?;
     let table = table_of(rt, alloc, names.table)?;
     let script = script_of(rt, alloc, names.script)?;
@@ -110,4 +136,13 @@ pub fn job_of<R: Files + Print>(rt: &R, alloc: Global, names: Names<'_>) -> Resu
         frames: MOST_FRAMES,
         region,
     })
+}
+
+/// Reads the job of the files of these names. A cartridge without a header is refused.
+pub fn job_of<R: Files + Print>(rt: &R, alloc: Global, names: Names<'_>) -> Result<Job> {
+    let bytes = cart_bytes(rt, alloc, names.cart)?;
+    match cart_of(names.cart, bytes)? {
+        Some(cart) => job_with(rt, alloc, names, cart),
+        None => bail!("{} refused: no header of a cartridge", names.cart),
+    }
 }
