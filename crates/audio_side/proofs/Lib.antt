@@ -6,6 +6,7 @@ pub mod Ticks
 pub mod FromParts
 pub mod BootOver
 pub mod Runs
-pub mod Talks
+pub mod PortRuns
+pub mod FreeSteps
 pub mod Follows
 pub mod Stems

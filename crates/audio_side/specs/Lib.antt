@@ -9,6 +9,6 @@ pub mod SoundLaws
 pub mod FromParts
 pub mod Kept
 pub mod Runs
-pub mod Talks
+pub mod PortRuns
 pub mod Follows
 pub mod Stem

@@ -53,7 +53,7 @@ unfolding sound_act
 act_at_ports m =
     by_test (is_reset_due m.clock) (λ e. rw e (lit≤ tt, lit≤ tt)) (λ e. rw e (access_at_ports (next_of m.processor)))
 
-rises_in : (r : Region) (n : ℕ) → rate_of r Sound * n + least_of r ≤ rate_of r Sound * (n + 1)
+pub rises_in : (r : Region) (n : ℕ) → rate_of r Sound * n + least_of r ≤ rate_of r Sound * (n + 1)
 rises_in Ntsc n = omega arith
 rises_in Pal n = omega arith
 

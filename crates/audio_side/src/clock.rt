@@ -184,12 +184,6 @@ impl CycleClock {
         }
     }
 
-    /// Whether several cycles end before a stamp.
-    #[inline(always)]
-    pub fn is_well_before(&self, before: u64) -> bool {
-        self.stamp + 8 * self.rate <= before
-    }
-
     /// How many cycles end by a stamp.
     #[inline(always)]
     fn cycles_until(&self, before: u64) -> u64
@@ -219,6 +213,15 @@ impl CycleClock {
         } else {
             most
         }
+    }
+
+    /// The stamp of the cycle that is this many later.
+    #[inline(always)]
+    pub fn stamp_after(&self, cycles: u8) -> u64
+        requires { stamp_now self.now + rate_of self.now.region Sound * cycles ≤ 2 ^ 62 }
+        ensures { result ≡ stamp_now (later cycles self.now) }
+    {
+        self.stamp + self.rate * cycles as u64
     }
 
     /// Moves the clock on by this many cycles.

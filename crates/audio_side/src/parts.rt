@@ -2,7 +2,6 @@ ghost use Rattle.std.specs.Prelude.{◌≡◌, false, IsTrue, ◌<◌, ◌≤◌
 ghost use Rattle.snes_defs.specs.declared.ports.Act.TheVariants.{Quiet};
 ghost use Rattle.side_law.specs.Moves.{IsAtPorts, taken};
 ghost use Rattle.side_law.specs.Quiet.{HasGoneQuietly};
-ghost use Rattle.side_law.specs.Sides.{HasTalked};
 ghost use Rattle.audio_side.specs.Clock.{gone_on, stamp_now};
 ghost use Rattle.side_law.proofs.QuietRuns.{IsSilent};
 ghost use Rattle.audio_side.specs.Effect.{emitted};
@@ -11,7 +10,6 @@ ghost use Rattle.audio_side.specs.Sound.{IsRunning, SoundState, StandsAt, hardwa
 use crate::clock::CycleClock;
 use crate::hardware::Hardware;
 use crate::step::{begin, finish, make_accesses, next_act, try_access};
-use crate::talking::talk_accesses;
 use circular_buffer::HeapCircularBuffer;
 use side_law::Pause;
 use snes_defs::Act;
@@ -120,43 +118,6 @@ impl Parts {
         let made = make_accesses(&mut self.spc, &mut self.hardware, free);
         self.clock.go_on_by(made);
         made < free
-    }
-
-    /// Makes accesses of the memory and the ports, and internal cycles, each ended by the stamp `before`. Until then
-    /// the other side is stopped. It goes at most up to the next cycle at whose end something may come.
-    #[inline(always)]
-    fn talk_on(&mut self, incoming: &[u8; 4], outgoing: &mut [u8; 4], before: u64)
-        requires early { before ≤ 2 ^ 62 }
-        ensures talked { (m : SoundState) → StandsAt (value_of self.old) m → HasTalked sound_moves before (StandsAt (value_of self.new)) incoming.now outgoing.new (record { own = m; incoming = incoming.now; outgoing = outgoing.old }) }
-        ensures forward { stamp_now self.old.clock ≤ stamp_now self.new.clock }
-        ensures region { self.new.clock.region ≡ self.old.clock.region }
-        ensures waiting { self.new.waiting ≡ self.old.waiting }
-        ensures runs { IsRunning self.old.spc → IsRunning self.new.spc }
-    {
-        let fast = self.hardware.has_fast_timer();
-        let free = self.clock.free_cycles(before, fast);
-        if free == 0 {
-            return;
-        }
-        let made = talk_accesses(&mut self.spc, &mut self.hardware, incoming, outgoing, free);
-        self.clock.go_on_by(made);
-    }
-
-    /// Makes accesses of the memory and the ports, and internal cycles, if that is worth a call. Each ends by the
-    /// stamp `before`, until which the other side is stopped. A halted processor no longer talks, and `quiet` skips
-    /// its cycles.
-    #[inline(always)]
-    pub fn talk(&mut self, incoming: &[u8; 4], outgoing: &mut [u8; 4], before: u64)
-        requires early { before ≤ 2 ^ 62 }
-        ensures talked { (m : SoundState) → StandsAt (value_of self.old) m → HasTalked sound_moves before (StandsAt (value_of self.new)) incoming.now outgoing.new (record { own = m; incoming = incoming.now; outgoing = outgoing.old }) }
-        ensures forward { stamp_now self.old.clock ≤ stamp_now self.new.clock }
-        ensures region { self.new.clock.region ≡ self.old.clock.region }
-        ensures waiting { self.new.waiting ≡ self.old.waiting }
-        ensures runs { IsRunning self.old.spc → IsRunning self.new.spc }
-    {
-        if self.clock.is_well_before(before) && !self.spc.is_halted() {
-            self.talk_on(incoming, outgoing, before);
-        }
     }
 
     /// Takes quiet steps, each begun before a stamp, up to the first that emits bytes. Returns where it has stopped.

@@ -12,7 +12,7 @@ use crate::timer::stopped_timer;
 use circular_buffer::HeapCircularBuffer;
 use sdsp_echo::Echo;
 use sdsp_voice::Voices;
-use side_law::{Machine, Pause};
+use side_law::{Machine, Pause, Ports, Stop};
 use snes_defs::{Act, Job, NoMemory, Region, Spans, Table};
 use spc700::Spc;
 use std::alloc::Global;
@@ -221,8 +221,8 @@ impl Machine for AudioSide {
     }
 
     #[inline(always)]
-    fn talk(&mut self, incoming: &[u8; 4], outgoing: &mut [u8; 4], before: u64) {
-        self.parts.talk(incoming, outgoing, before);
+    fn advance<P: Ports>(&mut self, until: u64, ports: &mut P) -> Stop {
+        self.parts.advance(until, ports)
     }
 
     #[inline(always)]

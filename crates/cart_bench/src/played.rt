@@ -74,7 +74,7 @@ fn make_steps<C: Machine, S: Machine>(serial: &mut Serial<C, S>, end: u64) -> bo
     if C::MOST > C::CAP || S::MOST > S::CAP || end > LAST {
         return false;
     }
-    let _video_at = serial.console_leads(end, 0);
+    let _stamps = serial.console_leads(end, 0, 0);
     let (_, sound) = serial.machines();
     if sound.pending() == 0 {
         let _audio_at = serial.sound_leads(end, 0);

@@ -4,6 +4,8 @@ pub mod Few
 pub mod Follows
 pub mod Looks
 pub mod Over
+pub mod PortRuns
+pub mod PortAccesses
 pub mod Ports
 pub mod Quiets
 pub mod Rounds

@@ -10,3 +10,6 @@ pub mod Runs
 pub mod Follows
 pub mod Rounds
 pub mod Ports
+pub mod PortRuns
+pub mod PortAccesses
+pub mod Keeps

@@ -1,5 +1,6 @@
 // What the step that is due does at the ports.
-ghost use Rattle.std.specs.Prelude.{◌≡◌, ◌<◌, ◌^◌};
+ghost use Rattle.std.specs.Prelude.{◌≡◌, ◌<◌, ◌^◌, IsTrue};
+ghost use Rattle.snes_defs.specs.declared.ports.Act.TheVariants.{Quiet};
 ghost use Rattle.side_law.specs.Moves.{IsAtPorts};
 ghost use Rattle.cpu65816.specs.Instruction.{CpuState};
 ghost use Rattle.cpu65816.specs.Stands.{Stands};
@@ -56,6 +57,19 @@ fn write_act(place: Place, v: u8) -> Act
         Place::Ram(_) => Act::Quiet,
         Place::Cpu(_) => Act::Quiet,
         Place::Open => Act::Quiet,
+    }
+}
+
+/// Whether an act is quiet.
+#[inline(always)]
+pub(crate) fn is_quiet(act: Act) -> bool
+    ensures { IsTrue result → act ≡ Quiet }
+{
+    match act {
+        Act::Quiet => true,
+        Act::Read(_) => false,
+        Act::Write(_, _) => false,
+        Act::Clear(_) => false,
     }
 }
 

@@ -80,6 +80,19 @@ fn clocks_since(left: u16, bus: &Bus) -> u16
 }
 
 /// Makes the processor's accesses one after another, as long as `try_plain` makes them: nothing else happens in their
+/// clocks. Out of line: with two copies of its loop the processor's transitions would not be inlined into it.
+#[inline(never)]
+pub(crate) fn make_all(cpu: &mut Cpu, bus: &mut Bus)
+    ensures { Follows cpu.old cpu.new bus.old bus.new }
+{
+    'steps: for _ in 0..MOST_ACCESSES {
+        if !make_some(cpu, bus) {
+            return;
+        }
+    }
+}
+
+/// Makes the processor's accesses one after another, as long as `try_plain` makes them: nothing else happens in their
 /// clocks. Returns how many clocks they last together.
 fn make_accesses(cpu: &mut Cpu, bus: &mut Bus) -> u16
     ensures run { (w : ConsoleState) → IsAt cpu.old bus.old w → w.rest.beam.h < 1364 → HasRun cpu.new bus.new w result }
@@ -92,11 +105,7 @@ fn make_accesses(cpu: &mut Cpu, bus: &mut Bus) -> u16
         return 0;
     }
     let left = bus.clocks_left();
-    'steps: for _ in 0..MOST_ACCESSES {
-        if !make_some(cpu, bus) {
-            return clocks_since(left, bus);
-        }
-    }
+    make_all(cpu, bus);
     clocks_since(left, bus)
 }
 
@@ -297,7 +306,7 @@ fn make_rounds(cpu: &mut Cpu, bus: &mut Bus, patience: &mut Patience, before: u1
 }
 
 /// Searches for an idle loop if the next beam event is far enough and it is time for it.
-fn look_for_rounds(cpu: &mut Cpu, bus: &mut Bus, patience: &mut Patience) -> u16
+pub(crate) fn look_for_rounds(cpu: &mut Cpu, bus: &mut Bus, patience: &mut Patience) -> u16
     ensures run { (w : ConsoleState) → IsAt cpu.old bus.old w → w.rest.beam.h < 1364 → HasRun cpu.new bus.new w result }
     ensures few { result ≤ 1364 }
 {

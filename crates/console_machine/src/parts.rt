@@ -6,14 +6,15 @@ ghost use Rattle.clock_ratio.specs.Stamp.{least_of, most_of, rate_of};
 ghost use Rattle.side_law.specs.Moves.{IsAtPorts, taken};
 ghost use Rattle.side_law.specs.Quiet.{HasGoneQuietly};
 ghost use Rattle.side_law.proofs.QuietRuns.{IsSilent};
+ghost use Rattle.beam.specs.Places.{clocks_left};
 ghost use Rattle.console_steps.specs.ConsoleState.{ConsoleState, act_of, due_of, console_after, bytes_after, console_moves};
 ghost use Rattle.console_steps.specs.Tried.{IfMade, IfAtPort, IfNotMade};
 ghost use Rattle.console_machine.specs.Side.{IsSome, StandsAt};
 
-use crate::acts::due_act;
-use crate::many_steps::make_plain_steps;
+use crate::acts::{due_act, is_quiet};
+use crate::many_steps::{look_for_rounds, make_plain_steps};
 use crate::patience::Patience;
-use crate::step::{make_likely_port_step, make_step, try_make, try_other};
+use crate::step::{make_likely_port_step, make_step, make_step_by, try_make, try_other};
 use circular_buffer::HeapCircularBuffer;
 use clock_ratio::{CONSOLE_RATE, PAL_CONSOLE_RATE};
 use console_bus::Bus;
@@ -72,19 +73,6 @@ fn line_stamps(region: Region, clocks: u16) -> u64
     }
 }
 
-/// Whether an act is quiet.
-#[inline(always)]
-fn is_quiet(act: Act) -> bool
-    ensures { IsTrue result → act ≡ Quiet }
-{
-    match act {
-        Act::Quiet => true,
-        Act::Read(_) => false,
-        Act::Write(_, _) => false,
-        Act::Clear(_) => false,
-    }
-}
-
 impl Parts {
     ghost use Rattle.console_machine.specs.Parts.{value_of};
 
@@ -97,6 +85,18 @@ impl Parts {
         due_act(&self.cpu, &self.bus)
     }
 
+    /// Returns the stamp at which the beam comes to its next place.
+    #[inline(always)]
+    pub fn goal(&self) -> u64
+        requires { self.now.stamp ≤ 2 ^ 62 }
+        ensures { result ≡ self.now.stamp + rate_of self.now.region Console * clocks_left self.now.bus.beam }
+    {
+        match self.region {
+            Region::Ntsc => self.stamp + CONSOLE_RATE * self.bus.clocks_left() as u64,
+            Region::Pal => self.stamp + PAL_CONSOLE_RATE * self.bus.clocks_left() as u64,
+        }
+    }
+
     /// Runs the next step. `got` is the incoming byte of the port if the step reads one.
     #[inline(always)]
     pub fn step(&mut self, got: u8)
@@ -105,7 +105,8 @@ impl Parts {
         ensures next { (w : ConsoleState) → StandsAt (value_of self.old) w
             → StandsAt (value_of self.new) (console_after w (due_of w) (taken (act_of w.rest (due_of w)) got)) }
         ensures emits { (w : ConsoleState) → StandsAt (value_of self.old) w
-            → self.new.waiting.items ≡ self.old.waiting.items ++ bytes_after w (due_of w) (taken (act_of w.rest (due_of w)) got) }
+            → self.new.waiting.items ≡ self.old.waiting.items
+            ++ bytes_after w (due_of w) (taken (act_of w.rest (due_of w)) got) }
         ensures rises { self.old.stamp + least_of self.old.region ≤ self.new.stamp }
         ensures rises_at_most { self.new.stamp ≤ self.old.stamp + most_of self.old.region }
         ensures region { self.new.region ≡ self.old.region }
@@ -125,7 +126,8 @@ impl Parts {
         ensures next { (w : ConsoleState) → StandsAt (value_of self.old) w
             → StandsAt (value_of self.new) (console_after w (due_of w) (taken (act_of w.rest (due_of w)) got)) }
         ensures emits { (w : ConsoleState) → StandsAt (value_of self.old) w
-            → self.new.waiting.items ≡ self.old.waiting.items ++ bytes_after w (due_of w) (taken (act_of w.rest (due_of w)) got) }
+            → self.new.waiting.items ≡ self.old.waiting.items
+            ++ bytes_after w (due_of w) (taken (act_of w.rest (due_of w)) got) }
         ensures rises { self.old.stamp + least_of self.old.region ≤ self.new.stamp }
         ensures rises_at_most { self.new.stamp ≤ self.old.stamp + most_of self.old.region }
         ensures region { self.new.region ≡ self.old.region }
@@ -136,14 +138,37 @@ impl Parts {
         self.stamp += stamps(self.region, clocks);
     }
 
+    /// Runs the next step, whose act is known. `got` is the incoming byte of the port if the step reads one.
+    #[inline(always)]
+    pub fn step_by(&mut self, act: Act, got: u8)
+        requires room { length self.old.waiting.items + 1024 ≤ self.old.waiting.capacity }
+        requires early { self.old.stamp ≤ 2 ^ 62 }
+        ensures next { (w : ConsoleState) → StandsAt (value_of self.old) w
+            → StandsAt (value_of self.new) (console_after w (due_of w) (taken (act_of w.rest (due_of w)) got)) }
+        ensures emits { (w : ConsoleState) → StandsAt (value_of self.old) w
+            → self.new.waiting.items
+            ≡ self.old.waiting.items ++ bytes_after w (due_of w) (taken (act_of w.rest (due_of w)) got) }
+        ensures rises { self.old.stamp + least_of self.old.region ≤ self.new.stamp }
+        ensures rises_at_most { self.new.stamp ≤ self.old.stamp + most_of self.old.region }
+        ensures region { self.new.region ≡ self.old.region }
+        ensures capacity { self.new.waiting.capacity ≡ self.old.waiting.capacity }
+        ensures few { length self.new.waiting.items ≤ length self.old.waiting.items + 1024 }
+    {
+        let clocks = make_step_by(&mut self.cpu, &mut self.bus, &mut self.waiting, act, got);
+        self.stamp += stamps(self.region, clocks);
+    }
+
     /// Runs the next step if a fast check shows that it is quiet and emits nothing, and returns whether it did.
     /// Otherwise nothing has changed.
     #[inline(always)]
     pub fn try_step(&mut self) -> bool
         requires early { self.old.stamp ≤ 2 ^ 62 }
-        ensures quiet { IsTrue result → (w : ConsoleState) → StandsAt (value_of self.old) w → act_of w.rest (due_of w) ≡ Quiet }
-        ensures next { IsTrue result → (w : ConsoleState) → StandsAt (value_of self.old) w → StandsAt (value_of self.new) (console_after w (due_of w) 0) }
-        ensures none { IsTrue result → (w : ConsoleState) → StandsAt (value_of self.old) w → bytes_after w (due_of w) 0 ≡ [] }
+        ensures quiet { IsTrue result → (w : ConsoleState) → StandsAt (value_of self.old) w
+            → act_of w.rest (due_of w) ≡ Quiet }
+        ensures next { IsTrue result → (w : ConsoleState) → StandsAt (value_of self.old) w
+            → StandsAt (value_of self.new) (console_after w (due_of w) 0) }
+        ensures none { IsTrue result → (w : ConsoleState) → StandsAt (value_of self.old) w
+            → bytes_after w (due_of w) 0 ≡ [] }
         ensures keeps { IsSome (value_of self.old) → IsSome (value_of self.new) }
         ensures rises { IsTrue result → self.old.stamp + least_of self.old.region ≤ self.new.stamp }
         ensures rises_at_most { IsTrue result → self.new.stamp ≤ self.old.stamp + most_of self.old.region }
@@ -165,15 +190,19 @@ impl Parts {
     #[inline(always)]
     fn try_other_step(&mut self) -> Tried
         requires early { self.old.stamp ≤ 2 ^ 62 }
-        ensures quiet { IfMade result (λ _. (w : ConsoleState) → StandsAt (value_of self.old) w → act_of w.rest (due_of w) ≡ Quiet) }
-        ensures next { IfMade result (λ _. (w : ConsoleState) → StandsAt (value_of self.old) w → StandsAt (value_of self.new) (console_after w (due_of w) 0)) }
-        ensures none { IfMade result (λ _. (w : ConsoleState) → StandsAt (value_of self.old) w → bytes_after w (due_of w) 0 ≡ []) }
+        ensures quiet { IfMade result (λ _. (w : ConsoleState) → StandsAt (value_of self.old) w
+            → act_of w.rest (due_of w) ≡ Quiet) }
+        ensures next { IfMade result (λ _. (w : ConsoleState) → StandsAt (value_of self.old) w
+            → StandsAt (value_of self.new) (console_after w (due_of w) 0)) }
+        ensures none { IfMade result (λ _. (w : ConsoleState) → StandsAt (value_of self.old) w
+            → bytes_after w (due_of w) 0 ≡ []) }
         ensures keeps { IsSome (value_of self.old) → IsSome (value_of self.new) }
         ensures rises { IfMade result (λ _. self.old.stamp + least_of self.old.region ≤ self.new.stamp) }
         ensures rises_at_most { IfMade result (λ _. self.new.stamp ≤ self.old.stamp + most_of self.old.region) }
         ensures region { self.new.region ≡ self.old.region }
         ensures waiting { self.new.waiting ≡ self.old.waiting }
-        ensures port { IfAtPort result (λ act. (w : ConsoleState) → StandsAt (value_of self.old) w → act_of w.rest (due_of w) ≡ act) }
+        ensures port { IfAtPort result (λ act. (w : ConsoleState) → StandsAt (value_of self.old) w
+            → act_of w.rest (due_of w) ≡ act) }
         ensures at_ports { IfAtPort result (λ act. IsAtPorts act) }
         ensures stays { IfNotMade result (value_of self.new ≡ value_of self.old) }
     {
@@ -192,7 +221,8 @@ impl Parts {
     #[inline(never)]
     fn creep(&mut self, before: u64)
         requires early { before ≤ 2 ^ 62 }
-        ensures gone { (w : ConsoleState) → StandsAt (value_of self.old) w → IsSilent console_moves before (StandsAt (value_of self.new)) self.old.waiting.items w self.new.waiting.items }
+        ensures gone { (w : ConsoleState) → StandsAt (value_of self.old) w
+            → IsSilent console_moves before (StandsAt (value_of self.new)) self.old.waiting.items w self.new.waiting.items }
         ensures keeps { IsSome (value_of self.old) → IsSome (value_of self.new) }
         ensures forward { self.old.stamp ≤ self.new.stamp }
         ensures region { self.new.region ≡ self.old.region }
@@ -212,7 +242,8 @@ impl Parts {
     fn rush(&mut self, before: u64)
         requires far { self.old.stamp + rate_of self.old.region Console * 1364 ≤ before }
         requires early { before ≤ 2 ^ 62 }
-        ensures gone { (w : ConsoleState) → StandsAt (value_of self.old) w → IsSilent console_moves before (StandsAt (value_of self.new)) self.old.waiting.items w self.new.waiting.items }
+        ensures gone { (w : ConsoleState) → StandsAt (value_of self.old) w
+            → IsSilent console_moves before (StandsAt (value_of self.new)) self.old.waiting.items w self.new.waiting.items }
         ensures keeps { IsSome (value_of self.old) → IsSome (value_of self.new) }
         ensures forward { self.old.stamp ≤ self.new.stamp }
         ensures region { self.new.region ≡ self.old.region }
@@ -222,12 +253,33 @@ impl Parts {
         self.stamp += line_stamps(self.region, clocks);
     }
 
+    /// Searches for an idle loop, and runs rounds of one that it finds, if a stamp is at least a line away. So each
+    /// step begins before it.
+    #[inline(always)]
+    pub fn look_on(&mut self, until: u64)
+        requires early { until ≤ 2 ^ 62 }
+        ensures gone { (w : ConsoleState) → StandsAt (value_of self.old) w
+            → IsSilent console_moves until (StandsAt (value_of self.new)) self.old.waiting.items w self.new.waiting.items }
+        ensures keeps { IsSome (value_of self.old) → IsSome (value_of self.new) }
+        ensures forward { self.old.stamp ≤ self.new.stamp }
+        ensures region { self.new.region ≡ self.old.region }
+        ensures waiting { self.new.waiting ≡ self.old.waiting }
+        ensures early { self.old.stamp ≤ until → self.new.stamp ≤ until }
+    {
+        if until < self.stamp.saturating_add(line_stamps(self.region, LINE)) {
+            return;
+        }
+        let clocks = look_for_rounds(&mut self.cpu, &mut self.bus, &mut self.patience);
+        self.stamp += line_stamps(self.region, clocks);
+    }
+
     /// Runs quiet steps that emit nothing, each begun before a stamp. Many are run in one call, or one by one if the
     /// stamp is less than a line away.
     #[inline(always)]
     fn hurry(&mut self, before: u64)
         requires early { before ≤ 2 ^ 62 }
-        ensures gone { (w : ConsoleState) → StandsAt (value_of self.old) w → IsSilent console_moves before (StandsAt (value_of self.new)) self.old.waiting.items w self.new.waiting.items }
+        ensures gone { (w : ConsoleState) → StandsAt (value_of self.old) w
+            → IsSilent console_moves before (StandsAt (value_of self.new)) self.old.waiting.items w self.new.waiting.items }
         ensures keeps { IsSome (value_of self.old) → IsSome (value_of self.new) }
         ensures forward { self.old.stamp ≤ self.new.stamp }
         ensures region { self.new.region ≡ self.old.region }
@@ -245,7 +297,8 @@ impl Parts {
     #[inline(always)]
     fn hurry_on(&mut self, before: u64)
         requires early { before ≤ 2 ^ 62 }
-        ensures gone { (w : ConsoleState) → StandsAt (value_of self.old) w → IsSilent console_moves before (StandsAt (value_of self.new)) self.old.waiting.items w self.new.waiting.items }
+        ensures gone { (w : ConsoleState) → StandsAt (value_of self.old) w
+            → IsSilent console_moves before (StandsAt (value_of self.new)) self.old.waiting.items w self.new.waiting.items }
         ensures keeps { IsSome (value_of self.old) → IsSome (value_of self.new) }
         ensures forward { self.old.stamp ≤ self.new.stamp }
         ensures region { self.new.region ≡ self.old.region }
@@ -260,14 +313,16 @@ impl Parts {
     /// Runs quiet steps that emit nothing, each begun before a stamp, bytes of transfers and accesses of the B bus
     /// included. If it stops before an access of a port, it returns the act of that access.
     #[inline(never)]
-    fn hasten(&mut self, before: u64) -> Option<Act>
+    pub fn hasten(&mut self, before: u64) -> Option<Act>
         requires early { before ≤ 2 ^ 62 }
-        ensures gone { (w : ConsoleState) → StandsAt (value_of self.old) w → IsSilent console_moves before (StandsAt (value_of self.new)) self.old.waiting.items w self.new.waiting.items }
+        ensures gone { (w : ConsoleState) → StandsAt (value_of self.old) w
+            → IsSilent console_moves before (StandsAt (value_of self.new)) self.old.waiting.items w self.new.waiting.items }
         ensures keeps { IsSome (value_of self.old) → IsSome (value_of self.new) }
         ensures forward { self.old.stamp ≤ self.new.stamp }
         ensures region { self.new.region ≡ self.old.region }
         ensures waiting { self.new.waiting ≡ self.old.waiting }
-        ensures port { IfSome result (λ act. (w : ConsoleState) → StandsAt (value_of self.new) w → act_of w.rest (due_of w) ≡ act) }
+        ensures port { IfSome result (λ act. (w : ConsoleState) → StandsAt (value_of self.new) w
+            → act_of w.rest (due_of w) ≡ act) }
         ensures at_ports { IfSome result (λ act. IsAtPorts act) }
     {
         self.hurry_on(before);
@@ -287,13 +342,15 @@ impl Parts {
     pub fn quiet(&mut self, before: u64) -> Pause
         requires room { length self.old.waiting.items + 1024 ≤ self.old.waiting.capacity }
         requires early { before ≤ 2 ^ 62 }
-        ensures went { (w : ConsoleState) → StandsAt (value_of self.old) w → HasGoneQuietly console_moves before (StandsAt (value_of self.new)) self.old.waiting.items self.new.waiting.items result.at w }
+        ensures went { (w : ConsoleState) → StandsAt (value_of self.old) w
+            → HasGoneQuietly console_moves before (StandsAt (value_of self.new)) self.old.waiting.items self.new.waiting.items result.at w }
         ensures keeps { IsSome (value_of self.old) → IsSome (value_of self.new) }
         ensures at_ports { IsAtPorts result.act }
         ensures act { (w : ConsoleState) → StandsAt (value_of self.new) w → act_of w.rest (due_of w) ≡ result.act }
         ensures forward { self.old.stamp ≤ self.new.stamp }
         ensures silent { length self.new.waiting.items ≡ length self.old.waiting.items → result.at ≡ self.new.stamp }
-        ensures emitted { length self.old.waiting.items < length self.new.waiting.items → (self.old.stamp ≤ result.at) × (result.at < before) × (result.at < self.new.stamp) }
+        ensures emitted { length self.old.waiting.items < length self.new.waiting.items
+            → (self.old.stamp ≤ result.at) × (result.at < before) × (result.at < self.new.stamp) }
         ensures region { self.new.region ≡ self.old.region }
         ensures capacity { self.new.waiting.capacity ≡ self.old.waiting.capacity }
         ensures few { length self.new.waiting.items ≤ length self.old.waiting.items + 1024 }

@@ -8,7 +8,7 @@ use crate::patience::Patience;
 use circular_buffer::HeapCircularBuffer;
 use console_bus::Bus;
 use cpu65816::Cpu;
-use side_law::{Machine, Pause};
+use side_law::{Machine, Pause, Ports, Stop};
 use snes_defs::{Act, Job, NoMemory, Region};
 use std::alloc::Global;
 use std::marker::Model;
@@ -143,6 +143,11 @@ impl Machine for ConsoleSide {
     #[inline(always)]
     fn quiet(&mut self, before: u64) -> Pause {
         self.parts.quiet(before)
+    }
+
+    #[inline(always)]
+    fn advance<P: Ports>(&mut self, until: u64, ports: &mut P) -> Stop {
+        self.parts.advance(until, ports)
     }
 
     #[inline(always)]

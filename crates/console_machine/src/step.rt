@@ -14,7 +14,7 @@ ghost use Rattle.console_steps.specs.Stands.{IsAt};
 ghost use Rattle.cart_map.specs.Clocks.{clocks_of};
 ghost use Rattle.console_machine.specs.Dues.{due_from};
 
-use crate::port_steps::{PORT_CLOCKS, try_port};
+use crate::port_steps::{PORT_CLOCKS, try_port, try_port_by};
 use cart_map::clocks;
 use circular_buffer::HeapCircularBuffer;
 use console_bus::Bus;
@@ -25,6 +25,7 @@ use console_steps::{
 use cpu_tables::Access;
 use cpu65816::Cpu;
 use dma_hdma::Move;
+use snes_defs::Act;
 
 /// Master clocks of a refresh of work RAM.
 const REFRESH_CLOCKS: u8 = 40;
@@ -223,6 +224,32 @@ pub(crate) fn make_likely_port_step(
     ensures capacity { waiting.new.capacity ≡ waiting.old.capacity }
 {
     if try_port(cpu, bus, got) {
+        return PORT_CLOCKS;
+    }
+    make_step(cpu, bus, waiting, got)
+}
+
+/// Runs the step that is due, for a caller that knows its act: unless it is quiet, the step is likely to be an access
+/// of a port, so that is checked for first. Returns how many master clocks the step lasts. `got` is the incoming byte
+/// of the port if the step reads one. A row that is finished on the way is appended to the buffered bytes.
+#[inline(always)]
+pub(crate) fn make_step_by(
+    cpu: &mut Cpu,
+    bus: &mut Bus,
+    waiting: &mut HeapCircularBuffer<u8>,
+    act: Act,
+    got: u8,
+) -> u8
+    requires room { length waiting.old.items + 1024 ≤ waiting.old.capacity }
+    ensures at { (w : ConsoleState) → IsAt cpu.old bus.old w → IsAt cpu.new bus.new (console_after w (due_of w) got) }
+    ensures bytes { (w : ConsoleState) → IsAt cpu.old bus.old w → waiting.new.items ≡ waiting.old.items ++ bytes_after w (due_of w) got }
+    ensures clocks { (w : ConsoleState) → IsAt cpu.old bus.old w → result ≡ due_clocks (due_of w) w.rest.io.fast }
+    ensures least { 6 ≤ result }
+    ensures few { result ≤ 40 }
+    ensures size { length waiting.new.items ≤ length waiting.old.items + 1024 }
+    ensures capacity { waiting.new.capacity ≡ waiting.old.capacity }
+{
+    if try_port_by(cpu, bus, act, got) {
         return PORT_CLOCKS;
     }
     make_step(cpu, bus, waiting, got)

@@ -5,7 +5,7 @@ use Rattle.snes_defs.specs.Script.{Script}
 use Rattle.side_law.specs.Serial.{SerialState, serial_of, turn}
 use Rattle.side_law.specs.SerialRun.{after_turns}
 use Rattle.side_law.proofs.SerialKeeps.{TurnOf, by_console, by_sound, turn_of, turn_console, turn_sound}
-use Rattle.serial_console.specs.declared.serial.Serial.{Serial}
+use Rattle.serial_console.specs.Joined.{Joined}
 use Rattle.serial_console.specs.Serial.{IsAt}
 use Rattle.console_bus.specs.declared.cart_board.CartBoard.{CartBoard}
 use Rattle.console_bus.specs.BusState.{BusState, board_of}
@@ -44,7 +44,7 @@ board_stays job turns =
     (turns_own (board_of job.cart) job.script (rom_of (console_of job).rest) (serial_of (console_of job) (sound_of job)) turns
     (record { board_is = refl; script_is = refl; rom_is = refl; port = lit< tt })).board_is
 
-module _ (c : ConsoleValue) (s : AudioValue) (end size frames : ℕ) (to : Put) (serial : Serial ConsoleValue AudioValue)
+module _ (c : ConsoleValue) (s : AudioValue) (end size frames : ℕ) (to : Put) (serial : Joined ConsoleValue AudioValue)
     (ended : (m : ConsoleState) (n : SoundState) → console_side.StandsAt c m → sound_side.StandsAt s n → HasEnded console_moves sound_moves console_side.StandsAt sound_side.StandsAt m n end serial) where
   -- there is memory for the RAM of the cartridge
   pub left_fits : (job : Job) → CanLeave c s end size frames to job → 327680 + serial.console.rest.board.ram ≤ to.room

@@ -2,7 +2,7 @@
 use Rattle.std.proofs.Common.{◌≡◌, ℕ, ◌+◌, ◌<◌, List, inl, inr, refl, ap, sym, subst, ◌∙◌, ⊎_elim, add-one, arith}
 use Rattle.snes_defs.specs.declared.cart.Job.{Job}
 use Rattle.side_law.specs.Serial.{SerialState, turn}
-use Rattle.serial_console.specs.declared.serial.Serial.{Serial}
+use Rattle.serial_console.specs.Joined.{Joined}
 use Rattle.serial_console.specs.Serial.{IsAt}
 use Rattle.spc_tables.specs.declared.access.SpcAccess.TheVariants.{Inner}
 use Rattle.spc_tables.specs.declared.regs.SpcRegs.{SpcRegs}
@@ -52,13 +52,13 @@ module _ (w : SerialState ConsoleState SoundState) where
   unfolding onward
   onward_none = refl
 
-  pub onward_more : (serial next : Serial ConsoleValue AudioValue) (n : ℕ) → IsAt console_side.StandsAt sound_side.StandsAt serial (onward w n)
+  pub onward_more : (serial next : Joined ConsoleValue AudioValue) (n : ℕ) → IsAt console_side.StandsAt sound_side.StandsAt serial (onward w n)
       → ((v : SerialState ConsoleState SoundState) → IsAt console_side.StandsAt sound_side.StandsAt serial v → IsAt console_side.StandsAt sound_side.StandsAt next (turn console_moves sound_moves v))
       → IsAt console_side.StandsAt sound_side.StandsAt next (onward w (n + 1))
   unfolding onward
   onward_more serial next n h turned = rw add-one (turned (onward w n) h)
 
-  module _ (serial : Serial ConsoleValue AudioValue) (n : ℕ) (stands : IsAt console_side.StandsAt sound_side.StandsAt serial (onward w n)) where
+  module _ (serial : Joined ConsoleValue AudioValue) (n : ℕ) (stands : IsAt console_side.StandsAt sound_side.StandsAt serial (onward w n)) where
     pub gone_found : n < 1048576 → (first : ℕ) → first ≡ w.sound.clock.cycle → ((m : SoundState) → sound_side.StandsAt serial.sound m → IsMoment first m) → HasGone w serial
     gone_found lt first is moment = record {
       more = n;
@@ -74,7 +74,7 @@ module _ (w : SerialState ConsoleState SoundState) where
     gone_all is = record { more = n; few = omega (arith, is); searched = inl (inr is); stands = stands }
 
 -- THE FILE of a value that stands where the search ends, by what each call says
-pub taken_is : (w : SerialState ConsoleState SoundState) (gone : Serial ConsoleValue AudioValue) → HasGone w gone
+pub taken_is : (w : SerialState ConsoleState SoundState) (gone : Joined ConsoleValue AudioValue) → HasGone w gone
     → (side : AudioValue) (spc : Spc) (regs : SpcRegs) (ports file : List ℕ)
     → side ≡ gone.sound → spc ≡ side.processor → ((s : SpcState) → Stands spc s → regs ≡ registers_of s) → ports ≡ gone.to_sound
     → file ≡ sound_bytes regs side.hardware ports → IsTakenFrom w file
@@ -93,7 +93,7 @@ taken_is w gone h side spc regs ports file side_is spc_is regs_are ports_are fil
           ∙ ap (λ (p : List ℕ). sound_bytes (registers_of there.sound.processor) there.sound.hardware p) (ports_are ∙ h.stands.to_sound)));
     }
 
-module _ (c : ConsoleValue) (s : AudioValue) (end size : ℕ) (to : Put) (serial : Serial ConsoleValue AudioValue)
+module _ (c : ConsoleValue) (s : AudioValue) (end size : ℕ) (to : Put) (serial : Joined ConsoleValue AudioValue)
     (ended : (m : ConsoleState) (n : SoundState) → console_side.StandsAt c m → sound_side.StandsAt s n → HasEnded console_moves sound_moves console_side.StandsAt sound_side.StandsAt m n end serial) where
   -- the sound file of a run that has ended
   pub sounds_is : (file : List ℕ) → ((w : SerialState ConsoleState SoundState) → IsAt console_side.StandsAt sound_side.StandsAt serial w → IsTakenFrom w file)

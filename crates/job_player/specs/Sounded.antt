@@ -4,7 +4,7 @@ use Rattle.std.specs.Prelude.{◌≡◌, ◌⊎◌, ℕ, ◌+◌, ◌^◌, ◌%�
 use Rattle.snes_defs.specs.declared.cart.Job.{Job}
 use Rattle.side_law.specs.Serial.{SerialState, serial_of}
 use Rattle.side_law.specs.SerialRun.{RunsFor, after_turns}
-use Rattle.serial_console.specs.declared.serial.Serial.{Serial}
+use Rattle.serial_console.specs.Joined.{Joined}
 use Rattle.serial_console.specs.Serial.{IsAt}
 use Rattle.spc_tables.specs.declared.access.SpcAccess.TheVariants.{Inner}
 use Rattle.spc700.specs.Instruction.{SpcState, between, left_of, moved_on, next_of, registers_of}
@@ -64,7 +64,7 @@ abbrev pub IsLate : SerialState ConsoleState SoundState → Type 0
 IsLate w = (2 ^ 62 < console_moves.stamp w.console) ⊎ (2 ^ 62 < sound_moves.stamp w.sound)
 
 -- the value is where the search from this state ends
-pub record HasGone (w : SerialState ConsoleState SoundState) (s : Serial ConsoleValue AudioValue) : Type 0 where
+pub record HasGone (w : SerialState ConsoleState SoundState) (s : Joined ConsoleValue AudioValue) : Type 0 where
   pub more : ℕ
   pub few : more ≤ 1048576
   pub searched : IsSearched w more ⊎ IsLate (onward w more)

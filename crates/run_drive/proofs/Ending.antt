@@ -1,10 +1,10 @@
 -- Two machines that have reached the end stamp stand where the serial run ends, and neither is ahead of it.
-use Rattle.std.proofs.Common.{◌≡◌, ℕ, zero, suc, ◌≤◌, List, refl, ap, sym, ◌∙◌, subst, arith}
+use Rattle.std.proofs.Common.{◌≡◌, ℕ, zero, suc, ◌≤◌, List, ap, sym, ◌∙◌, subst, arith}
 use Rattle.snes_defs.specs.declared.ports.Side.{Side}
 use Rattle.side_law.specs.Moves.{Moves}
 use Rattle.side_law.specs.Serial.{SerialState, serial_of}
 use Rattle.side_law.specs.SerialRun.{IsPast, RunsFor, after_turns}
-use Rattle.serial_console.specs.declared.serial.Serial.{Serial}
+use Rattle.serial_console.specs.Joined.{Joined}
 use Rattle.serial_console.specs.Serial.{IsAt}
 use Rattle.serial_console.specs.Lead.{QuietSteps, IsLead}
 use Rattle.serial_console.proofs.Lead.{IsSettled, console_next, sound_next, settled}
@@ -58,7 +58,7 @@ module _ {C S CState SState : Type 0} (console_moves : Moves CState) (sound_move
   pub run_has_ended : (console_stamp : C → ℕ) (sound_stamp : S → ℕ)
       → ((x : C) (m : CState) → console_stands x m → console_moves.stamp m ≡ console_stamp x)
       → ((x : S) (m : SState) → sound_stands x m → sound_moves.stamp m ≡ sound_stamp x)
-      → (serial : Serial C S) (holds : Side → List ℕ → Type 0) → IsRunning console_moves sound_moves console_stands sound_stands console_waiting sound_waiting end c s serial holds
+      → (serial : Joined C S) (holds : Side → List ℕ → Type 0) → IsRunning console_moves sound_moves console_stands sound_stands console_waiting sound_waiting end c s serial holds
       → (end ≤ console_stamp serial.console) → (end ≤ sound_stamp serial.sound)
       → HasEnded console_moves sound_moves console_stands sound_stands c s end serial
   run_has_ended console_stamp sound_stamp console_law sound_law serial holds r console sound =

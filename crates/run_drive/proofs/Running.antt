@@ -7,7 +7,7 @@ use Rattle.snes_defs.specs.declared.ports.Side.TheVariants.{Console, Sound}
 use Rattle.side_law.specs.Moves.{Moves}
 use Rattle.side_law.specs.Serial.{serial_of}
 use Rattle.side_law.specs.SerialRun.{IsOutput}
-use Rattle.serial_console.specs.declared.serial.Serial.{Serial}
+use Rattle.serial_console.specs.Joined.{Joined}
 use Rattle.serial_console.specs.Serial.{IsAt}
 use Rattle.serial_console.specs.Lead.{IsLead, IsLed}
 use Rattle.serial_console.proofs.Lead.{lead_none}
@@ -56,14 +56,14 @@ module _ {C S CState SState : Type 0} (console_moves : Moves CState) (sound_move
 module _ {C S CState SState : Type 0} (console_moves : Moves CState) (sound_moves : Moves SState) (console_stands : C → CState → Type 0) (sound_stands : S → SState → Type 0)
     (console_waiting : C → List ℕ) (sound_waiting : S → List ℕ) (end : ℕ) (c : CState) (s : SState) where
   -- two machines that may be ahead of a serial console, of which all that was emitted was taken or waits
-  pub record IsRunning (serial : Serial C S) (holds : Side → List ℕ → Type 0) : Type 0 where
+  pub record IsRunning (serial : Joined C S) (holds : Side → List ℕ → Type 0) : Type 0 where
     pub video : List ℕ
     pub audio : List ℕ
     pub led : IsLed console_moves sound_moves console_stands sound_stands end (serial_of c s) serial (video ++ console_waiting serial.console) (audio ++ sound_waiting serial.sound)
     pub video_taken : holds Console video
     pub audio_taken : holds Sound audio
 
-  pub run_starts : (serial : Serial C S) (holds : Side → List ℕ → Type 0) → IsAt console_stands sound_stands serial (serial_of c s)
+  pub run_starts : (serial : Joined C S) (holds : Side → List ℕ → Type 0) → IsAt console_stands sound_stands serial (serial_of c s)
       → console_waiting serial.console ≡ [] → sound_waiting serial.sound ≡ []
       → holds Console [] → holds Sound [] → IsRunning serial holds
   run_starts serial holds stands no_video no_audio video audio = record {
@@ -80,20 +80,17 @@ module _ {C S CState SState : Type 0} (console_moves : Moves CState) (sound_move
   }
 
   -- both sides have gone on, and nothing of it was taken yet
-  pub run_leads : (before between after : Serial C S) (holds : Side → List ℕ → Type 0) → IsRunning before holds
-      → ((video audio : List ℕ) → IsLed console_moves sound_moves console_stands sound_stands end (serial_of c s) before (video ++ console_waiting before.console) audio
-      → IsLed console_moves sound_moves console_stands sound_stands end (serial_of c s) between (video ++ console_waiting between.console) audio)
-      → between.sound ≡ before.sound
+  pub run_leads : (before between after : Joined C S) (holds : Side → List ℕ → Type 0) → IsRunning before holds
+      → ((video audio : List ℕ) → IsLed console_moves sound_moves console_stands sound_stands end (serial_of c s) before (video ++ console_waiting before.console) (audio ++ sound_waiting before.sound)
+      → IsLed console_moves sound_moves console_stands sound_stands end (serial_of c s) between (video ++ console_waiting between.console) (audio ++ sound_waiting between.sound))
       → ((video audio : List ℕ) → IsLed console_moves sound_moves console_stands sound_stands end (serial_of c s) between video (audio ++ sound_waiting between.sound)
       → IsLed console_moves sound_moves console_stands sound_stands end (serial_of c s) after video (audio ++ sound_waiting after.sound))
       → after.console ≡ between.console → IsRunning after holds
-  run_leads before between after holds r console sound_stays sound console_stays = record {
+  run_leads before between after holds r console sound console_stays = record {
     video = r.video;
     audio = r.audio;
     led = subst (λ x. IsLed console_moves sound_moves console_stands sound_stands end (serial_of c s) after (r.video ++ console_waiting x) (r.audio ++ sound_waiting after.sound)) (sym console_stays)
-        (sound (r.video ++ console_waiting between.console) r.audio
-        (subst (λ x. IsLed console_moves sound_moves console_stands sound_stands end (serial_of c s) between (r.video ++ console_waiting between.console) (r.audio ++ sound_waiting x)) (sym sound_stays)
-        (console r.video (r.audio ++ sound_waiting before.sound) r.led)));
+        (sound (r.video ++ console_waiting between.console) r.audio (console r.video r.audio r.led));
     video_taken = r.video_taken;
     audio_taken = r.audio_taken;
   }
@@ -102,7 +99,7 @@ module _ {C S CState SState : Type 0} (console_moves : Moves CState) (sound_move
   abbrev pub Output : Type 0
   Output = (video : List ℕ) × (audio : List ℕ) × IsOutput console_moves sound_moves (serial_of c s) end video audio
 
-  module _ (serial : Serial C S) (holds later : Side → List ℕ → Type 0) (r : IsRunning serial holds) where
+  module _ (serial : Joined C S) (holds later : Side → List ℕ → Type 0) (r : IsRunning serial holds) where
     -- the console's bytes were taken
     pub console_taken : (lent after : C) → lent ≡ serial.console → ((m : CState) → console_stands lent m → console_stands after m)
         → console_waiting after ≡ [] → ((had : List ℕ) → holds Sound had → later Sound had)
@@ -184,7 +181,7 @@ module _ {C S CState SState : Type 0} (console_moves : Moves CState) (sound_move
   pub run_is_whole : (console_stamp : C → ℕ) (sound_stamp : S → ℕ)
       → ((x : C) (m : CState) → console_stands x m → console_moves.stamp m ≡ console_stamp x)
       → ((x : S) (m : SState) → sound_stands x m → sound_moves.stamp m ≡ sound_stamp x)
-      → (serial : Serial C S) (holds : Side → List ℕ → Type 0) → IsRunning serial holds
+      → (serial : Joined C S) (holds : Side → List ℕ → Type 0) → IsRunning serial holds
       → (end ≤ console_stamp serial.console) × (end ≤ sound_stamp serial.sound) × (length (console_waiting serial.console) ≡ 0) × (length (sound_waiting serial.sound) ≡ 0)
       → TookRun console_moves sound_moves c s end holds
   run_is_whole console_stamp sound_stamp console_law sound_law serial holds r (console, sound, no_video, no_audio) =

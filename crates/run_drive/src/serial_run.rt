@@ -41,8 +41,9 @@ pub fn run_to_end<C: Machine + Drop, S: Machine + Drop, K: Sink>(
     let mut video_at = 0;
     let mut audio_at = 0;
     while !serial.is_over(end) {
-        video_at = serial.console_leads(end, video_at);
-        audio_at = serial.sound_leads(end, audio_at);
+        let (row_at, sample_at) = serial.console_leads(end, video_at, audio_at);
+        video_at = row_at;
+        audio_at = serial.sound_leads(end, sample_at);
         // Of two pending bytes, the one that a serial console emits first; the console wins ties.
         if video_at <= audio_at {
             let Ok(()) = pour(serial.console(), Side::Console, buffer, sink) else {

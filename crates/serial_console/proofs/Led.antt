@@ -1,38 +1,18 @@
 -- Steps of two values of which each may be ahead of a serial console.
-use Rattle.std.proofs.Common.{◌≡◌, ℕ, ◌+◌, ◌≤◌, List, ◌++◌, refl, ap, ◌∙◌, subst, append_assoc, arith}
+use Rattle.std.proofs.Common.{◌≡◌, ℕ, ◌≤◌, List, ◌++◌, refl, ap, ◌∙◌, subst, append_assoc, arith}
 use Rattle.side_law.specs.Moves.{Moves}
 use Rattle.side_law.specs.Serial.{SerialState}
 use Rattle.side_law.specs.SerialRun.{IsOutput}
-use Rattle.serial_console.specs.declared.serial.Serial.{Serial}
+use Rattle.serial_console.specs.Joined.{Joined}
 use Rattle.serial_console.specs.Lead.{IsLead, IsLed, HasLed}
 use Rattle.serial_console.proofs.Lead.{lead_whole}
-use Rattle.serial_console.proofs.SideRuns.{console_leads, sound_leads}
+use Rattle.serial_console.proofs.SideRuns.{sound_leads}
 
 module _ {C S CState SState : Type 0} (cm : Moves CState) (sm : Moves SState) (console_stands : C → CState → Type 0) (sound_stands : S → SState → Type 0)
     (console_stamp : C → ℕ) (sound_stamp : S → ℕ)
     (console_law : (x : C) (m : CState) → console_stands x m → cm.stamp m ≡ console_stamp x)
     (sound_law : (x : S) (m : SState) → sound_stands x m → sm.stamp m ≡ sound_stamp x)
-    (end : ℕ) (from : SerialState CState SState) (s : Serial C S) (video audio : List ℕ) where
-  -- the console has made its steps
-  pub led_console : (first : ℕ) (after : C) (waited waits incoming outgoing : List ℕ) → first ≤ sound_stamp s.sound + 1
-      → ((m : CState) → console_stands s.console m
-      → HasLed cm first end (console_stands after) waited waits incoming outgoing (record { own = m; incoming = s.to_console; outgoing = s.to_sound }))
-      → IsLed cm sm console_stands sound_stands end from s (video ++ waited) audio
-      → IsLed cm sm console_stands sound_stands end from (record { console = after; sound = s.sound; to_sound = outgoing; to_console = incoming }) (video ++ waits) audio
-  led_console first after waited waits incoming outgoing up_to made led =
-      let w = led.at in
-      let run = subst (λ i. HasLed cm first end (console_stands after) waited waits incoming outgoing (record { own = w.console; incoming = i; outgoing = w.to_sound })) led.stands.to_console
-      (subst (λ o. HasLed cm first end (console_stands after) waited waits incoming outgoing (record { own = w.console; incoming = s.to_console; outgoing = o })) led.stands.to_sound
-      (made w.console led.stands.console)) in
-      let then : SerialState CState SState = record { console = run.to; sound = w.sound; to_sound = outgoing; to_console = incoming } in
-      record {
-        at = then;
-        stands = record { console = run.now_stands; sound = led.stands.sound; to_sound = refl; to_console = refl };
-        lead = subst (λ v. IsLead cm sm end from then v audio) (append_assoc video waited run.emitted ∙ ap (λ v. video ++ v) run.waits_is)
-            (console_leads cm sm first end from run.steps w (record { own = run.to; incoming = incoming; outgoing = outgoing }) (video ++ waited) audio run.emitted led.lead run.made
-            (omega (arith, up_to, sound_law s.sound w.sound led.stands.sound)));
-      }
-
+    (end : ℕ) (from : SerialState CState SState) (s : Joined C S) (video audio : List ℕ) where
   -- the sound side has made its steps
   pub led_sound : (first : ℕ) (after : S) (waited waits incoming outgoing : List ℕ) → first ≤ console_stamp s.console
       → ((m : SState) → sound_stands s.sound m

@@ -1,3 +1,5 @@
+pub mod ByteSteps
+pub mod RestSteps
 pub mod Lead
 pub mod LeadBegins
 pub mod Led

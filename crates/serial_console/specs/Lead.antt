@@ -6,7 +6,7 @@ use Rattle.side_law.specs.Moves.{Moves}
 use Rattle.side_law.specs.Serial.{SerialState}
 use Rattle.side_law.specs.Sides.{SideState, side_step, side_bytes}
 use Rattle.side_law.specs.SerialRun.{IsUnderway}
-use Rattle.serial_console.specs.declared.serial.Serial.{Serial}
+use Rattle.serial_console.specs.Joined.{Joined}
 use Rattle.serial_console.specs.Serial.{IsAt}
 
 module _ {State : Type 0} (moves : Moves State) (end : ℕ) where
@@ -40,7 +40,7 @@ pub record IsLead {C S : Type 0} (console_moves : Moves C) (sound_moves : Moves 
   pub audio_is : turned_audio ++ early_audio ≡ audio
 
 -- the value stands at such a place
-pub record IsLed {C S CState SState : Type 0} (console_moves : Moves CState) (sound_moves : Moves SState) (console_stands : C → CState → Type 0) (sound_stands : S → SState → Type 0) (end : ℕ) (from : SerialState CState SState) (s : Serial C S) (video audio : List ℕ) : Type 0 where
+pub record IsLed {C S CState SState : Type 0} (console_moves : Moves CState) (sound_moves : Moves SState) (console_stands : C → CState → Type 0) (sound_stands : S → SState → Type 0) (end : ℕ) (from : SerialState CState SState) (s : Joined C S) (video audio : List ℕ) : Type 0 where
   pub at : SerialState CState SState
   pub stands : IsAt console_stands sound_stands s at
   pub lead : IsLead console_moves sound_moves end from at video audio

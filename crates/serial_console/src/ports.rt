@@ -14,7 +14,7 @@ impl<C: Machine, S: Machine> Serial<C, S> {
         ensures console { result.0.now ≡ console_of self.now }
         ensures sound { result.1.now ≡ sound_of self.now }
     {
-        (&self.console, &self.sound)
+        (&self.console, &self.rest.sound)
     }
 
     /// Returns the bytes that go to the sound side, then those that go to the console, each by its port.
@@ -23,7 +23,7 @@ impl<C: Machine, S: Machine> Serial<C, S> {
         ensures to_console { result.1 ≡ bytes_to_console self.now }
         ensures of_the_state { (w : SerialState C.State S.State) → IsAt C.stands S.stands self.now w → (result.0 ≡ w.to_sound) × (result.1 ≡ w.to_console) }
     {
-        (self.to_sound, self.to_console)
+        (self.rest.bytes.incoming, self.rest.bytes.outgoing)
     }
 
     /// Sets the bytes that go to the sound side, and those that go to the console. All else stays.
@@ -34,7 +34,7 @@ impl<C: Machine, S: Machine> Serial<C, S> {
         ensures sound { sound_of self.new ≡ sound_of self.old }
         ensures of_the_state { (w : SerialState C.State S.State) → IsAt C.stands S.stands self.old w → IsAt C.stands S.stands self.new (record w { to_sound = to_sound; to_console = to_console }) }
     {
-        self.to_sound = to_sound;
-        self.to_console = to_console;
+        self.rest.bytes.incoming = to_sound;
+        self.rest.bytes.outgoing = to_console;
     }
 }

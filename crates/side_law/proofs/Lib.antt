@@ -1,3 +1,4 @@
+pub mod Gone
 pub mod Cleared
 pub mod QuietRuns
 pub mod SerialKeeps

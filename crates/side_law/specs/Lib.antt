@@ -1,3 +1,4 @@
+pub mod Gone
 pub mod Moves
 pub mod Quiet
 pub mod Serial

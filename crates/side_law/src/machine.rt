@@ -4,9 +4,10 @@ ghost use Rattle.snes_defs.specs.declared.region.Region.{Region};
 ghost use Rattle.clock_ratio.specs.Stamp.{least_of, most_of};
 ghost use Rattle.side_law.specs.Moves.{Moves, IsLawful, IsAtPorts, taken};
 ghost use Rattle.side_law.specs.Quiet.{HasGoneQuietly};
-ghost use Rattle.side_law.specs.Sides.{HasTalked};
+ghost use Rattle.side_law.specs.Gone.{HasGone};
 
 use crate::pause::Pause;
+use crate::ports::{Ports, Stop, call};
 use snes_defs::{Act, Region};
 
 /// A machine that runs by steps, each at a stamp, and touches four ports that another machine shares.
@@ -69,7 +70,8 @@ pub trait Machine: Send {
         requires room { length (waiting self.old) + MOST ≤ CAP }
         requires early { stamp_of self.old ≤ 2 ^ 62 }
         ensures next { (m : State) → stands self.old m → stands self.new (moves.next m (taken (moves.act m) got)) }
-        ensures emits { (m : State) → stands self.old m → waiting self.new ≡ waiting self.old ++ moves.bytes m (taken (moves.act m) got) }
+        ensures emits { (m : State) → stands self.old m
+            → waiting self.new ≡ waiting self.old ++ moves.bytes m (taken (moves.act m) got) }
         ensures rises { stamp_of self.old + least_of (region_of self.old) ≤ stamp_of self.new }
         ensures rises_at_most { stamp_of self.new ≤ stamp_of self.old + most_of (region_of self.old) }
         ensures emits_at_most { length (waiting self.new) ≤ length (waiting self.old) + MOST }
@@ -84,7 +86,8 @@ pub trait Machine: Send {
         requires early { stamp_of self.old ≤ 2 ^ 62 }
         ensures quiet { IsTrue result → (m : State) → stands self.old m → moves.act m ≡ Act.Quiet }
         ensures next { IsTrue result → (m : State) → stands self.old m → stands self.new (moves.next m 0) }
-        ensures emits { IsTrue result → (m : State) → stands self.old m → waiting self.new ≡ waiting self.old ++ moves.bytes m 0 }
+        ensures emits { IsTrue result → (m : State) → stands self.old m
+            → waiting self.new ≡ waiting self.old ++ moves.bytes m 0 }
         ensures rises { IsTrue result → stamp_of self.old + least_of (region_of self.old) ≤ stamp_of self.new }
         ensures rises_at_most { IsTrue result → stamp_of self.new ≤ stamp_of self.old + most_of (region_of self.old) }
         ensures emits_at_most { IsTrue result → length (waiting self.new) ≤ length (waiting self.old) + MOST }
@@ -117,6 +120,15 @@ pub trait Machine: Send {
             && Self::MOST <= Self::CAP - waiting - Self::MOST
     }
 
+    /// Whether the buffer has room for the bytes of one step.
+    #[inline(always)]
+    fn has_room(&self) -> bool
+        ensures { IsTrue result ↔ (length (waiting self.now) + MOST ≤ CAP) }
+    {
+        let waiting = self.pending();
+        waiting <= Self::CAP && Self::MOST <= Self::CAP - waiting
+    }
+
     /// Moves out the first of the buffered bytes, all or as many as fit, and returns how many.
     fn drain(&mut self, into: &mut [u8]) -> usize
         ensures count { result ≡ min (length (waiting self.old)) (length into.old) }
@@ -133,12 +145,14 @@ pub trait Machine: Send {
     fn quiet(&mut self, before: u64) -> Pause
         requires room { length (waiting self.old) + MOST ≤ CAP }
         requires early { before ≤ 2 ^ 62 }
-        ensures went { (m : State) → stands self.old m → HasGoneQuietly moves before (stands self.new) (waiting self.old) (waiting self.new) result.at m }
+        ensures went { (m : State) → stands self.old m
+            → HasGoneQuietly moves before (stands self.new) (waiting self.old) (waiting self.new) result.at m }
         ensures at_ports { IsAtPorts result.act }
         ensures act { (m : State) → stands self.new m → moves.act m ≡ result.act }
         ensures forward { stamp_of self.old ≤ stamp_of self.new }
         ensures silent { length (waiting self.new) ≡ length (waiting self.old) → result.at ≡ stamp_of self.new }
-        ensures emitted { length (waiting self.old) < length (waiting self.new) → (stamp_of self.old ≤ result.at) × (result.at < before) × (result.at < stamp_of self.new) }
+        ensures emitted { length (waiting self.old) < length (waiting self.new) → (stamp_of self.old ≤ result.at)
+            × (result.at < before) × (result.at < stamp_of self.new) }
         ensures emits_at_most { length (waiting self.new) ≤ length (waiting self.old) + MOST }
         ensures same_region { region_of self.new ≡ region_of self.old }
     {
@@ -160,18 +174,46 @@ pub trait Machine: Send {
         Pause { at, act }
     }
 
-    /// Runs steps of any kind that emit nothing, each begun before the stamp `before`, up to which this side is the
-    /// earlier one. So the incoming bytes don't change meanwhile. The machine chooses how many steps it runs, possibly
-    /// none. It saves a machine that talks a lot from being asked for each act.
+    /// Runs steps in order, each begun before the stamp `until`, and its call at the ports made by `ports`. Returns why
+    /// it stopped. How many it runs is left to the machine. It runs none after one whose call is refused, and none that
+    /// may emit without room for its bytes (`Ports::room`, `CAP`).
+    ///
+    /// Each stop has a cause, so a caller that calls again gets on. `Stop::Until` comes only at `until` or without
+    /// room. `Stop::Refused` comes only if the ports refuse the next step's call.
     #[inline(always)]
-    fn talk(&mut self, incoming: &[u8; 4], outgoing: &mut [u8; 4], before: u64)
-        requires early { before ≤ 2 ^ 62 }
-        ensures talked { (m : State) → stands self.old m → HasTalked moves before (stands self.new) incoming.now outgoing.new (record { own = m; incoming = incoming.now; outgoing = outgoing.old }) }
-        ensures silent { waiting self.new ≡ waiting self.old }
+    fn advance<P: Ports>(&mut self, until: u64, ports: &mut P) -> Stop
+        requires early { until ≤ 2 ^ 62 }
+        requires in_order { P.clock ports.old ≤ stamp_of self.old }
+        requires in_time { until ≤ (P.times ports.old).before }
+        requires apart { (P.times ports.old).rise ≤ least_of (region_of self.old) }
+        ensures gone { (m : State) (p : P.State) → stands self.old m → P.stands ports.old p
+            → HasGone moves P.calls until MOST CAP (stands self.new) (P.stands ports.new)
+            (waiting self.old) (waiting self.new) result m p }
         ensures forward { stamp_of self.old ≤ stamp_of self.new }
+        ensures emitted { (at : ℕ) → result ≡ Stop.Emitted at → (stamp_of self.old ≤ at) × (at < until)
+            × (at < stamp_of self.new) }
+        ensures fits { length (waiting self.old) ≤ CAP → length (waiting self.new) ≤ CAP }
+        ensures in_order { P.clock ports.new ≤ stamp_of self.new }
+        ensures times { P.times ports.new ≡ P.times ports.old }
         ensures same_region { region_of self.new ≡ region_of self.old }
     {
-        let _before = before;
+        'steps: while self.stamp() < until {
+            let at = self.stamp();
+            let waited = self.pending();
+            if at >= ports.room(waited) || !self.has_room() {
+                return Stop::Until;
+            }
+            let Some(got) = call(ports, at, self.act()) else {
+                return Stop::Refused;
+            };
+            self.step(got);
+            let waits = self.pending();
+            if waits > waited {
+                ports.emitted(at, waits);
+                return Stop::Emitted(at);
+            }
+        }
+        Stop::Until
     }
 
     // The state of a value is valid in its region, and has its stamp.

@@ -5,7 +5,7 @@ use Rattle.snes_defs.specs.declared.ports.Side.{Side}
 use Rattle.snes_defs.specs.declared.ports.Side.TheVariants.{Console, Sound}
 use Rattle.side_law.specs.Moves.{Moves}
 use Rattle.side_law.specs.Serial.{serial_of}
-use Rattle.serial_console.specs.declared.serial.Serial.{Serial}
+use Rattle.serial_console.specs.Joined.{Joined}
 use Rattle.serial_console.specs.Lead.{IsLed}
 use Rattle.run_drive.specs.Run.{Adds, AddsSome}
 use Rattle.run_drive.proofs.Running.{IsRunning}
@@ -40,7 +40,7 @@ since_starts now base first side h = ([], append-nil (first side), subst (now si
 module _ {C S CState SState : Type 0} (console_moves : Moves CState) (sound_moves : Moves SState) (console_stands : C → CState → Type 0) (sound_stands : S → SState → Type 0)
     (console_waiting : C → List ℕ) (sound_waiting : S → List ℕ) (end : ℕ) (c : CState) (s : SState) where
   -- a run that stands somewhere, and of which no byte waits
-  pub drive_starts : (serial : Serial C S) (holds : Side → List ℕ → Type 0) (base first : Side → List ℕ)
+  pub drive_starts : (serial : Joined C S) (holds : Side → List ℕ → Type 0) (base first : Side → List ℕ)
       → IsLed console_moves sound_moves console_stands sound_stands end (serial_of c s) serial (first Console) (first Sound)
       → console_waiting serial.console ≡ [] → sound_waiting serial.sound ≡ []
       → holds Console (base Console) → holds Sound (base Sound)
@@ -56,7 +56,7 @@ module _ {C S CState SState : Type 0} (console_moves : Moves CState) (sound_move
     audio_taken = since_starts holds base first Sound audio;
   }
 
-  pub drive_is_whole : (console_stamp : C → ℕ) (sound_stamp : S → ℕ) (serial : Serial C S) (holds : Side → List ℕ → Type 0)
+  pub drive_is_whole : (console_stamp : C → ℕ) (sound_stamp : S → ℕ) (serial : Joined C S) (holds : Side → List ℕ → Type 0)
       → IsRunning console_moves sound_moves console_stands sound_stands console_waiting sound_waiting end c s serial holds
       → (end ≤ console_stamp serial.console) × (end ≤ sound_stamp serial.sound) × (length (console_waiting serial.console) ≡ 0) × (length (sound_waiting serial.sound) ≡ 0)
       → TookOn console_moves sound_moves console_stands sound_stands c s end serial holds

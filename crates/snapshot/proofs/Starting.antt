@@ -4,7 +4,7 @@ use Rattle.snes_defs.specs.declared.cart.Job.{Job}
 use Rattle.snes_defs.specs.Script.{Script}
 use Rattle.side_law.specs.Serial.{serial_of}
 use Rattle.side_law.proofs.SerialRuns.{run_begins}
-use Rattle.serial_console.specs.declared.serial.Serial.{Serial}
+use Rattle.serial_console.specs.Joined.{Joined}
 use Rattle.serial_console.specs.Serial.{IsAt}
 use Rattle.console_steps.specs.ConsoleState.{ConsoleState, console_start, console_moves}
 use Rattle.console_machine.specs.Side.{ConsoleValue}
@@ -19,7 +19,7 @@ use Rattle.snapshot.proofs.Resets.{no_frames}
 use Rattle.snapshot.specs.Path.{start_of, end_of_path, console_of_path, sound_of_path}
 use Rattle.snapshot.specs.Positions.{IsDone}
 
-pub first_done : (job : Job) (spans : ℕ) (s : Serial ConsoleValue AudioValue) (old new : ConsoleValue) (sound sound_new : AudioValue)
+pub first_done : (job : Job) (spans : ℕ) (s : Joined ConsoleValue AudioValue) (old new : ConsoleValue) (sound sound_new : AudioValue)
     → job.script ≡ path_script job.region job.script.room empty_path
     → console_side.StandsAt old (console_start job.cart job.script job.region)
     → ((w : ConsoleState) → console_side.StandsAt old w → console_side.StandsAt new (console_with_room w (max old.rest.script.room (length old.rest.script.spans + spans))))

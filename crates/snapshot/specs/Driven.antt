@@ -5,7 +5,7 @@ use Rattle.snes_defs.specs.declared.ports.Side.TheVariants.{Console, Sound}
 use Rattle.side_law.specs.Moves.{Moves}
 use Rattle.side_law.specs.Serial.{serial_of}
 use Rattle.side_law.specs.SerialRun.{IsOutput}
-use Rattle.serial_console.specs.declared.serial.Serial.{Serial}
+use Rattle.serial_console.specs.Joined.{Joined}
 use Rattle.serial_console.specs.Lead.{IsLed}
 
 -- these are all bytes of a side, of which the first had been emitted before; the others were taken since, behind the base
@@ -14,7 +14,7 @@ Since now base first side bytes = (more : List ℕ) × (first side ++ more ≡ b
 
 -- the value stands at a place of the run, and all that was emitted was taken
 pub record TookOn {C S CState SState : Type 0} (console_moves : Moves CState) (sound_moves : Moves SState) (console_stands : C → CState → Type 0) (sound_stands : S → SState → Type 0)
-    (c : CState) (s : SState) (end : ℕ) (serial : Serial C S) (holds : Side → List ℕ → Type 0) : Type 0 where
+    (c : CState) (s : SState) (end : ℕ) (serial : Joined C S) (holds : Side → List ℕ → Type 0) : Type 0 where
   pub video : List ℕ
   pub audio : List ℕ
   pub led : IsLed console_moves sound_moves console_stands sound_stands end (serial_of c s) serial video audio

@@ -25,7 +25,7 @@ loop-serial-preserved-in-Ok-1 g c = record {
       let C = g.C.Machine in
       let S = g.S.Machine in
       let ahead = run_leads C.moves S.moves C.stands S.stands C.waiting S.waiting c.args.end m n _ _ _ _ (c.loop-serial.invariant.running m n console sound)
-      (c.console_leads-video_at.ensures.led (serial_of m n)) c.console_leads-video_at.ensures.sound_stays
+      (c.console_leads-row_at.ensures.led (serial_of m n))
       (c.sound_leads-audio_at.ensures.led (serial_of m n)) c.sound_leads-audio_at.ensures.console_stays in
       console_taken C.moves S.moves C.stands S.stands C.waiting S.waiting c.args.end m n _ _ (g.K.Sink.holds c.pour.new.sink) ahead
       c.console.result.now c.pour.new.machine c.console.ensures.value c.pour.ensures.state c.pour.ensures.empty
@@ -43,7 +43,7 @@ loop-serial-preserved g c = record {
       let C = g.C.Machine in
       let S = g.S.Machine in
       let ahead = run_leads C.moves S.moves C.stands S.stands C.waiting S.waiting c.args.end m n _ _ _ _ (c.loop-serial.invariant.running m n console sound)
-      (c.console_leads-video_at.ensures.led (serial_of m n)) c.console_leads-video_at.ensures.sound_stays
+      (c.console_leads-row_at.ensures.led (serial_of m n))
       (c.sound_leads-audio_at.ensures.led (serial_of m n)) c.sound_leads-audio_at.ensures.console_stays in
       sound_taken C.moves S.moves C.stands S.stands C.waiting S.waiting c.args.end m n _ _ (g.K.Sink.holds c.pour-else-video_at-audio_at.new.sink) ahead
       c.sound.result.now c.pour-else-video_at-audio_at.new.machine c.sound.ensures.value c.pour-else-video_at-audio_at.ensures.state c.pour-else-video_at-audio_at.ensures.empty
@@ -66,7 +66,7 @@ returns-in_default-clause-first g c = λ m n console sound.
     (serving_at_first (C.valid region) (S.valid region) m n (of_console.stands_valid c.args.console m console)
     (subst (λ r. S.valid r n) (sym c.requires.region) (of_sound.stands_valid c.args.sound n sound))) in
     let ahead = run_leads C.moves S.moves C.stands S.stands C.waiting S.waiting c.args.end m n _ _ _ _ (c.loop-serial.invariant.running m n console sound)
-    (c.console_leads-video_at.ensures.led (serial_of m n)) c.console_leads-video_at.ensures.sound_stays
+    (c.console_leads-row_at.ensures.led (serial_of m n))
     (c.sound_leads-audio_at.ensures.led (serial_of m n)) c.sound_leads-audio_at.ensures.console_stays in
     console_failed C.moves S.moves C.stands S.stands C.waiting S.waiting c.args.end m n _ _ (g.K.Sink.holds c.pour.new.sink) ahead
     c.console.result.now c.console.ensures.value (λ had. c.pour.ensures.other Sound had (λ e. cc)) c.in_default.ensures.some output
@@ -82,7 +82,7 @@ returns-in_default-pour-clause-first g c = λ m n console sound.
     (serving_at_first (C.valid region) (S.valid region) m n (of_console.stands_valid c.args.console m console)
     (subst (λ r. S.valid r n) (sym c.requires.region) (of_sound.stands_valid c.args.sound n sound))) in
     let ahead = run_leads C.moves S.moves C.stands S.stands C.waiting S.waiting c.args.end m n _ _ _ _ (c.loop-serial.invariant.running m n console sound)
-    (c.console_leads-video_at.ensures.led (serial_of m n)) c.console_leads-video_at.ensures.sound_stays
+    (c.console_leads-row_at.ensures.led (serial_of m n))
     (c.sound_leads-audio_at.ensures.led (serial_of m n)) c.sound_leads-audio_at.ensures.console_stays in
     sound_failed C.moves S.moves C.stands S.stands C.waiting S.waiting c.args.end m n _ _ (g.K.Sink.holds c.pour-else-video_at-audio_at.new.sink) ahead
     c.sound.result.now c.sound.ensures.value (λ had. c.pour-else-video_at-audio_at.ensures.other Console had (λ e. cc)) c.in_default-pour.ensures.some output

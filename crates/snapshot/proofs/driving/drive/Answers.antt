@@ -28,7 +28,7 @@ loop-serial-preserved-in-Ok-1 g c = record {
       let now = g.K.Sink.holds c.loop-serial.sink in
       let later = g.K.Sink.holds c.pour.new.sink in
       let ahead = run_leads C.moves S.moves C.stands S.stands C.waiting S.waiting c.args.end m n _ _ _ _ (c.loop-serial.invariant.running m n base first led video audio)
-      (c.console_leads-video_at.ensures.led (serial_of m n)) c.console_leads-video_at.ensures.sound_stays
+      (c.console_leads-row_at.ensures.led (serial_of m n))
       (c.sound_leads-audio_at.ensures.led (serial_of m n)) c.sound_leads-audio_at.ensures.console_stays in
       console_taken C.moves S.moves C.stands S.stands C.waiting S.waiting c.args.end m n _ _ (Since later base first) ahead
       c.console.result.now c.pour.new.machine c.console.ensures.value c.pour.ensures.state c.pour.ensures.empty
@@ -48,7 +48,7 @@ loop-serial-preserved g c = record {
       let now = g.K.Sink.holds c.loop-serial.sink in
       let later = g.K.Sink.holds c.pour-else-video_at-audio_at.new.sink in
       let ahead = run_leads C.moves S.moves C.stands S.stands C.waiting S.waiting c.args.end m n _ _ _ _ (c.loop-serial.invariant.running m n base first led video audio)
-      (c.console_leads-video_at.ensures.led (serial_of m n)) c.console_leads-video_at.ensures.sound_stays
+      (c.console_leads-row_at.ensures.led (serial_of m n))
       (c.sound_leads-audio_at.ensures.led (serial_of m n)) c.sound_leads-audio_at.ensures.console_stays in
       sound_taken C.moves S.moves C.stands S.stands C.waiting S.waiting c.args.end m n _ _ (Since later base first) ahead
       c.sound.result.now c.pour-else-video_at-audio_at.new.machine c.sound.ensures.value c.pour-else-video_at-audio_at.ensures.state c.pour-else-video_at-audio_at.ensures.empty
@@ -67,7 +67,7 @@ returns-in_default-clause-part g c = λ m n base first led video audio output.
     let now = g.K.Sink.holds c.loop-serial.sink in
     let later = g.K.Sink.holds c.pour.new.sink in
     let ahead = run_leads C.moves S.moves C.stands S.stands C.waiting S.waiting c.args.end m n _ _ _ _ (c.loop-serial.invariant.running m n base first led video audio)
-    (c.console_leads-video_at.ensures.led (serial_of m n)) c.console_leads-video_at.ensures.sound_stays
+    (c.console_leads-row_at.ensures.led (serial_of m n))
     (c.sound_leads-audio_at.ensures.led (serial_of m n)) c.sound_leads-audio_at.ensures.console_stays in
     console_failed C.moves S.moves C.stands S.stands C.waiting S.waiting c.args.end m n _ _ (Since later base first) ahead
     c.console.result.now c.console.ensures.value (since_other now later base first Sound (λ had. c.pour.ensures.other Sound had (λ e. cc))) (since_some now later base first Console _ c.in_default.ensures.some) output
@@ -79,7 +79,7 @@ returns-in_default-pour-clause-part g c = λ m n base first led video audio outp
     let now = g.K.Sink.holds c.loop-serial.sink in
     let later = g.K.Sink.holds c.pour-else-video_at-audio_at.new.sink in
     let ahead = run_leads C.moves S.moves C.stands S.stands C.waiting S.waiting c.args.end m n _ _ _ _ (c.loop-serial.invariant.running m n base first led video audio)
-    (c.console_leads-video_at.ensures.led (serial_of m n)) c.console_leads-video_at.ensures.sound_stays
+    (c.console_leads-row_at.ensures.led (serial_of m n))
     (c.sound_leads-audio_at.ensures.led (serial_of m n)) c.sound_leads-audio_at.ensures.console_stays in
     sound_failed C.moves S.moves C.stands S.stands C.waiting S.waiting c.args.end m n _ _ (Since later base first) ahead
     c.sound.result.now c.sound.ensures.value (since_other now later base first Console (λ had. c.pour-else-video_at-audio_at.ensures.other Console had (λ e. cc))) (since_some now later base first Sound _ c.in_default-pour.ensures.some) output

@@ -1,0 +1,225 @@
+// Accesses of memory and of the B bus one after another, the ports to the sound side among them, up to the beam's next
+// place.
+ghost use Rattle.std.specs.Prelude.{◌≡◌, ◌≢◌, ◌+◌, ◌-◌, ◌*◌, ◌<◌, ◌≤◌, [], false, IsTrue};
+ghost use Rattle.snes_defs.specs.declared.ports.Side.TheVariants.{Console};
+ghost use Rattle.clock_ratio.specs.Stamp.{rate_of, least_of};
+ghost use Rattle.side_law.specs.Gone.{Leads, IsRefused};
+ghost use Rattle.cpu_tables.specs.declared.access.Access.TheVariants.{Read, Write};
+ghost use Rattle.cpu_modes.specs.Plan.{gets_byte, is_write};
+ghost use Rattle.cpu65816.specs.Instruction.{CpuState, moved_on};
+ghost use Rattle.cpu65816.specs.Stands.{Stands, access_of};
+ghost use Rattle.beam.specs.Places.{clocks_left};
+ghost use Rattle.console_bus.specs.Places.{register_byte, register_read, on_bus};
+ghost use Rattle.console_steps.specs.ConsoleState.{ConsoleState, access_act, with_interrupt_levels};
+ghost use Rattle.console_steps.specs.AtOnce.{gone_on, passed_in};
+ghost use Rattle.console_steps.specs.Plain.{IsCalm};
+ghost use Rattle.console_machine.specs.PortAccesses.{HasMade, IsMade, HasPassed, IsBefore, RunsBefore, HeldBefore, stamp_before};
+
+use crate::many_steps::make_all;
+use crate::port_steps::{give_port, is_port, take_port};
+use clock_ratio::{CONSOLE_RATE, PAL_CONSOLE_RATE};
+use console_bus::Bus;
+use console_steps::{bus_register, give_interrupt_levels};
+use cpu_tables::Access;
+use cpu65816::Cpu;
+use side_law::Ports;
+use snes_defs::Region;
+
+/// Master clocks of an access of the B bus.
+const REGISTER_CLOCKS: u16 = 6;
+
+/// More accesses of the B bus than a line has room for.
+const MOST_RUNS: u16 = 256;
+
+/// What came of an access of the B bus.
+#[derive(Clone, Copy, Debug, PartialEq, Eq)]
+pub(crate) enum Found {
+    /// It was made.
+    Made,
+    /// It was left alone, since it is neither an access of a port nor a read of a register.
+    Left,
+    /// Its call was refused.
+    Refused,
+}
+
+/// Reads a register of the B bus other than a port, and puts the byte on the data bus.
+#[inline(always)]
+fn load_register(bus: &mut Bus, register: u8) -> u8
+    ensures byte { result ≡ register_byte bus.old register 0 }
+    ensures after { bus.new ≡ on_bus (register_read bus.old register) (register_byte bus.old register 0) }
+    ensures beam { bus.new.beam ≡ bus.old.beam }
+    ensures calm { IsCalm bus.old → IsCalm bus.new }
+{
+    let byte = bus.read_register(register, 0);
+    bus.put(byte);
+    byte
+}
+
+/// Lets the processor take the byte of a register of the B bus other than a port, and advances the beam.
+#[inline(always)]
+fn take_register(cpu: &mut Cpu, bus: &mut Bus, register: u8)
+    requires gets { IsTrue (gets_byte (access_of cpu.old)) }
+    requires few { 6 < clocks_left bus.old.beam }
+    ensures rest { bus.new ≡ gone_on (on_bus (register_read bus.old register) (register_byte bus.old register 0)) 6 }
+    ensures nothing { passed_in (on_bus (register_read bus.old register) (register_byte bus.old register 0)) 6 ≡ [] }
+    ensures processor { (s : CpuState) → Stands cpu.old s
+        → Stands cpu.new (with_interrupt_levels (moved_on s (register_byte bus.old register 0))
+        (on_bus (register_read bus.old register) (register_byte bus.old register 0))) }
+    ensures left { clocks_left bus.new.beam ≡ clocks_left bus.old.beam - 6 }
+    ensures calm { IsCalm bus.old → IsCalm bus.new }
+{
+    let byte = load_register(bus, register);
+    cpu.took(byte);
+    give_interrupt_levels(cpu, bus);
+    bus.go_on(REGISTER_CLOCKS);
+}
+
+/// Lets the processor read a register of the B bus at a stamp, if one is at the address.
+#[inline(always)]
+fn read_over<P: Ports>(cpu: &mut Cpu, bus: &mut Bus, addr: u32, at: u64, ports: &mut P) -> Found
+    requires gets { IsTrue (gets_byte (access_of cpu.old)) }
+    requires few { 6 < clocks_left bus.old.beam }
+    requires in_order { P.clock ports.old ≤ at }
+    requires in_time { at < (P.times ports.old).before }
+    ensures made { result ≡ Found.Made → (p : P.State) → P.stands ports.old p
+        → HasMade P.calls at (Read addr) cpu.old cpu.new bus.old bus.new (P.stands ports.new) p }
+    ensures step { result ≡ Found.Made → IsMade cpu.old cpu.new bus.old bus.new (Read addr) }
+    ensures passed { result ≡ Found.Made → HasPassed bus.old bus.new }
+    ensures refused { result ≡ Found.Refused
+        → Leads (P.stands ports.old) (P.stands ports.new) (IsRefused P.calls at (access_act bus.old (Read addr))) }
+    ensures left { result ≡ Found.Left → (cpu.new ≡ cpu.old) × (bus.new ≡ bus.old) × (ports.new ≡ ports.old) }
+    ensures stays { result ≡ Found.Refused → (cpu.new ≡ cpu.old) × (bus.new ≡ bus.old) }
+    ensures in_order { P.clock ports.new ≤ at + (P.times ports.old).rise }
+    ensures waits { result ≢ Found.Made → P.clock ports.new ≤ at }
+    ensures times { P.times ports.new ≡ P.times ports.old }
+{
+    let Some(register) = bus_register(addr) else {
+        return Found::Left;
+    };
+    if !is_port(register) {
+        take_register(cpu, bus, register);
+        return Found::Made;
+    }
+    let Some(got) = ports.read(at, register % 4) else {
+        return Found::Refused;
+    };
+    take_port(cpu, bus, got);
+    Found::Made
+}
+
+/// Lets the processor write a port at a stamp, if one is at the address.
+#[inline(always)]
+fn write_over<P: Ports>(
+    cpu: &mut Cpu,
+    bus: &mut Bus,
+    addr: u32,
+    v: u8,
+    at: u64,
+    ports: &mut P,
+) -> Found
+    requires writes { IsTrue (is_write (access_of cpu.old)) }
+    requires few { 6 < clocks_left bus.old.beam }
+    requires in_order { P.clock ports.old ≤ at }
+    requires in_time { at < (P.times ports.old).before }
+    ensures made { result ≡ Found.Made → (p : P.State) → P.stands ports.old p
+        → HasMade P.calls at (Write addr v) cpu.old cpu.new bus.old bus.new (P.stands ports.new) p }
+    ensures step { result ≡ Found.Made → IsMade cpu.old cpu.new bus.old bus.new (Write addr v) }
+    ensures passed { result ≡ Found.Made → HasPassed bus.old bus.new }
+    ensures refused { result ≡ Found.Refused
+        → Leads (P.stands ports.old) (P.stands ports.new) (IsRefused P.calls at (access_act bus.old (Write addr v))) }
+    ensures left { result ≡ Found.Left → (cpu.new ≡ cpu.old) × (bus.new ≡ bus.old) × (ports.new ≡ ports.old) }
+    ensures stays { result ≡ Found.Refused → (cpu.new ≡ cpu.old) × (bus.new ≡ bus.old) }
+    ensures in_order { P.clock ports.new ≤ at + (P.times ports.old).rise }
+    ensures waits { result ≢ Found.Made → P.clock ports.new ≤ at }
+    ensures times { P.times ports.new ≡ P.times ports.old }
+{
+    let Some(register) = bus_register(addr) else {
+        return Found::Left;
+    };
+    if !is_port(register) {
+        return Found::Left;
+    }
+    if !ports.write(at, register % 4, v) {
+        return Found::Refused;
+    }
+    give_port(cpu, bus, v);
+    Found::Made
+}
+
+/// Makes the processor's next access at a stamp if it is of a port, with the call made by `ports`, or if it reads
+/// another register of the B bus.
+#[inline(always)]
+fn make_register<P: Ports>(cpu: &mut Cpu, bus: &mut Bus, at: u64, ports: &mut P) -> Found
+    requires few { 6 < clocks_left bus.old.beam }
+    requires in_order { P.clock ports.old ≤ at }
+    requires in_time { at < (P.times ports.old).before }
+    ensures made { result ≡ Found.Made → (p : P.State) → P.stands ports.old p
+        → HasMade P.calls at (access_of cpu.old) cpu.old cpu.new bus.old bus.new (P.stands ports.new) p }
+    ensures step { result ≡ Found.Made → IsMade cpu.old cpu.new bus.old bus.new (access_of cpu.old) }
+    ensures passed { result ≡ Found.Made → HasPassed bus.old bus.new }
+    ensures refused { result ≡ Found.Refused
+        → Leads (P.stands ports.old) (P.stands ports.new) (IsRefused P.calls at (access_act bus.old (access_of cpu.old))) }
+    ensures left { result ≡ Found.Left → (cpu.new ≡ cpu.old) × (bus.new ≡ bus.old) × (ports.new ≡ ports.old) }
+    ensures stays { result ≡ Found.Refused → (cpu.new ≡ cpu.old) × (bus.new ≡ bus.old) }
+    ensures in_order { P.clock ports.new ≤ at + (P.times ports.old).rise }
+    ensures waits { result ≢ Found.Made → P.clock ports.new ≤ at }
+    ensures times { P.times ports.new ≡ P.times ports.old }
+{
+    match cpu.next() {
+        Access::Fetch(_) => Found::Left,
+        Access::Read(addr) => read_over(cpu, bus, addr, at, ports),
+        Access::Write(addr, v) => write_over(cpu, bus, addr, v, at, ports),
+        Access::Inner => Found::Left,
+    }
+}
+
+/// Returns the stamp of the next step, if the beam comes to its next place at `goal`.
+#[inline(always)]
+pub(crate) fn stamp_before(region: Region, goal: u64, bus: &Bus) -> u64
+    requires { rate_of region Console * clocks_left bus.now.beam ≤ goal }
+    ensures { result ≡ stamp_before region goal bus.now }
+{
+    match region {
+        Region::Ntsc => goal - CONSOLE_RATE * bus.clocks_left() as u64,
+        Region::Pal => goal - PAL_CONSOLE_RATE * bus.clocks_left() as u64,
+    }
+}
+
+/// Makes the processor's accesses of memory and of the B bus one after another, up to the beam's next place, to which
+/// it comes at `goal`. Their calls are made by `ports`. Returns whether the next call was refused.
+#[inline(always)]
+pub(crate) fn make_over<P: Ports>(
+    cpu: &mut Cpu,
+    bus: &mut Bus,
+    region: Region,
+    goal: u64,
+    ports: &mut P,
+) -> bool
+    requires begun { rate_of region Console * clocks_left bus.old.beam ≤ goal }
+    requires in_order { P.clock ports.old ≤ stamp_before region goal bus.old }
+    requires in_time { goal ≤ (P.times ports.old).before }
+    requires apart { (P.times ports.old).rise ≤ least_of region }
+    ensures made { result ≡ false → RunsBefore P.calls region goal cpu.old cpu.new bus.old bus.new
+        (P.stands ports.old) (P.stands ports.new) }
+    ensures refused { IsTrue result → HeldBefore P.calls region goal cpu.old cpu.new bus.old bus.new
+        (P.stands ports.old) (P.stands ports.new) }
+    ensures some { (w : ConsoleState) → IsBefore region goal cpu.old bus.old w
+        → (to : ConsoleState) × IsBefore region goal cpu.new bus.new to }
+    ensures fewer { clocks_left bus.new.beam ≤ clocks_left bus.old.beam }
+    ensures in_order { P.clock ports.new ≤ stamp_before region goal bus.new }
+    ensures times { P.times ports.new ≡ P.times ports.old }
+{
+    'runs: for _ in 0..MOST_RUNS {
+        make_all(cpu, bus);
+        if bus.clocks_left() <= REGISTER_CLOCKS {
+            return false;
+        }
+        let at = stamp_before(region, goal, bus);
+        match make_register(cpu, bus, at, ports) {
+            Found::Made => {}
+            Found::Left => return false,
+            Found::Refused => return true,
+        }
+    }
+    false
+}
