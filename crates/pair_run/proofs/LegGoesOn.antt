@@ -13,6 +13,7 @@ use Rattle.port_wire.specs.Seen.{Half}
 use Rattle.port_wire.specs.Answers.{HearsOn}
 use Rattle.pair_run.specs.Tried.{Tried}
 use Rattle.pair_run.specs.Leg.{LegRan}
+use Rattle.pair_run.specs.Over.{HasRunOn}
 
 -- what was heard by one call after another
 pub hears_then : (old mid new : Half) → HearsOn old mid → HearsOn mid new → HearsOn old new
@@ -115,18 +116,23 @@ module _ {State : Type 0} (side : Side) (moves : Moves State) where
             (omega (arith, step.within)) step.settled;
       }
 
-  -- a leg went on by another one, with nothing heard between
-  pub leg_runs : (window end : ℕ) (stands next : State → Type 0) (half : Half) (waited mid waits : List ℕ) (before : History State)
-      → (ran : LegRan side moves window end stands half waited mid before)
-      → LegRan side moves window end next half mid waits ran.after
-      → LegRan side moves window end next half waited waits before
-  leg_runs window end stands next half waited mid waits before ran then = record {
-    after = then.after;
-    leg = legs_join half.heard half.upto end before ran.after then.after ran.leg then.leg;
-    now_stands = then.now_stands;
-    entries = then.entries;
-    emitted = ran.emitted ++ then.emitted;
-    emitted_is = sym (append_assoc before.emitted ran.emitted then.emitted) ∙ ap (λ l. l ++ then.emitted) ran.emitted_is ∙ then.emitted_is;
-    waits_is = sym (append_assoc waited ran.emitted then.emitted) ∙ ap (λ l. l ++ then.emitted) ran.waits_is ∙ then.waits_is;
-    within = legs_join half.heard half.upto (half.known + window + 1) before ran.after then.after ran.within then.within;
-  }
+  -- a leg went on by more steps, with more heard
+  pub leg_runs : (window end : ℕ) (stands next : State → Type 0) (old new : Half) (waited mid waits : List ℕ) (before : History State)
+      → (ran : LegRan side moves window end stands old waited mid before)
+      → HasRunOn side moves window end next old new mid waits ran.after
+      → LegRan side moves window end next new waited waits before
+  leg_runs window end stands next old new waited mid waits before ran on =
+      let heard = hears_all old new on.hears in
+      record {
+        after = on.ran.after;
+        leg = legs_join new.heard new.upto end before ran.after on.ran.after
+            (leg_longer side moves old.heard new.heard old.upto new.upto end before ran.after ran.leg heard on.hears.upto) on.ran.leg;
+        now_stands = on.ran.now_stands;
+        entries = on.ran.entries;
+        emitted = ran.emitted ++ on.ran.emitted;
+        emitted_is = sym (append_assoc before.emitted ran.emitted on.ran.emitted) ∙ ap (λ l. l ++ on.ran.emitted) ran.emitted_is ∙ on.ran.emitted_is;
+        waits_is = sym (append_assoc waited ran.emitted on.ran.emitted) ∙ ap (λ l. l ++ on.ran.emitted) ran.waits_is ∙ on.ran.waits_is;
+        within = legs_join new.heard new.upto (new.known + window + 1) before ran.after on.ran.after
+            (leg_below_later new.heard new.upto (old.known + window + 1) (new.known + window + 1) before ran.after (omega (arith, on.hears.known))
+            (leg_longer side moves old.heard new.heard old.upto new.upto (old.known + window + 1) before ran.after ran.within heard on.hears.upto)) on.ran.within;
+      }

@@ -1,9 +1,11 @@
 pub mod Fronts
 pub mod LegGoesOn
 pub mod Meets
-pub mod QuietLegs
 pub mod Reaches
 pub mod Refusals
+pub mod Rows
 pub mod Tries
 pub mod TurnGoesOn
 pub mod Unrefused
+pub mod WaySteps
+pub mod Ways

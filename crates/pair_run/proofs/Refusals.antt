@@ -9,6 +9,9 @@ use Rattle.port_wire.specs.declared.late.CallName.TheVariants.{Read, Clear, Writ
 use Rattle.port_wire.specs.Seen.{Half}
 use Rattle.port_wire.specs.Answers.{IsRefused, HasAdvanced}
 use Rattle.port_wire.specs.Tally.{Tally, same_name, is_again, counted_on, after_refusal, HasRisenBy}
+use Rattle.pair_run.specs.declared.ends.LegEnd.{LegEnd}
+use Rattle.pair_run.specs.declared.ends.LegEnd.TheVariants.{Done, Drain}
+use Rattle.pair_run.specs.declared.ends.LegEnd.TheVariants as ends
 use Rattle.pair_run.specs.Leg.{IfHeldBack, IsSpent, end_of}
 use Rattle.pair_run.specs.Tried.{IsHeldBack}
 
@@ -103,3 +106,17 @@ pub of_refusal : (late : PassLate) (P : PassLate → Type 0) → P late → IfHe
 of_refusal (Behind need other) P h = h
 of_refusal (Ahead at other) P h = h
 of_refusal (Held by) P h = h
+
+number_of : LegEnd → ℕ
+number_of Done = 0
+number_of Drain = 1
+number_of (ends.Behind need other) = 2
+number_of (ends.Ahead at other) = 2
+number_of (ends.Held by) = 2
+
+-- a leg that was held back has room
+pub held_is_no_drain : (late : PassLate) → end_of late ≡ Drain → ⊥
+unfolding number_of
+held_is_no_drain (Behind need other) is = omega (arith, ap number_of is)
+held_is_no_drain (Ahead at other) is = omega (arith, ap number_of is)
+held_is_no_drain (Held by) is = omega (arith, ap number_of is)

@@ -1,3 +1,4 @@
 pub mod Leg
+pub mod Over
 pub mod Tried
 pub mod Turn

@@ -4,9 +4,9 @@ ghost use Rattle.port_wire.specs.Reach.{IsInReach};
 ghost use Rattle.pair_run.specs.Leg.{HasRun, IfHeldBack, IsSpent};
 ghost use Rattle.pair_run.specs.Tried.{call_of};
 
-use crate::again::{publish, step_by_call};
+use crate::again::{pause, publish};
 use crate::ends::{LegEnd, held_back};
-use crate::lone::run_alone;
+use crate::runs::run_on;
 use port_wire::{Gate, Wire};
 use side_law::Machine;
 
@@ -43,11 +43,17 @@ pub fn leg<W: Wire, M: Machine, G: Gate>(
     ensures spent { (m : M.State) → M.stands machine.new m → IfHeldBack result (λ late. IsSpent (call_of (M.moves.act m)) (M.stamp_of machine.new) late tries (W.seen pass.old).half (W.seen pass.new).half) }
 {
     gate.arrive(wire.side(pass), turn);
-    run_alone(wire, pass, machine, end);
+    let mut tried = 0;
     'steps: while machine.stamp() < end && machine.ready() {
-        match step_by_call(wire, pass, machine, tries) {
-            Ok(()) => run_alone(wire, pass, machine, end),
-            Err(late) => return held_back(late),
+        match run_on(wire, pass, machine, end) {
+            Ok(()) => tried = 0,
+            Err(late) => {
+                if tried >= tries {
+                    return held_back(late);
+                }
+                pause(wire, pass, machine.stamp(), tried);
+                tried += 1;
+            }
         }
     }
     publish(wire, pass, machine.stamp());

@@ -13,11 +13,13 @@
 
 mod again;
 mod apart;
-mod attempt;
+mod calls;
 mod earlier;
 mod ends;
 mod legs;
-mod lone;
+mod limits;
+mod over;
+mod runs;
 mod stepped;
 mod turns;
 

@@ -1,6 +1,7 @@
 // The ports as the wire between two workers.
 ghost use Rattle.port_lock.specs.Passes.{seen_of, IsPassOf};
 ghost use Rattle.port_lock.specs.Wholes.{both_of, IsWholeOf};
+ghost use Rattle.port_lock.specs.PortsKnown.{ports_set};
 
 use crate::late::over_pass;
 use crate::pass::Pass;
@@ -19,6 +20,8 @@ impl Wire for Ports {
     ghost is_pass_of = { IsPassOf };
 
     ghost is_whole_of = { IsWholeOf };
+
+    ghost one_proof = { λ ports pass. ports_set pass.ports ports };
 
     ghost seen = { seen_of };
 

@@ -33,6 +33,9 @@ pub trait Wire: Sync {
 
     ghost is_whole_of: { Self → Self.Whole → Type 0 };
 
+    // That a pass is of a wire has one proof at most, so a struct can keep it beside the pass.
+    ghost one_proof: { (wire : Self) (pass : Self.Pass) → IsProp (is_pass_of wire pass) };
+
     // What is seen of them.
     ghost seen: { Self.Pass → Seen };
 

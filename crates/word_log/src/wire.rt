@@ -1,6 +1,7 @@
 // The words as the wire between two workers.
 ghost use Rattle.word_log.specs.Passes.{seen_of, IsPassOf};
 ghost use Rattle.word_log.specs.Wholes.{both_of, IsWholeOf};
+ghost use Rattle.word_log.specs.WordsKnown.{words_set};
 
 use crate::pass::Pass;
 use crate::whole::Whole;
@@ -18,6 +19,8 @@ impl Wire for Words {
     ghost is_pass_of = { IsPassOf };
 
     ghost is_whole_of = { IsWholeOf };
+
+    ghost one_proof = { λ words pass. words_set pass.words words };
 
     ghost seen = { seen_of };
 

@@ -1,105 +1,148 @@
-use Rattle.std.proofs.Common.{◌<◌, refl, sym, ◌∙◌, subst, arith}
+use Rattle.std.proofs.Common.{◌-◌, ◌≤◌, refl, sym, ◌∙◌, subst, arith}
 use Rattle.clock_ratio.specs.Stamp.{window_of}
-use Rattle.pair_run.specs.Leg.{LegRan, IfHeldBack, IsSpent}
-use Rattle.pair_run.specs.Tried.{Tried, call_of}
-use Rattle.pair_run.proofs.LegGoesOn.{leg_waits, leg_steps, leg_runs}
-use Rattle.pair_run.proofs.Refusals.{none_risen, of_refusal}
+use Rattle.pair_run.specs.Leg.{IfHeldBack, IsSpent}
+use Rattle.pair_run.specs.Tried.{call_of}
+use Rattle.pair_run.proofs.LegGoesOn.{leg_begins}
+use Rattle.pair_run.proofs.Refusals.{none_risen, risen_less, of_refusal, held_is_no_drain}
+use Rattle.pair_run.proofs.Rows.{row_goes_on, rise_goes_on, row_spent}
+use Rattle.pair_run.proofs.WaySteps.{run_then, run_waits}
 use Rattle.pair_run.proofs.legs.leg.Goals as goal
 
 pub steps-init : goal.steps-init
-steps-init g c = record {
-  still_of = c.requires.of;
-  side = refl;
-  clock = omega (arith, c.requires.clock, c.run_alone.ensures.forward);
-  reach = c.run_alone.ensures.reach;
-  region = c.run_alone.ensures.same_region;
-  room = c.run_alone.ensures.room;
-  ran = c.run_alone.ensures.ran;
-  counted = λ before risen. risen;
-}
+steps-init g c =
+    let wire = g.W.Wire in
+    let M = g.M.Machine in
+    let seen = wire.seen c.args.pass.now in
+    record {
+      still_of = c.requires.of;
+      side = refl;
+      clock = c.requires.clock;
+      reach = c.requires.reach;
+      region = refl;
+      room = omega (arith, c.requires.ready);
+      ran = record {
+        from = leg_begins seen.side M.moves (window_of (wire.region_of c.args.wire.now)) c.args.end (M.stands c.args.machine.now) seen.half (M.waiting c.args.machine.now);
+      };
+      few = omega arith;
+      risen = λ n from. from;
+      in_row = λ any. absurd (omega (arith, any));
+    }
+
+pub steps-preserved-in-Ok : goal.steps-preserved-in-Ok
+steps-preserved-in-Ok g c =
+    let wire = g.W.Wire in
+    let M = g.M.Machine in
+    let region = wire.region_of c.args.wire.now in
+    let first = wire.seen c.args.pass.now in
+    let old = wire.seen c.steps.pass in
+    let new = wire.seen c.run_on.new.pass in
+    let begun = c.args.machine.now in
+    let here = c.steps.machine in
+    let to = c.run_on.new.machine in
+    let was = c.steps.invariant in
+    let run = c.run_on.ensures in
+    let tried = run.tried in
+    record {
+      still_of = run.still_of;
+      side = run.side ∙ was.side;
+      clock = tried.clock;
+      reach = tried.reach;
+      region = run.same_region ∙ was.region;
+      room = tried.room;
+      ran = run_then region first.side M.moves c.args.end (M.stands begun) (M.stands here) (M.stands to) first.half old.half new.half (M.waiting begun) (M.waiting here) (M.waiting to)
+          was.ran M.MOST M.CAP (M.stamp_of here) (M.stamp_of to) old.side was.side tried;
+      few = omega arith;
+      risen = λ n from. tried.counted n (risen_less (c.steps.tried - 1) n old.half.tally.refused old.half.tally.refused (was.risen n from) refl);
+      in_row = λ any. absurd (omega (arith, any));
+    }
+
+pub returns-then-tried-tries-clause-ran : goal.returns-then-tried-tries-clause-ran
+returns-then-tried-tries-clause-ran g c =
+    let wire = g.W.Wire in
+    let M = g.M.Machine in
+    let first = wire.seen c.args.pass.now in
+    let old = wire.seen c.steps.pass in
+    let begun = c.args.machine.now in
+    let here = c.steps.machine in
+    let to = c.run_on.new.machine in
+    run_then (wire.region_of c.args.wire.now) first.side M.moves c.args.end (M.stands begun) (M.stands here) (M.stands to) first.half old.half (wire.seen c.run_on.new.pass).half
+    (M.waiting begun) (M.waiting here) (M.waiting to) c.steps.invariant.ran M.MOST M.CAP (M.stamp_of here) (M.stamp_of to) old.side c.steps.invariant.side c.run_on.ensures.tried
+
+pub returns-then-tried-tries-clause-drain : goal.returns-then-tried-tries-clause-drain
+returns-then-tried-tries-clause-drain g c = (
+  λ is. absurd (held_is_no_drain c.in-Err.late (sym c.held_back.ensures ∙ is)),
+  λ full. absurd (full.1 (omega (arith, c.run_on.ensures.tried.silent (omega (arith, c.in-Err.ensures.held.still)), c.ready.ensures.0 c.if-ready.true))),
+)
+
+pub returns-then-tried-tries-clause-spent : goal.returns-then-tried-tries-clause-spent
+returns-then-tried-tries-clause-spent g c = λ m stands.
+    let wire = g.W.Wire in
+    let M = g.M.Machine in
+    let first = (wire.seen c.args.pass.now).half in
+    let old = (wire.seen c.steps.pass).half in
+    let new = (wire.seen c.run_on.new.pass).half in
+    let here = c.steps.machine in
+    let to = c.run_on.new.machine in
+    let was = c.steps.invariant in
+    let any : 1 ≤ c.steps.tried = omega (arith, c.if-tried-tries.true, c.requires.tries) in
+    subst (λ e. IfHeldBack e (λ late. IsSpent (call_of (M.moves.act m)) (M.stamp_of to) late c.args.tries first new)) (sym c.held_back.ensures)
+    (of_refusal c.in-Err.late (λ late. IsSpent (call_of (M.moves.act m)) (M.stamp_of to) late c.args.tries first new)
+    (row_spent M.moves (M.stands here) (M.stands to) (M.stamp_of here) (M.stamp_of to) old new c.in-Err.late c.in-Err.ensures.held c.steps.tried c.args.tries first m stands
+    c.stamp.ensures.stands (omega (arith, c.ranges.tries.fits)) c.requires.tries (omega (arith, c.if-tried-tries.true, was.few)) (was.in_row any)
+    (was.risen first.tally.refused (none_risen first.tally.refused))))
 
 pub steps-preserved : goal.steps-preserved
 steps-preserved g c =
     let wire = g.W.Wire in
-    let machine = g.M.Machine in
-    let before_it = c.steps.invariant in
-    let ok = c.in-Ok.ensures in
-    let old = (wire.seen c.steps.pass).half in
-    let new = (wire.seen c.step_by_call.new.pass).half in
-    let side = (wire.seen c.args.pass.now).side in
-    let window = window_of (wire.region_of c.args.wire.now) in
-    let waited = machine.waiting c.args.machine.now in
-    let law = g.met.M.Machine g.world.𝓛 g.world.𝓜 g.world.𝓡 ((λ s x. x), (λ x. x), (λ x. x), λ x. x) in
-    let alone = c.run_alone-in-Ok.ensures in
+    let M = g.M.Machine in
+    let region = wire.region_of c.args.wire.now in
+    let first = wire.seen c.args.pass.now in
+    let old = wire.seen c.steps.pass in
+    let mid = wire.seen c.run_on.new.pass in
+    let new = wire.seen c.pause.new.pass in
+    let begun = c.args.machine.now in
+    let here = c.steps.machine in
+    let to = c.run_on.new.machine in
+    let was = c.steps.invariant in
+    let run = c.run_on.ensures in
+    let tried = run.tried in
+    let told = c.pause.ensures.told in
+    let held = c.in-Err.ensures.held in
+    let at = c.stamp-in-Err.ensures.stamp in
+    let ran = run_then region first.side M.moves c.args.end (M.stands begun) (M.stands here) (M.stands to) first.half old.half mid.half (M.waiting begun) (M.waiting here) (M.waiting to)
+    was.ran M.MOST M.CAP (M.stamp_of here) (M.stamp_of to) old.side was.side tried in
     record {
-      still_of = ok.still_of;
-      side = ok.side ∙ before_it.side;
-      clock = omega (arith, ok.clock, alone.forward);
-      reach = alone.reach;
-      region = alone.same_region ∙ ok.same_region ∙ before_it.region;
-      room = alone.room;
-      ran = record {
-        from = λ before stands entries.
-            let was = before_it.ran.from before stands entries in
-            let early : machine.moves.stamp was.after.now < c.args.end =
-            omega (arith, law.stands_stamp c.steps.machine was.after.now was.now_stands, c.steps-test.true, c.stamp.ensures.stamp) in
-            let made = leg_steps side machine.moves window c.args.end (machine.stands c.steps.machine) (machine.stands c.step_by_call.new.machine) old new
-            waited (machine.waiting c.steps.machine) (machine.waiting c.step_by_call.new.machine) before was ok.hears early
-            (subst (λ s. Tried s machine.moves window (machine.stands c.step_by_call.new.machine) new (machine.waiting c.steps.machine) (machine.waiting c.step_by_call.new.machine) was.after)
-            before_it.side (ok.steps was.after was.now_stands was.entries)) in
-            leg_runs side machine.moves window c.args.end (machine.stands c.step_by_call.new.machine) (machine.stands c.run_alone-in-Ok.new.machine) new
-            waited (machine.waiting c.step_by_call.new.machine) (machine.waiting c.run_alone-in-Ok.new.machine) before made
-            (subst (λ s. LegRan s machine.moves window c.args.end (machine.stands c.run_alone-in-Ok.new.machine) new (machine.waiting c.step_by_call.new.machine) (machine.waiting c.run_alone-in-Ok.new.machine) made.after)
-            (ok.side ∙ before_it.side) (alone.ran.from made.after made.now_stands made.entries));
-      };
-      counted = λ before risen. ok.counted before (before_it.counted before risen);
+      still_of = c.pause.ensures.still_of;
+      side = c.pause.ensures.side ∙ run.side ∙ was.side;
+      clock = omega (arith, told.clock, at);
+      reach = omega (arith, told.reach, at);
+      region = run.same_region ∙ was.region;
+      room = tried.room;
+      ran = run_waits region first.side M.moves c.args.end (M.stands begun) (M.stands to) (M.stands to) first.half mid.half new.half (M.waiting begun) (M.waiting to) (M.waiting to)
+          ran told.hears told.mine;
+      few = omega (arith, c.if-tried-tries.false);
+      risen = rise_goes_on M.moves (M.stands here) (M.stands to) (M.stamp_of here) (M.stamp_of to) old.half mid.half c.in-Err.late held c.steps.tried first.half.tally.refused new.half
+          c.stamp.ensures.stands was.risen tried.counted told.counted c.pause.ensures.same;
+      in_row = λ any. row_goes_on M.moves (M.stands here) (M.stands to) (M.stamp_of here) (M.stamp_of to) old.half mid.half c.in-Err.late held c.steps.tried new.half
+          c.stamp.ensures.stands (omega (arith, c.if-tried-tries.false, c.ranges.tries.fits)) was.in_row c.pause.ensures.same;
     }
 
-pub returns-in-Err-clause-ran : goal.returns-in-Err-clause-ran
-returns-in-Err-clause-ran g c = record {
-  from = λ before stands entries.
-      let wire = g.W.Wire in
-      let machine = g.M.Machine in
-      let late = c.in-Err.ensures in
-      let old = (wire.seen c.steps.pass).half in
-      let new = (wire.seen c.step_by_call.new.pass).half in
-      let side = (wire.seen c.args.pass.now).side in
-      let window = window_of (wire.region_of c.args.wire.now) in
-      let waited = machine.waiting c.args.machine.now in
-      subst (λ x. LegRan side machine.moves window c.args.end (machine.stands x) new waited (machine.waiting x) before) (sym late.stays)
-      (leg_waits side machine.moves window c.args.end (machine.stands c.steps.machine) old new waited (machine.waiting c.steps.machine) before
-      (c.steps.invariant.ran.from before stands entries) late.hears late.mine_stays);
-}
-
-pub returns-in-Err-clause-spent : goal.returns-in-Err-clause-spent
-returns-in-Err-clause-spent g c = λ m stands.
-    let wire = g.W.Wire in
-    let machine = g.M.Machine in
-    let first = (wire.seen c.args.pass.now).half in
-    let new = (wire.seen c.step_by_call.new.pass).half in
-    let name = call_of (machine.moves.act m) in
-    let there = subst (λ x. machine.stands x m) c.in-Err.ensures.stays stands in
-    subst (λ e. IfHeldBack e (λ late. IsSpent name (machine.stamp_of c.step_by_call.new.machine) late c.args.tries first new)) (sym c.held_back.ensures)
-    (of_refusal c.in-Err.late (λ late. IsSpent name (machine.stamp_of c.step_by_call.new.machine) late c.args.tries first new)
-    (subst (λ x. IsSpent name (machine.stamp_of x) c.in-Err.late c.args.tries first new) (sym c.in-Err.ensures.stays)
-    (c.in-Err.ensures.spent m there first (c.steps.invariant.counted first.tally.refused (none_risen first.tally.refused)))))
-
 pub returns-then-stamp-end-clause-ran : goal.returns-then-stamp-end-clause-ran
-returns-then-stamp-end-clause-ran g c = record {
-  from = λ before stands entries.
-      let wire = g.W.Wire in
-      let machine = g.M.Machine in
-      leg_waits (wire.seen c.args.pass.now).side machine.moves (window_of (wire.region_of c.args.wire.now)) c.args.end (machine.stands c.steps.machine)
-      (wire.seen c.steps.pass).half (wire.seen c.publish.new.pass).half (machine.waiting c.args.machine.now) (machine.waiting c.steps.machine) before
-      (c.steps.invariant.ran.from before stands entries) c.publish.ensures.hears c.publish.ensures.mine;
-}
+returns-then-stamp-end-clause-ran g c =
+    let wire = g.W.Wire in
+    let M = g.M.Machine in
+    let first = wire.seen c.args.pass.now in
+    let begun = c.args.machine.now in
+    let to = c.steps.machine in
+    run_waits (wire.region_of c.args.wire.now) first.side M.moves c.args.end (M.stands begun) (M.stands to) (M.stands to) first.half (wire.seen c.steps.pass).half (wire.seen c.publish.new.pass).half
+    (M.waiting begun) (M.waiting to) (M.waiting to) c.steps.invariant.ran c.publish.ensures.hears c.publish.ensures.mine
 
 pub returns-else-stamp-end-clause-ran : goal.returns-else-stamp-end-clause-ran
-returns-else-stamp-end-clause-ran g c = record {
-  from = λ before stands entries.
-      let wire = g.W.Wire in
-      let machine = g.M.Machine in
-      leg_waits (wire.seen c.args.pass.now).side machine.moves (window_of (wire.region_of c.args.wire.now)) c.args.end (machine.stands c.steps.machine)
-      (wire.seen c.steps.pass).half (wire.seen c.publish.new.pass).half (machine.waiting c.args.machine.now) (machine.waiting c.steps.machine) before
-      (c.steps.invariant.ran.from before stands entries) c.publish.ensures.hears c.publish.ensures.mine;
-}
+returns-else-stamp-end-clause-ran g c =
+    let wire = g.W.Wire in
+    let M = g.M.Machine in
+    let first = wire.seen c.args.pass.now in
+    let begun = c.args.machine.now in
+    let to = c.steps.machine in
+    run_waits (wire.region_of c.args.wire.now) first.side M.moves c.args.end (M.stands begun) (M.stands to) (M.stands to) first.half (wire.seen c.steps.pass).half (wire.seen c.publish.new.pass).half
+    (M.waiting begun) (M.waiting to) (M.waiting to) c.steps.invariant.ran c.publish.ensures.hears c.publish.ensures.mine

@@ -1,8 +1,9 @@
-use Rattle.std.proofs.Common.{◌≡◌, ◌+◌, ◌-◌, ◌≤◌, ℕ, length}
+use Rattle.std.proofs.Common.{◌≡◌, ◌+◌, ◌-◌, ◌*◌, ◌≤◌, ℕ, length}
 use Rattle.clock_ratio.specs.Stamp.{window_of}
 use Rattle.port_wire.specs.Reach.{IsInReach}
 use Rattle.port_wire.specs.Tally.{HasRisenBy}
 use Rattle.pair_run.specs.Leg.{HasRun}
+use Rattle.pair_run.proofs.Rows.{InRowAt}
 use Rattle.pair_run.proofs.legs.leg.Given as goal
 
 abbrev pub invariant-steps : goal.invariant-steps
@@ -17,9 +18,12 @@ invariant-steps g l =
       region : machine.region_of l.machine ≡ machine.region_of l.fn.machine;
       room : length (machine.waiting l.machine) + machine.MOST ≤ machine.CAP;
       ran : HasRun (wire.seen l.fn.pass).side machine.moves (window_of (wire.region_of l.wire)) l.end (machine.stands l.fn.machine) (machine.stands l.machine) (wire.seen l.fn.pass).half (wire.seen l.pass).half (machine.waiting l.fn.machine) (machine.waiting l.machine);
-      counted : (before : ℕ) → HasRisenBy 0 before (wire.seen l.fn.pass).half.tally.refused → HasRisenBy 0 before (wire.seen l.pass).half.tally.refused;
+      few : l.tried ≤ l.tries;
+      -- all tries but the first were refusals in a row
+      risen : (before : ℕ) → HasRisenBy 0 before (wire.seen l.fn.pass).half.tally.refused → HasRisenBy (l.tried - 1) before (wire.seen l.pass).half.tally.refused;
+      in_row : 1 ≤ l.tried → InRowAt machine.moves (machine.stands l.machine) (machine.stamp_of l.machine) (l.tried - 1) (wire.seen l.pass).half;
     }
 
--- the stamps to the end
+-- the stamps to the end, and the tries that are left at one
 abbrev pub decreases-steps : goal.decreases-steps
-decreases-steps g l = l.end - g.M.Machine.stamp_of l.machine
+decreases-steps g l = (l.end - g.M.Machine.stamp_of l.machine) * (l.tries + 1) + (l.tries - l.tried)

@@ -1,0 +1,64 @@
+// The calls of a machine's ports over its pass.
+use crate::over::Over;
+use port_wire::Wire;
+use side_law::Ports;
+
+impl<'a, W: Wire> Ports for Over<'a, W> {
+    ghost use Rattle.std.specs.Prelude.{◌≡◌, ◌^◌};
+    ghost use Rattle.clock_ratio.specs.Stamp.{least_of};
+    ghost use Rattle.pair_run.specs.Over.{Way, pass_calls};
+
+    ghost State = { Way W };
+
+    ghost calls = { pass_calls };
+
+    ghost stands = { λ o p. (record { wire = o.wire.now; region = W.region_of o.wire.now; name = o.pass.ghost_name; side = (W.seen o.pass.now).side; half = (W.seen o.pass.now).half; late = o.late; held = o.held }) ≡ p };
+
+    ghost clock = { λ o. (W.seen o.pass.now).half.at };
+
+    ghost times = { λ o. record { before = 2 ^ 52; rise = least_of (W.region_of o.wire.now) } };
+
+    #[inline(always)]
+    fn read(&mut self, at: u64, port: u8) -> Option<u8> {
+        match self.wire.read(self.pass, at, port) {
+            Ok(byte) => Some(byte),
+            Err(late) => {
+                self.late = late;
+                None
+            }
+        }
+    }
+
+    #[inline(always)]
+    fn write(&mut self, at: u64, port: u8, byte: u8) -> bool {
+        match self.wire.write(self.pass, at, port, byte, at + self.least) {
+            Ok(()) => true,
+            Err(late) => {
+                self.late = late;
+                false
+            }
+        }
+    }
+
+    #[inline(always)]
+    fn clear(&mut self, at: u64, mask: u8) -> bool {
+        match self.wire.clear(self.pass, at, mask) {
+            Ok(()) => true,
+            Err(late) => {
+                self.late = late;
+                false
+            }
+        }
+    }
+
+    #[inline(always)]
+    fn room(&self, waiting: usize) -> u64 {
+        if waiting <= self.held { u64::MAX } else { 0 }
+    }
+
+    #[inline(always)]
+    fn emitted(&mut self, at: u64, waiting: usize) {
+        let _at = at;
+        let _waiting = waiting;
+    }
+}
