@@ -10,7 +10,7 @@ use Rattle.side_law.specs.Gone.{Calls}
 use Rattle.commute_laws.specs.History.{History}
 use Rattle.port_wire.specs.declared.late.PassLate.{PassLate}
 use Rattle.port_wire.specs.Reach.{IsInReach}
-use Rattle.port_wire.specs.Seen.{Half}
+use Rattle.port_wire.specs.Seen.{Half, Seen}
 use Rattle.port_wire.specs.Tally.{HasRisenBy}
 use Rattle.port_wire.specs.Answers.{HearsOn, IsRefused, HasRead, HasWritten, HasCleared}
 use Rattle.pair_run.specs.Tried.{IsHeldBack, call_of}
@@ -28,6 +28,11 @@ pub record Way (Wire : Type 0) : Type 0 where
   pub late : PassLate
   -- a step may emit with so many bytes buffered, or fewer
   pub held : ℕ
+
+-- the way of these parts
+abbrev pub way_of : {Wire : Type 0} → Wire → Region → ℕ → Seen → PassLate → ℕ → Way Wire
+way_of wire region name seen late held =
+    record { wire = wire; region = region; name = name; side = seen.side; half = seen.half; late = late; held = held }
 
 -- what every call keeps
 pub record IsSameWay {Wire : Type 0} (p q : Way Wire) : Type 0 where

@@ -135,7 +135,7 @@ returns-then-stamp-end-clause-ran g c =
     let begun = c.args.machine.now in
     let to = c.steps.machine in
     run_waits (wire.region_of c.args.wire.now) first.side M.moves c.args.end (M.stands begun) (M.stands to) (M.stands to) first.half (wire.seen c.steps.pass).half (wire.seen c.publish.new.pass).half
-    (M.waiting begun) (M.waiting to) (M.waiting to) c.steps.invariant.ran c.publish.ensures.hears c.publish.ensures.mine
+    (M.waiting begun) (M.waiting to) (M.waiting to) c.steps.invariant.ran c.publish.ensures.told.hears c.publish.ensures.told.mine
 
 pub returns-else-stamp-end-clause-ran : goal.returns-else-stamp-end-clause-ran
 returns-else-stamp-end-clause-ran g c =
@@ -145,4 +145,4 @@ returns-else-stamp-end-clause-ran g c =
     let begun = c.args.machine.now in
     let to = c.steps.machine in
     run_waits (wire.region_of c.args.wire.now) first.side M.moves c.args.end (M.stands begun) (M.stands to) (M.stands to) first.half (wire.seen c.steps.pass).half (wire.seen c.publish.new.pass).half
-    (M.waiting begun) (M.waiting to) (M.waiting to) c.steps.invariant.ran c.publish.ensures.hears c.publish.ensures.mine
+    (M.waiting begun) (M.waiting to) (M.waiting to) c.steps.invariant.ran c.publish.ensures.told.hears c.publish.ensures.told.mine
