@@ -69,6 +69,14 @@ impl Beam {
         }
     }
 
+    /// Returns the region whose lines it counts.
+    #[inline(always)]
+    pub fn region(&self) -> Region
+        ensures { result ≡ self.now.region }
+    {
+        self.region
+    }
+
     /// Returns the master clocks, at least 1, to the next place of the line at which something may happen.
     #[inline(always)]
     pub fn clocks_left(&self) -> u16

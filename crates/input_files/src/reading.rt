@@ -3,16 +3,25 @@ ghost use Rattle.input_files.specs.Script.{version_of};
 
 use crate::fields::span_of;
 use crate::script::ScriptEnd;
-use snes_defs::{MOST_FRAMES, Region, Span, Spans};
+use snes_defs::{MOST_FRAMES, Profile, Region, Span, Spans};
 use std::alloc::Global;
 use std::marker::Model;
+
+/// What a first line of version 2 or 3 says.
+#[derive(Clone, Copy)]
+pub(crate) struct Version {
+    pub(crate) region: Region,
+    /// The first profile in version 2, the second in version 3.
+    pub(crate) profile: Profile,
+}
 
 /// What was read of a script up to a line.
 #[derive(Drop)]
 pub(crate) struct Reading {
-    /// The first line named a region.
+    /// The first line gave a version.
     versioned: bool,
     region: Region,
+    profile: Profile,
     spans: Vec<Span>,
     /// The sum of the counts.
     frames: u32,
@@ -29,20 +38,46 @@ impl Model for Reading {
     ghost use Rattle.std.specs.Prelude.{◌≡◌, ◌≤◌};
     ghost use Rattle.snes_defs.specs.Script.{frames_of, RiseWithin};
 
-    ghost view = { λ r. record { versioned = r.versioned; region = r.region; spans = r.spans.items; frames = r.frames; resets = r.resets.items; last = r.last } };
+    ghost view = { λ r. record {
+      versioned = r.versioned;
+      region = r.region;
+      profile = r.profile;
+      spans = r.spans.items;
+      frames = r.frames;
+      resets = r.resets.items;
+      last = r.last;
+    } };
 
     ghost invariant = { λ r. (r.frames ≡ frames_of r.spans.items) × (r.frames ≤ 36000) × (r.last ≤ r.frames) × RiseWithin 1 r.last r.resets.items };
 }
 
-/// The region that a first line of version 2 names.
-fn version_of(line: &[u8]) -> Option<Region>
+/// The region and the profile that a first line gives.
+fn version_of(line: &[u8]) -> Option<Version>
     ensures { result ≡ version_of line.now }
 {
     if line == b"version 2 ntsc".as_slice() {
-        return Some(Region::Ntsc);
+        return Some(Version {
+            region: Region::Ntsc,
+            profile: Profile::First,
+        });
     }
     if line == b"version 2 pal".as_slice() {
-        return Some(Region::Pal);
+        return Some(Version {
+            region: Region::Pal,
+            profile: Profile::First,
+        });
+    }
+    if line == b"version 3 ntsc".as_slice() {
+        return Some(Version {
+            region: Region::Ntsc,
+            profile: Profile::Second,
+        });
+    }
+    if line == b"version 3 pal".as_slice() {
+        return Some(Version {
+            region: Region::Pal,
+            profile: Profile::Second,
+        });
     }
     None
 }
@@ -58,6 +93,7 @@ impl Reading {
         Reading {
             versioned: false,
             region: Region::Ntsc,
+            profile: Profile::First,
             spans: Vec::new(alloc),
             frames: 0,
             resets: Vec::new(alloc),
@@ -70,7 +106,7 @@ impl Reading {
     pub(crate) fn script(self) -> Spans
         ensures { result ≡ script_in self }
     {
-        Spans::versioned(self.spans, self.region, self.resets)
+        Spans::versioned(self.spans, self.region, self.profile, self.resets)
     }
 
     /// Reads a line with its number.
@@ -81,9 +117,10 @@ impl Reading {
         ensures bad { (k : ℕ) → result ≡ Err (ScriptEnd.Line k) → after_line number self.old line.now ≡ None }
     {
         if number == 1 {
-            if let Some(region) = version_of(line) {
+            if let Some(version) = version_of(line) {
                 self.versioned = true;
-                self.region = region;
+                self.region = version.region;
+                self.profile = version.profile;
                 return Ok(());
             }
         }

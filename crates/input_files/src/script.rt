@@ -17,10 +17,10 @@ pub enum ScriptEnd {
 
 /// Reads a controller script.
 ///
-/// Lines end with LF or CR LF, and the last end may be missing. A first line `version 2 ntsc` or `version 2 pal`
-/// makes it of version 2 and that region. Otherwise it is of version 1 and NTSC. An empty line says nothing. In
-/// version 2 a line `reset` begins the next frame with a reset. Every other line is `COUNT PAD1 PAD2`: COUNT frames
-/// with these pads.
+/// Lines end with LF or CR LF, and the last end may be missing. The first line may be `version`, 2 or 3, and `ntsc`
+/// or `pal`. The script is then of that version and region, otherwise of version 1 and NTSC. Version 3 chooses the
+/// second profile, versions 1 and 2 the first. An empty line says nothing. In versions 2 and 3 a line `reset` begins
+/// the next frame with a reset. Every other line is `COUNT PAD1 PAD2`: COUNT frames with these pads.
 ///
 /// The first invalid line is reported by its number. Invalid is a line of none of these forms, or at which the
 /// counts' sum passes 36,000. So is a reset at the sum 0, or a second one at the same sum.

@@ -1,12 +1,14 @@
--- A controller script: who holds which buttons in which frame, which region's machine runs, and
--- which frames begin with a press of the reset button. This project's own.
+-- A controller script: who holds which buttons in which frame, which region's machine runs by which profile,
+-- and which frames begin with a press of the reset button. This project's own.
 use Rattle.std.specs.Prelude.{ℕ, ◌+◌, ◌-◌, ◌≤◌, ◌==◌, Bool, false, ◌||◌, List, [], ◌∷◌, if◌then◌else◌, ltb}
 use Rattle.snes_defs.specs.declared.region.Region.{Region}
+use Rattle.snes_defs.specs.declared.profile.Profile.{Profile}
 use Rattle.snes_defs.specs.declared.script.Span.{Span}
 
 -- a script as contracts see it
 pub record Script : Type 0 where
   pub region : Region
+  pub profile : Profile
   -- spans of frames with the same pads, one after another
   pub spans : List Span
   -- the numbers of the frames that begin with a reset

@@ -7,6 +7,7 @@
 mod bytes;
 mod cart;
 mod ports;
+mod profile;
 mod region;
 mod script;
 mod spot;
@@ -15,6 +16,7 @@ mod table;
 pub use bytes::Bytes;
 pub use cart::{Cart, Job, MapKind};
 pub use ports::{Act, Side};
+pub use profile::Profile;
 pub use region::Region;
 pub use script::{Span, Spans};
 pub use spot::{IrqTime, Spot};

@@ -1,10 +1,12 @@
 // The controller script.
 ghost use Rattle.std.specs.Prelude.{◌≡◌, ◌≤◌, List, [], if◌then◌else◌, IfOk};
 ghost use Rattle.snes_defs.specs.declared.region.Region.TheVariants.{Ntsc};
+ghost use Rattle.snes_defs.specs.declared.profile.Profile.TheVariants.{First};
 ghost use Rattle.snes_defs.specs.declared.script.Span.{Span};
 ghost use Rattle.snes_defs.specs.Script.{Script, IsScript, RiseWithin, frames_of, pads_at, is_reset};
 
 use crate::NoMemory;
+use crate::profile::Profile;
 use crate::region::Region;
 use std::alloc::Global;
 use std::marker::Model;
@@ -25,11 +27,12 @@ pub struct Span {
     pub pad2: u16,
 }
 
-/// The controller script: the machine's region, spans one after another, at most 36,000 frames in
+/// The controller script: the machine's region and profile, spans one after another, at most 36,000 frames in
 /// all, and the frames that begin with a press of the reset button.
 #[derive(Drop)]
 pub struct Spans {
     region: Region,
+    profile: Profile,
     spans: Vec<Span>,
     resets: Vec<u32>,
     /// Up to how many spans, and up to how many resets, it may grow in the memory that it has. A script that was made
@@ -43,28 +46,29 @@ impl Model for Spans {
 
     ghost Value = { Script };
 
-    ghost view = { λ s. record { region = s.region; spans = s.spans.items; resets = s.resets.items; room = s.room } };
+    ghost view = { λ s. record { region = s.region; profile = s.profile; spans = s.spans.items; resets = s.resets.items; room = s.room } };
 
-    ghost invariant = { λ s. IsScript (record { region = s.region; spans = s.spans.items; resets = s.resets.items; room = s.room }) × (s.room ≤ vec_capacity s.spans) × (s.room ≤ vec_capacity s.resets) };
+    ghost invariant = { λ s. IsScript (record { region = s.region; profile = s.profile; spans = s.spans.items; resets = s.resets.items; room = s.room }) × (s.room ≤ vec_capacity s.spans) × (s.room ≤ vec_capacity s.resets) };
 }
 
 impl Spans {
-    /// Makes an Ntsc script of the spans, without resets. It does not allocate.
+    /// Makes an Ntsc script of the spans, of the first profile and without resets. It does not allocate.
     pub fn of(alloc: Global, v: Vec<Span>) -> Spans
         requires { frames_of v.items ≤ 36000 }
-        ensures kept { result ≡ record { region = Ntsc; spans = v.items; resets = []; room = 0 } }
+        ensures kept { result ≡ record { region = Ntsc; profile = First; spans = v.items; resets = []; room = 0 } }
     {
-        Spans::versioned(v, Region::Ntsc, Vec::new(alloc))
+        Spans::versioned(v, Region::Ntsc, Profile::First, Vec::new(alloc))
     }
 
-    /// Makes a script of spans, region and resets. The resets rise, from 1 to 36,000. It does not allocate.
-    pub fn versioned(v: Vec<Span>, region: Region, resets: Vec<u32>) -> Spans
+    /// Makes a script of spans, region, profile and resets. The resets rise, from 1 to 36,000. It does not allocate.
+    pub fn versioned(v: Vec<Span>, region: Region, profile: Profile, resets: Vec<u32>) -> Spans
         requires frames { frames_of v.items ≤ 36000 }
         requires resets { RiseWithin 1 36000 resets.items }
-        ensures kept { result ≡ record { region = region; spans = v.items; resets = resets.items; room = 0 } }
+        ensures kept { result ≡ record { region = region; profile = profile; spans = v.items; resets = resets.items; room = 0 } }
     {
         Spans {
             region,
+            profile,
             spans: v,
             resets,
             room: 0,
@@ -89,6 +93,7 @@ impl Spans {
         };
         Ok(Spans {
             region: self.region,
+            profile: self.profile,
             spans,
             resets,
             room: self.room,
@@ -107,6 +112,13 @@ impl Spans {
         ensures { result ≡ self.now.region }
     {
         self.region
+    }
+
+    /// Returns the profile of the machine that the script is played on.
+    pub fn profile(&self) -> Profile
+        ensures { result ≡ self.now.profile }
+    {
+        self.profile
     }
 
     /// Returns both pad words of a frame, counted from 0; they are zero after the last span.

@@ -57,6 +57,7 @@ impl Spans {
         ensures same { into.new ≡ record self.now { room = into.old.room } }
     {
         into.region = self.region;
+        into.profile = self.profile;
         into.spans.truncate(0);
         match into.spans.extend_from_slice(self.spans.as_slice()) {
             Ok(()) => {}
