@@ -1,25 +1,26 @@
 ghost use Rattle.std.specs.Prelude.{◌≡◌, ◌<◌, IfOk, length};
-ghost use Rattle.ppu_regs.specs.Picture.{picture_start};
+ghost use Rattle.snes_defs.specs.declared.profile.Profile.TheVariants.{First};
+ghost use Rattle.ppu_regs.specs.Picture.{zeros, vram_words, picture_start};
 ghost use Rattle.tile_cache.specs.Bitplanes.{IsInStep};
 
 use ppu_regs::{Dot, Ppu};
 use ppu_tiles::{background_row, depth};
-use snes_defs::NoMemory;
+use snes_defs::{NoMemory, Profile};
 use std::alloc::Global;
 use std::test::Fail;
 use tile_cache::{TileCache, write};
 
 fn unit(alloc: Global) -> Result<Ppu, Fail>
-    ensures { IfOk result (λ p. p ≡ picture_start) }
+    ensures { IfOk result (λ p. p ≡ picture_start First) }
 {
-    match Ppu::new(alloc) {
+    match Ppu::new(alloc, Profile::First) {
         Ok(p) => Ok(p),
         Err(NoMemory) => Err(Fail::from("no memory for a unit")),
     }
 }
 
 fn cache(alloc: Global) -> Result<TileCache, Fail>
-    ensures { IfOk result (λ t. IsInStep t picture_start.vram) }
+    ensures { IfOk result (λ t. IsInStep t (zeros vram_words)) }
 {
     match TileCache::new(alloc) {
         Ok(tiles) => Ok(tiles),

@@ -4,6 +4,8 @@
 //!
 //! - `picture`, `backgrounds`: objects over their limits, mode 7, a window, arithmetic, text, and the dots of
 //!   backgrounds. Each sets up a PPU by writes of its registers and compares what the public calls give.
+//! - `profiles`: what differs between the profiles in the picture, and the calls of the PPU that are only for the
+//!   second.
 //! - `readers`, `shelf`: the readers, the files of the demo, the shelf over real files and the lines for the user, as
 //!   an outside reader expects them: each call that may allocate is made once with plenty of memory, and its result is
 //!   compared.
@@ -20,6 +22,8 @@ mod films;
 mod flat;
 #[cfg(test)]
 mod picture;
+#[cfg(test)]
+mod profiles;
 #[cfg(test)]
 mod readers;
 #[cfg(test)]

@@ -4,7 +4,7 @@ use ppu_line::draw;
 use ppu_mode7::rotated_row;
 use ppu_objects::obj_row;
 use ppu_regs::{Dot, Ppu};
-use snes_defs::NoMemory;
+use snes_defs::{NoMemory, Profile};
 use std::alloc::Global;
 use std::test::Fail;
 use tile_cache::TileCache;
@@ -17,7 +17,7 @@ const NOTHING: Dot = Dot {
 };
 
 fn unit(alloc: Global) -> Result<Ppu, Fail> {
-    match Ppu::new(alloc) {
+    match Ppu::new(alloc, Profile::First) {
         Ok(p) => Ok(p),
         Err(NoMemory) => Err(Fail::from("no memory for a unit")),
     }

@@ -1,7 +1,7 @@
 use cart_map::{CartEnd, accept};
 use demo_files::{demo_boot_rom, demo_table, image};
 use input_files::{ScriptEnd, read_boot, read_script, read_table};
-use snes_defs::{MapKind, NoMemory, Region, Spans};
+use snes_defs::{MapKind, NoMemory, Profile, Region, Spans};
 use std::alloc::Global;
 use std::test::Fail;
 
@@ -92,6 +92,41 @@ fn a_first_line_names_version_and_region(rt: HostRuntime) -> Result<(), Fail> {
         Some(2)
     );
     Ok(())
+}
+
+#[test]
+fn version_3_names_the_second_profile(rt: HostRuntime) -> Result<(), Fail> {
+    let alloc = rt.alloc();
+    let none = script(alloc, "").ok_or("refused")?;
+    assert_eq!(rt; none.profile(), Profile::First);
+    let old = script(alloc, "version 2 pal").ok_or("refused")?;
+    assert_eq!(rt; old.profile(), Profile::First);
+    let ntsc = script(alloc, "version 3 ntsc").ok_or("refused")?;
+    assert_eq!(rt; ntsc.region(), Region::Ntsc);
+    assert_eq!(rt; ntsc.profile(), Profile::Second);
+    let pal = script(alloc, "version 3 pal\r\n2 8000 0000\nreset\n").ok_or("refused")?;
+    assert_eq!(rt; pal.region(), Region::Pal);
+    assert_eq!(rt; pal.profile(), Profile::Second);
+    assert_eq!(rt; pal.pads(1), (0x8000, 0));
+    assert!(rt; pal.resets(2));
+    Ok(())
+}
+
+#[test]
+fn a_version_has_one_form(rt: HostRuntime) {
+    let alloc = rt.alloc();
+    assert_eq!(rt; refused_at(alloc, "version 3"), Some(1));
+    assert_eq!(rt; refused_at(alloc, "version 4 ntsc"), Some(1));
+    assert_eq!(rt; refused_at(alloc, "version 1 ntsc"), Some(1));
+    assert_eq!(rt; refused_at(alloc, "version 3 PAL"), Some(1));
+    assert_eq!(rt; refused_at(alloc, "version  3 ntsc"), Some(1));
+    assert_eq!(rt; refused_at(alloc, "version 3 ntsc "), Some(1));
+    assert_eq!(rt; refused_at(alloc, "\nversion 3 ntsc"), Some(2));
+    assert_eq!(rt;
+        refused_at(alloc, "version 3 ntsc\nversion 3 ntsc"),
+        Some(2)
+    );
+    assert_eq!(rt; refused_at(alloc, "version 3 ntsc\nreset"), Some(2));
 }
 
 #[test]

@@ -5,11 +5,20 @@ ghost use Rattle.std.specs.Prelude.{◌≡◌, ◌<◌, ◌≤◌};
 use crate::memory::palette_colour;
 use crate::windows::{holds_there, is_inside};
 use ppu_regs::{ColourMath, Ppu};
+use snes_defs::Profile;
 
 /// Returns the fixed colour of 2132.
-pub fn fixed_colour(p: &Ppu) -> u16 {
+fn fixed_colour(p: &Ppu) -> u16 {
     let c = &p.registers().colour;
     c.red as u16 % 32 + 32 * (c.green as u16 % 32) + 1024 * (c.blue as u16 % 32)
+}
+
+/// Returns what a dot of the sub screen shows in hi-res, if no layer stands there.
+pub fn empty_colour(p: &Ppu) -> u16 {
+    match p.registers().profile {
+        Profile::First => fixed_colour(p),
+        Profile::Second => palette_colour(p, 0),
+    }
 }
 
 /// Returns one of the three components of a colour: 0 red, 1 green, 2 blue.

@@ -4,6 +4,7 @@ ghost use Rattle.std.specs.Prelude.{◌≡◌, ◌<◌, ◌≤◌};
 
 use crate::memory::{Seen, palette_colour, tile_pixel};
 use ppu_regs::{Over, Ppu};
+use snes_defs::Profile;
 
 /// The most objects of a row, and the most slivers of eight pixels.
 const MOST_OBJECTS: usize = 32;
@@ -211,6 +212,18 @@ fn objects_of(p: &Ppu, row: u16) -> Objects
     objects
 }
 
+/// Returns a line of an object of a size, turned top to bottom. In the second profile an upright object is two
+/// squares, each turned in its place: width and height are powers of two.
+fn turned_line(profile: Profile, size: Size, line: u32) -> u32
+    requires width { 0 < size.width }
+    requires line { line < size.height }
+{
+    match profile {
+        Profile::First => size.height - 1 - line,
+        Profile::Second => line ^ (size.width - 1),
+    }
+}
+
 /// Returns the value of an object at a column and line of it, after its flips.
 fn value_at(p: &Ppu, object: &Object, column: u32, line: u32) -> u8
     requires column { column < object.now.size.width }
@@ -226,7 +239,7 @@ fn value_at(p: &Ppu, object: &Object, column: u32, line: u32) -> u8
         column
     };
     let y = if object.attributes & 0x80 != 0 {
-        object.size.height - 1 - line
+        turned_line(p.registers().profile, object.size, line)
     } else {
         line
     };

@@ -2,7 +2,7 @@
 
 ghost use Rattle.std.specs.Prelude.{◌≡◌, ◌<◌, ◌≤◌, length};
 
-use crate::colours::{dimmed, fixed_colour, mixed};
+use crate::colours::{dimmed, empty_colour, mixed};
 use crate::layers::{Screen, front_at};
 use crate::objects::{ObjectRow, object_row};
 use ppu_regs::{Over, Ppu};
@@ -18,7 +18,7 @@ fn dot(p: &Ppu, objects: &ObjectRow, row: u16, e: u32) -> u16
     let sub = front_at(p, objects, Screen::Sub, row, first).map(|(seen, _)| seen.colour);
     let halved = r.mode == 5 || r.mode == 6 || r.settings.half_dots;
     if halved && e == first {
-        return sub.unwrap_or(fixed_colour(p));
+        return sub.unwrap_or(empty_colour(p));
     }
     let main = front_at(p, objects, Screen::Main, row, first + 1);
     let front = main.map(|(seen, named)| (seen.colour, named));

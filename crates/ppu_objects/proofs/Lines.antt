@@ -3,7 +3,7 @@ use Rattle.std.proofs.Common.{◌≡◌, ℕ, zero, suc, ◌+◌, ◌-◌, ◌*�
 use Rattle.std.proofs.lemmas.Bool.{cases_lt, le-ltb, lt-ltb, lt-leb, le-leb, ltb-true, ltb-false, or_cases, or_parts, and_right}
 use Rattle.std.proofs.lemmas.List.{get_or_past, get_or-replicate, length-replicate}
 use Rattle.ppu_regs.specs.declared.dots.LayerDot.{LayerDot}
-use Rattle.ppu_regs.specs.declared.registers.ObjectTiles.{ObjectTiles}
+use Rattle.ppu_regs.specs.declared.registers.Registers.{Registers}
 use Rattle.ppu_regs.specs.Picture.{Picture}
 use Rattle.tile_cache.specs.Bitplanes.{pixel_of, eight}
 use Rattle.ppu_objects.specs.declared.objects.Object.{Object}
@@ -30,16 +30,16 @@ eight_ext f g same =
     cc
 
 pub line_is :
-    (vram : List ℕ) (tiles : ObjectTiles) (o : Object) (column row first second : ℕ) →
-    first ≡ slice_index vram (sliver_word tiles o column row) → second ≡ slice_index vram ((sliver_word tiles o column row + 8) % 32768) →
+    (vram : List ℕ) (r : Registers) (o : Object) (column row first second : ℕ) →
+    first ≡ slice_index vram (sliver_word r o column row) → second ≡ slice_index vram ((sliver_word r o column row + 8) % 32768) →
     eight (λ k. pixel_of first (if o.flip_x then 7 - k else k) + 4 * pixel_of second (if o.flip_x then 7 - k else k)) ≡
-    eight (pixel_value vram tiles o column row)
+    eight (pixel_value vram r o column row)
 unfolding pixel_value
-line_is vram tiles o column row first second h1 h2 =
+line_is vram r o column row first second h1 h2 =
     eight_ext (λ k. pixel_of first (if o.flip_x then 7 - k else k) + 4 * pixel_of second (if o.flip_x then 7 - k else k))
-    (pixel_value vram tiles o column row)
-    (λ k h. rw (h1, h2) (value_is (slice_index vram (sliver_word tiles o column row))
-    (slice_index vram ((sliver_word tiles o column row + 8) % 32768)) (if o.flip_x then 7 - k else k)))
+    (pixel_value vram r o column row)
+    (λ k h. rw (h1, h2) (value_is (slice_index vram (sliver_word r o column row))
+    (slice_index vram ((sliver_word r o column row + 8) % 32768)) (if o.flip_x then 7 - k else k)))
 
 value_small : (first second k : ℕ) → value_of first second k < 16
 unfolding value_of
@@ -206,14 +206,14 @@ kept b new old h = rw h refl
 -- one more line
 pub line_next :
     (p : Picture) (row : ℕ) (slivers : List Sliver) (lines line : List ℕ) (i j k : ℕ) (sliver : Sliver) → i ≡ j → k < 8 →
-    line ≡ eight (pixel_value p.vram p.registers.object_tiles sliver.object sliver.column row) → sliver ≡ slice_index_or slivers i no_sliver →
+    line ≡ eight (pixel_value p.vram p.registers sliver.object sliver.column row) → sliver ≡ slice_index_or slivers i no_sliver →
     slice_index lines (8 * i + k) ≡ slice_index line k → slice_index lines (8 * j + k) ≡ sliver_pixel p row (slice_index_or slivers j no_sliver) k
 unfolding sliver_pixel
 line_next p row slivers lines line i j k sliver same hk is here put =
     ap (λ n. slice_index lines (8 * n + k)) (sym same) ∙ put ∙ ap (λ l. slice_index l k) is
-    ∙ eight_at (pixel_value p.vram p.registers.object_tiles sliver.object sliver.column row) k hk
-    ∙ ap (λ (q : Sliver). pixel_value p.vram p.registers.object_tiles q.object q.column row k) here
-    ∙ ap (λ n. pixel_value p.vram p.registers.object_tiles (slice_index_or slivers n no_sliver).object (slice_index_or slivers n no_sliver).column row k) same
+    ∙ eight_at (pixel_value p.vram p.registers sliver.object sliver.column row) k hk
+    ∙ ap (λ (q : Sliver). pixel_value p.vram p.registers q.object q.column row k) here
+    ∙ ap (λ n. pixel_value p.vram p.registers (slice_index_or slivers n no_sliver).object (slice_index_or slivers n no_sliver).column row k) same
 
 -- zeros
 pub zero_of : (n i : ℕ) → slice_index (replicate n 0) i ≡ 0

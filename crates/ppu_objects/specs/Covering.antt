@@ -10,7 +10,7 @@ covers lines from at x = nat_le at x && (nat_lt x (at + 8) && not (slice_index l
 
 -- the value of pixel k of a sliver on a row
 unfoldable pub sliver_pixel : Picture → ℕ → Sliver → ℕ → ℕ
-sliver_pixel p row sliver k = pixel_value p.vram p.registers.object_tiles sliver.object sliver.column row k
+sliver_pixel p row sliver k = pixel_value p.vram p.registers sliver.object sliver.column row k
 
 -- a sliver at places where no list has one
 abbrev pub no_sliver : Sliver

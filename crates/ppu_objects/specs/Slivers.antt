@@ -1,5 +1,8 @@
 -- The slivers of eight pixels that the drawn objects have on a row, and what stands at a pixel.
 use Rattle.std.specs.Prelude.{ℕ, zero, suc, ◌+◌, ◌-◌, ◌*◌, ◌/◌, ◌%◌, ◌^◌, ◌==◌, Bool, false, not, ◌||◌, nat_lt, nat_le, List, [], ◌∷◌, ◌++◌, length, take, fold, slice_index, if◌then◌else◌}
+use Rattle.snes_defs.specs.declared.profile.Profile.{Profile}
+use Rattle.snes_defs.specs.declared.profile.Profile.TheVariants.{First, Second}
+use Rattle.ppu_regs.specs.declared.registers.Registers.{Registers}
 use Rattle.ppu_regs.specs.declared.registers.ObjectTiles.{ObjectTiles}
 use Rattle.ppu_regs.specs.declared.dots.LayerDot.{LayerDot}
 use Rattle.ppu_regs.specs.Picture.{Picture}
@@ -34,10 +37,19 @@ drawn_slivers p row = take 34 (all_slivers p.registers.object_tiles.size (drawn_
 unfoldable pub passes_time : Picture → ℕ → Bool
 passes_time p row = nat_lt 34 (length (all_slivers p.registers.object_tiles.size (drawn_objects p row)))
 
--- The line of an object that a row shows and the column of tiles that a sliver shows, after the flips, which turn the whole object over.
-unfoldable pub shown_line : ℕ → Object → ℕ → ℕ
-shown_line code o row =
-    if o.flip_y then height_of code o.large - 1 - line_in o.y row else line_in o.y row
+-- A line of an object that is turned top to bottom. In the first profile the whole object is turned over. In the
+-- second its upper square and, if it is taller than wide, its lower one are each turned over in their places.
+unfoldable pub turned_line : Profile → ℕ → ℕ → ℕ → ℕ
+turned_line First width height line = height - 1 - line
+turned_line Second width height line =
+    if nat_lt line width then width - 1 - line else width + (width - 1 - (line - width))
+
+-- The line of an object that a row shows and the column of tiles that a sliver shows, after the flips. A flip left
+-- to right turns the whole object over.
+unfoldable pub shown_line : Profile → ℕ → Object → ℕ → ℕ
+shown_line profile code o row =
+    if o.flip_y then turned_line profile (width_of code o.large) (height_of code o.large) (line_in o.y row)
+    else line_in o.y row
 
 unfoldable pub shown_column : ℕ → Object → ℕ → ℕ
 shown_column code o column = if o.flip_x then width_of code o.large / 8 - 1 - column else column
@@ -57,16 +69,15 @@ value_of first second k =
     first / 2 ^ (7 - k) % 2 + 2 * (first / 2 ^ (15 - k) % 2) + 4 * (second / 2 ^ (7 - k) % 2) + 8 * (second / 2 ^ (15 - k) % 2)
 
 -- the first word of a sliver on a row
-unfoldable pub sliver_word : ObjectTiles → Object → ℕ → ℕ → ℕ
-sliver_word tiles o column row =
-    tile_word tiles o.table
-    (tile_number o.tile (shown_column tiles.size o column) (shown_line tiles.size o row))
-    (shown_line tiles.size o row)
+unfoldable pub sliver_word : Registers → Object → ℕ → ℕ → ℕ
+sliver_word r o column row =
+    let line = shown_line r.profile r.object_tiles.size o row in
+    tile_word r.object_tiles o.table (tile_number o.tile (shown_column r.object_tiles.size o column) line) line
 
 -- the value of pixel k of a sliver, k from the left on the screen
-unfoldable pub pixel_value : List ℕ → ObjectTiles → Object → ℕ → ℕ → ℕ → ℕ
-pixel_value vram tiles o column row k =
-    value_of (slice_index vram (sliver_word tiles o column row)) (slice_index vram ((sliver_word tiles o column row + 8) % 32768))
+unfoldable pub pixel_value : List ℕ → Registers → Object → ℕ → ℕ → ℕ → ℕ
+pixel_value vram r o column row k =
+    value_of (slice_index vram (sliver_word r o column row)) (slice_index vram ((sliver_word r o column row + 8) % 32768))
     (if o.flip_x then 7 - k else k)
 
 -- nothing
@@ -93,7 +104,7 @@ unfoldable pub sliver_layer_dot : Picture → ℕ → Sliver → ℕ → LayerDo
 sliver_layer_dot p row sliver x =
     if nat_lt (offset_in (sliver_left sliver.object sliver.column) x) 8
     then object_dot sliver.object
-    (pixel_value p.vram p.registers.object_tiles sliver.object sliver.column row (offset_in (sliver_left sliver.object sliver.column) x))
+    (pixel_value p.vram p.registers sliver.object sliver.column row (offset_in (sliver_left sliver.object sliver.column) x))
     else nothing
 
 -- a sliver drawn over what stands at a pixel: it covers it where its value isn't 0

@@ -3,24 +3,46 @@
 ghost use Rattle.std.specs.Prelude.{◌≡◌, ℕ, ◌+◌, ◌-◌, ◌*◌, ◌/◌, ◌%◌, ◌<◌, ◌≤◌, ◌==◌, nat_le, length, slice_index, slice_index_or, if◌then◌else◌};
 ghost use Rattle.tile_cache.specs.Bitplanes.{eight};
 ghost use Rattle.ppu_objects.specs.Covering.{covers, no_sliver, sliver_pixel};
-ghost use Rattle.ppu_objects.specs.Slivers.{shown_line, shown_column, tile_number, tile_word, sliver_word, pixel_value, sliver_layer_dot};
+ghost use Rattle.ppu_objects.specs.Slivers.{turned_line, shown_line, shown_column, tile_number, tile_word, sliver_word, pixel_value, sliver_layer_dot};
 ghost use Rattle.ppu_objects.specs.Ranks.{rank_byte, object_rank};
 
 use crate::objects::{Object, line_of_object};
 use crate::sizes::Sizes;
 use crate::slivers::{Sliver, left_of, on_screen};
-use ppu_regs::{ObjectTiles, Ppu};
+use ppu_regs::{ObjectTiles, Ppu, Registers};
 use scanline_ops::choose;
+use snes_defs::Profile;
 use tile_cache::line_of_words;
+
+/// Returns a line of an object that is turned top to bottom.
+#[inline(always)]
+#[tactic(auto, unfolding(crate::specs::Slivers::turned_line))]
+fn turn_line(profile: Profile, width: u16, height: u16, line: u16) -> u16
+    requires wide { 8 ≤ width }
+    requires narrow { width ≤ 64 }
+    requires tall { 8 ≤ height }
+    ensures { result ≡ turned_line profile width height line }
+{
+    match profile {
+        Profile::First => (height - 1).saturating_sub(line),
+        Profile::Second => {
+            if line < width {
+                width - 1 - line
+            } else {
+                width + (width - 1).saturating_sub(line - width)
+            }
+        }
+    }
+}
 
 #[inline(always)]
 #[tactic(auto, unfolding(crate::specs::Slivers::shown_line))]
-fn line_shown(sizes: &Sizes, o: &Object, row: u16) -> u16
+fn line_shown(profile: Profile, sizes: &Sizes, o: &Object, row: u16) -> u16
     requires { row < 239 }
-    ensures { result ≡ shown_line sizes.now o.now row }
+    ensures { result ≡ shown_line profile sizes.now o.now row }
 {
     let line = line_of_object(o.y, row);
-    let turned = (sizes.height(o.large) - 1).saturating_sub(line);
+    let turned = turn_line(profile, sizes.width(o.large), sizes.height(o.large), line);
     if o.flip_y { turned } else { line }
 }
 
@@ -56,16 +78,16 @@ fn word(tiles: &ObjectTiles, table: u8, tile: u32, line: u16) -> usize
 
 #[inline(always)]
 #[tactic(auto, unfolding(crate::specs::Slivers::sliver_word))]
-fn word_of_sliver(tiles: &ObjectTiles, sizes: &Sizes, sliver: &Sliver, row: u16) -> usize
+fn word_of_sliver(r: &Registers, sizes: &Sizes, sliver: &Sliver, row: u16) -> usize
     requires row { row < 239 }
-    requires sizes { sizes.now ≡ tiles.now.size }
-    ensures value { result ≡ sliver_word tiles.now sliver.now.object sliver.now.column row }
+    requires sizes { sizes.now ≡ r.now.object_tiles.size }
+    ensures value { result ≡ sliver_word r.now sliver.now.object sliver.now.column row }
     ensures small { result < 32768 }
 {
     let o = &sliver.object;
-    let line = line_shown(sizes, o, row);
+    let line = line_shown(r.profile, sizes, o, row);
     let column = column_shown(sizes, o, sliver.column);
-    word(tiles, o.table, tile(o.tile, column, line), line)
+    word(&r.object_tiles, o.table, tile(o.tile, column, line), line)
 }
 
 /// Returns the rank byte of an object's pixels.
@@ -85,10 +107,10 @@ fn rank_of_object(bases: &[u8; 4], named: bool, o: &Object) -> u8
 fn line_of_sliver(p: &Ppu, sizes: &Sizes, row: u16, sliver: &Sliver) -> [u8; 8]
     requires row { row < 239 }
     requires sizes { sizes.now ≡ p.now.registers.object_tiles.size }
-    ensures { result ≡ eight (pixel_value p.now.vram p.now.registers.object_tiles sliver.now.object sliver.now.column row) }
+    ensures { result ≡ eight (pixel_value p.now.vram p.now.registers sliver.now.object sliver.now.column row) }
 {
     let vram = p.vram();
-    let at = word_of_sliver(&p.registers().object_tiles, sizes, sliver, row);
+    let at = word_of_sliver(p.registers(), sizes, sliver, row);
     line_of_words(vram[at], vram[(at + 8) % 32768], sliver.object.flip_x)
 }
 

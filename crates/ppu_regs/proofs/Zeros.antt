@@ -3,6 +3,7 @@ use Rattle.std.proofs.Common.{◌≡◌, ◌<◌, ℕ, zero, suc, List, [], ◌�
 use Rattle.std.proofs.lemmas.List.{length-replicate, get_or-replicate, get_or_past}
 use Rattle.std.proofs.lemmas.List.Elements.{All-head, All-tail}
 use Rattle.ppu_regs.specs.Picture.{zeros, vram_words, Picture, IsInRange, registers_start, picture_start}
+use Rattle.snes_defs.specs.declared.profile.Profile.{Profile}
 use Rattle.ppu_regs.specs.declared.registers.Registers.{Registers}
 
 -- a list of zeros is told by its length
@@ -35,8 +36,8 @@ unfolding zeros vram_words
 length-vram = length-replicate {A = ℕ} vram_words 0
 
 -- the unit at the start is in range
-start_is_in_range : IsInRange picture_start
-start_is_in_range = record {
+start_is_in_range : (profile : Profile) → IsInRange (picture_start profile)
+start_is_in_range profile = record {
   registers = record {
     mode = omega arith;
     mosaic = omega arith;
@@ -57,11 +58,13 @@ start_is_in_range = record {
 
 -- what is made of such registers and memories is the start
 pub is_start :
-    (r : Registers) (vram cgram oam : List ℕ) → r ≡ registers_start → vram ≡ zeros vram_words → cgram ≡ zeros 256 →
-    oam ≡ zeros 544 → (let p : Picture = record { registers = r; vram = vram; cgram = cgram; oam = oam } in p ≡ picture_start)
-is_start r vram cgram oam hr hv hc ho = cc
+    (profile : Profile) (r : Registers) (vram cgram oam : List ℕ) → r ≡ registers_start profile → vram ≡ zeros vram_words →
+    cgram ≡ zeros 256 → oam ≡ zeros 544 →
+    (let p : Picture = record { registers = r; vram = vram; cgram = cgram; oam = oam } in p ≡ picture_start profile)
+is_start profile r vram cgram oam hr hv hc ho = cc
 
 pub starts_in_range :
-    (r : Registers) (vram cgram oam : List ℕ) → r ≡ registers_start → vram ≡ zeros vram_words → cgram ≡ zeros 256 →
-    oam ≡ zeros 544 → IsInRange (record { registers = r; vram = vram; cgram = cgram; oam = oam })
-starts_in_range r vram cgram oam hr hv hc ho = subst IsInRange (sym (is_start r vram cgram oam hr hv hc ho)) start_is_in_range
+    (profile : Profile) (r : Registers) (vram cgram oam : List ℕ) → r ≡ registers_start profile → vram ≡ zeros vram_words →
+    cgram ≡ zeros 256 → oam ≡ zeros 544 → IsInRange (record { registers = r; vram = vram; cgram = cgram; oam = oam })
+starts_in_range profile r vram cgram oam hr hv hc ho =
+    subst IsInRange (sym (is_start profile r vram cgram oam hr hv hc ho)) (start_is_in_range profile)

@@ -1,9 +1,12 @@
 -- What the picture unit keeps: its registers (2100 to 213F) and its three memories; and all of it at the start.
 use Rattle.std.specs.Prelude.{◌≡◌, ℕ, true, false, ◌==◌, ◌<◌, List, replicate, length, slice_index, if◌then◌else◌}
+use Rattle.snes_defs.specs.declared.profile.Profile.{Profile}
 use Rattle.ppu_regs.specs.declared.registers.Registers.{Registers}
 use Rattle.ppu_regs.specs.declared.registers.Background.{Background}
 use Rattle.ppu_regs.specs.declared.registers.LayerWindows.{LayerWindows}
 use Rattle.ppu_regs.specs.declared.registers.LayerScreens.{LayerScreens}
+use Rattle.ppu_regs.specs.declared.registers.Rotation.{Rotation}
+use Rattle.ppu_regs.specs.declared.registers.ColourMath.{ColourMath}
 use Rattle.ppu_regs.specs.declared.registers.Combine.TheVariants.{Or}
 use Rattle.ppu_regs.specs.declared.registers.WindowPart.TheVariants.{Never}
 use Rattle.ppu_regs.specs.declared.registers.Outside.TheVariants.{Wrap}
@@ -79,9 +82,40 @@ windows_start = record { one_outside = false; one_on = false; two_outside = fals
 abbrev pub screens_start : LayerScreens
 screens_start = record { main = false; sub = false; main_masked = false; sub_masked = false; arithmetic = false }
 
--- the registers at the start: forced blank, all else 0; the address of VRAM steps by 1 after a low byte
-abbrev pub registers_start : Registers
-registers_start = record {
+abbrev pub rotation_start : Rotation
+rotation_start = record {
+  flip_x = false;
+  flip_y = false;
+  outside = Wrap;
+  a = 0;
+  b = 0;
+  c = 0;
+  d = 0;
+  center_x = 0;
+  center_y = 0;
+  scroll_x = 0;
+  scroll_y = 0;
+  kept = 0;
+}
+
+abbrev pub colour_start : ColourMath
+colour_start = record {
+  black = Never;
+  none = Never;
+  sub_screen = false;
+  direct = false;
+  subtract = false;
+  halve = false;
+  backdrop = false;
+  red = 0;
+  green = 0;
+  blue = 0;
+}
+
+-- the registers of a profile at the start: forced blank, all else 0; the address of VRAM steps by 1 after a low
+-- byte
+abbrev pub registers_start : Profile → Registers
+registers_start profile = record {
   display = record { blanked = true; brightness = 0 };
   object_tiles = record { size = 0; gap = 0; base = 0 };
   oam = record { word = 0; rotates = false; address = 0; kept = 0 };
@@ -93,20 +127,7 @@ registers_start = record {
   bg3 = background_start;
   bg4 = background_start;
   scroll_kept = 0;
-  rotation = record {
-    flip_x = false;
-    flip_y = false;
-    outside = Wrap;
-    a = 0;
-    b = 0;
-    c = 0;
-    d = 0;
-    center_x = 0;
-    center_y = 0;
-    scroll_x = 0;
-    scroll_y = 0;
-    kept = 0;
-  };
+  rotation = rotation_start;
   vram = record { steps_at_high = false; remap = 0; step = 1; address = 0; fetched = 0 };
   cgram = record { index = 0; high = false; kept = 0 };
   window_one = record { left = 0; right = 0 };
@@ -122,21 +143,11 @@ registers_start = record {
   screens_bg3 = screens_start;
   screens_bg4 = screens_start;
   screens_objects = screens_start;
-  colour = record {
-    black = Never;
-    none = Never;
-    sub_screen = false;
-    direct = false;
-    subtract = false;
-    halve = false;
-    backdrop = false;
-    red = 0;
-    green = 0;
-    blue = 0;
-  };
+  colour = colour_start;
   settings = record { extbg = false; half_dots = false; overscan = false };
   counters = record { h = 0; v = 0; latched = false; h_high = false; v_high = false };
   over = record { range = false; time = false };
+  profile = profile;
 }
 
 unfoldable pub vram_words : ℕ
@@ -145,6 +156,7 @@ vram_words = 32768
 unfoldable pub zeros : ℕ → List ℕ
 zeros n = replicate n 0
 
--- the unit at the start: registers as above, memories of zeros
-abbrev pub picture_start : Picture
-picture_start = record { registers = registers_start; vram = zeros vram_words; cgram = zeros 256; oam = zeros 544 }
+-- the unit of a profile at the start: registers as above, memories of zeros
+abbrev pub picture_start : Profile → Picture
+picture_start profile =
+    record { registers = registers_start profile; vram = zeros vram_words; cgram = zeros 256; oam = zeros 544 }

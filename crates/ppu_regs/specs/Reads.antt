@@ -28,6 +28,11 @@ bit_of on = if on then 1 else 0
 unfoldable pub counters_latched : Counters → Spot → Counters
 counters_latched c spot = record c { h = spot.h / 4; v = spot.v; latched = true }
 
+-- the unit after the place of the beam was kept, by 2137 or from outside
+abbrev pub latched : Picture → Spot → Picture
+latched p spot =
+    record p { registers = record p.registers { counters = counters_latched p.registers.counters spot } }
+
 -- 213C OPHCT, 213D OPVCT: the low byte, then bit 8
 abbrev pub count_byte : ℕ → Bool → ℕ
 count_byte count high = if high then count / 256 % 2 else count % 256
@@ -60,7 +65,7 @@ byte_read p reg bus =
 unfoldable pub registers_read : Picture → ℕ → Spot → Registers
 registers_read p reg spot =
     let r = p.registers in
-    if reg == 0x37 then (record r { counters = counters_latched r.counters spot })
+    if reg == 0x37 then (latched p spot).registers
     else if reg == 0x38 then (record r { oam = oam_stepped r.oam })
     else if reg == 0x39 then (record r { vram = vram_port_read p.vram r.vram false })
     else if reg == 0x3a then (record r { vram = vram_port_read p.vram r.vram true })

@@ -89,6 +89,12 @@ vram_high_put p v = record p {
   vram = vram_high_written p.vram p.registers.vram v;
 }
 
+-- after a write of 2118 (or of 2119, if `reg` is 19h) that VRAM does not take: the address steps by the same rule,
+-- nothing else
+unfoldable pub vram_passed : Picture → ℕ → Picture
+vram_passed p reg =
+    record p { registers = record p.registers { vram = vram_port_after p.registers.vram (reg == 0x19) } }
+
 -- after 2122 CGDATA
 unfoldable pub colour_put : Picture → ℕ → Picture
 colour_put p v = record p {

@@ -1,15 +1,15 @@
 //! The PPU as one value: writes, reads and the events of the beam.
 ghost use Rattle.std.specs.Prelude.{◌≡◌, ℕ, ◌<◌, ◌≤◌, ◌+◌, ◌*◌, length, slice_index, All, IfOk, IfSome, not, true, false};
 ghost use Rattle.ppu_regs.specs.Picture.{IsInRange, picture_start, vram_words, zeros};
-ghost use Rattle.ppu_regs.specs.Writes.{registers_written, oam_written, vram_low_set, vram_high_set, vram_low_put, vram_high_put, colour_put, after_write, word_written, after_over, after_frame, after_blank};
-ghost use Rattle.ppu_regs.specs.Reads.{byte_read, after_read, counters_latched, count_byte, status_two};
+ghost use Rattle.ppu_regs.specs.Writes.{registers_written, oam_written, vram_low_set, vram_high_set, vram_low_put, vram_high_put, vram_passed, colour_put, after_write, word_written, after_over, after_frame, after_blank};
+ghost use Rattle.ppu_regs.specs.Reads.{byte_read, after_read, latched, count_byte, status_two};
 ghost use Rattle.ppu_regs.specs.Ports.{vram_place, oam_place, oam_stepped, vram_port_read, cgram_byte, cgram_port_read};
 
 use crate::oam::{self, Oam};
 use crate::reads::part_of_count;
 use crate::registers::{Over, Registers};
 use crate::{cgram, vram};
-use snes_defs::{NoMemory, Spot};
+use snes_defs::{NoMemory, Profile, Spot};
 use std::alloc::Global;
 use std::marker::Model;
 
@@ -38,14 +38,13 @@ impl Model for Ppu {
 }
 
 impl Ppu {
-    /// Returns the PPU at its start: forced blank, all else zeros. Fails only if allocation fails.
-
-    pub fn new(alloc: Global) -> Result<Ppu, NoMemory>
-        ensures start { IfOk result (λ p. p ≡ picture_start) }
+    /// Returns the PPU of a profile at its start: forced blank, all else zeros. Fails only if allocation fails.
+    pub fn new(alloc: Global, profile: Profile) -> Result<Ppu, NoMemory>
+        ensures start { IfOk result (λ p. p ≡ picture_start profile) }
     {
         let vram = no_words(alloc)?;
         Ok(Ppu {
-            registers: Registers::start(),
+            registers: Registers::start(profile),
             vram,
             cgram: no_colours(),
             oam: Oam::new(),
@@ -171,6 +170,25 @@ impl Ppu {
         }
     }
 
+    /// Makes a write of 2118 VMDATAL, or of 2119 VMDATAH if `reg` is 19h, that VRAM does not take: steps the address
+    /// as such a write does, and changes nothing else.
+    #[inline]
+    #[tactic(auto, unfolding(crate::specs::Writes::vram_passed))]
+    pub fn pass_vram(&mut self, reg: u8)
+        ensures after { self.new ≡ vram_passed self.old reg }
+        ensures words { self.new.vram ≡ self.old.vram }
+    {
+        vram::step_after(&mut self.registers.vram, reg == 0x19);
+    }
+
+    /// Keeps the place of the beam, as a read of 2137 SLHV does.
+    #[inline(always)]
+    pub fn latch(&mut self, spot: Spot)
+        ensures { self.new ≡ latched self.old spot }
+    {
+        self.registers.counters.latch(spot);
+    }
+
     /// Adds the flags of a row to those of the objects' limits.
     pub fn over(&mut self, row: Over)
         ensures { self.new ≡ after_over self.old row }
@@ -263,14 +281,6 @@ impl Ppu {
         ensures { self.new ≡ colour_put self.old v }
     {
         cgram::write_byte(&mut self.cgram, &mut self.registers.cgram, v);
-    }
-
-    /// Reads 2137 SLHV: keeps the place of the beam.
-    #[inline(always)]
-    fn latch(&mut self, spot: Spot)
-        ensures { self.new ≡ (let k = counters_latched self.old.registers.counters spot in record self.old { registers = record self.old.registers { counters = k } }) }
-    {
-        self.registers.counters.latch(spot);
     }
 
     /// Reads 2138 OAMDATAREAD.

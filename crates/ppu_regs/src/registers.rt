@@ -1,3 +1,5 @@
+use snes_defs::Profile;
+
 /// The part of a row, seen from a window, in which something holds: the two-bit codes 0 to 3 of 2130 CGWSEL.
 #[derive(Clone, Copy, Debug, PartialEq, Eq)]
 pub enum WindowPart {
@@ -310,4 +312,6 @@ pub struct Registers {
     pub counters: Counters,
     /// The limits of the objects that were passed in this frame, 213E STAT77 bits 7-6.
     pub over: Over,
+    /// The profile whose rules the picture follows. No write changes it.
+    pub profile: Profile,
 }

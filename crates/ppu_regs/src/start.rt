@@ -1,12 +1,13 @@
 //! The registers at the start.
 ghost use Rattle.std.specs.Prelude.{◌≡◌};
-ghost use Rattle.ppu_regs.specs.Picture.{background_start, windows_start, screens_start, registers_start};
+ghost use Rattle.ppu_regs.specs.Picture.{background_start, windows_start, screens_start, rotation_start, colour_start, registers_start};
 
 use crate::registers::{
     Background, CgramPort, ColourMath, Combine, Counters, Display, LayerScreens, LayerWindows,
     OamPort, ObjectTiles, Outside, Over, Registers, Rotation, Settings, VramPort, Window,
     WindowPart,
 };
+use snes_defs::Profile;
 
 impl Background {
     fn start() -> Background
@@ -55,7 +56,7 @@ impl LayerScreens {
 
 impl Rotation {
     fn start() -> Rotation
-        ensures { result ≡ registers_start.rotation }
+        ensures { result ≡ rotation_start }
     {
         Rotation {
             flip_x: false,
@@ -76,7 +77,7 @@ impl Rotation {
 
 impl ColourMath {
     fn start() -> ColourMath
-        ensures { result ≡ registers_start.colour }
+        ensures { result ≡ colour_start }
     {
         ColourMath {
             black: WindowPart::Never,
@@ -94,9 +95,9 @@ impl ColourMath {
 }
 
 impl Registers {
-    /// Returns the registers at the start: forced blank, VRAM's step 1, all else 0.
-    pub fn start() -> Registers
-        ensures { result ≡ registers_start }
+    /// Returns the registers of a profile at the start: forced blank, VRAM's step 1, all else 0.
+    pub fn start(profile: Profile) -> Registers
+        ensures { result ≡ registers_start profile }
     {
         Registers {
             display: Display {
@@ -165,6 +166,7 @@ impl Registers {
                 range: false,
                 time: false,
             },
+            profile,
         }
     }
 }

@@ -59,10 +59,10 @@ pub fn aim_high(vram: &[u16], port: &mut VramPort, v: u8)
     port.fetched = vram[place(port) as usize];
 }
 
-/// Steps the address after a byte was written, if that byte is the stepping one.
+/// Steps the address after a byte was written, the high one or the low one, if that byte is the stepping one.
 #[inline(always)]
 #[tactic(auto, unfolding(crate::specs::Ports::vram_port_after))]
-fn step_after(port: &mut VramPort, high: bool)
+pub fn step_after(port: &mut VramPort, high: bool)
     ensures { port.new ≡ vram_port_after port.old high }
 {
     if port.steps_at_high == high {

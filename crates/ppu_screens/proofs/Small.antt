@@ -1,11 +1,13 @@
 -- What both screens show are colours of 15 bits.
 use Rattle.std.proofs.Common.{ℕ, ◌/◌, ◌%◌, ◌<◌, Bool, true, false, List, slice_index, if◌then◌else◌, arith}
+use Rattle.snes_defs.specs.declared.profile.Profile.{Profile}
+use Rattle.snes_defs.specs.declared.profile.Profile.TheVariants.{First, Second}
 use Rattle.ppu_regs.specs.declared.registers.ColourMath.{ColourMath}
 use Rattle.ppu_regs.specs.Picture.{Picture, IsInRange}
 use Rattle.color_window.specs.Mixing.{fixed_colour, mixed}
 use Rattle.scanline_ops.specs.RankedPixels.{RankedPixel}
 use Rattle.scanline_ops.specs.Colours.{colour_with, component_with, direct_colour, pixel_colour}
-use Rattle.ppu_screens.specs.Screens.{front_pixel_colour, main_colour, sub_colour}
+use Rattle.ppu_screens.specs.Screens.{front_pixel_colour, main_colour, empty_colour, sub_colour}
 
 -- one of two small colours
 either_small : (b : Bool) (one two : ℕ) → one < 32768 → two < 32768 → (if b then one else two) < 32768
@@ -54,10 +56,15 @@ pub main_is_small : (p : Picture) (x : ℕ) (main sub : RankedPixel) → IsInRan
 unfolding main_colour
 main_is_small p x main sub h = mixed_small p.registers.colour _ (front_pixel_colour p main) _ _ _ (front_small p main h)
 
+empty_small : (profile : Profile) (p : Picture) → IsInRange p → empty_colour profile p < 32768
+unfolding empty_colour
+empty_small First p h = fixed_small p.registers.colour h.registers.red h.registers.green h.registers.blue
+empty_small Second p h = h.colours 0
+
 pub sub_is_small : (p : Picture) (sub : RankedPixel) → IsInRange p → sub_colour p sub < 32768
 unfolding sub_colour
 sub_is_small p sub h =
-    either_small _ _ _ (front_small p sub h) (fixed_small p.registers.colour h.registers.red h.registers.green h.registers.blue)
+    either_small _ _ _ (front_small p sub h) (empty_small p.registers.profile p h)
 
 pub ruleset main_small = main_is_small
 

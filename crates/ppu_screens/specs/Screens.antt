@@ -1,6 +1,8 @@
 -- What stands in front on the main and on the sub screen, and the 512 dots of a row (2100, 212C to 2133; nocash fullsnes, "SNES PPU
 -- Color-Math", "SNES PPU Resolution").
 use Rattle.std.specs.Prelude.{ℕ, ◌==◌, Bool, not, ◌&&◌, ◌||◌, slice_index, if◌then◌else◌}
+use Rattle.snes_defs.specs.declared.profile.Profile.{Profile}
+use Rattle.snes_defs.specs.declared.profile.Profile.TheVariants.{First, Second}
 use Rattle.ppu_regs.specs.declared.registers.Registers.{Registers}
 use Rattle.ppu_regs.specs.declared.dots.RankedRow.{RankedRow}
 use Rattle.ppu_regs.specs.Picture.{Picture, screens_of}
@@ -44,9 +46,15 @@ main_colour p x main sub =
     mixed p.registers.colour (is_inside p.registers 6 x) (front_pixel_colour p main) (is_named main.key) (is_found sub.key)
     (front_pixel_colour p sub)
 
--- the sub screen's colour, the fixed colour where nothing is there
+-- what an even dot shows where no layer stands on the sub screen: the fixed colour, and CGRAM 0 in the second profile
+unfoldable pub empty_colour : Profile → Picture → ℕ
+empty_colour First p = fixed_colour p.registers.colour
+empty_colour Second p = slice_index p.cgram 0
+
+-- The sub screen's colour as the even dots show it. It is no operand of arithmetic: `mixed` has the fixed colour where
+-- no layer stands, in both profiles.
 unfoldable pub sub_colour : Picture → RankedPixel → ℕ
-sub_colour p sub = if is_found sub.key then front_pixel_colour p sub else fixed_colour p.registers.colour
+sub_colour p sub = if is_found sub.key then front_pixel_colour p sub else empty_colour p.registers.profile p
 
 -- with half dots, and always in modes 5 and 6, the even dots show the sub screen
 unfoldable pub is_halved : Registers → Bool

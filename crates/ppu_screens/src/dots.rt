@@ -5,8 +5,8 @@ ghost use Rattle.ppu_regs.specs.declared.registers.WindowPart.TheVariants.{Never
 ghost use Rattle.scanline_ops.specs.RankedPixels.{no_pixel, is_named, is_found};
 ghost use Rattle.scanline_ops.specs.Colours.{dimmed};
 ghost use Rattle.color_window.specs.Windows.{is_inside};
-ghost use Rattle.color_window.specs.Mixing.{fixed_colour, is_mixed};
-ghost use Rattle.ppu_screens.specs.Screens.{ranked_pixel_at, has_direct, front_pixel_colour, main_colour, sub_colour, is_halved, backdrop, even_dot, odd_dot};
+ghost use Rattle.color_window.specs.Mixing.{is_mixed};
+ghost use Rattle.ppu_screens.specs.Screens.{ranked_pixel_at, has_direct, front_pixel_colour, main_colour, empty_colour, sub_colour, is_halved, backdrop, even_dot, odd_dot};
 
 use crate::order::rank;
 use color_window::{fixed, mark_mixed, mix_marked, mix_row};
@@ -14,6 +14,7 @@ use ppu_regs::{Ppu, RankedRow, Registers, WindowPart};
 use scanline_ops::{
     any_named, dim_colour, dim_small_row, fill_dots, is_found_key, look_up, write_dots, write_twice,
 };
+use snes_defs::Profile;
 
 #[inline(always)]
 #[tactic(auto, unfolding(crate::specs::Screens::has_direct))]
@@ -149,14 +150,26 @@ fn windowed_colours(p: &Ppu, main: &RankedRow, sub: &RankedRow, out: &mut [u16; 
     }
 }
 
+/// Returns the colour of the even dots where no layer stands on the sub screen.
+#[inline(always)]
+#[tactic(auto, unfolding(crate::specs::Screens::empty_colour))]
+fn empty(p: &Ppu) -> u16
+    ensures { result ≡ empty_colour p.now.registers.profile p.now }
+{
+    match p.registers().profile {
+        Profile::First => fixed(p),
+        Profile::Second => p.cgram()[0],
+    }
+}
+
 #[inline(always)]
 #[tactic(auto, unfolding(crate::specs::Screens::sub_colour))]
-fn or_fixed(p: &Ppu, fixed: u16, key: u8, number: u8, colour: u16) -> u16
-    requires fixed { fixed ≡ fixed_colour p.now.registers.colour }
+fn or_empty(p: &Ppu, empty: u16, key: u8, number: u8, colour: u16) -> u16
+    requires empty { empty ≡ empty_colour p.now.registers.profile p.now }
     requires colour { colour ≡ front_pixel_colour p.now (record { key = key; number = number }) }
     ensures { result ≡ sub_colour p.now (record { key = key; number = number }) }
 {
-    if is_found_key(key) { colour } else { fixed }
+    if is_found_key(key) { colour } else { empty }
 }
 
 /// Writes the sub screen's colours, for the even dots.
@@ -164,9 +177,9 @@ fn sub_colours(p: &Ppu, sub: &RankedRow, subs: &[u16; 256], out: &mut [u16; 256]
     requires { (x : ℕ) → x < 256 → slice_index subs.now x ≡ front_pixel_colour p.now (ranked_pixel_at sub.now x) }
     ensures { (x : ℕ) → x < 256 → slice_index out.new x ≡ sub_colour p.now (ranked_pixel_at sub.now x) }
 {
-    let fixed = fixed(p);
+    let empty = empty(p);
     for x in 0..256usize {
-        out[x] = or_fixed(p, fixed, sub.ranks[x], sub.numbers[x], subs[x]);
+        out[x] = or_empty(p, empty, sub.ranks[x], sub.numbers[x], subs[x]);
     }
 }
 

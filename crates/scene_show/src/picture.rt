@@ -10,13 +10,14 @@ ghost use Rattle.tile_cache.specs.Bitplanes.{IsInStep};
 use picture_scenes::{acts, renew};
 use ppu_line::draw;
 use ppu_regs::Ppu;
+use snes_defs::Profile;
 use std::alloc::{AllocError, Global};
 use std::io;
 use tile_cache::TileCache;
 
 /// Returns a new PPU and a tile cache.
 fn new_unit(alloc: Global) -> Option<(Ppu, TileCache)> {
-    match (Ppu::new(alloc), TileCache::new(alloc)) {
+    match (Ppu::new(alloc, Profile::First), TileCache::new(alloc)) {
         (Ok(ppu), Ok(tiles)) => Some((ppu, tiles)),
         _ => None,
     }

@@ -8,6 +8,7 @@ use picture_scenes::{acts, read_holds, renew, row_holds, row_number};
 use picture_slow::draw_slowly;
 use ppu_line::draw;
 use ppu_regs::Ppu;
+use snes_defs::Profile;
 use std::alloc::Global;
 use std::io;
 use tile_cache::TileCache;
@@ -21,9 +22,9 @@ pub struct Tally {
     reads_differing: u64,
 }
 
-/// Returns a new PPU and a tile cache.
+/// Returns a new PPU, of the first profile, and a tile cache.
 fn new_unit(alloc: Global) -> Option<(Ppu, TileCache)> {
-    match (Ppu::new(alloc), TileCache::new(alloc)) {
+    match (Ppu::new(alloc, Profile::First), TileCache::new(alloc)) {
         (Ok(ppu), Ok(tiles)) => Some((ppu, tiles)),
         _ => None,
     }

@@ -1,21 +1,23 @@
 //! Compares random rows of `ppu_line` with those of `picture_slow`, which uses nothing but registers and memories.
 //!
-//! Each screen begins with all memories and registers at random, in one of the eight modes. Registers, VRAM, objects
-//! and colours are written at random between its rows. So the decoded tiles of `ppu_line` are those that writes have
-//! kept in step.
+//! Each screen begins with all memories and registers at random, in one of the eight modes and one of the two profiles.
+//! Registers, VRAM, objects and colours are written at random between its rows. So the decoded tiles of `ppu_line` are
+//! those that writes have kept in step.
 //!
 //! After each row three things are made wrong, one at a time, by a random write (many writes to a register that takes a
 //! memory's bytes). The row worked out then is compared with the one drawn before: a comparison that sees nothing would
 //! find no difference. Each register is written so in turn. Registers 2115 to 2117 and 2121 change no picture: they
 //! only say where the next byte of VRAM or CGRAM goes. Every other one must be detected.
 //!
-//! It prints how many rows were compared, how many differ, and the registers for which no row was detected.
+//! It prints for each profile how many rows were compared, how many differ, and the registers for which no row was
+//! detected.
 
 mod screen;
 mod writes;
 
 use case_text::Generator;
 use screen::Screen;
+use snes_defs::Profile;
 use std::alloc::Global;
 use std::io;
 use writes::{REGISTERS, begin, change, make_wrong};
@@ -62,8 +64,14 @@ fn compare_row(screen: &mut Screen, generator: &mut Generator, row: u16, tally: 
 }
 
 /// Compares the rows of one screen.
-fn compare_screen(alloc: Global, mode: u8, seed: u32, tally: &mut Tally) -> Option<()> {
-    let mut screen = Screen::new(alloc)?;
+fn compare_screen(
+    alloc: Global,
+    profile: Profile,
+    mode: u8,
+    seed: u32,
+    tally: &mut Tally,
+) -> Option<()> {
+    let mut screen = Screen::new(alloc, profile)?;
     let mut generator = Generator::new(seed);
     begin(&mut screen, &mut generator, mode);
     for k in 0..ROWS {
@@ -73,8 +81,8 @@ fn compare_screen(alloc: Global, mode: u8, seed: u32, tally: &mut Tally) -> Opti
     Some(())
 }
 
-/// Compares all rows, and prints what came of them.
-pub fn compare<R: Print + AllocGlobal>(rt: &R) -> io::Result<()> {
+/// Compares all rows of a profile, and prints what came of them.
+fn compare_profile<R: Print + AllocGlobal>(rt: &R, profile: Profile, name: &str) -> io::Result<()> {
     let mut tally = Tally {
         rows: 0,
         differing: 0,
@@ -84,12 +92,15 @@ pub fn compare<R: Print + AllocGlobal>(rt: &R) -> io::Result<()> {
     for mode in 0..8u8 {
         for screen in 0..SCREENS {
             let seed = screen.wrapping_mul(977).wrapping_add(mode as u32);
-            if compare_screen(rt.alloc(), mode, seed, &mut tally).is_none() {
+            if compare_screen(rt.alloc(), profile, mode, seed, &mut tally).is_none() {
                 return println!(rt; "no memory");
             }
         }
     }
-    println!(rt; "{} rows, {} differ", tally.rows, tally.differing)?;
+    println!(rt;
+        "{name} profile: {} rows, {} differ",
+        tally.rows, tally.differing
+    )?;
     print!(rt; "told after a write of every register but")?;
     for register in 0..REGISTERS {
         if !tally.told[register as usize] {
@@ -97,4 +108,10 @@ pub fn compare<R: Print + AllocGlobal>(rt: &R) -> io::Result<()> {
         }
     }
     println!(rt; "")
+}
+
+/// Compares all rows of both profiles, and prints what came of them.
+pub fn compare<R: Print + AllocGlobal>(rt: &R) -> io::Result<()> {
+    compare_profile(rt, Profile::First, "first")?;
+    compare_profile(rt, Profile::Second, "second")
 }

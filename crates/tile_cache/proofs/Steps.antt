@@ -2,7 +2,7 @@
 use Rattle.std.proofs.Common.{◌≡◌, ℕ, ◌+◌, ◌*◌, ◌%◌, ◌<◌, ◌≤◌, List, length, All, slice_index, replicate, inl, inr, refl, sym, ap, arith, ◌∙◌}
 use Rattle.std.proofs.lemmas.Bool.{cases_lt}
 use Rattle.std.proofs.lemmas.List.{get_or_past, get_or-replicate, length-replicate}
-use Rattle.ppu_regs.specs.Picture.{zeros, vram_words, picture_start}
+use Rattle.ppu_regs.specs.Picture.{zeros, vram_words}
 use Rattle.tile_cache.specs.Bitplanes.{pixel_of, value_of, packed, IsInStep}
 
 -- a list of zeros has 0 everywhere
@@ -19,7 +19,7 @@ unfolding packed pixel_of
 pixels_of_zero = refl
 
 -- a cache of zeros is in step with the VRAM of a new unit
-pub zeros_in_step : (cache : List ℕ) → All (λ b. b ≡ 0) cache → IsInStep cache picture_start.vram
+pub zeros_in_step : (cache : List ℕ) → All (λ b. b ≡ 0) cache → IsInStep cache (zeros vram_words)
 zeros_in_step cache all = record {
   at = λ word within. zero_at cache word all ∙ sym (ap (λ w. packed (pixel_of w)) (zero_of_zeros vram_words word) ∙ pixels_of_zero);
 }

@@ -1,6 +1,6 @@
 //! The decoded tiles as one value, in step with VRAM.
 ghost use Rattle.std.specs.Prelude.{◌≡◌, ◌≢◌, ℕ, ◌⊎◌, ◌+◌, ◌*◌, ◌/◌, ◌%◌, ◌<◌, ◌≤◌, ◌^◌, ◌==◌, List, length, slice_index, slice_set, All, IfOk, IsTrue, ◌||◌, ◌-◌, if◌then◌else◌};
-ghost use Rattle.ppu_regs.specs.Picture.{picture_start};
+ghost use Rattle.ppu_regs.specs.Picture.{zeros, vram_words};
 ghost use Rattle.ppu_regs.specs.Writes.{after_write, word_written};
 ghost use Rattle.tile_cache.specs.Bitplanes.{value_of, packed, IsInStepAt, IsInStep, eight};
 
@@ -35,7 +35,7 @@ impl TileCache {
     /// Makes the cache of a VRAM of zeros, as a new PPU has it. Fails only if allocation fails.
     #[tactic(auto, using(crate::proofs::Steps::zeros_in_step, crate::proofs::Steps::small_zeros))]
     pub fn new(alloc: Global) -> Result<TileCache, NoMemory>
-        ensures start { IfOk result (λ t. IsInStep t picture_start.vram) }
+        ensures start { IfOk result (λ t. IsInStep t (zeros vram_words)) }
     {
         let eights = zeroed(alloc, WORDS)?;
         Ok(TileCache { eights })

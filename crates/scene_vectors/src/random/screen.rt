@@ -5,6 +5,7 @@ ghost use Rattle.std.specs.Prelude.{◌<◌, length};
 use picture_slow::draw_slowly;
 use ppu_line::draw;
 use ppu_regs::{Over, Ppu};
+use snes_defs::Profile;
 use std::alloc::Global;
 use std::marker::Model;
 use tile_cache::TileCache;
@@ -44,9 +45,9 @@ impl Drawn {
 }
 
 impl Screen {
-    /// Returns a new PPU and its decoded tiles, unless allocation fails.
-    pub fn new(alloc: Global) -> Option<Screen> {
-        let Ok(ppu) = Ppu::new(alloc) else {
+    /// Returns a new PPU of a profile and its decoded tiles, unless allocation fails.
+    pub fn new(alloc: Global, profile: Profile) -> Option<Screen> {
+        let Ok(ppu) = Ppu::new(alloc, profile) else {
             return None;
         };
         let Ok(tiles) = TileCache::new(alloc) else {

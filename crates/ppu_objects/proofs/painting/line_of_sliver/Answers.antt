@@ -9,11 +9,11 @@ pub returns : goal.returns
 returns c =
     let words = c.vram-vram.ensures.words in
     let at : ℕ = c.word_of_sliver-at.result in
-    let place : at ≡ sliver_word c.args.p.now.registers.object_tiles c.args.sliver.now.object c.args.sliver.now.column c.args.row =
+    let place : at ≡ sliver_word c.args.p.now.registers c.args.sliver.now.object c.args.sliver.now.column c.args.row =
     c.word_of_sliver-at.ensures.value
-    ∙ ap (λ (r : Registers). sliver_word r.object_tiles c.args.sliver.now.object c.args.sliver.now.column c.args.row) c.registers.ensures
+    ∙ ap (λ (r : Registers). sliver_word r c.args.sliver.now.object c.args.sliver.now.column c.args.row) c.registers.ensures
     in
     c.line_of_words.ensures
-    ∙ line_is c.args.p.now.vram c.args.p.now.registers.object_tiles c.args.sliver.now.object c.args.sliver.now.column c.args.row _ _
+    ∙ line_is c.args.p.now.vram c.args.p.now.registers c.args.sliver.now.object c.args.sliver.now.column c.args.row _ _
     (ap (λ xs. slice_index xs at) words ∙ ap (λ n. slice_index c.args.p.now.vram n) place)
     (ap (λ xs. slice_index xs ((at + 8) % 32768)) words ∙ ap (λ n. slice_index c.args.p.now.vram ((n + 8) % 32768)) place)
