@@ -1,3 +1,4 @@
+pub mod Status
 pub mod Timers
 pub mod Speeds
 pub mod Addresses

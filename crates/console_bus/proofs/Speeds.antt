@@ -1,7 +1,9 @@
 -- Whether ROM is fast is set by 420D alone.
-use Rattle.std.proofs.Common.{◌≡◌, ℕ, ◌==◌, Bool, true, false, refl, if◌then◌else◌}
+use Rattle.std.proofs.Common.{◌≡◌, ℕ, ◌==◌, ◌&&◌, Bool, true, false, refl, if◌then◌else◌}
 use Rattle.io_math.specs.declared.registers.IoRegisters.{IoRegisters}
-use Rattle.io_math.specs.Registers.{framed, blanked, timed, after_read}
+use Rattle.io_math.specs.Registers.{framed, read_begun, blanked, timed, after_read}
+use Rattle.snes_defs.specs.declared.profile.Profile.{Profile}
+use Rattle.console_bus.specs.Profiles.{is_second, reading_noted}
 
 pub fast_framed : (io : IoRegisters) (a b : ℕ) → (framed io a b).fast ≡ io.fast
 unfolding framed
@@ -26,3 +28,12 @@ fast_read io addr =
     (if_fast (addr == 0x4017) _ _ io refl
     (if_fast (addr == 0x4210) _ _ io refl
     (if_fast (addr == 0x4211) _ _ io refl refl)))
+
+fast_begun : (io : IoRegisters) (line : ℕ) → (read_begun io line).fast ≡ io.fast
+unfolding read_begun
+fast_begun io line = refl
+
+pub fast_noted : (profile : Profile) (line : ℕ) (io : IoRegisters) → (reading_noted profile line io).fast ≡ io.fast
+unfolding reading_noted
+fast_noted profile line io =
+    if_fast (is_second profile && io.interrupts.auto_read) _ _ io (fast_begun io line) refl

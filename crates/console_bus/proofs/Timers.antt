@@ -1,7 +1,9 @@
 -- The timer's setting is that of 4200 and 4207 to 420A alone.
-use Rattle.std.proofs.Common.{◌≡◌, ℕ, ◌==◌, Bool, true, false, refl, if◌then◌else◌}
+use Rattle.std.proofs.Common.{◌≡◌, ℕ, ◌==◌, ◌&&◌, Bool, true, false, refl, if◌then◌else◌}
 use Rattle.io_math.specs.declared.registers.IoRegisters.{IoRegisters}
-use Rattle.io_math.specs.Registers.{framed, blanked, timed, after_read}
+use Rattle.io_math.specs.Registers.{framed, read_begun, blanked, timed, after_read}
+use Rattle.snes_defs.specs.declared.profile.Profile.{Profile}
+use Rattle.console_bus.specs.Profiles.{is_second, reading_noted}
 use Rattle.console_bus.specs.BusState.{timer_of}
 
 pub timer_framed : (io : IoRegisters) (a b : ℕ) → timer_of (framed io a b) ≡ timer_of io
@@ -27,3 +29,12 @@ timer_read io addr =
     (if_timer (addr == 0x4017) _ _ io refl
     (if_timer (addr == 0x4210) _ _ io refl
     (if_timer (addr == 0x4211) _ _ io refl refl)))
+
+timer_begun : (io : IoRegisters) (line : ℕ) → timer_of (read_begun io line) ≡ timer_of io
+unfolding read_begun
+timer_begun io line = refl
+
+pub timer_noted : (profile : Profile) (line : ℕ) (io : IoRegisters) → timer_of (reading_noted profile line io) ≡ timer_of io
+unfolding reading_noted
+timer_noted profile line io =
+    if_timer (is_second profile && io.interrupts.auto_read) _ _ io (timer_begun io line) refl

@@ -46,6 +46,10 @@ spot_of b = record { h = b.h; v = b.v; blank = b.blank }
 abbrev pub with_io : BusState → IoRegisters → BusState
 with_io r io = record r { io = io; beam = record r.beam { timer = timer_of io } }
 
+-- another picture unit
+abbrev pub with_picture : BusState → Picture → BusState
+with_picture r p = record r { picture = p }
+
 -- the registers with the pads of a frame
 abbrev pub with_pads : Script → ℕ → IoRegisters → IoRegisters
 with_pads script frame io = framed io (pads_at script.spans frame).0 (pads_at script.spans frame).1
@@ -76,7 +80,7 @@ bus_start cart script region = record {
   port = 0;
   io = with_pads script 0 registers_start;
   channels = channels_start;
-  picture = picture_start;
+  picture = picture_start script.profile;
   beam = beam_start region;
   frame = 0;
   last = 0;

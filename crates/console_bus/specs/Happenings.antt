@@ -1,5 +1,6 @@
 -- What the beam's events do to the console, what a reset does, and what a row of the picture puts out.
-use Rattle.std.specs.Prelude.{ℕ, zero, suc, ◌-◌, ◌/◌, ◌%◌, ◌==◌, Bool, true, false, not, ◌&&◌, ◌||◌, nat_le, List, [], ◌∷◌, ◌++◌, map, if◌then◌else◌}
+use Rattle.std.specs.Prelude.{ℕ, zero, suc, ◌-◌, ◌/◌, ◌%◌, ◌==◌, nat_le, List, [], ◌∷◌, ◌++◌, map}
+use Rattle.std.specs.Prelude.{Bool, true, false, not, ◌&&◌, ◌||◌, if◌then◌else◌}
 use Rattle.snes_defs.specs.Script.{pads_at, is_reset}
 use Rattle.beam.specs.declared.events.Event.{Event}
 use Rattle.beam.specs.declared.events.Event.TheVariants.{Line, Blank, HdmaFrame, Refresh, Draw, HdmaLine, Timer}
@@ -11,6 +12,7 @@ use Rattle.ppu_regs.specs.declared.registers.Over.{Over}
 use Rattle.ppu_objects.specs.Objects.{passes_range}
 use Rattle.ppu_objects.specs.Slivers.{passes_time}
 use Rattle.ppu_line.specs.Line.{pixel}
+use Rattle.console_bus.specs.Profiles.{reading_noted}
 use Rattle.console_bus.specs.BusState.{BusState, with_io, with_pads, next_frame, channels_start}
 
 -- a new frame: the NMI flag goes, the pads are those of the frame, the objects' flags are cleared, and a
@@ -26,7 +28,8 @@ frame_begun r = record r {
 -- vertical blank: the NMI flag, auto-read, the address of OAM
 unfoldable pub blank_begun : BusState → BusState
 blank_begun r = record r {
-  io = blanked r.io (pads_at r.script.spans r.frame).0 (pads_at r.script.spans r.frame).1;
+  io = blanked (reading_noted r.script.profile r.beam.v r.io) (pads_at r.script.spans r.frame).0
+      (pads_at r.script.spans r.frame).1;
   picture = after_blank r.picture;
 }
 
@@ -40,7 +43,8 @@ abbrev pub row_over : Picture → ℕ → Over
 row_over p row = record { range = passes_range p row; time = passes_time p row }
 
 unfoldable pub row_drawn : BusState → BusState
-row_drawn r = if is_shown r then (record r { picture = after_over r.picture (row_over r.picture (r.beam.v - 1)) }) else r
+row_drawn r =
+    if is_shown r then (record r { picture = after_over r.picture (row_over r.picture (r.beam.v - 1)) }) else r
 
 -- the numbers f 0, f 1, .. of a list of n
 unfoldable pub list_of : ℕ → (ℕ → ℕ) → List ℕ

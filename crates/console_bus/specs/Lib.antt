@@ -1,3 +1,4 @@
+pub mod Profiles
 pub mod BusState
 pub mod Places
 pub mod Memory

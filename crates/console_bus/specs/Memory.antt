@@ -1,5 +1,6 @@
 -- Where in the memory the byte at an address lies, and how long an access there lasts.
-use Rattle.std.specs.Prelude.{◌≡◌, ℕ, ◌+◌, ◌*◌, ◌<◌, ◌≤◌, ◌%◌, nat_lt, nat_le, slice_set, if◌then◌else◌, Bool, Option, Some, None, List, length, slice_index_or}
+use Rattle.std.specs.Prelude.{◌≡◌, ℕ, ◌+◌, ◌*◌, ◌<◌, ◌≤◌, ◌%◌, nat_lt, nat_le, slice_set, if◌then◌else◌, Bool}
+use Rattle.std.specs.Prelude.{Option, Some, None, List, length, slice_index_or}
 use Rattle.cart_map.specs.declared.places.Place.{Place}
 use Rattle.cart_map.specs.declared.places.Place.TheVariants.{Wram, Rom, Ram, BBus, Cpu, Open}
 use Rattle.cart_map.specs.Place.{IsInside}
@@ -44,7 +45,8 @@ pub record MapState : Type 0 where
   pub board : CartBoard
   pub fast : Bool
 
--- the addresses of a page of 8 KiB are memory, one byte after another, where its clocks are fewer than those of a page that is none
+-- the addresses of a page of 8 KiB are memory, one byte after another, where its clocks are fewer than those of a page
+-- that is none
 abbrev pub IsPageOf : CartBoard → Bool → ℕ → Page → Type 0
 IsPageOf board fast number page = page.clocks < 2000
     → (o : ℕ) → o < 8192 → IsMemoryAt board fast (8192 * number + o) (page.at + o) page.clocks

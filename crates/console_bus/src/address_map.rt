@@ -96,7 +96,8 @@ impl AddressMap {
     pub(crate) fn memory_within(&self, addr: u32, limit: u16) -> Option<MemoryAccess>
         requires addr { addr < 2 ^ 24 }
         requires limit { limit ≤ 2000 }
-        ensures memory { IfSome result (λ access. IsMemoryAt self.now.board self.now.fast addr access.at access.clocks) }
+        ensures memory { IfSome result
+            (λ access. IsMemoryAt self.now.board self.now.fast addr access.at access.clocks) }
         ensures within { IfSome result (λ access. access.clocks < limit) }
     {
         let page = self.pages[(self.first + addr / PAGE) as usize];

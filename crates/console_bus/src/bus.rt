@@ -3,11 +3,11 @@ ghost use Rattle.std.specs.Prelude.{◌≡◌, ◌<◌, ◌≤◌, ◌+◌, ◌^
 ghost use Rattle.snes_defs.specs.declared.cart.Cart.{Cart};
 ghost use Rattle.beam.specs.Places.{clocks_left};
 ghost use Rattle.cart_map.specs.Place.{IsInside};
-ghost use Rattle.io_math.specs.Registers.{written as io_written};
-ghost use Rattle.ppu_regs.specs.Writes.{after_write};
-ghost use Rattle.console_bus.specs.BusState.{BusState, bus_start, with_pads, with_io};
+ghost use Rattle.console_bus.specs.BusState.{BusState, bus_start, with_pads};
 ghost use Rattle.console_bus.specs.Memory.{IsMemoryAt, stored};
-ghost use Rattle.console_bus.specs.Places.{place_at, a_side, taken_from, register_byte, register_read, register_written, chip_byte, chip_read, chip_written, place_byte, place_read, place_written, on_bus};
+ghost use Rattle.console_bus.specs.Places.{place_at, a_side, taken_from, register_byte, register_read};
+ghost use Rattle.console_bus.specs.Places.{register_written, chip_byte, chip_read, chip_written, place_byte};
+ghost use Rattle.console_bus.specs.Places.{place_read, place_written, on_bus};
 
 use crate::address_map::{AddressMap, MemoryAccess};
 use beam::Beam;
@@ -60,10 +60,24 @@ impl Model for Bus {
 
     ghost Value = { BusState };
 
-    ghost view = { λ b. record { board = b.map.board; script = b.script; memory = b.memory.items; port = b.port; io = b.io; channels = b.dma; picture = b.ppu; beam = b.beam; frame = b.frame; last = b.last; refresh = b.refresh; reset = b.reset } };
+    ghost view = { λ b. record {
+      board = b.map.board;
+      script = b.script;
+      memory = b.memory.items;
+      port = b.port;
+      io = b.io;
+      channels = b.dma;
+      picture = b.ppu;
+      beam = b.beam;
+      frame = b.frame;
+      last = b.last;
+      refresh = b.refresh;
+      reset = b.reset;
+    } };
 
-    ghost invariant = { λ b. (length b.memory.items ≡ 131072 + b.map.board.ram + b.map.board.rom) × (0 < b.map.board.rom)
-        × (b.map.fast ≡ b.io.fast) × (b.port < 131072) × (b.beam.timer ≡ timer_of b.io) × IsInStep b.tiles b.ppu.vram };
+    ghost invariant = { λ b. (length b.memory.items ≡ 131072 + b.map.board.ram + b.map.board.rom)
+        × (0 < b.map.board.rom) × (b.map.fast ≡ b.io.fast) × (b.port < 131072)
+        × (b.beam.timer ≡ timer_of b.io) × IsInStep b.tiles b.ppu.vram };
 }
 
 impl Bus {
@@ -93,7 +107,8 @@ impl Bus {
     #[inline(always)]
     pub fn memory_within(&self, addr: u32) -> Option<MemoryAccess>
         requires { addr < 2 ^ 24 }
-        ensures memory { IfSome result (λ access. IsMemoryAt self.now.board self.now.io.fast addr access.at access.clocks) }
+        ensures memory { IfSome result
+            (λ access. IsMemoryAt self.now.board self.now.io.fast addr access.at access.clocks) }
         ensures within { IfSome result (λ access. access.clocks < clocks_left self.now.beam) }
     {
         self.map.memory_within(addr, self.beam.clocks_left())
@@ -191,8 +206,7 @@ impl Bus {
         ensures same { self.new.channels ≡ self.old.channels }
     {
         if register < 0x40 {
-            let spot = self.beam.spot();
-            return self.ppu.read(register, self.last, spot);
+            return self.read_picture(register);
         }
         if register < 0x80 {
             return got;
@@ -238,14 +252,6 @@ impl Bus {
         }
     }
 
-    /// Writes a register of the PPU, and keeps the decoded tiles in step with VRAM.
-    fn write_picture(&mut self, register: u8, v: u8)
-        requires { register < 0x40 }
-        ensures { self.new ≡ (let p = after_write self.old.picture register v in record self.old { picture = p }) }
-    {
-        let _word = tile_cache::write(&mut self.ppu, &mut self.tiles, register, v);
-    }
-
     /// Reads a register of the CPU's chip, 4016 to 437F.
     #[tactic(auto, unfolding(crate::specs::Places::chip_byte, crate::specs::Places::chip_read), using(crate::proofs::Timers::timer_read, crate::proofs::Speeds::fast_read))]
     pub fn read_chip(&mut self, register: u16) -> u8
@@ -275,14 +281,5 @@ impl Bus {
             0x420c => self.dma.enable(v),
             _ => self.write_io(register, v),
         }
-    }
-
-    /// Writes a register of `Io`. The map gets its speed of ROM, and the beam the setting of its timer.
-    fn write_io(&mut self, register: u16, v: u8)
-        ensures { self.new ≡ with_io self.old (io_written self.old.io register v) }
-    {
-        self.io.write(register, v);
-        self.map.set_speed(self.io.fast());
-        self.beam.aim(self.io.irq_time());
     }
 }

@@ -22,7 +22,8 @@ impl Bus {
     #[tactic(auto, using(crate::proofs::Copies::same_memory))]
     pub fn copy_into(&self, into: &mut Bus)
         requires board { self.now.board ≡ into.old.board }
-        requires rom { drop (131072 + self.now.board.ram) self.now.memory ≡ drop (131072 + self.now.board.ram) into.old.memory }
+        requires rom { drop (131072 + self.now.board.ram) self.now.memory
+            ≡ drop (131072 + self.now.board.ram) into.old.memory }
         requires room { length self.now.script.spans ≤ into.old.script.room }
         requires reset_room { length self.now.script.resets ≤ into.old.script.room }
         ensures same { into.new ≡ record self.now { script = with_room self.now.script into.old.script.room } }
@@ -43,9 +44,13 @@ impl Bus {
         into.reset = self.reset;
     }
 
-    /// Reserves room for `spans` more spans of the script, and for as many resets in all as spans. Fails only if allocation fails; then nothing has changed.
+    /// Reserves room for `spans` more spans of the script, and for as many resets in all as spans. Fails only if
+    /// allocation fails; then nothing has changed.
     pub fn reserve(&mut self, spans: usize) -> Result<(), NoMemory>
-        ensures ok { OnOk result (self.new ≡ record self.old { script = with_room self.old.script (max self.old.script.room (length self.old.script.spans + spans)) }) }
+        ensures ok { OnOk result (self.new ≡ record self.old {
+          script = with_room self.old.script
+              (max self.old.script.room (length self.old.script.spans + spans));
+        }) }
         ensures err { OnErr result (self.new ≡ self.old) }
     {
         self.script.reserve(spans)

@@ -1,15 +1,17 @@
 //! The events of the beam, transfers, refreshes and resets, as they change the bus.
-ghost use Rattle.std.specs.Prelude.{◌≡◌, IsTrue, ℕ, ◌+◌, ◌==◌, if◌then◌else◌, ◌<◌, ◌≤◌, ◌-◌, Bool, true, false, [], None, IsSome, map, slice_index};
+ghost use Rattle.std.specs.Prelude.{◌≡◌, IsTrue, ℕ, ◌+◌, ◌==◌, if◌then◌else◌, ◌<◌, ◌≤◌, ◌-◌, Bool, true, false};
+ghost use Rattle.std.specs.Prelude.{[], None, IsSome, map, slice_index};
 ghost use Rattle.beam.specs.Events.{happens_next, beam_next, beam_after, passed};
 ghost use Rattle.beam.specs.Places.{clocks_left};
 ghost use Rattle.dma_hdma.specs.Channel.{frame_begun as channel_frame_begun, line_begun};
 ghost use Rattle.dma_hdma.specs.Channels.{due_of, after_byte};
 ghost use Rattle.io_math.specs.Registers.{registers_start, timed, nmi_level, irq_level};
 ghost use Rattle.ppu_regs.specs.Writes.{after_write};
-ghost use Rattle.console_bus.specs.BusState.{BusState, with_io, with_pads, channels_start};
+ghost use Rattle.console_bus.specs.BusState.{BusState, with_io, with_picture, with_pads, channels_start};
 ghost use Rattle.console_bus.specs.Happenings.{frame_begun, blank_begun, shown_dot, row_drawn, was_reset};
 
 use crate::bus::Bus;
+use crate::profiles::note_reading;
 use beam::Happens;
 use dma_hdma::{Dma, Move};
 use io_math::Io;
@@ -105,7 +107,8 @@ impl Bus {
     #[inline(always)]
     pub fn go_on(&mut self, clocks: u16)
         requires { clocks < clocks_left self.old.beam }
-        ensures moved { self.new ≡ record self.old { beam = beam_after self.old.picture.registers.settings.overscan self.old.beam clocks } }
+        ensures moved { let overscan = self.old.picture.registers.settings.overscan in
+            self.new ≡ record self.old { beam = beam_after overscan self.old.beam clocks } }
         ensures none { (overscan : Bool) → passed overscan self.old.beam clocks ≡ [] }
         ensures closer { clocks_left self.new.beam ≡ clocks_left self.old.beam - clocks }
         ensures clock { self.new.beam.h ≡ self.old.beam.h + clocks }
@@ -117,10 +120,15 @@ impl Bus {
     /// Advances the beam by all the clocks that are left, and returns what happens there. Before the last of them
     /// nothing happens.
     pub fn reach(&mut self) -> Happens
-        ensures none_before { passed self.old.picture.registers.settings.overscan self.old.beam (clocks_left self.old.beam - 1) ≡ [] }
-        ensures last { let overscan = self.old.picture.registers.settings.overscan in result ≡ happens_next overscan (beam_after overscan self.old.beam (clocks_left self.old.beam - 1)) }
-        ensures moved { let overscan = self.old.picture.registers.settings.overscan in let there = beam_next overscan (beam_after overscan self.old.beam (clocks_left self.old.beam - 1)) in self.new ≡ record self.old { beam = there } }
-        ensures clock { self.new.beam.h ≡ (if self.old.beam.h + clocks_left self.old.beam == 1364 then 0 else self.old.beam.h + clocks_left self.old.beam) }
+        ensures none_before { let overscan = self.old.picture.registers.settings.overscan in
+            passed overscan self.old.beam (clocks_left self.old.beam - 1) ≡ [] }
+        ensures last { let overscan = self.old.picture.registers.settings.overscan in
+            result ≡ happens_next overscan (beam_after overscan self.old.beam (clocks_left self.old.beam - 1)) }
+        ensures moved { let overscan = self.old.picture.registers.settings.overscan in
+            let there = beam_next overscan (beam_after overscan self.old.beam (clocks_left self.old.beam - 1)) in
+            self.new ≡ record self.old { beam = there } }
+        ensures clock { let there = self.old.beam.h + clocks_left self.old.beam in
+            self.new.beam.h ≡ (if there == 1364 then 0 else there) }
         ensures same_timer { self.new.beam.timer ≡ self.old.beam.timer }
         ensures same_region { self.new.beam.region ≡ self.old.beam.region }
     {
@@ -171,13 +179,14 @@ impl Bus {
         self.reset = self.reset || resets;
     }
 
-    /// Begins vertical blank: sets the NMI flag, and runs auto-read if it is on. The address of OAM is reloaded unless
-    /// forced blank is set.
-    #[tactic(auto, unfolding(crate::specs::Happenings::blank_begun), using(crate::proofs::Timers::timer_blanked, crate::proofs::Speeds::fast_blanked))]
+    /// Begins vertical blank: sets the NMI flag, and runs auto-read if it is on. In the second profile auto-read takes
+    /// time. The address of OAM is reloaded unless forced blank is set.
+    #[tactic(auto, unfolding(crate::specs::Happenings::blank_begun), using(crate::proofs::Timers::timer_blanked, crate::proofs::Timers::timer_noted, crate::proofs::Speeds::fast_blanked, crate::proofs::Speeds::fast_noted))]
     pub fn begin_blank(&mut self)
         ensures { self.new ≡ blank_begun self.old }
     {
         let (pad1, pad2) = self.script.pads(self.frame as u32);
+        note_reading(&mut self.io, self.script.profile(), self.beam.spot().v);
         self.io.blank(pad1, pad2);
         self.ppu.blank();
     }
@@ -241,11 +250,11 @@ impl Bus {
     }
 
     /// Sets forced blank: writes 80 to 2100.
-    #[tactic(auto, unfolding(crate::specs::Places::register_written))]
+    #[tactic(auto, unfolding(crate::specs::Profiles::picture_written))]
     fn blank_picture(&mut self)
-        ensures { self.new ≡ (let p = after_write self.old.picture 0 0x80 in record self.old { picture = p }) }
+        ensures { self.new ≡ with_picture self.old (after_write self.old.picture 0 0x80) }
     {
-        self.write_register(0, 0x80);
+        self.write_picture(0, 0x80);
     }
 
     /// Stops all DMA channels.

@@ -12,6 +12,7 @@ mod cart_board;
 mod copy;
 mod happenings;
 mod lends;
+mod profiles;
 mod start;
 
 pub use address_map::MemoryAccess;

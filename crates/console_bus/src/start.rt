@@ -22,7 +22,7 @@ impl Bus {
     {
         let memory = memory_of(alloc, cart)?;
         let mut map = AddressMap::new(alloc, board(cart))?;
-        let ppu = Ppu::new(alloc)?;
+        let ppu = Ppu::new(alloc, script.profile())?;
         let tiles = TileCache::new(alloc)?;
         let copied = script.copied(alloc)?;
         let io = first_io(script);

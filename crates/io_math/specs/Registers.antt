@@ -1,7 +1,8 @@
 -- The register pages of 4016 to 421F, after fullsnes ("SNES I/O Ports", "SNES Controllers", "SNES Maths
--- Multiply/Divide"): what a write, a read and the beam's events make of them. That products, quotients and
--- auto-read are there at once, and all start values, are this project's own.
-use Rattle.std.specs.Prelude.{ℕ, ◌≤◌, ◌+◌, ◌-◌, ◌*◌, ◌/◌, ◌%◌, ◌^◌, Bool, true, false, not, ◌&&◌, ◌||◌, ◌==◌, nat_lt, nat_le, if◌then◌else◌}
+-- Multiply/Divide"): what a write, a read and the beam's events make of them. That products and quotients are there
+-- at once, in the first profile auto-read too, and all start values, are this project's own.
+use Rattle.std.specs.Prelude.{ℕ, ◌≤◌, ◌+◌, ◌-◌, ◌*◌, ◌/◌, ◌%◌, ◌^◌, ◌==◌, nat_lt, nat_le}
+use Rattle.std.specs.Prelude.{Bool, true, false, not, ◌&&◌, ◌||◌, if◌then◌else◌}
 use Rattle.snes_defs.specs.declared.spot.Spot.{Spot}
 use Rattle.io_math.specs.declared.registers.Pad.{Pad}
 use Rattle.io_math.specs.declared.registers.Interrupts.{Interrupts}
@@ -24,17 +25,26 @@ with_high word byte = word % 256 + 256 * byte
 
 -- the registers at the start
 abbrev pub pad_start : Pad
-pad_start = record { word = 0; position = 0; kept = 0 }
+pad_start = record { word = 0; position = 0; kept = 0; earlier = 0 }
 
 abbrev pub registers_start : IoRegisters
 registers_start = record {
   strobe = false;
   pad1 = pad_start;
   pad2 = pad_start;
-  interrupts = record { nmi_on = false; timer_kind = 0; auto_read = false; htime = 0x1ff; vtime = 0x1ff; nmi_flag = false; irq_flag = false };
+  interrupts = record {
+    nmi_on = false;
+    timer_kind = 0;
+    auto_read = false;
+    htime = 0x1ff;
+    vtime = 0x1ff;
+    nmi_flag = false;
+    irq_flag = false;
+  };
   port = 0xff;
   arithmetic = record { factor = 0; dividend = 0; quotient = 0; product = 0 };
   fast = false;
+  reading = 0;
 }
 
 -- a pad back at its first bit
@@ -44,7 +54,8 @@ rewound p = record p { position = 0 }
 -- 4016 JOYWR: bit 0 is the strobe; while it is set both pads are at their first bit
 unfoldable pub strobe_written : IoRegisters → Bool → IoRegisters
 strobe_written r strobe =
-    if strobe then record r { strobe = true; pad1 = rewound r.pad1; pad2 = rewound r.pad2 } else record r { strobe = false }
+    if strobe then record r { strobe = true; pad1 = rewound r.pad1; pad2 = rewound r.pad2 }
+    else record r { strobe = false }
 
 -- 4200 NMITIMEN: bit 7 NMI on, bits 5-4 timer kind (0 clears the IRQ flag), bit 0 auto-read
 unfoldable pub nmitimen_written : Interrupts → ℕ → Interrupts
@@ -74,13 +85,17 @@ written r addr v =
     else if addr == 0x4201 then record r { port = v }
     else if addr == 0x4202 then record r { arithmetic = record r.arithmetic { factor = v } }
     else if addr == 0x4203 then record r { arithmetic = multiplied r.arithmetic v }
-    else if addr == 0x4204 then record r { arithmetic = record r.arithmetic { dividend = with_low r.arithmetic.dividend v } }
-    else if addr == 0x4205 then record r { arithmetic = record r.arithmetic { dividend = with_high r.arithmetic.dividend v } }
+    else if addr == 0x4204 then
+    record r { arithmetic = record r.arithmetic { dividend = with_low r.arithmetic.dividend v } }
+    else if addr == 0x4205 then
+    record r { arithmetic = record r.arithmetic { dividend = with_high r.arithmetic.dividend v } }
     else if addr == 0x4206 then record r { arithmetic = divided r.arithmetic v }
     else if addr == 0x4207 then record r { interrupts = record r.interrupts { htime = with_low r.interrupts.htime v } }
-    else if addr == 0x4208 then record r { interrupts = record r.interrupts { htime = with_high r.interrupts.htime (v % 2) } }
+    else if addr == 0x4208 then
+    record r { interrupts = record r.interrupts { htime = with_high r.interrupts.htime (v % 2) } }
     else if addr == 0x4209 then record r { interrupts = record r.interrupts { vtime = with_low r.interrupts.vtime v } }
-    else if addr == 0x420a then record r { interrupts = record r.interrupts { vtime = with_high r.interrupts.vtime (v % 2) } }
+    else if addr == 0x420a then
+    record r { interrupts = record r.interrupts { vtime = with_high r.interrupts.vtime (v % 2) } }
     else if addr == 0x420d then record r { fast = is_set v 1 }
     else r
 
@@ -92,6 +107,16 @@ pad_bit p = if nat_lt p.position 16 then p.word / 2 ^ (15 - p.position) % 2 else
 unfoldable pub pad_read : Bool → Pad → Pad
 pad_read strobe p = if nat_lt p.position 16 && not strobe then record p { position = p.position + 1 } else p
 
+-- whether an auto-read runs: for 4,224 clocks from the start of the line on in which it began. A frame of the first
+-- profile has none that runs, since its auto-read takes no time
+unfoldable pub is_reading : IoRegisters → Spot → Bool
+is_reading r spot =
+    not (r.reading == 0) && (nat_le r.reading spot.v && nat_lt ((spot.v - r.reading) * 1364 + spot.h) 4224)
+
+-- the word of a pad at 4218-9 or 421A-B: while an auto-read runs, the one from before
+abbrev pub word_shown : Bool → Pad → ℕ
+word_shown reading p = if reading then p.earlier else p.kept
+
 -- the byte that a read gives, where `bus` is the byte last on the data bus
 unfoldable pub byte_read : IoRegisters → ℕ → ℕ → Spot → ℕ
 byte_read r addr bus spot =
@@ -102,18 +127,19 @@ byte_read r addr bus spot =
     else if addr == 0x4210 then bit_if r.interrupts.nmi_flag 128 + bus / 16 % 8 * 16 + 2
     -- TIMEUP: bit 7 IRQ flag
     else if addr == 0x4211 then bit_if r.interrupts.irq_flag 128 + bus % 128
-    -- HVBJOY: bit 7 vertical blank, bit 6 horizontal blank, bit 0 zero
+    -- HVBJOY: bit 7 vertical blank, bit 6 horizontal blank, bit 0 auto-read
     else if addr == 0x4212 then
     bit_if spot.blank 128 + bit_if (nat_lt spot.h 4 || nat_le 1096 spot.h) 64 + bus / 2 % 32 * 2
+    + bit_if (is_reading r spot) 1
     else if addr == 0x4213 then r.port
     else if addr == 0x4214 then r.arithmetic.quotient % 256
     else if addr == 0x4215 then r.arithmetic.quotient / 256
     else if addr == 0x4216 then r.arithmetic.product % 256
     else if addr == 0x4217 then r.arithmetic.product / 256
-    else if addr == 0x4218 then r.pad1.kept % 256
-    else if addr == 0x4219 then r.pad1.kept / 256
-    else if addr == 0x421a then r.pad2.kept % 256
-    else if addr == 0x421b then r.pad2.kept / 256
+    else if addr == 0x4218 then word_shown (is_reading r spot) r.pad1 % 256
+    else if addr == 0x4219 then word_shown (is_reading r spot) r.pad1 / 256
+    else if addr == 0x421a then word_shown (is_reading r spot) r.pad2 % 256
+    else if addr == 0x421b then word_shown (is_reading r spot) r.pad2 / 256
     else if nat_le 0x421c addr && nat_le addr 0x421f then 0
     else bus
 
@@ -125,6 +151,14 @@ after_read r addr =
     else if addr == 0x4210 then record r { interrupts = record r.interrupts { nmi_flag = false } }
     else if addr == 0x4211 then record r { interrupts = record r.interrupts { irq_flag = false } }
     else r
+
+-- an auto-read that takes time begins on a line, in the second profile: the words from before are noted
+unfoldable pub read_begun : IoRegisters → ℕ → IoRegisters
+read_begun r line = record r {
+  reading = line;
+  pad1 = record r.pad1 { earlier = r.pad1.kept };
+  pad2 = record r.pad2 { earlier = r.pad2.kept };
+}
 
 -- a pad at vertical blank: it has its word; where auto-read is on it is read to its end, but for a strobe
 -- that is set, which keeps it at its first bit
@@ -141,9 +175,10 @@ blanked r word1 word2 = record r {
   pad2 = pad_blanked r.interrupts.auto_read r.strobe r.pad2 word2;
 }
 
--- a frame begins: the NMI flag goes, and the pads have their words of this frame
+-- a frame begins: the NMI flag goes, the pads have their words of this frame, and no auto-read runs
 unfoldable pub framed : IoRegisters → ℕ → ℕ → IoRegisters
 framed r word1 word2 = record r {
+  reading = 0;
   interrupts = record r.interrupts { nmi_flag = false };
   pad1 = record r.pad1 { word = word1 };
   pad2 = record r.pad2 { word = word2 };

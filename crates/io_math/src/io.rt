@@ -1,6 +1,9 @@
 //! The CPU's own registers as one value: writes, reads and the events of the beam.
 ghost use Rattle.std.specs.Prelude.{◌≡◌, ◌<◌, ◌≤◌};
-ghost use Rattle.io_math.specs.Registers.{with_low, with_high, bit_if, registers_start, strobe_written, nmitimen_written, multiplied, divided, written, pad_bit, pad_read, byte_read, after_read, pad_blanked, blanked, framed, timed, nmi_level, irq_level};
+ghost use Rattle.io_math.specs.Registers.{with_low, with_high, bit_if, registers_start, strobe_written};
+ghost use Rattle.io_math.specs.Registers.{nmitimen_written, multiplied, divided, written, pad_bit, pad_read};
+ghost use Rattle.io_math.specs.Registers.{byte_read, after_read, is_reading, word_shown, read_begun, pad_blanked};
+ghost use Rattle.io_math.specs.Registers.{blanked, framed, timed, nmi_level, irq_level};
 
 use crate::registers::{Arithmetic, Interrupts, IoRegisters, Pad};
 use snes_defs::{IrqTime, Spot};
@@ -34,6 +37,7 @@ impl Io {
             word: 0,
             position: 0,
             kept: 0,
+            earlier: 0,
         };
         Io {
             registers: IoRegisters {
@@ -57,6 +61,7 @@ impl Io {
                     product: 0,
                 },
                 fast: false,
+                reading: 0,
             },
         }
     }
@@ -76,6 +81,39 @@ impl Io {
         read_register(&mut self.registers, addr, bus, beam)
     }
 
+    /// Begins an auto-read that takes 4,224 clocks, on a line of the beam. Until its end HVBJOY (4212) bit 0 is set,
+    /// and 4218 to 421B give the words from before. It is called right before `blank`, in the second profile alone.
+    #[tactic(auto, unfolding(crate::specs::Registers::read_begun))]
+    pub fn begin_read(&mut self, line: u16)
+        ensures { self.new ≡ read_begun self.old line }
+    {
+        let r = &mut self.registers;
+        r.reading = line;
+        r.pad1.earlier = r.pad1.kept;
+        r.pad2.earlier = r.pad2.kept;
+    }
+
+    /// Returns whether an auto-read that takes time runs where the beam stands: HVBJOY (4212) bit 0.
+    pub fn is_reading(&self, beam: Spot) -> bool
+        ensures { result ≡ is_reading self.now beam }
+    {
+        is_reading(&self.registers, beam)
+    }
+
+    /// Returns bit 0 of 4200 NMITIMEN: whether auto-read is on.
+    pub fn auto_read(&self) -> bool
+        ensures { result ≡ self.now.interrupts.auto_read }
+    {
+        self.registers.interrupts.auto_read
+    }
+
+    /// Returns 4201 WRIO.
+    pub fn port(&self) -> u8
+        ensures { result ≡ self.now.port }
+    {
+        self.registers.port
+    }
+
     /// Begins vertical blank with the words of both pads: sets the NMI flag, and keeps the words if auto-read is
     /// on.
     pub fn blank(&mut self, pad1: u16, pad2: u16)
@@ -84,12 +122,13 @@ impl Io {
         begin_blank(&mut self.registers, pad1, pad2);
     }
 
-    /// Begins a frame: clears the NMI flag, and gives both pads their words.
+    /// Begins a frame: clears the NMI flag, and gives both pads their words. No auto-read runs.
     #[tactic(auto, unfolding(crate::specs::Registers::framed))]
     pub fn frame(&mut self, pad1: u16, pad2: u16)
         ensures { self.new ≡ framed self.old pad1 pad2 }
     {
         let r = &mut self.registers;
+        r.reading = 0;
         r.interrupts.nmi_flag = false;
         r.pad1.word = pad1;
         r.pad2.word = pad2;
@@ -116,7 +155,7 @@ impl Io {
     /// Returns the setting of the timer: its kind, and the H and V at which it fires.
     #[inline(always)]
     pub fn irq_time(&self) -> IrqTime
-        ensures { result ≡ record { kind = self.now.interrupts.timer_kind; h = self.now.interrupts.htime; v = self.now.interrupts.vtime } }
+        ensures { let i = self.now.interrupts in result ≡ record { kind = i.timer_kind; h = i.htime; v = i.vtime } }
     {
         let i = &self.registers.interrupts;
         IrqTime {
@@ -224,7 +263,10 @@ fn read_register(r: &mut IoRegisters, addr: u16, bus: u8, beam: Spot) -> u8
         }
         // 4212 HVBJOY
         0x4212 => {
-            bit_if(beam.blank, 128) + bit_if(beam.h < 4 || 1096 <= beam.h, 64) + bus / 2 % 32 * 2
+            bit_if(beam.blank, 128)
+                + bit_if(beam.h < 4 || 1096 <= beam.h, 64)
+                + bus / 2 % 32 * 2
+                + bit_if(is_reading(r, beam), 1)
         }
         // 4213 RDIO
         0x4213 => r.port,
@@ -237,16 +279,33 @@ fn read_register(r: &mut IoRegisters, addr: u16, bus: u8, beam: Spot) -> u8
         // 4217 RDMPYH
         0x4217 => (r.arithmetic.product / 256) as u8,
         // 4218 JOY1L
-        0x4218 => (r.pad1.kept % 256) as u8,
+        0x4218 => (word_shown(&r.pad1, is_reading(r, beam)) % 256) as u8,
         // 4219 JOY1H
-        0x4219 => (r.pad1.kept / 256) as u8,
+        0x4219 => (word_shown(&r.pad1, is_reading(r, beam)) / 256) as u8,
         // 421A JOY2L
-        0x421a => (r.pad2.kept % 256) as u8,
+        0x421a => (word_shown(&r.pad2, is_reading(r, beam)) % 256) as u8,
         // 421B JOY2H
-        0x421b => (r.pad2.kept / 256) as u8,
+        0x421b => (word_shown(&r.pad2, is_reading(r, beam)) / 256) as u8,
         0x421c..=0x421f => 0,
         _ => bus,
     }
+}
+
+/// Returns whether an auto-read runs where the beam stands.
+#[tactic(auto, unfolding(crate::specs::Registers::is_reading))]
+fn is_reading(r: &IoRegisters, beam: Spot) -> bool
+    ensures { result ≡ is_reading r.now beam }
+{
+    r.reading != 0
+        && r.reading <= beam.v
+        && (beam.v - r.reading) as u32 * 1364 + (beam.h as u32) < 4224
+}
+
+/// Returns the word of a pad that 4218-9 or 421A-B gives.
+fn word_shown(pad: &Pad, reading: bool) -> u16
+    ensures { result ≡ word_shown reading pad.now }
+{
+    if reading { pad.earlier } else { pad.kept }
 }
 
 /// Begins vertical blank.

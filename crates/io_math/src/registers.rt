@@ -1,4 +1,4 @@
-/// One controller port with its pad, and the word that auto-read kept of it.
+/// One controller port with its pad, and the words that auto-read kept of it.
 #[derive(Clone, Copy, Debug, PartialEq, Eq)]
 pub struct Pad {
     /// The pad's word in this frame: from bit 15 down B, Y, Select, Start, Up, Down, Left, Right, A, X, L, R.
@@ -7,6 +7,8 @@ pub struct Pad {
     pub position: u8,
     /// The word of the last auto-read (4218-9, 421A-B).
     pub kept: u16,
+    /// The word of the auto-read before, which 4218-9 and 421A-B give while one runs. 0 in the first profile.
+    pub earlier: u16,
 }
 
 /// The registers of NMI, the timer and auto-read: 4200 NMITIMEN, 4207-A, 4210, 4211.
@@ -58,4 +60,6 @@ pub struct IoRegisters {
     pub arithmetic: Arithmetic,
     /// 420D MEMSEL bit 0: ROM is fast in banks 80 to FF.
     pub fast: bool,
+    /// The line on which this frame's auto-read began. 0 if there was none, and in the first profile.
+    pub reading: u16,
 }

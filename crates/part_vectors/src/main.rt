@@ -1,8 +1,9 @@
 //! Runs external test vectors of the console's parts through the proved code. The parts are cartridges (which files
-//! are one, and what is at an address), transfers, the processor's registers, and the events of the beam.
+//! are one, and what is at an address), transfers, the processor's registers, the events of the beam, and registers on
+//! the bus of both profiles.
 //!
 //! The arguments are files of cases. A file is of one part, that of the word which begins its first case: `cart`,
-//! `dma`, `io` or `beam`. It may have lines of comment, from `#` on; each other line is done or compared. The comment
+//! `dma`, `io`, `beam` or `bus`. It may have lines of comment, from `#` on; each other line is done or compared. The comment
 //! of each part's module describes its lines. The program prints each line that differs, and after the last file of a
 //! part the number of its lines.
 //!
@@ -11,6 +12,7 @@
 //! thing each, and must differ.
 #![tactic(auto)]
 
+mod buses;
 mod cartridges;
 mod events;
 mod line;

@@ -1,3 +1,4 @@
+use crate::buses::BusCase;
 use crate::cartridges::CartridgeCase;
 use crate::events::passes_as;
 use crate::registers::act_as;
@@ -14,6 +15,7 @@ pub enum Part {
     Transfers,
     Registers,
     Beam,
+    Bus,
 }
 
 impl Part {
@@ -34,6 +36,7 @@ impl Part {
             "dma" => Some(Part::Transfers),
             "io" => Some(Part::Registers),
             "beam" => Some(Part::Beam),
+            "bus" => Some(Part::Bus),
             _ => None,
         }
     }
@@ -46,6 +49,7 @@ pub enum Case {
     Transfers(TransferCase),
     Registers(Io),
     Beam(Beam),
+    Bus(BusCase),
 }
 
 impl Case {
@@ -56,6 +60,7 @@ impl Case {
             Part::Transfers => Case::Transfers(TransferCase::new()),
             Part::Registers => Case::Registers(Io::new()),
             Part::Beam => Case::Beam(Beam::new(Region::Ntsc)),
+            Part::Bus => Case::Bus(BusCase::new(alloc)),
         }
     }
 
@@ -66,6 +71,7 @@ impl Case {
             Case::Transfers(case) => case.holds(line),
             Case::Registers(registers) => act_as(registers, line),
             Case::Beam(beam) => passes_as(beam, line),
+            Case::Bus(case) => case.holds(line),
         }
     }
 }

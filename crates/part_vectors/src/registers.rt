@@ -2,8 +2,9 @@
 //!
 //! A line `io K` begins with new registers. `w AAAAVV ..` are writes of addresses and bytes; `q AAAA
 //! BUS H V BLANK GOT` is a read, with the byte last on the bus, line clock, line and vertical blank (1
-//! where it has begun), and what it gets; `frame P1 P2`, `blank P1 P2` and `timer` are events; `l LEVELS
-//! KIND H V` are the levels of NMI and IRQ as two digits, and the timer. H, V and KIND are decimal.
+//! where it has begun), and what it gets; `frame P1 P2`, `blank P1 P2` and `timer` are events. `reading V` begins an
+//! auto-read that takes time, on line V. `l LEVELS KIND H V` are the levels of NMI and IRQ as two digits, and the
+//! timer. H, V and KIND are decimal.
 
 use crate::events::time_of;
 use crate::line::Line;
@@ -27,6 +28,13 @@ pub fn act_as(io: &mut Io, line: &str) -> bool {
             io.timer();
             true
         }
+        Some("reading") => match words.decimal() {
+            Some(line) => {
+                io.begin_read(line);
+                true
+            }
+            None => false,
+        },
         Some("frame") => match pads(words) {
             Some((first, second)) => {
                 io.frame(first, second);

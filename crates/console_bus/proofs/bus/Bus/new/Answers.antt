@@ -1,4 +1,5 @@
 use Rattle.std.proofs.Common.{ℕ, List, refl, sym, ap, subst, ◌∙◌, arith}
+use Rattle.ppu_regs.specs.Picture.{picture_start}
 use Rattle.tile_cache.specs.Bitplanes.{IsInStep}
 use Rattle.console_bus.specs.Memory.{MapState}
 use Rattle.console_bus.proofs.Starts.{sized, has_rom, beam_starts, same_start}
@@ -18,5 +19,5 @@ invariant_of-result c =
 pub returns : goal.returns
 returns c =
     let made = ap (λ (m : MapState). m.board) c.set_speed.ensures ∙ ap (λ (m : MapState). m.board) c.in_ok-map.ensures ∙ c.board.ensures in
-    same_start _ _ _ _ _ _ _ _ _ _ _ _ _ _ made c.in_ok-copied.ensures c.in_ok-memory.ensures c.first_io-io.ensures c.no_transfers.ensures c.in_ok-ppu.ensures.start
+    same_start _ _ _ _ _ _ _ _ _ _ _ _ _ _ made c.in_ok-copied.ensures c.in_ok-memory.ensures c.first_io-io.ensures c.no_transfers.ensures (c.in_ok-ppu.ensures.start ∙ ap picture_start c.profile.ensures)
     (beam_starts _ _ _ _ _ _ _ _ _ c.aim.ensures c.new-beam.ensures refl c.irq_time.ensures c.first_io-io.ensures)
