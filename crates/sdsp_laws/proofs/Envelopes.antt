@@ -1,5 +1,5 @@
-use Rattle.std.proofs.Common.{◌≡◌, ◌+◌, ◌*◌, ◌-◌, ◌/◌, ◌<◌, ◌≤◌, ℕ, Bool, true, false, min, arith, if◌then◌else◌}
-use Rattle.sdsp_voice.specs.Envelope.{after_attack, after_decay, after_envelope, after_gain, after_phase, after_sustain, fallen, gained, is_due, raised}
+use Rattle.std.proofs.Common.{◌≤◌, ℕ, arith}
+use Rattle.sdsp_voice.specs.Envelope.{after_attack, after_decay, after_envelope, after_gain, after_phase, after_sustain}
 use Rattle.sdsp_voice.specs.declared.voice.Phase.{Phase}
 use Rattle.sdsp_voice.specs.declared.voice.Phase.TheVariants.{Attack, Decay, Sustain, Release}
 use Rattle.sdsp_voice.specs.declared.setting.Setting.{Setting}

@@ -1,4 +1,4 @@
-use Rattle.std.proofs.Common.{◌≡◌, ◌+◌, ◌*◌, ◌<◌, ℕ, ℤ, pos, false, ◌+ℤ◌, ◌*ℤ◌, List, refl, arith, lit<, sym, subst}
+use Rattle.std.proofs.Common.{◌≡◌, ◌<◌, ℕ, ℤ, pos, false, ◌+ℤ◌, List, refl, arith, lit<, subst}
 use Rattle.std.proofs.Math.IntN.{*ℤ-zero, zero-*ℤ}
 use Rattle.std.proofs.lemmas.Int.{ints}
 use Rattle.sdsp_voice.specs.Signed.{clamped_16, wrapped_16}

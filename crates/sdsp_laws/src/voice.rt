@@ -1,9 +1,13 @@
 ghost use Rattle.std.specs.Prelude.{◌≡◌, ◌≤◌, length};
+ghost use Rattle.snes_defs.specs.declared.profile.Profile.TheVariants.{Second};
+ghost use Rattle.sdsp_laws.specs.Ends.{HasCutEnds};
 
 use sdsp_voice::envelope::step_envelope;
 use sdsp_voice::keys::start;
 use sdsp_voice::setting::Setting;
 use sdsp_voice::voice::Voice;
+use sdsp_voice::{Sums, Voices};
+use snes_defs::Table;
 
 /// Starts two voices with one source, which are the same from then on, whatever they sounded before. Nothing of that
 /// is heard. ENVX and OUTX still show the last sample.
@@ -25,4 +29,15 @@ pub fn step_within(setting: &Setting, s: u64, voice: &mut Voice)
     ensures { voice.new.envelope ≤ 2047 }
 {
     step_envelope(setting, s, voice);
+}
+
+/// Makes a sample by the second profile. After it each voice whose block has the end and not the loop is silent and in
+/// release, however it came to that block.
+#[tactic(auto, using(crate::proofs::Ends::ends_are_cut))]
+pub fn sample_and_cut(voices: &mut Voices, ram: &[u8], table: &Table, s: u64) -> Sums
+    requires ram { length ram.now ≡ 65536 }
+    requires second { voices.old.profile ≡ Second }
+    ensures { HasCutEnds ram.now voices.new }
+{
+    voices.sample(ram, table, s)
 }

@@ -1,4 +1,4 @@
-use Rattle.std.proofs.Common.{◌≡◌, ◌^◌, ℕ, ℤ, pos, zero, suc, Bool, true, false, ◌+◌, ◌<◌, ◌+ℤ◌, ◌-◌, ◌/◌, ◌%◌, ◌∙◌, List, slice_set, FitsSigned, refl, ap, subst, arith, if◌then◌else◌}
+use Rattle.std.proofs.Common.{◌≡◌, ◌^◌, ℕ, ℤ, pos, zero, suc, Bool, true, false, ◌+◌, ◌<◌, ◌+ℤ◌, ◌-◌, ◌/◌, ◌%◌, ◌∙◌, List, slice_set, FitsSigned, refl, sym, ap, subst, arith, if◌then◌else◌}
 use Rattle.std.specs.Int.{w16}
 use Rattle.std.proofs.Math.Nat.{zero-div}
 use Rattle.std.proofs.Math.IntN.{*ℤ-zero, zero-*ℤ}
@@ -8,7 +8,7 @@ use Rattle.sdsp_voice.specs.Signed.{clamped_16}
 use Rattle.sdsp_voice.specs.Envelope.{after_envelope, is_released}
 use Rattle.sdsp_voice.proofs.Steps.{no_sample}
 use Rattle.sdsp_voice.specs.Registers.{bit, kept, setting, voice}
-use Rattle.sdsp_voice.specs.Keys.{keyed, keyed_below}
+use Rattle.sdsp_voice.specs.Keys.{after_keys, keyed, keyed_below, looks}
 use Rattle.sdsp_voice.specs.Sample.{added, by_volume, gone_on, mixed, moved, output, pass, pitch_of, shown, turn, IsResting}
 use Rattle.sdsp_voice.specs.declared.voice.Phase.TheVariants.{Release}
 use Rattle.sdsp_voice.specs.declared.voice.Voice.{Voice}
@@ -21,15 +21,29 @@ pub bit-zero : (k : ℕ) → bit 0 k ≡ false
 bit-zero k = rw (zero-div (2 ^ k)) refl
 
 -- where no key is held or noted, the keys leave a voice as it is
-keyed_idle : (ram : List ℕ) (d : Voices) (v : ℕ) (w : Voice) → bit (kept d 0x6C) 7 ≡ false → kept d 0x5C ≡ 0 → d.notes ≡ 0 → keyed ram d v w ≡ w
+keyed_idle : (ram : List ℕ) (d : Voices) (v : ℕ) (w : Voice) → bit (kept d 0x6C) 7 ≡ false → keyed ram d 0 0 v w ≡ w
 unfolding keyed
-keyed_idle ram d v w loud off on = rw (loud, off, on, bit-zero v) refl
+keyed_idle ram d v w loud = rw (loud, bit-zero v) refl
 
--- and all voices
-pub keys_idle : (ram : List ℕ) (d : Voices) (n : ℕ) → bit (kept d 0x6C) 7 ≡ false → kept d 0x5C ≡ 0 → d.notes ≡ 0 → keyed_below ram d n ≡ d.voices
+-- and the first n voices
+voices_idle : (ram : List ℕ) (d : Voices) (n : ℕ) → bit (kept d 0x6C) 7 ≡ false → keyed_below ram d 0 0 n ≡ d.voices
 unfolding keyed_below
-keys_idle ram d zero loud off on = refl
-keys_idle ram d (suc n) loud off on = rw (keys_idle ram d n loud off on, keyed_idle ram d n _ loud off on) (set-get_or d.voices n _)
+voices_idle ram d zero loud = refl
+voices_idle ram d (suc n) loud = rw (voices_idle ram d n loud, keyed_idle ram d n _ loud) (set-get_or d.voices n _)
+
+pub both_ways : {A : Type 0} (b : Bool) (x y z : A) → x ≡ z → y ≡ z → (if b then x else y) ≡ z
+both_ways true x y z e f = e
+both_ways false x y z e f = f
+
+idle_by : (ram : List ℕ) (d : Voices) (off on left : ℕ) → bit (kept d 0x6C) 7 ≡ false → off ≡ 0 → on ≡ 0 → left ≡ d.notes → record d { voices = keyed_below ram d off on 8; notes = left } ≡ d
+idle_by ram d off on left loud no_off no_on same = rw (no_off, no_on, same, voices_idle ram d 8 loud) refl
+
+-- and all, in any sample
+pub keys_idle : (ram : List ℕ) (s : ℕ) (d : Voices) → bit (kept d 0x6C) 7 ≡ false → kept d 0x5C ≡ 0 → d.notes ≡ 0 → after_keys ram s d ≡ d
+unfolding after_keys
+keys_idle ram s d loud off on =
+    let seen : Bool = looks d.profile s in
+    idle_by ram d _ _ _ loud (both_ways seen (kept d 0x5C) 0 0 off refl) (both_ways seen d.notes 0 0 on refl) (both_ways seen 0 d.notes d.notes (sym on) refl)
 
 -- an envelope of 0 is silence
 pub output_of_none : (table : List ℕ) (noise : ℕ) (t : Setting) (w : Voice) → w.envelope ≡ 0 → output table noise t w ≡ pos 0
@@ -48,8 +62,7 @@ added_silence z v fits =
     let e : z ≡ z +ℤ pos 0 = omega (arith, ints) in rw zero-*ℤ (subst (λ (x : ℤ). clamped_16 x ≡ z) e (clamped-fits z fits))
 
 either_way : {A : Type 0} (b : Bool) (x : A) → (if b then x else x) ≡ x
-either_way true x = refl
-either_way false x = refl
+either_way b x = both_ways b x x x refl refl
 
 pub mixed_silence : (sums : Sums) (t : Setting) → FitsSigned w16 sums.left → FitsSigned w16 sums.right → FitsSigned w16 sums.echo_left → FitsSigned w16 sums.echo_right → mixed sums (pos 0) t ≡ sums
 unfolding mixed

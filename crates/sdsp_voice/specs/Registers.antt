@@ -1,5 +1,7 @@
 -- The S-DSP's registers 00 to 7F as bytes, and what a voice takes from them (nocash fullsnes, "SNES APU DSP").
 use Rattle.std.specs.Prelude.{ℕ, pos, Bool, false, not, ◌+◌, ◌*◌, ◌/◌, ◌%◌, ◌^◌, ◌==◌, ◌&&◌, List, [], ◌∷◌, replicate, slice_index, slice_index_or, slice_set, bit_or, if◌then◌else◌}
+use Rattle.snes_defs.specs.declared.profile.Profile.{Profile}
+use Rattle.snes_defs.specs.declared.profile.Profile.TheVariants.{First, Second}
 use Rattle.sdsp_voice.specs.Signed.{signed_byte}
 use Rattle.sdsp_voice.specs.declared.voice.Phase.TheVariants.{Release}
 use Rattle.sdsp_voice.specs.declared.voice.Voice.{Voice}
@@ -43,13 +45,20 @@ unended d v = record (voice d v) { ended = false }
 abbrev pub all_unended : Voices → List Voice
 all_unended d = unended d 0 ∷ unended d 1 ∷ unended d 2 ∷ unended d 3 ∷ unended d 4 ∷ unended d 5 ∷ unended d 6 ∷ unended d 7 ∷ []
 
--- A WRITE: KON (4C) also notes the voices, for the next sample; one of ENDX clears it, whatever the byte; ENVX and OUTX keep theirs until the next sample
+-- the notes after a byte was written to KON: the first profile adds its bits, in the second it replaces what there was
+-- (anomie's S-DSP document)
+abbrev pub noted : Profile → ℕ → ℕ → ℕ
+noted First notes byte = bit_or notes byte
+noted Second notes byte = byte
+
+-- A WRITE: KON (4C) also notes the voices, for the next sample that looks at them; one of ENDX clears it, whatever the
+-- byte; ENVX and OUTX keep theirs until the next sample
 unfoldable pub written : Voices → ℕ → ℕ → Voices
 written d reg byte =
     if reg == 0x7C then record d { voices = all_unended d }
     else (if reg % 16 == 8 then record d { voices = slice_set d.voices (reg / 16) (record (voice d (reg / 16)) { envx = byte }) }
     else (if reg % 16 == 9 then record d { voices = slice_set d.voices (reg / 16) (record (voice d (reg / 16)) { outx = byte }) }
-    else (if reg == 0x4C then record d { registers = slice_set d.registers reg byte; notes = bit_or d.notes byte }
+    else (if reg == 0x4C then record d { registers = slice_set d.registers reg byte; notes = noted d.profile d.notes byte }
     else record d { registers = slice_set d.registers reg byte })))
 
 -- what voice v takes from its registers v0 to v7 and from the bits that the voices share
@@ -74,8 +83,15 @@ setting d v =
     }
 
 -- AFTER POWER ON: all bytes 0, but for 6C FLG, which is E0; the noise generator starts at 4000
-unfoldable pub at_power_on : Voices
-at_power_on = record { registers = slice_set (replicate 128 0) 0x6C 0xE0; voices = replicate 8 resting_voice; noise = 0x4000; notes = 0 }
+unfoldable pub at_power_on : Profile → Voices
+at_power_on profile' =
+    record {
+      registers = slice_set (replicate 128 0) 0x6C 0xE0;
+      voices = replicate 8 resting_voice;
+      noise = 0x4000;
+      notes = 0;
+      profile = profile';
+    }
 
 -- AFTER A RESET: FLG is E0 again and the notes of KON are dropped; all else stays
 unfoldable pub at_reset : Voices → Voices

@@ -1,13 +1,17 @@
--- ONE SAMPLE of the eight voices (order: this project's own profile, after nocash fullsnes, "SNES APU DSP"): keys, noise, then for each voice from 0 its output, its envelope, and its position.
-use Rattle.std.specs.Prelude.{ℕ, ℤ, pos, zero, suc, ◌+◌, ◌/◌, ◌%◌, ◌+ℤ◌, ◌*ℤ◌, ◌≡◌, ◌<◌, List, slice_index_or, slice_set, if◌then◌else◌}
+-- ONE SAMPLE of the eight voices (order: this project's own profile, after nocash fullsnes, "SNES APU DSP"): keys,
+-- noise, then for each voice from 0 its output, its envelope, and its position. Last, in the second profile, a voice is
+-- muted if its block has the end and not the loop.
+use Rattle.std.specs.Prelude.{ℕ, ℤ, pos, Bool, not, zero, suc, ◌&&◌, ◌+◌, ◌/◌, ◌%◌, ◌+ℤ◌, ◌*ℤ◌, ◌≡◌, ◌<◌, List, slice_index_or, slice_set, if◌then◌else◌}
 use Rattle.std.specs.Int.{w32, cast_unsigned, int_max, int_min}
 use Rattle.sdsp_voice.specs.Signed.{shifted, wrapped_15, clamped_16}
-use Rattle.sdsp_voice.specs.Registers.{resting_voice, setting, voice}
-use Rattle.sdsp_voice.specs.Brr.{decoded_times}
+use Rattle.snes_defs.specs.declared.profile.Profile.{Profile}
+use Rattle.snes_defs.specs.declared.profile.Profile.TheVariants.{First, Second}
+use Rattle.sdsp_voice.specs.Registers.{bit, resting_voice, setting, voice}
+use Rattle.sdsp_voice.specs.Brr.{at, decoded_times}
 use Rattle.sdsp_voice.specs.Envelope.{after_envelope}
 use Rattle.sdsp_voice.specs.Interpolation.{interpolated}
 use Rattle.sdsp_voice.specs.Noise.{after_noise}
-use Rattle.sdsp_voice.specs.Keys.{after_keys}
+use Rattle.sdsp_voice.specs.Keys.{after_keys, muted}
 use Rattle.sdsp_voice.specs.declared.voice.Phase.TheVariants.{Release}
 use Rattle.sdsp_voice.specs.declared.voice.Voice.{Voice}
 use Rattle.sdsp_voice.specs.declared.setting.Setting.{Setting}
@@ -100,13 +104,32 @@ unfoldable pub turns : List ℕ → List ℕ → ℕ → Voices → ℕ → Pass
 turns ram table s d zero = record { voices = d.voices; sums = no_sums; before = pos 0 }
 turns ram table s d (suc n) = turn ram table s d n (turns ram table s d n)
 
+-- whether the block at a voice's address has the end and not the loop (header bits 0 and 1)
+abbrev pub is_in_last_block : List ℕ → Voice → Bool
+is_in_last_block ram w = bit (at ram w.address) 0 && not (bit (at ram w.address) 1)
+
+-- such a voice is muted
+unfoldable pub cut : List ℕ → Voice → Voice
+cut ram w = if is_in_last_block ram w then muted w else w
+
+-- the first n voices of a list
+unfoldable pub cut_below : List ℕ → List Voice → ℕ → List Voice
+cut_below ram xs zero = xs
+cut_below ram xs (suc n) = slice_set (cut_below ram xs n) n (cut ram (slice_index_or (cut_below ram xs n) n resting_voice))
+
+-- AFTER THE TURNS: the second profile mutes a voice as soon as it has come to a block with the end and without the loop
+unfoldable pub after_turns : Profile → List ℕ → List Voice → List Voice
+after_turns First ram xs = xs
+after_turns Second ram xs = cut_below ram xs 8
+
 -- before the voices' turns
 unfoldable pub prepared : List ℕ → ℕ → Voices → Voices
-prepared ram s d = after_noise s (after_keys ram d)
+prepared ram s d = after_noise s (after_keys ram s d)
 
 -- THE VOICES AFTER SAMPLE s
 unfoldable pub after_sample : List ℕ → List ℕ → ℕ → Voices → Voices
-after_sample ram table s d = record (prepared ram s d) { voices = (turns ram table s (prepared ram s d) 8).voices }
+after_sample ram table s d =
+    record (prepared ram s d) { voices = after_turns d.profile ram (turns ram table s (prepared ram s d) 8).voices }
 
 -- THE SUMS OF SAMPLE s
 unfoldable pub sums_of : List ℕ → List ℕ → ℕ → Voices → Sums

@@ -1,9 +1,10 @@
 ghost use Rattle.std.specs.Prelude.{ℕ, ◌≡◌, ◌<◌, ◌≤◌, ◌^◌, IsTrue, length, slice_set, unsigned_abs};
-ghost use Rattle.sdsp_voice.specs.Registers.{all_unended, at_power_on, at_reset, bit, ended_bit, ended_bits, kept, read, setting, unended, voice, written};
-ghost use Rattle.sdsp_voice.specs.Keys.{after_keys, key_taken, keyed, keyed_below};
+ghost use Rattle.sdsp_voice.specs.Registers.{all_unended, at_power_on, at_reset, bit, ended_bit, ended_bits, kept, noted, read, setting, unended, voice, written};
+ghost use Rattle.sdsp_voice.specs.Keys.{after_keys, key_taken, keyed, keyed_below, looks};
 ghost use Rattle.sdsp_voice.specs.Noise.{after_noise};
-ghost use Rattle.sdsp_voice.specs.Sample.{IsResting, IsStill, after_sample, pass, sums_of, turn};
+ghost use Rattle.sdsp_voice.specs.Sample.{IsResting, IsStill, after_sample, after_turns, cut, cut_below, pass, sums_of, turn};
 
+use crate::brr::byte_at;
 use crate::envelope::due;
 use crate::keys::{key_off, mute, start};
 use crate::noise::next_noise;
@@ -11,7 +12,7 @@ use crate::output::{go_on, sound};
 use crate::setting::Setting;
 use crate::sums::Sums;
 use crate::voice::{Phase, Voice};
-use snes_defs::Table;
+use snes_defs::{Profile, Table};
 
 /// 6C FLG: bit 7 silences all voices, bit 6 mutes the output, bit 5 stops echo writes, bits 4-0 are
 /// the noise's rate.
@@ -70,8 +71,10 @@ pub struct Voices {
     voices: [Voice; 8],
     /// The noise generator, 15 bits.
     noise: u16,
-    /// The bits of all bytes that were written to KON since the last sample.
+    /// The bits written to KON that no sample has looked at yet: of all writes, in the second profile of the last.
     notes: u8,
+    /// Which rules the voices follow.
+    profile: Profile,
 }
 
 /// Bit `k` of a byte.
@@ -86,8 +89,8 @@ fn is_on(byte: u8, k: usize) -> bool
 impl Voices {
     /// The voices after power on.
     #[tactic(auto, unfolding(crate::specs::Registers::at_power_on))]
-    pub fn new() -> Voices
-        ensures { result ≡ at_power_on }
+    pub fn new(profile: Profile) -> Voices
+        ensures { result ≡ at_power_on profile }
     {
         let mut registers = [0; 128];
         registers[FLG] = 0xE0;
@@ -96,6 +99,7 @@ impl Voices {
             voices: [RESTING; 8],
             noise: 0x4000,
             notes: 0,
+            profile,
         }
     }
 
@@ -186,6 +190,17 @@ impl Voices {
         ];
     }
 
+    /// The notes with a byte written to KON.
+    #[inline(always)]
+    fn noted(&self, byte: u8) -> u8
+        ensures { result ≡ noted self.now.profile self.now.notes byte }
+    {
+        match self.profile {
+            Profile::First => self.notes | byte,
+            Profile::Second => byte,
+        }
+    }
+
     /// Writes a register.
     #[tactic(auto, unfolding(crate::specs::Registers::written))]
     pub fn write(&mut self, reg: u8, v: u8)
@@ -200,7 +215,7 @@ impl Voices {
             self.voices[(reg / 16) as usize].outx = v;
         } else if reg == KON {
             self.registers[reg as usize] = v;
-            self.notes = self.notes | v;
+            self.notes = self.noted(v);
         } else {
             self.registers[reg as usize] = v;
         }
@@ -230,21 +245,22 @@ impl Voices {
         }
     }
 
-    /// A voice after the keys were applied to it.
+    /// A voice after the keys were applied to it. The bits of `off` are the voices to release, those of `on` the voices
+    /// to start.
     #[tactic(auto, unfolding(crate::specs::Keys::keyed))]
     #[inline(always)]
-    fn keyed(&self, ram: &[u8], v: usize, voice: Voice) -> Voice
+    fn keyed(&self, ram: &[u8], off: u8, on: u8, v: usize, voice: Voice) -> Voice
         requires ram { length ram.now ≡ 65536 }
         requires v { v < 8 }
-        ensures { result ≡ keyed ram.now self.now v voice }
+        ensures { result ≡ keyed ram.now self.now off on v voice }
     {
         let mut voice = voice;
         if is_on(self.registers[FLG], 7) {
             mute(&mut voice);
         }
-        if is_on(self.registers[KOFF], v) {
+        if is_on(off, v) {
             key_off(&mut voice);
-        } else if is_on(self.notes, v) {
+        } else if is_on(on, v) {
             start(ram, self.setting(v).entry, &mut voice);
         }
         voice
@@ -252,36 +268,61 @@ impl Voices {
 
     /// Applies the keys to voice `v`.
     #[inline(always)]
-    fn take_key(&mut self, ram: &[u8], v: usize)
+    fn take_key(&mut self, ram: &[u8], off: u8, on: u8, v: usize)
         requires ram { length ram.now ≡ 65536 }
         requires v { v < 8 }
-        ensures { self.new ≡ record self.old { voices = key_taken ram.now self.old v self.old.voices } }
+        ensures { self.new ≡ record self.old { voices = key_taken ram.now self.old off on v self.old.voices } }
     {
-        self.voices[v] = self.keyed(ram, v, self.voices[v]);
+        self.voices[v] = self.keyed(ram, off, on, v, self.voices[v]);
     }
 
     /// Applies the keys to all voices.
     #[tactic(auto, using(crate::proofs::Steps::no_key, crate::proofs::Steps::one_more_key, crate::proofs::Steps::key_of_same))]
     #[inline(always)]
-    fn take_all_keys(&mut self, ram: &[u8])
+    fn take_all_keys(&mut self, ram: &[u8], off: u8, on: u8)
         requires { length ram.now ≡ 65536 }
-        ensures { self.new ≡ record self.old { voices = keyed_below ram.now self.old 8 } }
+        ensures { self.new ≡ record self.old { voices = keyed_below ram.now self.old off on 8 } }
     {
         'keys: for v in 0..8 {
-            self.take_key(ram, v);
+            self.take_key(ram, off, on, v);
+        }
+    }
+
+    /// Whether sample `s` looks at KOFF and at the notes of KON.
+    #[inline(always)]
+    fn looks(&self, s: u64) -> bool
+        ensures { result ≡ looks self.now.profile s }
+    {
+        match self.profile {
+            Profile::First => true,
+            Profile::Second => s % 2 == 0,
+        }
+    }
+
+    /// Applies the keys that sample `s` looks at.
+    #[tactic(auto, unfolding(crate::specs::Keys::after_keys))]
+    #[inline(always)]
+    fn take_seen_keys(&mut self, ram: &[u8], s: u64)
+        requires { length ram.now ≡ 65536 }
+        ensures { self.new ≡ after_keys ram.now s self.old }
+    {
+        if self.looks(s) {
+            self.take_all_keys(ram, self.registers[KOFF], self.notes);
+            self.notes = 0;
+        } else {
+            self.take_all_keys(ram, 0, 0);
         }
     }
 
     /// Applies the keys, as a sample does first.
-    #[tactic(auto, using(crate::proofs::Quiet::keys_idle), unfolding(crate::specs::Keys::after_keys))]
+    #[tactic(auto, using(crate::proofs::Quiet::keys_idle))]
     #[inline(always)]
-    fn take_keys(&mut self, ram: &[u8])
+    fn take_keys(&mut self, ram: &[u8], s: u64)
         requires { length ram.now ≡ 65536 }
-        ensures { self.new ≡ after_keys ram.now self.old }
+        ensures { self.new ≡ after_keys ram.now s self.old }
     {
         if is_on(self.registers[FLG], 7) || self.registers[KOFF] != 0 || self.notes != 0 {
-            self.take_all_keys(ram);
-            self.notes = 0;
+            self.take_seen_keys(ram, s);
         }
     }
 
@@ -408,21 +449,62 @@ impl Voices {
         }
     }
 
+    /// Mutes voice `v` if its block has the end and not the loop.
+    #[tactic(auto, unfolding(crate::specs::Sample::cut))]
+    #[inline(always)]
+    fn cut(&mut self, ram: &[u8], v: usize)
+        requires ram { length ram.now ≡ 65536 }
+        requires v { v < 8 }
+        ensures { self.new
+            ≡ record self.old { voices = slice_set self.old.voices v (cut ram.now (voice self.old v)) } }
+    {
+        let header = byte_at(ram, self.voices[v].address as u32);
+        if header % 2 == 1 && header / 2 % 2 == 0 {
+            mute(&mut self.voices[v]);
+        }
+    }
+
+    /// Mutes each voice whose block has the end and not the loop.
+    #[tactic(auto, using(crate::proofs::Steps::no_cut, crate::proofs::Steps::one_more_cut))]
+    #[inline(never)]
+    fn cut_all(&mut self, ram: &[u8])
+        requires { length ram.now ≡ 65536 }
+        ensures { self.new ≡ record self.old { voices = cut_below ram.now self.old.voices 8 } }
+    {
+        'cuts: for v in 0..8 {
+            self.cut(ram, v);
+        }
+    }
+
+    /// Ends the turns of a sample: in the second profile the voices' last blocks are heeded.
+    #[tactic(auto, unfolding(crate::specs::Sample::after_turns))]
+    #[inline(always)]
+    fn end_turns(&mut self, ram: &[u8])
+        requires { length ram.now ≡ 65536 }
+        ensures { self.new ≡ record self.old { voices = after_turns self.old.profile ram.now self.old.voices } }
+    {
+        match self.profile {
+            Profile::First => {}
+            Profile::Second => self.cut_all(ram),
+        }
+    }
+
     /// Makes sample `s` when some voice does something.
-    #[tactic(auto, using(crate::proofs::Steps::no_turn, crate::proofs::Steps::one_more_turn, crate::proofs::Steps::turn_of_same), unfolding(crate::specs::Sample::after_sample, crate::specs::Sample::sums_of, crate::specs::Sample::prepared))]
+    #[tactic(auto, using(crate::proofs::Steps::no_turn, crate::proofs::Steps::one_more_turn, crate::proofs::Steps::turn_of_same, crate::proofs::Steps::profile_stays), unfolding(crate::specs::Sample::after_sample, crate::specs::Sample::sums_of, crate::specs::Sample::prepared))]
     #[inline(always)]
     fn play(&mut self, ram: &[u8], table: &Table, s: u64) -> Sums
         requires { length ram.now ≡ 65536 }
         ensures after { self.new ≡ after_sample ram.now table.now s self.old }
         ensures sums { result ≡ sums_of ram.now table.now s self.old }
     {
-        self.take_keys(ram);
+        self.take_keys(ram, s);
         self.step_noise(s);
         let mut sums = SILENCE;
         let mut before = 0;
         'voices: for v in 0..8 {
             (sums, before) = self.turn(ram, table, s, v, sums, before);
         }
+        self.end_turns(ram);
         sums
     }
 
