@@ -1,10 +1,11 @@
 -- The registers of the S-DSP, written one after another.
 use Rattle.std.proofs.Common.{◌≡◌, ◌≢◌, ℕ, ◌+◌, List, refl, add-one, slice_index}
 use Rattle.std.proofs.lemmas.Bool.{ne_eqb}
+use Rattle.snes_defs.specs.declared.profile.Profile.TheVariants.{First}
 use Rattle.sdsp_voice.specs.Registers.{at_power_on, written}
 use Rattle.audio_side.specs.FromParts.{written_below}
 
-pub no_register : (dsp : List ℕ) → written_below dsp 0 ≡ at_power_on
+pub no_register : (dsp : List ℕ) → written_below dsp 0 ≡ at_power_on First
 unfolding written_below
 no_register dsp = refl
 

@@ -1,5 +1,4 @@
 use Rattle.std.proofs.Common.{◌≡◌, ◌∙◌, ℕ, false, ◌&&◌, ◌++◌, nat_le, List, refl, sym, ap, subst}
-use Rattle.snes_defs.specs.declared.ports.Act.TheVariants.{Quiet}
 use Rattle.side_law.specs.Moves.{taken}
 use Rattle.spc_tables.specs.declared.access.SpcAccess.{SpcAccess}
 use Rattle.spc_tables.specs.declared.access.SpcAccess.TheVariants as Access
@@ -56,7 +55,7 @@ bytes_emitted old more m h b =
 pub act_stands : (old : AudioValue) (m : SoundState) → StandsAt old m → sound_act (record { processor = m.processor; hardware = old.hardware; clock = old.clock }) ≡ sound_act m
 act_stands old m h = ap sound_act (same_state old m h)
 
--- ---- a step without a reset whose access is quiet
+-- ---- a step without a reset
 
 pub not_reset_processor : (s : SpcState) (b : HardwareState) (k : Clock) (got : ℕ) → is_reset_due k ≡ false → processor_after (state_with s b k) got ≡ moved_on s (given b (next_of s) got)
 unfolding processor_after
@@ -65,26 +64,3 @@ not_reset_processor s b k got e = rw e refl
 pub not_reset_hardware : (s : SpcState) (b : HardwareState) (k : Clock) → is_reset_due k ≡ false → hardware_before_end (state_with s b k) ≡ effect b (next_of s)
 unfolding hardware_before_end
 not_reset_hardware s b k e = rw e refl
-
-pub quiet_stands : (old : AudioValue) (m : SoundState) → StandsAt old m → is_reset_due old.clock ≡ false
-    → ((s : SpcState) → Stands old.processor s → act_of (next_of s) ≡ Quiet) → sound_act m ≡ Quiet
-unfolding sound_act
-quiet_stands old m h e quiet =
-    let none : is_reset_due m.clock ≡ false = ap is_reset_due (sym h.clock) ∙ e in
-    rw none (quiet m.processor h.processor)
-
-pub next_quiet : (old new : AudioValue) (m : SoundState) → StandsAt old m → is_reset_due old.clock ≡ false
-    → ((s : SpcState) → Stands old.processor s → Stands new.processor (moved_on s (given old.hardware (next_of s) 0)))
-    → ((s : SpcState) → Stands old.processor s → new.hardware ≡ passed old.clock.cycle (effect old.hardware (next_of s)))
-    → new.clock ≡ gone_on old.clock → StandsAt new (sound_next m 0)
-next_quiet old new m h e p b k =
-    let r = next_stands old new m 0 h
-    (λ s t. subst (λ (q : SpcState). Stands new.processor q) (sym (not_reset_processor s old.hardware old.clock 0 e)) (p s t))
-    (λ s t. b s t ∙ ap (passed old.clock.cycle) (sym (not_reset_hardware s old.hardware old.clock e))) k in
-    record { processor = subst (λ (q : SpcState). Stands new.processor q) (processor_taken m 0) r.processor; hardware = r.hardware; clock = r.clock }
-
-pub emits_quiet : (old : AudioValue) (more : List ℕ) (m : SoundState) → StandsAt old m → is_reset_due old.clock ≡ false
-    → ((s : SpcState) → Stands old.processor s → more ≡ old.waiting ++ emitted old.clock.cycle (effect old.hardware (next_of s)))
-    → more ≡ old.waiting ++ emitted m.clock.cycle (hardware_before_end m)
-emits_quiet old more m h e b =
-    bytes_emitted old more m h (λ s t. b s t ∙ ap (λ (x : HardwareState). old.waiting ++ emitted old.clock.cycle x) (sym (not_reset_hardware s old.hardware old.clock e)))

@@ -1,113 +1,26 @@
--- Accesses over ports: of the memory and the registers, of the ports, and as the processor's next; and runs of them.
-use Rattle.std.proofs.Common.{◌≡◌, ◌∙◌, ◌+◌, ◌*◌, ◌<◌, ◌≤◌, ℕ, Bool, zero, suc, List, ◌++◌, length, refl, sym, ap, subst, arith}
+-- Runs of accesses over ports: of the memory and the registers, and of the ports.
+use Rattle.std.proofs.Common.{◌≡◌, ◌∙◌, ◌+◌, ◌*◌, ◌<◌, ◌≤◌, ℕ, Bool, zero, suc, List, ◌++◌, refl, sym, ap, subst, arith}
 use Rattle.std.proofs.lemmas.List.{append-nil}
 use Rattle.snes_defs.specs.declared.ports.Act.{Act}
-use Rattle.snes_defs.specs.declared.ports.Act.TheVariants.{Quiet, Read, Write}
 use Rattle.snes_defs.specs.declared.ports.Side.TheVariants.{Sound}
 use Rattle.clock_ratio.specs.Stamp.{least_of, rate_of}
-use Rattle.spc_tables.specs.declared.access.SpcAccess.{SpcAccess}
-use Rattle.spc_tables.specs.declared.access.SpcAccess.TheVariants as Access
-use Rattle.spc_modes.specs.Plan.{first_access}
 use Rattle.side_law.specs.declared.ports.Stop.TheVariants.{Refused}
-use Rattle.side_law.specs.Moves.{taken}
 use Rattle.side_law.specs.Gone.{Calls, Over, HasMoved, Leads, IsAnswered, IsRefused, Goes, Gone, IsOnWay, HasGone}
-use Rattle.side_law.proofs.Gone.{gone_none, gone_on, gone_then, goes_silently, goes_emitting, way_to, way_on}
+use Rattle.side_law.proofs.Gone.{gone_none, gone_on, gone_then}
 use Rattle.spc700.specs.Instruction.{SpcState, moved_on, next_of}
-use Rattle.spc700.specs.Stands.{Stands, access_of}
+use Rattle.spc700.specs.Stands.{Stands}
 use Rattle.spc700.specs.declared.processor.Spc.{Spc}
 use Rattle.audio_side.specs.HardwareState.{HardwareState}
 use Rattle.audio_side.specs.declared.timer.Timer.{Timer}
 use Rattle.audio_side.specs.Clock.{Clock, gone_on as clock_on, stamp_now}
-use Rattle.audio_side.specs.Effect.{act_of, act_of_load, act_of_store, after_load, effect, given, loaded, stored}
-use Rattle.audio_side.specs.PortRuns.{Makes, HasMade, HasTaken, PortRun, IsHeld}
+use Rattle.audio_side.specs.Effect.{act_of, effect, given}
+use Rattle.audio_side.specs.PortRuns.{HasMade, PortRun, IsHeld}
 use Rattle.audio_side.specs.Runs.{later, IsFree, AreFree, PlainAccesses, HasRun}
-use Rattle.audio_side.specs.Sound.{AudioValue, SoundState, StandsAt, hardware_before_end, sound_act, sound_moves, sound_next}
+use Rattle.audio_side.specs.Sound.{AudioValue, SoundState, StandsAt, hardware_before_end, sound_moves}
 use Rattle.audio_side.specs.SoundLaws.{rises_in}
 use Rattle.audio_side.proofs.Moves.{same_state, state_with}
 use Rattle.audio_side.proofs.Runs.{emits_none, later_more, later_none}
 use Rattle.audio_side.proofs.FreeSteps.{free_step, free_act}
-
--- ---- one access
-
-module _ {Ports : Type 0} (calls : Calls Ports) (at : ℕ) (b b' : HardwareState) (stand : Ports → Type 0) (p : Ports) where
-  -- a quiet access makes no call
-  quiet_call : (act : Act) → act ≡ Quiet → IsAnswered calls at act 0 p p
-  quiet_call act quiet = subst (λ (a : Act). IsAnswered calls at a 0 p p) (sym quiet) (refl, refl)
-
-  pub quiet_load : (address byte : ℕ) → act_of_load address ≡ Quiet → byte ≡ loaded b address 0 → b' ≡ after_load b address → b'.timer2.on ≡ b.timer2.on → stand p
-      → Makes calls at (Access.Read address) b b' byte stand p
-  quiet_load address byte quiet is after on now = record {
-    got = 0;
-    small = omega arith;
-    ports = p;
-    ports_stand = now;
-    answered = quiet_call (act_of_load address) quiet;
-    gives = sym is;
-    leaves = sym after;
-    on = on;
-  }
-
-  pub quiet_store : (address byte : ℕ) → act_of_store address byte ≡ Quiet → b' ≡ stored b address byte → b'.timer2.on ≡ b.timer2.on → stand p
-      → Makes calls at (Access.Write address byte) b b' 0 stand p
-  quiet_store address byte quiet after on now = record {
-    got = 0;
-    small = omega arith;
-    ports = p;
-    ports_stand = now;
-    answered = quiet_call (act_of_store address byte) quiet;
-    gives = refl;
-    leaves = sym after;
-    on = on;
-  }
-
-  pub port_load : (address port byte : ℕ) → act_of_load address ≡ Read port → loaded b address byte ≡ byte → after_load b address ≡ b → byte < 256
-      → HasMoved stand (calls.answers at (Read port) byte p) → Makes calls at (Access.Read address) b b byte stand p
-  port_load address port byte reads shows stays small moved = record {
-    got = byte;
-    small = small;
-    ports = moved.to;
-    ports_stand = moved.now_stands;
-    answered = subst (λ (a : Act). IsAnswered calls at a byte p moved.to) (sym reads) moved.led;
-    gives = shows;
-    leaves = stays;
-    on = refl;
-  }
-
-  pub port_store : (address port byte : ℕ) → act_of_store address byte ≡ Write port byte → stored b address byte ≡ b
-      → HasMoved stand (calls.answers at (Write port byte) 0 p) → Makes calls at (Access.Write address byte) b b 0 stand p
-  port_store address port byte writes stays moved = record {
-    got = 0;
-    small = omega arith;
-    ports = moved.to;
-    ports_stand = moved.now_stands;
-    answered = subst (λ (a : Act). IsAnswered calls at a 0 p moved.to) (sym writes) (refl, moved.led);
-    gives = refl;
-    leaves = stays;
-    on = refl;
-  }
-
--- an access is the processor's next one, where it is known which one is next
-pub made_by : {Ports : Type 0} (calls : Calls Ports) (at : ℕ) (old new : Spc) (b b' : HardwareState) (a : SpcAccess) (byte : ℕ) (stand : Ports → Type 0) (p : Ports)
-    → access_of old ≡ a → ((s : SpcState) → Stands old s → Stands new (moved_on s byte)) → Makes calls at a b b' byte stand p
-    → (s : SpcState) → Stands old s → HasMade calls at new b b' stand s p
-made_by calls at old new b b' a byte stand p known moves makes s h =
-    let next : a ≡ next_of s = sym known ∙ ap first_access h.left in
-    record {
-      got = makes.got;
-      small = makes.small;
-      ports = makes.ports;
-      ports_stand = makes.ports_stand;
-      answered = subst (λ (x : SpcAccess). IsAnswered calls at (act_of x) makes.got p makes.ports) next makes.answered;
-      processor = subst (λ (n : ℕ). Stands new (moved_on s n)) (sym makes.gives ∙ ap (λ (x : SpcAccess). given b x makes.got) next) (moves s h);
-      leaves = ap (λ (x : SpcAccess). effect b x) (sym next) ∙ makes.leaves;
-      on = makes.on;
-    }
-
-pub refused_by : {Ports : Type 0} (calls : Calls Ports) (at : ℕ) (old : Spc) (a : SpcAccess) (stood stand : Ports → Type 0)
-    → access_of old ≡ a → Leads stood stand (IsRefused calls at (act_of a))
-    → (s : SpcState) → Stands old s → Leads stood stand (IsRefused calls at (act_of (next_of s)))
-refused_by calls at old a stood stand known refused s h =
-    subst (λ (x : SpcAccess). Leads stood stand (IsRefused calls at (act_of x))) (sym known ∙ ap first_access h.left) refused
 
 -- ---- runs
 
@@ -270,29 +183,3 @@ module _ {Ports : Type 0} (calls : Calls Ports) (until : ℕ) (old new : AudioVa
           refused = subst (λ (a : Act). IsRefused calls (stamp_now (later n old.clock)) a run.ports moved.to) (sym (free_act fast until run.to new.hardware (later n old.clock) free)) moved.led;
         };
       }
-
--- the next step, after others
-module _ {Ports : Type 0} (calls : Calls Ports) (until : ℕ) (stands : SoundState → Type 0) (stand : Ports → Type 0) (waited waits more : List ℕ) (m : SoundState) (p : Ports)
-    (way : IsOnWay sound_moves calls until stands stand waited waits m p) (new : AudioValue) (have : Ports → Type 0)
-    (took : HasTaken calls new have waits more way.to way.ports) (early : stamp_now way.to.clock < until) where
-  abbrev taken_to : SoundState
-  taken_to = sound_next way.to (taken (sound_act way.to) took.got)
-
-  -- that emitted nothing
-  pub way_silently : length more ≤ length waits → IsOnWay sound_moves calls until (StandsAt new) have waited more m p
-  way_silently few =
-      let at = way_to sound_moves calls until stands stand waited waits m p way in
-      let goes = goes_silently sound_moves calls until (stamp_now way.to.clock) (sound_act way.to) at took.got took.ports more refl refl early took.small took.answered took.waits_is few in
-      way_on sound_moves calls until stands stand waited waits m p (StandsAt new) have more way taken_to took.ports goes took.now_stands took.ports_stand
-
-  -- that emitted, and of which the ports were told
-  pub way_emitting : (at waiting : ℕ) (last : Ports → Type 0) → at ≡ stamp_now way.to.clock → length more ≡ waiting → length waits < waiting
-      → at < calls.room way.ports (length waits) → Leads have last (calls.told at waiting)
-      → IsOnWay sound_moves calls until (StandsAt new) last waited more m p
-  way_emitting at waiting last at_is is some room told =
-      let x = way_to sound_moves calls until stands stand waited waits m p way in
-      let after = told took.ports took.ports_stand in
-      let answered = subst (λ s. IsAnswered calls s (sound_act way.to) took.got way.ports took.ports) (sym at_is) took.answered in
-      let goes = goes_emitting sound_moves calls until at (sound_act way.to) x took.got took.ports more (sym at_is) refl (omega (arith, early, at_is)) took.small answered took.waits_is
-      after.to waiting is some room after.led in
-      way_on sound_moves calls until stands stand waited waits m p (StandsAt new) last more way taken_to after.to goes took.now_stands after.now_stands

@@ -1,11 +1,7 @@
--- Runs of plain accesses: none, one more, those of a halted processor; and that a run in free cycles is made of silent
--- steps of the sound side.
-use Rattle.std.proofs.Common.{◌≡◌, ◌≢◌, ◌∙◌, ◌%◌, ◌+◌, ◌==◌, ℕ, Bool, zero, suc, true, false, List, [], refl, sym, ap, subst, arith, add-zero}
+-- Runs of plain accesses: none, one more, those of a halted processor; and that nothing comes at the ends of free cycles.
+use Rattle.std.proofs.Common.{◌≡◌, ◌≢◌, ◌∙◌, ◌%◌, ◌+◌, ◌==◌, ℕ, Bool, zero, suc, true, false, [], refl, sym, ap, subst, arith, add-zero}
 use Rattle.std.proofs.lemmas.Bool.{ne_eqb}
 use Rattle.snes_defs.specs.declared.ports.Act.TheVariants.{Quiet}
-use Rattle.side_law.specs.Moves.{Moves}
-use Rattle.side_law.specs.Quiet.{SilentSteps}
-use Rattle.side_law.proofs.QuietRuns.{IsSilent, silent_then}
 use Rattle.spc_tables.specs.declared.access.SpcAccess.{SpcAccess}
 use Rattle.spc_tables.specs.declared.access.SpcAccess.TheVariants as Access
 use Rattle.spc_modes.specs.Plan.{first_access}
@@ -13,12 +9,9 @@ use Rattle.spc700.specs.Instruction.{SpcState, moved_on, next_of}
 use Rattle.spc700.specs.Stands.{Stands, access_of}
 use Rattle.spc700.specs.declared.processor.Spc.{Spc}
 use Rattle.audio_side.specs.HardwareState.{HardwareState}
-use Rattle.audio_side.specs.declared.timer.Timer.{Timer}
 use Rattle.audio_side.specs.Clock.{Clock, gone_on}
 use Rattle.audio_side.specs.Effect.{act_of, effect, emitted, given, passed}
-use Rattle.audio_side.specs.Runs.{later, beat_of, IsFree, AreFree, PlainAccesses, HasRun}
-use Rattle.audio_side.specs.Sound.{AudioValue, SoundState, StandsAt, hardware_before_end, sound_act, sound_moves, sound_next}
-use Rattle.audio_side.proofs.Moves.{not_reset_processor, not_reset_hardware, same_state, state_with}
+use Rattle.audio_side.specs.Runs.{later, beat_of, PlainAccesses, HasRun}
 use Rattle.audio_side.proofs.Ticks.{passes_nothing, rests_nothing}
 
 -- ---- runs
@@ -90,65 +83,8 @@ emits_none false n b none =
     let sample : (n % 32 == 31) ≡ false = ne_eqb (n % 32) 31 (λ e. none (omega (arith, e))) in
     rw sample refl
 
--- a quiet access in a free cycle is a step of the sound side
-free_step : (fast : Bool) (before : ℕ) (s : SpcState) (b : HardwareState) (k : Clock) → (effect b (next_of s)).timer2.on ≡ fast → IsFree fast before k
-    → sound_next (state_with s b k) 0 ≡ state_with (moved_on s (given b (next_of s) 0)) (effect b (next_of s)) (gone_on k)
-free_step fast before s b k on free =
-    let made : hardware_before_end (state_with s b k) ≡ effect b (next_of s) = not_reset_hardware s b k free.no_reset in
-    ap (λ (p : SpcState). state_with p (passed k.cycle (hardware_before_end (state_with s b k))) (gone_on k)) (not_reset_processor s b k 0 free.no_reset)
-    ∙ ap (λ (x : HardwareState). state_with (moved_on s (given b (next_of s) 0)) x (gone_on k))
-    (ap (passed k.cycle) made ∙ ends_nothing fast k.cycle (effect b (next_of s)) on free.no_end)
-
-free_act : (fast : Bool) (before : ℕ) (s : SpcState) (b : HardwareState) (k : Clock) → act_of (next_of s) ≡ Quiet → IsFree fast before k
-    → sound_act (state_with s b k) ≡ Quiet
-unfolding sound_act
-free_act fast before s b k quiet free = rw free.no_reset quiet
-
 pub later_none : (c : Clock) → later 0 c ≡ c
 later_none c = ap (λ (n : ℕ). record c { cycle = n }) (add-zero c.cycle)
 
 pub later_more : (n : ℕ) (c : Clock) → later n (gone_on c) ≡ later (suc n) c
 later_more n c = ap (λ (k : ℕ). record c { cycle = k }) (omega arith)
-
--- a run in free cycles is made of silent steps
-silent_run : (fast : Bool) (before n : ℕ) (s : SpcState) (b : HardwareState) (k : Clock) (to : SpcState) (b' : HardwareState) → b.timer2.on ≡ fast
-    → PlainAccesses n s b to b' → AreFree fast before n k → SilentSteps sound_moves before n (state_with s b k) (state_with to b' (later n k))
-silent_run fast before zero s b k to b' on (same, is) free =
-    ap (λ (p : SpcState). state_with p b k) same ∙ ap (λ (x : HardwareState). state_with to x k) is ∙ ap (λ (c : Clock). state_with to b' c) (sym (later_none k))
-silent_run fast before (suc n) s b k to b' on (quiet, still, rest) free =
-    let F : Clock → Type 0 = λ c. IsFree fast before c in
-    let here : IsFree fast before k = subst F (later_none k) (free 0 (omega arith)) in
-    let s' = moved_on s (given b (next_of s) 0) in
-    let b'' = effect b (next_of s) in
-    let on' : b''.timer2.on ≡ fast = ap (λ (t : Timer). t.on) still ∙ on in
-    let P : SoundState → Type 0 = λ m. SilentSteps sound_moves before n m (state_with to b' (later (suc n) k)) in
-    let Q : Clock → Type 0 = λ c. SilentSteps sound_moves before n (state_with s' b'' (gone_on k)) (state_with to b' c) in
-    let after = silent_run fast before n s' b'' (gone_on k) to b' on' rest (λ j less. subst F (sym (later_more j k)) (free (suc j) (omega (arith, less)))) in (
-      free_act fast before s b k quiet here,
-      here.early,
-      emits_none fast k.cycle (hardware_before_end (state_with s b k)) here.no_end,
-      subst P (sym (free_step fast before s b k on' here)) (subst Q (later_more n k) after),
-    )
-
--- so a run in free cycles goes silently
-pub run_is_silent : (before n : ℕ) (old : AudioValue) (spc : Spc) (b : HardwareState) (m : SoundState) → StandsAt old m
-    → HasRun spc b m.processor old.hardware n → AreFree old.hardware.timer2.on before n old.clock
-    → (new : AudioValue) → new.processor ≡ spc → new.hardware ≡ b → new.clock ≡ later n old.clock → (waited : List ℕ) → IsSilent sound_moves before (StandsAt new) waited m waited
-run_is_silent before n old spc b m h run free new is_spc is_hardware is_clock waited =
-    let R : SoundState → Type 0 = λ from. SilentSteps sound_moves before n from (state_with run.to b (later n old.clock)) in
-    let S : Spc → Type 0 = λ p. Stands p run.to in
-    record {
-      steps = n;
-      to = state_with run.to b (later n old.clock);
-      now_stands = record { processor = subst S (sym is_spc) run.stands; hardware = is_hardware; clock = is_clock };
-      silent = subst R (same_state old m h) (silent_run old.hardware.timer2.on before n m.processor old.hardware old.clock run.to b refl run.run free);
-      waits_is = refl;
-    }
-
--- silent steps after silent steps
-pub silent_joined : {State : Type 0} (moves : Moves State) (before : ℕ) (stood stands : State → Type 0) (waited mid waits : List ℕ) (from : State)
-    → (h : IsSilent moves before stood waited from mid) → IsSilent moves before stands mid h.to waits
-    → IsSilent moves before stands waited from waits
-silent_joined moves before stood stands waited mid waits from h then =
-    let all = silent_then moves before h.steps then.steps from h.to then.to h.silent then.silent in
-    record { steps = all.0; to = then.to; now_stands = then.now_stands; silent = all.1; waits_is = h.waits_is ∙ then.waits_is }

@@ -1,5 +1,6 @@
 -- A sound side that begins in the middle of a piece: with registers, RAM and the bytes of the S-DSP, as a sound file keeps them (the SPC file format, v0.30; what it leaves open: this project's own profile).
 use Rattle.std.specs.Prelude.{ℕ, Bool, zero, suc, ◌==◌, ◌%◌, List, [], drop, slice_index, if◌then◌else◌}
+use Rattle.snes_defs.specs.declared.profile.Profile.TheVariants.{First}
 use Rattle.snes_defs.specs.declared.region.Region.TheVariants.{Ntsc}
 use Rattle.spc_tables.specs.declared.regs.SpcRegs.{SpcRegs}
 use Rattle.spc700.specs.Instruction.{between}
@@ -11,9 +12,9 @@ use Rattle.audio_side.specs.Clock.{Clock}
 use Rattle.audio_side.specs.Sound.{SoundState}
 use Rattle.audio_side.specs.declared.timer.Timer.{Timer}
 
--- THE S-DSP: its registers are written in order from 00 to 7F, KON (4C) last
+-- THE S-DSP, by the first profile: its registers are written in order from 00 to 7F, KON (4C) last
 unfoldable pub written_below : List ℕ → ℕ → Voices
-written_below dsp zero = at_power_on
+written_below dsp zero = at_power_on First
 written_below dsp (suc n) =
     if n == 0x4C then written_below dsp n else written (written_below dsp n) n (slice_index dsp n)
 

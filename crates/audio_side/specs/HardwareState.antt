@@ -1,6 +1,7 @@
 -- The sound side without its processor and its clock: RAM, boot ROM, timers, and the S-DSP.
 use Rattle.std.specs.Prelude.{ℕ, Bool, true, ◌+◌, ◌*◌, List, map, replicate, slice_index}
 use Rattle.std.specs.List.{range_with_len}
+use Rattle.snes_defs.specs.declared.profile.Profile.{Profile}
 use Rattle.sdsp_voice.specs.Registers.{at_power_on}
 use Rattle.sdsp_voice.specs.declared.voices.Voices.{Voices}
 use Rattle.sdsp_echo.specs.Echo.{silent_echo}
@@ -36,13 +37,13 @@ unfoldable pub table_of : List ℕ → List ℕ
 table_of table = map (λ i. slice_index table i) (range_with_len 0 512)
 
 -- THE BOARD of a job before its first cycle
-unfoldable pub hardware_at_start : List ℕ → List ℕ → HardwareState
-hardware_at_start boot' table' =
+unfoldable pub hardware_at_start : Profile → List ℕ → List ℕ → HardwareState
+hardware_at_start profile boot' table' =
     record {
       boot = boot';
       table = table_of table';
       ram = zeros;
-      voices = at_power_on;
+      voices = at_power_on profile;
       echo = silent_echo;
       timer0 = stopped;
       timer1 = stopped;

@@ -1,4 +1,6 @@
--- What a sound file keeps of a sound side that runs. What it has no place for: the stages of the timers, where the voices and the noise stand, what was written to KON since the last sample, the echo's histories and its offset, and the number of the cycle.
+-- What a sound file keeps of a sound side that runs. What it has no place for: the stages of the timers, where the voices
+-- and the noise stand, what was written to KON since the last sample, the echo's histories and its offset, the number of
+-- the cycle, and the profile.
 use Rattle.std.specs.Prelude.{ℕ, Bool, zero, suc, ◌+◌, List, slice_index, slice_set, if◌then◌else◌}
 use Rattle.audio_side.specs.HardwareState.{HardwareState}
 

@@ -1,17 +1,16 @@
 -- Accesses of the sound side's processor over the ports behind it, and many cycles of them in one call: none is a reset, and neither
 -- timers nor a sample come at their ends.
-use Rattle.std.specs.Prelude.{◌≡◌, ℕ, ◌<◌, List, ◌++◌}
+use Rattle.std.specs.Prelude.{◌≡◌, ℕ, ◌<◌, List}
 use Rattle.spc_tables.specs.declared.access.SpcAccess.{SpcAccess}
-use Rattle.side_law.specs.Moves.{taken}
 use Rattle.side_law.specs.Gone.{Calls, HasMoved, Leads, IsAnswered, IsRefused, Gone}
 use Rattle.spc700.specs.Instruction.{SpcState, moved_on, next_of}
 use Rattle.spc700.specs.Stands.{Stands}
 use Rattle.spc700.specs.declared.processor.Spc.{Spc}
 use Rattle.audio_side.specs.Clock.{Clock, stamp_now}
-use Rattle.audio_side.specs.Effect.{act_of, effect, emitted, given}
+use Rattle.audio_side.specs.Effect.{act_of, effect, given}
 use Rattle.audio_side.specs.HardwareState.{HardwareState}
 use Rattle.audio_side.specs.Runs.{later}
-use Rattle.audio_side.specs.Sound.{AudioValue, SoundState, StandsAt, hardware_before_end, sound_act, sound_moves, sound_next}
+use Rattle.audio_side.specs.Sound.{sound_moves}
 
 -- an access at a stamp, over ports in a state: it gives the processor a byte, and leaves the hardware so
 pub record Makes {Ports : Type 0} (calls : Calls Ports) (at : ℕ) (access : SpcAccess) (b b' : HardwareState) (byte : ℕ) (stand : Ports → Type 0) (p : Ports) : Type 0 where
@@ -59,13 +58,3 @@ pub record PortRun {Ports : Type 0} (calls : Calls Ports) (until : ℕ) (spc : S
 -- there the next access was refused
 abbrev pub IsHeld : {Ports : Type 0} → Calls Ports → Clock → ℕ → (Ports → Type 0) → SpcState → Ports → Type 0
 IsHeld calls k n stand to q = HasMoved stand (IsRefused calls (stamp_now (later n k)) (act_of (next_of to)) q)
-
--- the sound side's next step, over ports in a state: what it got, and what it left and emitted by that
-pub record HasTaken {Ports : Type 0} (calls : Calls Ports) (new : AudioValue) (stand : Ports → Type 0) (waited waits : List ℕ) (m : SoundState) (p : Ports) : Type 0 where
-  pub got : ℕ
-  pub small : got < 256
-  pub ports : Ports
-  pub ports_stand : stand ports
-  pub answered : IsAnswered calls (stamp_now m.clock) (sound_act m) got p ports
-  pub now_stands : StandsAt new (sound_next m (taken (sound_act m) got))
-  pub waits_is : waits ≡ waited ++ emitted m.clock.cycle (hardware_before_end m)

@@ -3,6 +3,7 @@
 use Rattle.std.specs.Prelude.{◌≡◌, ℕ, List, if◌then◌else◌}
 use Rattle.snes_defs.specs.declared.ports.Act.{Act}
 use Rattle.snes_defs.specs.declared.ports.Act.TheVariants.{Clear}
+use Rattle.snes_defs.specs.declared.profile.Profile.{Profile}
 use Rattle.snes_defs.specs.declared.region.Region.{Region}
 use Rattle.side_law.specs.Moves.{Moves}
 use Rattle.spc700.specs.Instruction.{SpcState, at_reset, moved_on, next_of}
@@ -44,11 +45,11 @@ sound_moves =
     }
 
 -- BEFORE THE FIRST CYCLE of a job
-abbrev pub sound_start : Region → List ℕ → List ℕ → List ℕ → SoundState
-sound_start region' resets' boot' table' =
+abbrev pub sound_start : Region → Profile → List ℕ → List ℕ → List ℕ → SoundState
+sound_start region' profile resets' boot' table' =
     record {
-      processor = at_reset (vector (hardware_at_start boot' table'));
-      hardware = hardware_at_start boot' table';
+      processor = at_reset (vector (hardware_at_start profile boot' table'));
+      hardware = hardware_at_start profile boot' table';
       clock = clock_at_start region' resets';
     }
 

@@ -1,11 +1,10 @@
 // The sound side's steps over the ports behind it, many in one call.
-ghost use Rattle.std.specs.Prelude.{◌≡◌, ◌+◌, ◌^◌, ◌<◌, ◌≤◌, ℕ, IsTrue, false, length};
+ghost use Rattle.std.specs.Prelude.{◌≡◌, ◌^◌, ◌≤◌, ℕ, IsTrue, false, length};
 ghost use Rattle.clock_ratio.specs.Stamp.{least_of};
 ghost use Rattle.side_law.specs.declared.ports.Stop.TheVariants as Stop;
-ghost use Rattle.side_law.specs.Gone.{HasGone, IsOnWay, Leads, IsRefused};
+ghost use Rattle.side_law.specs.Gone.{HasGone, IsOnWay};
 ghost use Rattle.audio_side.specs.Clock.{stamp_now};
-ghost use Rattle.audio_side.specs.PortRuns.{HasTaken};
-ghost use Rattle.audio_side.specs.Sound.{IsRunning, SoundState, StandsAt, sound_act, sound_moves};
+ghost use Rattle.audio_side.specs.Sound.{IsRunning, SoundState, StandsAt, sound_moves};
 
 use crate::parts::Parts;
 use crate::port_runs::run_accesses;
@@ -60,40 +59,6 @@ impl Parts {
         is_refused
     }
 
-    /// Runs the next step over the ports, and returns whether it did: not if its call is refused.
-    #[inline(always)]
-    fn step_over<P: Ports>(&mut self, ports: &mut P) -> bool
-        requires room { length self.old.waiting.items + 4 ≤ self.old.waiting.capacity }
-        requires early { stamp_now self.old.clock ≤ 2 ^ 62 }
-        requires in_order { P.clock ports.old ≤ stamp_now self.old.clock }
-        requires in_time { stamp_now self.old.clock < (P.times ports.old).before }
-        requires apart { (P.times ports.old).rise ≤ least_of self.old.clock.region }
-        ensures taken { IsTrue result → (m : SoundState) (p : P.State) → StandsAt (value_of self.old) m
-            → P.stands ports.old p
-            → HasTaken P.calls (value_of self.new) (P.stands ports.new)
-            self.old.waiting.items self.new.waiting.items m p }
-        ensures refused { result ≡ false → (m : SoundState) → StandsAt (value_of self.old) m
-            → Leads (P.stands ports.old) (P.stands ports.new)
-            (IsRefused P.calls (stamp_now self.old.clock) (sound_act m)) }
-        ensures stays { result ≡ false → value_of self.new ≡ value_of self.old }
-        ensures rises { IsTrue result → stamp_now self.old.clock < stamp_now self.new.clock }
-        ensures in_order { P.clock ports.new ≤ stamp_now self.new.clock }
-        ensures times { P.times ports.new ≡ P.times ports.old }
-        ensures region { self.new.clock.region ≡ self.old.clock.region }
-        ensures capacity { self.new.waiting.capacity ≡ self.old.waiting.capacity }
-        ensures few { length self.new.waiting.items ≤ length self.old.waiting.items + 4 }
-        ensures runs { IsRunning self.old.spc → IsRunning self.new.spc }
-    {
-        if self.try_step() {
-            return true;
-        }
-        let Some(got) = call(ports, self.clock.stamp(), self.act()) else {
-            return false;
-        };
-        self.step(got);
-        true
-    }
-
     /// Runs steps, and returns why it stopped. Each begins before a stamp, and `ports` makes its call at the ports.
     /// Several samples may come, each with room for its bytes.
     pub fn advance<P: Ports>(&mut self, until: u64, ports: &mut P) -> Stop
@@ -130,9 +95,10 @@ impl Parts {
             if waited + SAMPLE > CAPACITY {
                 return Stop::Until;
             }
-            if !self.step_over(ports) {
+            let Some(got) = call(ports, at, self.act()) else {
                 return Stop::Refused;
-            }
+            };
+            self.step(got);
             let waits = self.waiting.len();
             if waits > waited {
                 ports.emitted(at, waits);

@@ -14,7 +14,7 @@ use crate::timer::Timer;
 use circular_buffer::HeapCircularBuffer;
 use sdsp_echo::Echo;
 use sdsp_voice::Voices;
-use snes_defs::{NoMemory, Region, Table};
+use snes_defs::{NoMemory, Profile, Region, Table};
 use spc700::{Spc, SpcRegs};
 use std::alloc::Global;
 
@@ -27,7 +27,7 @@ fn written(dsp: &[u8]) -> Voices
     requires { length dsp.now ≡ 128 }
     ensures { result ≡ voices_from dsp.now }
 {
-    let mut voices = Voices::new();
+    let mut voices = Voices::new(Profile::First);
     'registers: for reg in 0..128u8 {
         if reg != KON {
             voices.write(reg, dsp[reg as usize]);
@@ -105,7 +105,8 @@ fn before_fetch(regs: SpcRegs) -> Spc
 impl AudioSide {
     /// Returns a sound side that begins with registers, 65,536 bytes of RAM and the 128 bytes of the S-DSP.
     ///
-    /// It is an NTSC machine before cycle 0 that is never reset, with its processor before an opcode fetch. The bytes
+    /// It is an NTSC machine of the first profile before cycle 0 that is never reset, with its processor before an
+    /// opcode fetch. The bytes
     /// of RAM under F1 (without bits 4 and 5), F2 and FA to FF are what those registers hold. The boot ROM is what
     /// RAM has at FFC0 to FFFF.
     ///

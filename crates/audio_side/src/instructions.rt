@@ -575,8 +575,8 @@ fn make_some(spc: &mut Spc, hardware: &mut Hardware, left: &mut u8) -> bool
     }
 }
 
-/// Makes accesses while any are left and the next one is not at a register F0 to FF. Its two callers share one copy,
-/// so that what follows an opcode is inlined into one place alone.
+/// Makes accesses while any are left and the next one is not at a register F0 to FF. Its callers, one for each kind of
+/// ports, share one copy, so that what follows an opcode is inlined into one place alone.
 #[inline(never)]
 pub fn make_all(spc: &mut Spc, hardware: &mut Hardware, left: &mut u8)
     ensures { Follows spc.old spc.new hardware.old hardware.new left.old left.new }

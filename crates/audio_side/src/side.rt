@@ -12,7 +12,7 @@ use crate::timer::stopped_timer;
 use circular_buffer::HeapCircularBuffer;
 use sdsp_echo::Echo;
 use sdsp_voice::Voices;
-use side_law::{Machine, Pause, Ports, Stop};
+use side_law::{Machine, Ports, Stop};
 use snes_defs::{Act, Job, NoMemory, Region, Spans, Table};
 use spc700::Spc;
 use std::alloc::Global;
@@ -103,7 +103,8 @@ impl AudioSide {
     /// Allocates RAM and the buffer of emitted bytes, and fails only if allocation fails.
     #[tactic(auto, unfolding(crate::specs::HardwareState::hardware_at_start))]
     pub fn new(alloc: Global, job: &Job) -> Result<AudioSide, NoMemory>
-        ensures starts { IfOk result (λ s. StandsAt s (sound_start job.now.region job.now.script.resets job.now.boot job.now.table)) }
+        ensures starts { IfOk result (λ s. StandsAt s
+            (sound_start job.now.region job.now.script.profile job.now.script.resets job.now.boot job.now.table)) }
         ensures empty { IfOk result (λ s. s.waiting ≡ []) }
     {
         let resets = frames_with_reset(alloc, &job.script)?;
@@ -116,7 +117,7 @@ impl AudioSide {
             boot: job.boot,
             table: copied(&job.table),
             ram,
-            voices: Voices::new(),
+            voices: Voices::new(job.script.profile()),
             echo: Echo::new(),
             timer0: stopped_timer(),
             timer1: stopped_timer(),
@@ -208,16 +209,6 @@ impl Machine for AudioSide {
     #[inline(always)]
     fn step(&mut self, got: u8) {
         self.parts.step(got);
-    }
-
-    #[inline(always)]
-    fn try_step(&mut self) -> bool {
-        self.parts.try_step()
-    }
-
-    #[inline(always)]
-    fn quiet(&mut self, before: u64) -> Pause {
-        self.parts.quiet(before)
     }
 
     #[inline(always)]

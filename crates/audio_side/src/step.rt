@@ -1,18 +1,15 @@
-ghost use Rattle.std.specs.Prelude.{ℕ, IfSome, None, ◌≡◌, ◌≢◌, ◌/◌, false, IsTrue, MatchBool, ◌≤◌, ◌+◌, ◌%◌, ◌^◌, ◌++◌, length};
+ghost use Rattle.std.specs.Prelude.{ℕ, ◌≡◌, ◌≢◌, ◌/◌, false, IsTrue, MatchBool, ◌≤◌, ◌+◌, ◌%◌, ◌^◌, ◌++◌, length};
 ghost use Rattle.side_law.specs.Moves.{IsAtPorts};
 ghost use Rattle.snes_defs.specs.declared.ports.Act.TheVariants.{Quiet};
 ghost use Rattle.spc700.specs.Instruction.{SpcState, at_reset, moved_on, next_of};
-ghost use Rattle.spc_modes.specs.Plan.{gets_byte};
 ghost use Rattle.spc_modes.specs.declared.place.Place.TheVariants.{Load, WriteLast};
-ghost use Rattle.spc700.specs.Stands.{Stands, access_of};
+ghost use Rattle.spc700.specs.Stands.{Stands};
 ghost use Rattle.audio_side.specs.HardwareState.{vector};
-ghost use Rattle.audio_side.specs.Effect.{act_of, act_of_load, after_load, loaded, act_of_store, effect, emitted, given, passed, reset_hardware, stored};
-ghost use Rattle.audio_side.specs.Runs.{HasRun};
+ghost use Rattle.audio_side.specs.Effect.{act_of, act_of_load, after_load, act_of_store, effect, emitted, given, passed, reset_hardware, stored};
 ghost use Rattle.audio_side.specs.Sound.{IsRunning, SoundState, hardware_before_end, processor_after, sound_act};
 
 use crate::clock::CycleClock;
 use crate::hardware::{Hardware, cleared};
-use crate::instructions::make_all;
 use circular_buffer::HeapCircularBuffer;
 use snes_defs::Act;
 use spc700::{Place, Spc, SpcAccess};
@@ -139,109 +136,6 @@ pub fn is_register(at: u16) -> bool
     at / 16 == 15
 }
 
-/// The byte that a fetch or a read at F0 to FF gets, unless it is at a port.
-#[inline(never)]
-fn try_register(hardware: &mut Hardware, at: u16) -> Option<u8>
-    ensures quiet { IfSome result (λ _. act_of_load at ≡ Quiet) }
-    ensures byte { IfSome result (λ byte. byte ≡ loaded hardware.old at 0) }
-    ensures hardware { IfSome result (λ _. hardware.new ≡ after_load hardware.old at) }
-    ensures stays { result ≡ None → hardware.new ≡ hardware.old }
-{
-    match load_act(at) {
-        Act::Quiet => {
-            let byte = hardware.load(at, 0);
-            hardware.finish_load(at);
-            Some(byte)
-        }
-        Act::Read(_) => None,
-        Act::Write(_, _) => None,
-        Act::Clear(_) => None,
-    }
-}
-
-/// Writes at F0 to FF if that is quiet, and returns whether it did.
-#[inline(never)]
-fn try_register_store(hardware: &mut Hardware, at: u16, byte: u8) -> bool
-    ensures quiet { IsTrue result → act_of_store at byte ≡ Quiet }
-    ensures hardware { IsTrue result → hardware.new ≡ stored hardware.old at byte }
-    ensures stays { result ≡ false → hardware.new ≡ hardware.old }
-{
-    match store_act(at, byte) {
-        Act::Quiet => {
-            hardware.store(at, byte);
-            true
-        }
-        Act::Read(_) => false,
-        Act::Write(_, _) => false,
-        Act::Clear(_) => false,
-    }
-}
-
-/// Writes a byte if that is quiet, and returns whether it did.
-#[tactic(auto, unfolding(crate::specs::Effect::act_of_store))]
-#[inline(always)]
-fn try_store(hardware: &mut Hardware, at: u16, byte: u8) -> bool
-    ensures quiet { IsTrue result → act_of_store at byte ≡ Quiet }
-    ensures hardware { IsTrue result → hardware.new ≡ stored hardware.old at byte }
-    ensures stays { result ≡ false → hardware.new ≡ hardware.old }
-{
-    if is_register(at) {
-        try_register_store(hardware, at, byte)
-    } else {
-        hardware.store_memory(at, byte);
-        true
-    }
-}
-
-/// Fetches or reads the processor's next byte unless it is of a port, and returns whether it did.
-#[tactic(auto, unfolding(crate::specs::Effect::act_of_load, crate::specs::Effect::after_load))]
-#[inline(always)]
-fn try_load(spc: &mut Spc, hardware: &mut Hardware, at: u16) -> bool
-    requires { IsTrue (gets_byte (access_of spc.old)) }
-    ensures quiet { IsTrue result → act_of_load at ≡ Quiet }
-    ensures processor { IsTrue result → (s : SpcState) → Stands spc.old s → Stands spc.new (moved_on s (loaded hardware.old at 0)) }
-    ensures hardware { IsTrue result → hardware.new ≡ after_load hardware.old at }
-    ensures spc_stays { result ≡ false → spc.new ≡ spc.old }
-    ensures hardware_stays { result ≡ false → hardware.new ≡ hardware.old }
-{
-    let byte = if is_register(at) {
-        match try_register(hardware, at) {
-            Some(byte) => byte,
-            None => return false,
-        }
-    } else {
-        hardware.load_memory(at)
-    };
-    spc.took(byte);
-    true
-}
-
-/// Makes the processor's next access, unless it is at a port or is a write that clears ports, and returns whether it
-/// did. Otherwise changes nothing.
-#[inline(always)]
-pub fn try_access(spc: &mut Spc, hardware: &mut Hardware) -> bool
-    ensures quiet { IsTrue result → (s : SpcState) → Stands spc.old s → act_of (next_of s) ≡ Quiet }
-    ensures processor { IsTrue result → (s : SpcState) → Stands spc.old s → Stands spc.new (moved_on s (given hardware.old (next_of s) 0)) }
-    ensures hardware { IsTrue result → (s : SpcState) → Stands spc.old s → hardware.new ≡ effect hardware.old (next_of s) }
-    ensures spc_stays { result ≡ false → spc.new ≡ spc.old }
-    ensures hardware_stays { result ≡ false → hardware.new ≡ hardware.old }
-{
-    match spc.next() {
-        SpcAccess::Fetch(at) | SpcAccess::Read(at) => try_load(spc, hardware, at),
-        SpcAccess::Write(at, byte) => {
-            if !try_store(hardware, at, byte) {
-                return false;
-            }
-            spc.wrote();
-            true
-        }
-        SpcAccess::Inner => {
-            spc.idle();
-            true
-        }
-    }
-}
-
 /// Makes the processor's next access if it is an internal cycle or not at a register F0 to FF, and returns whether it
 /// did. Otherwise changes nothing.
 #[tactic(auto, unfolding(crate::specs::Effect::act_of_load, crate::specs::Effect::after_load, crate::specs::Effect::act_of_store, crate::specs::Effect::stored))]
@@ -276,22 +170,6 @@ pub fn try_plain(spc: &mut Spc, hardware: &mut Hardware) -> bool
             true
         }
     }
-}
-
-/// Makes the processor's accesses one after another, at most `most`, and returns how many it made. It stops before an
-/// access of a register F0 to FF.
-#[inline(always)]
-pub fn make_accesses(spc: &mut Spc, hardware: &mut Hardware, most: u8) -> u8
-    ensures run { (s : SpcState) → Stands spc.old s → HasRun spc.new hardware.new s hardware.old result }
-    ensures few { result ≤ most }
-    ensures runs { IsRunning spc.old → IsRunning spc.new }
-{
-    if spc.is_halted() {
-        return most;
-    }
-    let mut left = most;
-    make_all(spc, hardware, &mut left);
-    most - left
 }
 
 /// A processor after a reset, whose vector is `pc`.

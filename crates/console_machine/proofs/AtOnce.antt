@@ -1,7 +1,6 @@
 -- A step that is an access made at once, told of a console state.
 use Rattle.std.proofs.Common.{◌≡◌, ℕ, ◌≤◌, false, Some, None, [], refl, sym, ap, subst, ◌∙◌}
 use Rattle.snes_defs.specs.declared.ports.Act.{Act}
-use Rattle.snes_defs.specs.declared.ports.Act.TheVariants.{Quiet}
 use Rattle.cpu_tables.specs.declared.access.Access.{Access}
 use Rattle.cpu65816.specs.declared.processor.Cpu.{Cpu}
 use Rattle.cpu65816.specs.Instruction.{CpuState, next_of}
@@ -9,11 +8,12 @@ use Rattle.cpu65816.specs.Stands.{Stands, access_of}
 use Rattle.dma_hdma.specs.declared.moves.Move.{Move}
 use Rattle.dma_hdma.specs.Channels.{due_of as transfer_of}
 use Rattle.console_bus.specs.BusState.{BusState}
-use Rattle.console_steps.specs.ConsoleState.{ConsoleState, Due, Moves_byte, Accesses, access_act, act_of, due_of, due_clocks, after_access, after_move, effect, console_after, bytes_after, after_clocks, bytes_in}
+use Rattle.console_steps.specs.ConsoleState.{ConsoleState, Due, Moves_byte, Accesses, access_act, act_of, due_of, after_access, after_move, effect, after_clocks, bytes_in}
 use Rattle.console_steps.specs.Stands.{IsAt}
 use Rattle.console_steps.specs.AtOnce.{IsMadeAtOnce, IsMovedAtOnce}
 use Rattle.console_steps.proofs.PassSteps.{went_on}
 use Rattle.console_machine.specs.SideLaws.{due_step}
+use Rattle.console_machine.specs.Silent.{IsStepMade}
 
 -- the access of a processor is that of what it stands for
 pub same_access : (cpu : Cpu) (s : CpuState) → Stands cpu s → access_of cpu ≡ next_of s
@@ -35,13 +35,6 @@ act_due cpu bus w act at is reset refresh transfer =
     let P : Due → Type 0 = λ d. act_of w.rest d ≡ act in
     let Q : BusState → Type 0 = λ r. access_act r (access_of cpu) ≡ act in
     subst P (sym (due_access cpu bus w at reset refresh transfer)) (subst Q at.rest (sym is))
-
--- a step of a console state, which is due: quiet, with nothing emitted, and so many clocks long
-pub record IsStepMade (cpu' : Cpu) (bus' : BusState) (w : ConsoleState) (due : Due) (clocks : ℕ) : Type 0 where
-  pub quiet : act_of w.rest due ≡ Quiet
-  pub at : IsAt cpu' bus' (console_after w due 0)
-  pub none : bytes_after w due 0 ≡ []
-  pub lasts : clocks ≡ due_clocks due w.rest.io.fast
 
 -- for a console state whose bus is this one
 told : (cpu cpu' : Cpu) (bus' : BusState) (w : ConsoleState) (a : Access) (clocks : ℕ) → Stands cpu w.processor → IsMadeAtOnce cpu cpu' w.rest bus' a clocks

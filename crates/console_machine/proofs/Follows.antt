@@ -4,8 +4,6 @@ use Rattle.cpu65816.specs.declared.processor.Cpu.{Cpu}
 use Rattle.cpu65816.specs.Stands.{access_of}
 use Rattle.beam.specs.Places.{clocks_left}
 use Rattle.console_bus.specs.BusState.{BusState}
-use Rattle.console_steps.specs.ConsoleState.{ConsoleState}
-use Rattle.console_steps.specs.Stands.{IsAt}
 use Rattle.console_steps.specs.AtOnce.{IsMadeAtOnce}
 use Rattle.console_steps.specs.Plain.{IsWired, IsCalm}
 use Rattle.console_steps.proofs.Wires.{wired_then}
@@ -58,10 +56,3 @@ follows_then a b c x y z f g = record {
         wired = q.wired;
       });
 }
-
--- told as a run
-pub run_of : (cpu cpu' : Cpu) (bus bus' : BusState) (w : ConsoleState) (n : ℕ) → Follows cpu cpu' bus bus' → n ≡ clocks_left bus.beam - clocks_left bus'.beam
-    → IsAt cpu bus w → w.rest.beam.h < 1364 → IsCalm bus → IsWired cpu bus → HasRun cpu' bus' w n
-run_of cpu cpu' bus bus' w n f sum at line calm wired =
-    let P : ℕ → Type 0 = λ k. HasRun cpu' bus' w k in
-    subst P (sym sum) (f.come w at line calm wired).run

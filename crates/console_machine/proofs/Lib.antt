@@ -7,7 +7,5 @@ pub mod Over
 pub mod PortRuns
 pub mod PortAccesses
 pub mod Ports
-pub mod Quiets
 pub mod Rounds
 pub mod Runs
-pub mod Steps

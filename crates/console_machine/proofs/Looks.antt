@@ -258,3 +258,5 @@ some_rounds n k = record { number = n; times = rounds_times n k }
 
 pub rounds_within : (left k : ℕ) → 0 < left → (left - 1) / k * k < left
 rounds_within left k some = omega (arith, div-mul-le_self (left - 1) k, some)
+
+pub ruleset whole_rounds = (no_rounds, some_rounds, rounds_within)

@@ -210,8 +210,8 @@ module _ (region : Region) (goal : ℕ) where
         let sum = ap (λ k. rate_of region Console * k) (let e : n + clocks_left bus'.beam ≡ clocks_left bus.beam = omega (arith, left) in e) in
         let both = rate_distributes region n (clocks_left bus'.beam) in
         let is : stamp + rate_of region Console * n ≡ stamp_before region goal bus' = omega (arith, within, sum, both) in
-        let run = run_is_silent old new w n until waits waits (stands_before cpu bus waits stamp w h refl) came.run refl refl (omega (arith, is, soon)) refl in
-        let way = quiet_way console_moves calls until (StandsAt new) stand waits waits w p run now in
+        let run = run_is_silent old new w n until (stands_before cpu bus waits stamp w h refl) came.run refl refl (omega (arith, is, soon)) in
+        let way = quiet_way calls until new stand waits waits w p run refl now in
         record {
           to = way.to;
           now_stands = before_stands cpu' bus' waits new.stamp way.to way.now_stands (f.calm h.calm) came.wired (omega (arith, within, sum, both));

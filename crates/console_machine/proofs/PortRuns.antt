@@ -5,12 +5,12 @@ use Rattle.snes_defs.specs.declared.ports.Act.{Act}
 use Rattle.snes_defs.specs.declared.ports.Act.TheVariants.{Quiet}
 use Rattle.side_law.specs.declared.ports.Stop.TheVariants.{Emitted}
 use Rattle.side_law.specs.Moves.{Moves, taken}
-use Rattle.side_law.specs.Quiet.{SilentSteps}
 use Rattle.side_law.specs.Gone.{Calls, Over, Leads, IsAnswered, Goes, Gone, IsOnWay, HasGone}
 use Rattle.side_law.proofs.Gone.{gone_none, gone_on, gone_then, goes_silently, goes_emitting, way_to, way_on, stops_emitted}
-use Rattle.side_law.proofs.QuietRuns.{IsSilent}
+use Rattle.side_law.proofs.SilentSteps.{SilentSteps}
 use Rattle.console_steps.specs.ConsoleState.{ConsoleState, act_of, due_of, console_after, console_moves}
 use Rattle.console_machine.specs.Side.{ConsoleValue, StandsAt}
+use Rattle.console_machine.specs.Silent.{IsSilent}
 use Rattle.console_machine.specs.PortRuns.{HasTaken}
 
 -- ---- quiet steps leave the ports as they are
@@ -46,11 +46,11 @@ module _ {State Ports : Type 0} (moves : Moves State) (calls : Calls Ports) (unt
       let one = gone_on moves calls until (over w p waits) (over w p waits) next (gone_none moves calls until (over w p waits)) (goes_quietly w p waits quiet early none) in
       gone_then moves calls until (over w p waits) next (over to p waits) one (gone_quietly n (moves.next w 0) to p waits rest)
 
-  pub quiet_way : (stands : State → Type 0) (stand : Ports → Type 0) (waited waits : List ℕ) (w : State) (p : Ports) → IsSilent moves until stands waited w waits → stand p
-      → IsOnWay moves calls until stands stand waited waits w p
-  quiet_way stands stand waited waits w p h now =
-      let R : List ℕ → Type 0 = λ l. Gone moves calls until (over w p waited) (over h.to p l) in
-      record { to = h.to; now_stands = h.now_stands; ports = p; ports_stand = now; gone = subst R h.waits_is (gone_quietly h.steps w h.to p waited h.silent) }
+pub quiet_way : {Ports : Type 0} (calls : Calls Ports) (until : ℕ) (new : ConsoleValue) (stand : Ports → Type 0) (waited waits : List ℕ) (w : ConsoleState) (p : Ports)
+    → IsSilent until new w → waited ≡ waits → stand p → IsOnWay console_moves calls until (StandsAt new) stand waited waits w p
+quiet_way calls until new stand waited waits w p h same now =
+    let R : List ℕ → Type 0 = λ l. Gone console_moves calls until (over console_moves calls until w p waited) (over console_moves calls until h.to p l) in
+    record { to = h.to; now_stands = h.now_stands; ports = p; ports_stand = now; gone = subst R same (gone_quietly console_moves calls until h.steps w h.to p waited h.silent) }
 
 -- ---- the next step, after others
 

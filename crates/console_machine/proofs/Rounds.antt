@@ -160,10 +160,6 @@ goes_then_known a b c x y z j k n f g sum = λ w at line calm wired.
 pub goes_then : (a b c : Cpu) (x y z : BusState) (j k n : ℕ) → GoesOn a b x y j → GoesOn b c y z k → n ≡ j + k → GoesOn a c x z n
 goes_then a b c x y z j k n f g sum = goes_then_known a b c x y z j k n f (λ same. g) sum
 
--- nothing was made
-pub goes_same : (cpu cpu' : Cpu) (bus bus' : BusState) → cpu' ≡ cpu → bus' ≡ bus → GoesOn cpu cpu' bus bus' 0
-goes_same cpu cpu' bus bus' c b = rw (c, b) (goes_none cpu bus)
-
 -- an access that only looks
 pub goes_look : (cpu cpu' : Cpu) (bus bus' : BusState) (clocks : ℕ) → (IsWired cpu bus → IsMadeAtOnce cpu cpu' bus bus' (access_of cpu) clocks)
     → IsLook bus (access_of cpu) → (IsCalm bus → IsCalm bus') → GoesOn cpu cpu' bus bus' clocks

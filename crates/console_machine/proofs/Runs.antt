@@ -1,21 +1,21 @@
 -- Runs of silent steps: none, one more, one after another; and what they are of a machine.
-use Rattle.std.proofs.Common.{◌≡◌, ℕ, zero, suc, ◌+◌, ◌*◌, ◌<◌, ◌≤◌, List, [], refl, sym, ap, subst, ◌∙◌, arith, add-zero}
+use Rattle.std.proofs.Common.{◌≡◌, ℕ, zero, suc, ◌+◌, ◌*◌, ◌<◌, ◌≤◌, [], refl, sym, ap, subst, ◌∙◌, arith, add-zero}
 use Rattle.snes_defs.specs.declared.region.Region.{Region}
 use Rattle.snes_defs.specs.declared.region.Region.TheVariants.{Ntsc, Pal}
 use Rattle.snes_defs.specs.declared.ports.Act.TheVariants.{Quiet}
 use Rattle.snes_defs.specs.declared.ports.Side.TheVariants.{Console}
 use Rattle.clock_ratio.specs.Stamp.{rate_of}
-use Rattle.side_law.specs.Quiet.{SilentSteps}
-use Rattle.side_law.proofs.QuietRuns.{IsSilent}
+use Rattle.side_law.proofs.SilentSteps.{SilentSteps, silent_on}
 use Rattle.cpu65816.specs.declared.processor.Cpu.{Cpu}
 use Rattle.console_bus.specs.BusState.{BusState}
 use Rattle.console_steps.specs.ConsoleState.{ConsoleState, act_of, due_of, console_after, bytes_after, region_of, console_moves}
 use Rattle.console_steps.specs.Stands.{IsAt}
 use Rattle.console_machine.specs.Side.{ConsoleValue, StandsAt}
 use Rattle.console_machine.specs.SideLaws.{step_keeps, due_step}
-use Rattle.console_machine.specs.AfterStep.{stamp_on}
+use Rattle.console_machine.specs.AfterStep.{stamp_on, stamp_stands, goes_on}
+use Rattle.console_machine.specs.Taken.{console_step_taken}
 use Rattle.console_machine.specs.Runs.{SilentWorlds, HasRun}
-use Rattle.console_machine.proofs.AtOnce.{IsStepMade}
+use Rattle.console_machine.specs.Silent.{IsStepMade, IsSilent, IsSilentStep}
 
 -- one silent step more
 pub silent_more : (n : ℕ) (w to : ConsoleState) → SilentWorlds n w to → act_of to.rest (due_of to) ≡ Quiet → bytes_after to (due_of to) 0 ≡ []
@@ -113,9 +113,9 @@ run_stands v x w k h g region stamp = record {
   console = record { region = g.after.region ∙ h.console.region ∙ sym region; line = g.after.line };
 }
 
-pub run_is_silent : (v x : ConsoleValue) (w : ConsoleState) (k before : ℕ) (waited waits : List ℕ) → StandsAt v w → HasRun x.cpu x.rest w k → x.region ≡ v.region
-    → x.stamp ≡ v.stamp + rate_of v.region Console * k → x.stamp ≤ before → waited ≡ waits → IsSilent console_moves before (StandsAt x) waited w waits
-run_is_silent v x w k before waited waits h g region stamp early same =
+pub run_is_silent : (v x : ConsoleValue) (w : ConsoleState) (k before : ℕ) → StandsAt v w → HasRun x.cpu x.rest w k → x.region ≡ v.region
+    → x.stamp ≡ v.stamp + rate_of v.region Console * k → x.stamp ≤ before → IsSilent before x w
+run_is_silent v x w k before h g region stamp early =
     let now = run_stands v x w k h g region stamp in
     let P : ℕ → Type 0 = λ s. s ≤ before in
     record {
@@ -123,7 +123,27 @@ run_is_silent v x w k before waited waits h g region stamp early same =
       to = g.to;
       now_stands = now;
       silent = to_silent before g.steps w g.to x.region h.console.line g.run (h.console.region ∙ sym region) (subst P now.stamp early);
-      waits_is = same;
+    }
+
+-- a step that was made is one of the machine
+pub silent_step : (v x : ConsoleValue) (w : ConsoleState) (n : ℕ) → StandsAt v w → IsStepMade x.cpu x.rest w (due_of w) n → x.region ≡ v.region
+    → x.stamp ≡ v.stamp + rate_of v.region Console * n → IsSilentStep x w
+silent_step v x w n h m region stamp =
+    let P : ConsoleState → Type 0 = λ y. StandsAt x y in
+    record { quiet = m.quiet; none = m.none; now_stands = subst P (console_step_taken w (due_of w) 0) (goes_on v x w 0 n h m.at region stamp m.lasts) }
+
+-- no step, and one more
+pub silent_none : (before : ℕ) (v : ConsoleValue) (w : ConsoleState) → StandsAt v w → IsSilent before v w
+silent_none before v w h = record { steps = 0; to = w; now_stands = h; silent = refl }
+
+pub silent_next : (before : ℕ) (v x : ConsoleValue) (w : ConsoleState) (h : IsSilent before v w) → v.stamp < before → IsSilentStep x h.to → IsSilent before x w
+silent_next before v x w h early made =
+    let is = stamp_stands v h.to h.now_stands in
+    record {
+      steps = suc h.steps;
+      to = console_after h.to (due_of h.to) 0;
+      now_stands = made.now_stands;
+      silent = silent_on console_moves before h.steps w h.to h.silent made.quiet (omega (arith, is, early)) made.none;
     }
 
 pub run_keeps : (v x : ConsoleValue) (w : ConsoleState) (k : ℕ) → StandsAt v w → HasRun x.cpu x.rest w k → x.region ≡ v.region

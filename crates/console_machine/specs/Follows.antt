@@ -1,4 +1,5 @@
--- Accesses of the processor that follow one another before the next place of the beam, told by the clocks that are left to it.
+-- Accesses of the processor that follow one another before the next place of the beam, told by the clocks that are left
+-- to it.
 use Rattle.std.specs.Prelude.{ℕ, ◌-◌, ◌<◌, ◌≤◌}
 use Rattle.cpu65816.specs.declared.processor.Cpu.{Cpu}
 use Rattle.beam.specs.Places.{clocks_left}

@@ -2,6 +2,7 @@ pub mod Dues
 pub mod Keeping
 pub mod Parts
 pub mod Side
+pub mod Silent
 pub mod SideLaws
 pub mod AfterStep
 pub mod Taken

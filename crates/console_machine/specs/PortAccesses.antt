@@ -16,7 +16,8 @@ use Rattle.console_machine.specs.Ports.{IsPortMade}
 use Rattle.console_machine.specs.Side.{IsConsoleOf}
 
 -- an access at a stamp, over ports in a state: what it got, and what it made of the processor, the bus and the ports
-pub record HasMade {Ports : Type 0} (calls : Calls Ports) (at : ℕ) (access : Access) (cpu cpu' : Cpu) (bus bus' : BusState) (stand : Ports → Type 0) (p : Ports) : Type 0 where
+pub record HasMade {Ports : Type 0} (calls : Calls Ports) (at : ℕ) (access : Access) (cpu cpu' : Cpu)
+    (bus bus' : BusState) (stand : Ports → Type 0) (p : Ports) : Type 0 where
   pub got : ℕ
   pub small : got < 256
   pub ports : Ports
@@ -33,7 +34,8 @@ pub record HasPassed (bus bus' : BusState) : Type 0 where
   pub left : clocks_left bus'.beam ≡ clocks_left bus.beam - 6
   pub calm : IsCalm bus → IsCalm bus'
 
--- the console state of a processor and a bus where nothing else is due; the beam comes to its next place at the stamp `goal`
+-- the console state of a processor and a bus where nothing else is due; the beam comes to its next place at the stamp
+-- `goal`
 pub record IsBefore (region : Region) (goal : ℕ) (cpu : Cpu) (bus : BusState) (w : ConsoleState) : Type 0 where
   pub at : IsAt cpu bus w
   pub console : IsConsoleOf region w
@@ -46,13 +48,15 @@ abbrev pub stamp_before : Region → ℕ → BusState → ℕ
 stamp_before region goal bus = goal - rate_of region Console * clocks_left bus.beam
 
 -- steps over the ports, begun before that place, led to such a state again
-abbrev pub RunsBefore : {Ports : Type 0} → Calls Ports → Region → ℕ → Cpu → Cpu → BusState → BusState → (Ports → Type 0) → (Ports → Type 0) → Type 0
+abbrev pub RunsBefore : {Ports : Type 0} → Calls Ports → Region → ℕ → Cpu → Cpu → BusState → BusState
+    → (Ports → Type 0) → (Ports → Type 0) → Type 0
 RunsBefore calls region goal cpu cpu' bus bus' stood stand =
     (until : ℕ) (waits : List ℕ) (w : ConsoleState) (p : _) → goal ≤ until → IsBefore region goal cpu bus w → stood p
     → IsOnWay console_moves calls until (IsBefore region goal cpu' bus') stand waits waits w p
 
 -- and there the call of the next one was refused
-abbrev pub HeldBefore : {Ports : Type 0} → Calls Ports → Region → ℕ → Cpu → Cpu → BusState → BusState → (Ports → Type 0) → (Ports → Type 0) → Type 0
+abbrev pub HeldBefore : {Ports : Type 0} → Calls Ports → Region → ℕ → Cpu → Cpu → BusState → BusState
+    → (Ports → Type 0) → (Ports → Type 0) → Type 0
 HeldBefore calls region goal cpu cpu' bus bus' stood stand =
     (until : ℕ) (waits : List ℕ) (w : ConsoleState) (p : _) → goal ≤ until → IsBefore region goal cpu bus w → stood p
     → HasGone console_moves calls until 1024 65536 (IsBefore region goal cpu' bus') stand waits waits Refused w p

@@ -1,5 +1,5 @@
--- Rounds that go on over places of the beam where nothing comes but a refresh or the next line: what stays of the bus, and what a
--- round is wherever the beam stands.
+-- Rounds that go on over places of the beam where nothing comes but a refresh or the next line: what stays of the bus,
+-- and what a round is wherever the beam stands.
 use Rattle.std.specs.Prelude.{◌≡◌, ℕ, ◌<◌, Bool, [], if◌then◌else◌}
 use Rattle.cpu65816.specs.declared.processor.Cpu.{Cpu}
 use Rattle.beam.specs.Events.{BeamValue, passed}
@@ -23,12 +23,15 @@ pub record HasGone (cpu' : Cpu) (bus bus' : BusState) (w : ConsoleState) (clocks
 
 -- from processor and bus, where nothing else is due, such a run led to these
 abbrev pub GoesOn : Cpu → Cpu → BusState → BusState → ℕ → Type 0
-GoesOn cpu cpu' bus bus' clocks = (w : ConsoleState) → IsAt cpu bus w → w.rest.beam.h < 1364 → IsCalm bus → IsWired cpu bus → HasGone cpu' bus bus' w clocks
+GoesOn cpu cpu' bus bus' clocks = (w : ConsoleState) → IsAt cpu bus w → w.rest.beam.h < 1364 → IsCalm bus
+    → IsWired cpu bus → HasGone cpu' bus bus' w clocks
 
--- steps that only look, of so many clocks, lead a processor back to itself wherever the beam stands, as long as nothing comes in them
+-- steps that only look, of so many clocks, lead a processor back to itself wherever the beam stands, as long as nothing
+-- comes in them
 abbrev pub IsRound : Cpu → BusState → ℕ → Type 0
 IsRound cpu bus clocks = (b : BeamValue) → passed bus.picture.registers.settings.overscan b clocks ≡ []
-    → (w : ConsoleState) → IsAt cpu (record bus { beam = b }) w → LooksTo cpu (gone_on (record bus { beam = b }) clocks) w clocks
+    → (w : ConsoleState) → IsAt cpu (record bus { beam = b }) w
+    → LooksTo cpu (gone_on (record bus { beam = b }) clocks) w clocks
 
 -- .. where they begin and end with this byte last on the bus
 abbrev pub IsRoundFrom : Cpu → BusState → ℕ → ℕ → Type 0
@@ -36,7 +39,8 @@ IsRoundFrom cpu bus byte clocks = IsRound cpu (record bus { last = byte }) clock
 
 -- so many clocks lead every processor that begins such a round there back to itself
 abbrev pub GoesOver : BusState → BusState → ℕ → ℕ → Type 0
-GoesOver old new round clocks = (cpu : Cpu) (byte : ℕ) → IsRoundFrom cpu old byte round → old.last ≡ byte → GoesOn cpu cpu old new clocks
+GoesOver old new round clocks = (cpu : Cpu) (byte : ℕ) → IsRoundFrom cpu old byte round → old.last ≡ byte
+    → GoesOn cpu cpu old new clocks
 
 -- the clocks of a refresh that is due or not
 abbrev pub refresh_clocks : Bool → ℕ

@@ -6,7 +6,8 @@ use Rattle.cpu65816.specs.declared.processor.Cpu.{Cpu}
 use Rattle.cpu65816.specs.Instruction.{next_of}
 use Rattle.beam.specs.Events.{passed}
 use Rattle.console_bus.specs.BusState.{BusState}
-use Rattle.console_steps.specs.ConsoleState.{ConsoleState, access_clocks, act_of, due_of, console_after, bytes_after, overscan_of}
+use Rattle.console_steps.specs.ConsoleState.{ConsoleState, access_clocks, act_of, due_of, console_after, bytes_after}
+use Rattle.console_steps.specs.ConsoleState.{overscan_of}
 use Rattle.console_steps.specs.Stands.{IsAt}
 use Rattle.console_steps.specs.Plain.{IsCalm, IsLook}
 use Rattle.console_machine.specs.SideLaws.{IsAfter}
@@ -14,7 +15,8 @@ use Rattle.console_machine.specs.SideLaws.{IsAfter}
 -- so many quiet steps lead from a console state to another, and emit nothing
 abbrev pub SilentWorlds : ℕ → ConsoleState → ConsoleState → Type 0
 SilentWorlds zero w to = w ≡ to
-SilentWorlds (suc n) w to = (act_of w.rest (due_of w) ≡ Quiet) × (bytes_after w (due_of w) 0 ≡ []) × SilentWorlds n (console_after w (due_of w) 0) to
+SilentWorlds (suc n) w to = (act_of w.rest (due_of w) ≡ Quiet) × (bytes_after w (due_of w) 0 ≡ [])
+    × SilentWorlds n (console_after w (due_of w) 0) to
 
 -- such steps lead from a console state to one at which processor and bus are, and last so many clocks
 pub record HasRun (cpu : Cpu) (bus : BusState) (w : ConsoleState) (clocks : ℕ) : Type 0 where

@@ -1,6 +1,5 @@
 // What the step that is due does at the ports.
-ghost use Rattle.std.specs.Prelude.{◌≡◌, ◌<◌, ◌^◌, IsTrue};
-ghost use Rattle.snes_defs.specs.declared.ports.Act.TheVariants.{Quiet};
+ghost use Rattle.std.specs.Prelude.{◌≡◌, ◌<◌, ◌^◌};
 ghost use Rattle.side_law.specs.Moves.{IsAtPorts};
 ghost use Rattle.cpu65816.specs.Instruction.{CpuState};
 ghost use Rattle.cpu65816.specs.Stands.{Stands};
@@ -10,7 +9,7 @@ ghost use Rattle.console_machine.specs.Dues.{due_from};
 
 use cart_map::Place;
 use console_bus::Bus;
-use console_steps::place_of;
+use console_steps::{is_port, place_of};
 use cpu_tables::Access;
 use cpu65816::Cpu;
 use dma_hdma::Move;
@@ -24,7 +23,7 @@ fn read_act(place: Place) -> Act
 {
     match place {
         Place::BBus(register) => {
-            if register >= 0x40 && register < 0x80 {
+            if is_port(register) {
                 Act::Read(register % 4)
             } else {
                 Act::Quiet
@@ -46,7 +45,7 @@ fn write_act(place: Place, v: u8) -> Act
 {
     match place {
         Place::BBus(register) => {
-            if register >= 0x40 && register < 0x80 {
+            if is_port(register) {
                 Act::Write(register % 4, v)
             } else {
                 Act::Quiet
@@ -60,19 +59,6 @@ fn write_act(place: Place, v: u8) -> Act
     }
 }
 
-/// Whether an act is quiet.
-#[inline(always)]
-pub(crate) fn is_quiet(act: Act) -> bool
-    ensures { IsTrue result → act ≡ Quiet }
-{
-    match act {
-        Act::Quiet => true,
-        Act::Read(_) => false,
-        Act::Write(_, _) => false,
-        Act::Clear(_) => false,
-    }
-}
-
 /// Returns what a byte of a transfer does at the ports.
 fn transfer_act(bus: &Bus, due: Move) -> Act
     ensures value { result ≡ move_act bus.now due }
@@ -81,7 +67,7 @@ fn transfer_act(bus: &Bus, due: Move) -> Act
     match due {
         Move::ToB { from, port } => {
             // The byte is looked up only if it goes to one of the ports.
-            if port >= 0x40 && port < 0x80 {
+            if is_port(port) {
                 write_act(Place::BBus(port), bus.take(from))
             } else {
                 Act::Quiet

@@ -1,11 +1,15 @@
 // The console's steps over the ports behind it, many in one call.
-ghost use Rattle.std.specs.Prelude.{◌≡◌, ◌+◌, ◌^◌, ◌<◌, ◌≤◌, ℕ, None, IfSome, IsTrue, false, length};
+ghost use Rattle.std.specs.Prelude.{◌≡◌, ◌+◌, ◌*◌, ◌^◌, ◌<◌, ◌≤◌, ℕ, None, IfSome, IsTrue, false, length};
+ghost use Rattle.snes_defs.specs.declared.ports.Side.TheVariants.{Console};
+ghost use Rattle.clock_ratio.specs.Stamp.{rate_of};
 ghost use Rattle.side_law.specs.declared.ports.Stop.TheVariants as Stop;
 ghost use Rattle.side_law.specs.Moves.{IsAtPorts};
-ghost use Rattle.side_law.specs.Gone.{HasGone, IsOnWay, Leads, IsRefused};
-ghost use Rattle.console_steps.specs.ConsoleState.{ConsoleState, act_of, due_of, console_moves};
+ghost use Rattle.side_law.specs.Gone.{Leads, IsRefused};
+ghost use Rattle.beam.specs.Places.{clocks_left};
+ghost use Rattle.console_steps.specs.ConsoleState.{ConsoleState};
+ghost use Rattle.console_steps.specs.Plain.{IsCalm};
 ghost use Rattle.console_machine.specs.Keeps.{Keeps};
-ghost use Rattle.console_machine.specs.PortRuns.{AreReady, HasTaken};
+ghost use Rattle.console_machine.specs.PortRuns.{AreReady, HasTaken, LeadsOver, StopsOver};
 ghost use Rattle.console_machine.specs.Side.{StandsAt};
 
 use crate::parts::Parts;
@@ -22,21 +26,6 @@ const ROW: usize = 1024;
 
 impl Parts {
     ghost use Rattle.console_machine.specs.Parts.{value_of};
-
-    /// Returns what the next step does at the ports. `known` has it if it is known already.
-    #[inline(always)]
-    fn act_by(&self, known: Option<Act>) -> Act
-        requires known { IfSome known (λ act. (w : ConsoleState) → StandsAt (value_of self.now) w
-            → act_of w.rest (due_of w) ≡ act) }
-        requires at_ports { IfSome known (λ act. IsAtPorts act) }
-        ensures at_ports { IsAtPorts result }
-        ensures value { (w : ConsoleState) → StandsAt (value_of self.now) w → act_of w.rest (due_of w) ≡ result }
-    {
-        match known {
-            Some(act) => act,
-            None => self.act(),
-        }
-    }
 
     /// Runs the next step, whose act is known, over the ports. Returns false if its call is refused; then the step is
     /// not run.
@@ -63,47 +52,28 @@ impl Parts {
         let Some(got) = call(ports, self.stamp, act) else {
             return false;
         };
-        self.step_by(act, got);
+        self.step(got);
         true
     }
 
-    /// Whether no run over the ports comes up to the beam's next place before a stamp: something else is due, or that
-    /// place is after the stamp.
+    /// Runs steps that emit nothing, up to the beam's next place, to which it comes at `goal`. `ports` makes their
+    /// calls. Returns whether the call of the next step was refused.
     #[inline(always)]
-    fn is_short(&self, until: u64) -> bool
-        requires { self.now.stamp ≤ 2 ^ 62 }
-    {
-        self.bus.is_busy() || self.goal() > until
-    }
-
-    /// Runs steps that emit nothing, up to the beam's next place, if that is not after a stamp and nothing else is due.
-    /// `ports` makes their calls. Returns whether the call of the next step was refused.
-    #[inline(always)]
-    fn run_over<P: Ports>(&mut self, until: u64, ports: &mut P) -> bool
-        requires early { until ≤ 2 ^ 62 }
-        requires before { self.old.stamp ≤ until }
+    fn run_over<P: Ports>(&mut self, goal: u64, until: u64, ports: &mut P) -> bool
+        requires goal { goal ≡ self.old.stamp + rate_of self.old.region Console * clocks_left self.old.bus.beam }
+        requires soon { goal ≤ until }
+        requires calm { IsCalm self.old.bus }
         requires ready { AreReady (P.clock ports.old) (P.times ports.old) self.old.stamp until self.old.region }
-        ensures gone { result ≡ false → (w : ConsoleState) (p : P.State) → StandsAt (value_of self.old) w
-            → P.stands ports.old p
-            → IsOnWay console_moves P.calls until (StandsAt (value_of self.new)) (P.stands ports.new)
-            self.old.waiting.items self.new.waiting.items w p }
-        ensures refused { IsTrue result → (w : ConsoleState) (p : P.State) → StandsAt (value_of self.old) w
-            → P.stands ports.old p
-            → HasGone console_moves P.calls until 1024 65536 (StandsAt (value_of self.new)) (P.stands ports.new)
-            self.old.waiting.items self.new.waiting.items Stop.Refused w p }
+        ensures gone { result ≡ false → LeadsOver P.calls until (value_of self.old) (value_of self.new)
+            (P.stands ports.old) (P.stands ports.new) }
+        ensures refused { IsTrue result → StopsOver P.calls until Stop.Refused (value_of self.old) (value_of self.new)
+            (P.stands ports.old) (P.stands ports.new) }
         ensures keeps { Keeps self.old self.new }
         ensures waiting { self.new.waiting ≡ self.old.waiting }
         ensures forward { self.old.stamp ≤ self.new.stamp }
         ensures in_order { P.clock ports.new ≤ self.new.stamp }
         ensures times { P.times ports.new ≡ P.times ports.old }
     {
-        let goal = self.goal();
-        if goal > until {
-            return false;
-        }
-        if !is_calm(&self.bus) {
-            return false;
-        }
         if !is_wired(&self.cpu, &self.bus) {
             return false;
         }
@@ -112,57 +82,45 @@ impl Parts {
         refused
     }
 
-    /// Runs steps that emit nothing, each begun before a stamp: those over the ports up to the beam's next place, or
-    /// quiet ones. Returns whether the call of the next step was refused, and what that step does at the ports if it
-    /// is known.
+    /// Runs steps that emit nothing, each begun before a stamp: those over the ports up to the beam's next place. If
+    /// that is after the stamp or something else is due, it runs only some that touch no port. Returns whether the call
+    /// of the next step was refused.
     #[inline(always)]
-    fn go_on<P: Ports>(&mut self, until: u64, ports: &mut P) -> (bool, Option<Act>)
+    fn go_on<P: Ports>(&mut self, until: u64, ports: &mut P) -> bool
         requires early { until ≤ 2 ^ 62 }
         requires before { self.old.stamp < until }
         requires ready { AreReady (P.clock ports.old) (P.times ports.old) self.old.stamp until self.old.region }
-        ensures gone { result.0 ≡ false → (w : ConsoleState) (p : P.State) → StandsAt (value_of self.old) w
-            → P.stands ports.old p
-            → IsOnWay console_moves P.calls until (StandsAt (value_of self.new)) (P.stands ports.new)
-            self.old.waiting.items self.new.waiting.items w p }
-        ensures refused { IsTrue result.0 → (w : ConsoleState) (p : P.State) → StandsAt (value_of self.old) w
-            → P.stands ports.old p
-            → HasGone console_moves P.calls until 1024 65536 (StandsAt (value_of self.new)) (P.stands ports.new)
-            self.old.waiting.items self.new.waiting.items Stop.Refused w p }
-        ensures known { IfSome result.1 (λ act. (w : ConsoleState) → StandsAt (value_of self.new) w
-            → act_of w.rest (due_of w) ≡ act) }
-        ensures at_ports { IfSome result.1 (λ act. IsAtPorts act) }
+        ensures gone { result ≡ false → LeadsOver P.calls until (value_of self.old) (value_of self.new)
+            (P.stands ports.old) (P.stands ports.new) }
+        ensures refused { IsTrue result → StopsOver P.calls until Stop.Refused (value_of self.old) (value_of self.new)
+            (P.stands ports.old) (P.stands ports.new) }
         ensures keeps { Keeps self.old self.new }
         ensures waiting { self.new.waiting ≡ self.old.waiting }
         ensures forward { self.old.stamp ≤ self.new.stamp }
         ensures in_order { P.clock ports.new ≤ self.new.stamp }
         ensures times { P.times ports.new ≡ P.times ports.old }
     {
-        if self.is_short(until) {
-            return (false, self.hasten(until));
-        }
         self.look_on(until);
-        (self.run_over(until, ports), None)
+        let goal = self.goal();
+        if goal > until || !is_calm(&self.bus) {
+            self.hasten(until);
+            return false;
+        }
+        self.run_over(goal, until, ports)
     }
 
-    /// Runs the next step over the ports, if it begins before a stamp and may emit. `known` has its act if that is
-    /// known already. Returns why no other step follows at once, or None if one may.
+    /// Runs the next step over the ports, if it begins before a stamp and may emit. Returns why no other step follows
+    /// at once, or None if one may.
     #[inline(always)]
-    fn step_next<P: Ports>(&mut self, known: Option<Act>, until: u64, ports: &mut P) -> Option<Stop>
+    fn step_next<P: Ports>(&mut self, until: u64, ports: &mut P) -> Option<Stop>
         requires early { until ≤ 2 ^ 62 }
         requires capacity { self.old.waiting.capacity ≡ 65536 }
         requires ready { AreReady (P.clock ports.old) (P.times ports.old) self.old.stamp until self.old.region }
-        requires known { IfSome known (λ act. (w : ConsoleState) → StandsAt (value_of self.old) w
-            → act_of w.rest (due_of w) ≡ act) }
-        requires at_ports { IfSome known (λ act. IsAtPorts act) }
         requires fits { length self.old.waiting.items ≤ 65536 }
-        ensures gone { result ≡ None → (w : ConsoleState) (p : P.State) → StandsAt (value_of self.old) w
-            → P.stands ports.old p
-            → IsOnWay console_moves P.calls until (StandsAt (value_of self.new)) (P.stands ports.new)
-            self.old.waiting.items self.new.waiting.items w p }
-        ensures stopped { IfSome result (λ stop. (w : ConsoleState) (p : P.State) → StandsAt (value_of self.old) w
-            → P.stands ports.old p
-            → HasGone console_moves P.calls until 1024 65536 (StandsAt (value_of self.new)) (P.stands ports.new)
-            self.old.waiting.items self.new.waiting.items stop w p) }
+        ensures gone { result ≡ None → LeadsOver P.calls until (value_of self.old) (value_of self.new)
+            (P.stands ports.old) (P.stands ports.new) }
+        ensures stopped { IfSome result (λ stop. StopsOver P.calls until stop (value_of self.old) (value_of self.new)
+            (P.stands ports.old) (P.stands ports.new)) }
         ensures keeps { Keeps self.old self.new }
         ensures forward { self.old.stamp ≤ self.new.stamp }
         ensures rises { result ≡ None → self.old.stamp < until → self.old.stamp < self.new.stamp }
@@ -183,7 +141,7 @@ impl Parts {
         if waited + ROW > CAPACITY {
             return Some(Stop::Until);
         }
-        let act = self.act_by(known);
+        let act = self.act();
         if !self.step_over(act, ports) {
             return Some(Stop::Refused);
         }
@@ -205,14 +163,10 @@ impl Parts {
         requires capacity { self.old.waiting.capacity ≡ 65536 }
         requires fits { length self.old.waiting.items ≤ 65536 }
         requires ready { AreReady (P.clock ports.old) (P.times ports.old) self.old.stamp until self.old.region }
-        ensures gone { result ≡ None → (w : ConsoleState) (p : P.State) → StandsAt (value_of self.old) w
-            → P.stands ports.old p
-            → IsOnWay console_moves P.calls until (StandsAt (value_of self.new)) (P.stands ports.new)
-            self.old.waiting.items self.new.waiting.items w p }
-        ensures stopped { IfSome result (λ stop. (w : ConsoleState) (p : P.State) → StandsAt (value_of self.old) w
-            → P.stands ports.old p
-            → HasGone console_moves P.calls until 1024 65536 (StandsAt (value_of self.new)) (P.stands ports.new)
-            self.old.waiting.items self.new.waiting.items stop w p) }
+        ensures gone { result ≡ None → LeadsOver P.calls until (value_of self.old) (value_of self.new)
+            (P.stands ports.old) (P.stands ports.new) }
+        ensures stopped { IfSome result (λ stop. StopsOver P.calls until stop (value_of self.old) (value_of self.new)
+            (P.stands ports.old) (P.stands ports.new)) }
         ensures keeps { Keeps self.old self.new }
         ensures forward { self.old.stamp ≤ self.new.stamp }
         ensures rises { result ≡ None → self.old.stamp < self.new.stamp }
@@ -222,11 +176,10 @@ impl Parts {
         ensures in_order { P.clock ports.new ≤ self.new.stamp }
         ensures times { P.times ports.new ≡ P.times ports.old }
     {
-        let (refused, known) = self.go_on(until, ports);
-        if refused {
+        if self.go_on(until, ports) {
             return Some(Stop::Refused);
         }
-        self.step_next(known, until, ports)
+        self.step_next(until, ports)
     }
 
     /// Runs steps up to one that emits, and returns why it stopped. Each begins before a stamp, and `ports` makes its
@@ -236,9 +189,8 @@ impl Parts {
         requires capacity { self.old.waiting.capacity ≡ 65536 }
         requires fits { length self.old.waiting.items ≤ 65536 }
         requires ready { AreReady (P.clock ports.old) (P.times ports.old) self.old.stamp until self.old.region }
-        ensures gone { (w : ConsoleState) (p : P.State) → StandsAt (value_of self.old) w → P.stands ports.old p
-            → HasGone console_moves P.calls until 1024 65536 (StandsAt (value_of self.new)) (P.stands ports.new)
-            self.old.waiting.items self.new.waiting.items result w p }
+        ensures gone { StopsOver P.calls until result (value_of self.old) (value_of self.new)
+            (P.stands ports.old) (P.stands ports.new) }
         ensures keeps { Keeps self.old self.new }
         ensures forward { self.old.stamp ≤ self.new.stamp }
         ensures emitted { (at : ℕ) → result ≡ Stop.Emitted at

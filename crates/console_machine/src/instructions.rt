@@ -2,7 +2,9 @@
 // Each function makes as many as memory and the clocks to the next beam event allow, and returns whether it finished.
 // Each access is given along with its place in the instruction's order.
 ghost use Rattle.std.specs.Prelude.{◌≡◌};
-ghost use Rattle.cpu_modes.specs.declared.place.Place.TheVariants.{OperandLow, ImmediateLow, LoadLow, StoreLow, ChangeReadLow, PushHigh, PullLow, PullFirstCycle, ReturnFirstCycle, ReturnLow, DirectOffset, Ended};
+ghost use Rattle.cpu_modes.specs.declared.place.Place.TheVariants.{OperandLow, ImmediateLow, LoadLow, StoreLow};
+ghost use Rattle.cpu_modes.specs.declared.place.Place.TheVariants.{ChangeReadLow, PushHigh, PullLow, PullFirstCycle};
+ghost use Rattle.cpu_modes.specs.declared.place.Place.TheVariants.{ReturnFirstCycle, ReturnLow, DirectOffset, Ended};
 ghost use Rattle.console_machine.specs.Follows.{Follows};
 
 use console_bus::Bus;

@@ -16,7 +16,6 @@ mod many_steps;
 mod parts;
 mod patience;
 mod port_runs;
-mod port_steps;
 mod side;
 mod step;
 

@@ -36,7 +36,7 @@ const MOST_OF_ROUND: u16 = 32;
 const FEW_CLOCKS: u16 = 128;
 
 /// The master clocks of a line, and of the longest run of steps that is made in one call.
-const LINE: u16 = 1364;
+pub(crate) const LINE: u16 = 1364;
 
 /// How many places at most a round goes past.
 const MOST_PLACES: u8 = 4;
@@ -70,15 +70,6 @@ fn make_some(cpu: &mut Cpu, bus: &mut Bus) -> bool
     make_one(cpu, bus)
 }
 
-/// Returns the clocks since `left` were left.
-#[inline(always)]
-fn clocks_since(left: u16, bus: &Bus) -> u16
-    requires { clocks_left bus.now.beam ≤ left }
-    ensures { result ≡ left - clocks_left bus.now.beam }
-{
-    left - bus.clocks_left()
-}
-
 /// Makes the processor's accesses one after another, as long as `try_plain` makes them: nothing else happens in their
 /// clocks. Out of line: with two copies of its loop the processor's transitions would not be inlined into it.
 #[inline(never)]
@@ -92,27 +83,11 @@ pub(crate) fn make_all(cpu: &mut Cpu, bus: &mut Bus)
     }
 }
 
-/// Makes the processor's accesses one after another, as long as `try_plain` makes them: nothing else happens in their
-/// clocks. Returns how many clocks they last together.
-fn make_accesses(cpu: &mut Cpu, bus: &mut Bus) -> u16
-    ensures run { (w : ConsoleState) → IsAt cpu.old bus.old w → w.rest.beam.h < 1364 → HasRun cpu.new bus.new w result }
-    ensures left { result + clocks_left bus.new.beam ≡ clocks_left bus.old.beam }
-{
-    if !is_calm(bus) {
-        return 0;
-    }
-    if !is_wired(cpu, bus) {
-        return 0;
-    }
-    let left = bus.clocks_left();
-    make_all(cpu, bus);
-    clocks_since(left, bus)
-}
-
 /// Makes one access that only reads, or an internal cycle.
 #[inline(never)]
 fn look_once(cpu: &mut Cpu, bus: &mut Bus) -> Option<u8>
-    ensures made { IsWired cpu.old bus.old → IfSome result (λ clocks. IsMadeAtOnce cpu.old cpu.new bus.old bus.new (access_of cpu.old) clocks) }
+    ensures made { IsWired cpu.old bus.old
+        → IfSome result (λ clocks. IsMadeAtOnce cpu.old cpu.new bus.old bus.new (access_of cpu.old) clocks) }
     ensures looks { IfSome result (λ clocks. IsLook bus.old (access_of cpu.old)) }
     ensures within { IfSome result (λ clocks. clocks < clocks_left bus.old.beam) }
     ensures left { IfSome result (λ clocks. clocks_left bus.new.beam ≡ clocks_left bus.old.beam - clocks) }
@@ -185,7 +160,7 @@ fn is_back(cpu: &Cpu, bus: &mut Bus, first: &Cpu, byte: u8) -> bool
 }
 
 /// Returns the clocks of the rounds, of `round` clocks each, that end before the next beam event.
-#[tactic(auto, using(crate::proofs::Looks::no_rounds, crate::proofs::Looks::some_rounds, crate::proofs::Looks::rounds_within))]
+#[tactic(auto, using(crate::proofs::Looks::whole_rounds))]
 #[inline(always)]
 fn rounds_before(round: u16, left: u16) -> u16
     requires { 0 < left }
@@ -320,18 +295,4 @@ pub(crate) fn look_for_rounds(cpu: &mut Cpu, bus: &mut Bus, patience: &mut Patie
     let first = finish_instruction(cpu, bus);
     let rounds = make_rounds(cpu, bus, patience, first);
     first + rounds
-}
-
-/// Runs quiet steps that emit nothing, up to the next beam event, for a line's clocks at most. Iterations of an idle
-/// loop may go past some events. Returns how many clocks the steps last.
-pub(crate) fn make_plain_steps(cpu: &mut Cpu, bus: &mut Bus, patience: &mut Patience) -> u16
-    ensures run { (w : ConsoleState) → IsAt cpu.old bus.old w → w.rest.beam.h < 1364 → HasRun cpu.new bus.new w result }
-    ensures few { result ≤ 1364 }
-{
-    let rounds = look_for_rounds(cpu, bus, patience);
-    if rounds + bus.clocks_left() > LINE {
-        return rounds;
-    }
-    let others = make_accesses(cpu, bus);
-    rounds + others
 }

@@ -13,20 +13,17 @@ ghost use Rattle.console_bus.specs.Places.{register_byte, register_read, on_bus}
 ghost use Rattle.console_steps.specs.ConsoleState.{ConsoleState, access_act, with_interrupt_levels};
 ghost use Rattle.console_steps.specs.AtOnce.{gone_on, passed_in};
 ghost use Rattle.console_steps.specs.Plain.{IsCalm};
-ghost use Rattle.console_machine.specs.PortAccesses.{HasMade, IsMade, HasPassed, IsBefore, RunsBefore, HeldBefore, stamp_before};
+ghost use Rattle.console_machine.specs.PortAccesses.{HasMade, IsMade, HasPassed, IsBefore, RunsBefore, HeldBefore};
+ghost use Rattle.console_machine.specs.PortAccesses.{stamp_before};
 
 use crate::many_steps::make_all;
-use crate::port_steps::{give_port, is_port, take_port};
 use clock_ratio::{CONSOLE_RATE, PAL_CONSOLE_RATE};
 use console_bus::Bus;
-use console_steps::{bus_register, give_interrupt_levels};
+use console_steps::{REGISTER_CLOCKS, bus_register, give_interrupt_levels, is_port};
 use cpu_tables::Access;
 use cpu65816::Cpu;
 use side_law::Ports;
 use snes_defs::Region;
-
-/// Master clocks of an access of the B bus.
-const REGISTER_CLOCKS: u16 = 6;
 
 /// More accesses of the B bus than a line has room for.
 const MOST_RUNS: u16 = 256;
@@ -71,7 +68,43 @@ fn take_register(cpu: &mut Cpu, bus: &mut Bus, register: u8)
     let byte = load_register(bus, register);
     cpu.took(byte);
     give_interrupt_levels(cpu, bus);
-    bus.go_on(REGISTER_CLOCKS);
+    bus.go_on(REGISTER_CLOCKS as u16);
+}
+
+/// Lets the processor take the byte that came in at a port, and advances the beam.
+#[inline(always)]
+fn take_port(cpu: &mut Cpu, bus: &mut Bus, got: u8)
+    requires gets { IsTrue (gets_byte (access_of cpu.old)) }
+    requires few { 6 < clocks_left bus.old.beam }
+    ensures rest { bus.new ≡ gone_on (on_bus bus.old got) 6 }
+    ensures nothing { passed_in (on_bus bus.old got) 6 ≡ [] }
+    ensures processor { (s : CpuState) → Stands cpu.old s
+        → Stands cpu.new (with_interrupt_levels (moved_on s got) (on_bus bus.old got)) }
+    ensures left { clocks_left bus.new.beam ≡ clocks_left bus.old.beam - 6 }
+    ensures calm { IsCalm bus.old → IsCalm bus.new }
+{
+    bus.put(got);
+    cpu.took(got);
+    give_interrupt_levels(cpu, bus);
+    bus.go_on(REGISTER_CLOCKS as u16);
+}
+
+/// Lets the processor write a port, and advances the beam.
+#[inline(always)]
+fn give_port(cpu: &mut Cpu, bus: &mut Bus, v: u8)
+    requires writes { IsTrue (is_write (access_of cpu.old)) }
+    requires few { 6 < clocks_left bus.old.beam }
+    ensures rest { bus.new ≡ gone_on (on_bus bus.old v) 6 }
+    ensures nothing { passed_in (on_bus bus.old v) 6 ≡ [] }
+    ensures processor { (s : CpuState) → Stands cpu.old s
+        → Stands cpu.new (with_interrupt_levels (moved_on s 0) (on_bus bus.old v)) }
+    ensures left { clocks_left bus.new.beam ≡ clocks_left bus.old.beam - 6 }
+    ensures calm { IsCalm bus.old → IsCalm bus.new }
+{
+    bus.put(v);
+    cpu.wrote();
+    give_interrupt_levels(cpu, bus);
+    bus.go_on(REGISTER_CLOCKS as u16);
 }
 
 /// Lets the processor read a register of the B bus at a stamp, if one is at the address.
@@ -158,7 +191,8 @@ fn make_register<P: Ports>(cpu: &mut Cpu, bus: &mut Bus, at: u64, ports: &mut P)
     ensures step { result ≡ Found.Made → IsMade cpu.old cpu.new bus.old bus.new (access_of cpu.old) }
     ensures passed { result ≡ Found.Made → HasPassed bus.old bus.new }
     ensures refused { result ≡ Found.Refused
-        → Leads (P.stands ports.old) (P.stands ports.new) (IsRefused P.calls at (access_act bus.old (access_of cpu.old))) }
+        → Leads (P.stands ports.old) (P.stands ports.new)
+        (IsRefused P.calls at (access_act bus.old (access_of cpu.old))) }
     ensures left { result ≡ Found.Left → (cpu.new ≡ cpu.old) × (bus.new ≡ bus.old) × (ports.new ≡ ports.old) }
     ensures stays { result ≡ Found.Refused → (cpu.new ≡ cpu.old) × (bus.new ≡ bus.old) }
     ensures in_order { P.clock ports.new ≤ at + (P.times ports.old).rise }
@@ -211,7 +245,7 @@ pub(crate) fn make_over<P: Ports>(
 {
     'runs: for _ in 0..MOST_RUNS {
         make_all(cpu, bus);
-        if bus.clocks_left() <= REGISTER_CLOCKS {
+        if bus.clocks_left() <= REGISTER_CLOCKS as u16 {
             return false;
         }
         let at = stamp_before(region, goal, bus);

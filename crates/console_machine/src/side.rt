@@ -8,7 +8,7 @@ use crate::patience::Patience;
 use circular_buffer::HeapCircularBuffer;
 use console_bus::Bus;
 use cpu65816::Cpu;
-use side_law::{Machine, Pause, Ports, Stop};
+use side_law::{Machine, Ports, Stop};
 use snes_defs::{Act, Job, NoMemory, Region};
 use std::alloc::Global;
 use std::marker::Model;
@@ -33,7 +33,8 @@ impl Model for ConsoleSide {
 
     ghost view = { λ c. value_of c.parts };
 
-    ghost invariant = { λ c. IsSome (value_of c.parts) × (c.parts.waiting.capacity ≡ 65536) × (length c.parts.waiting.items ≤ 65536) };
+    ghost invariant = { λ c. IsSome (value_of c.parts) × (c.parts.waiting.capacity ≡ 65536)
+        × (length c.parts.waiting.items ≤ 65536) };
 }
 
 impl ConsoleSide {
@@ -131,18 +132,7 @@ impl Machine for ConsoleSide {
 
     #[inline(always)]
     fn step(&mut self, got: u8) {
-        // Other calls run most quiet steps, so this one is likely to be at a port.
-        self.parts.step_at_port(got);
-    }
-
-    #[inline(always)]
-    fn try_step(&mut self) -> bool {
-        self.parts.try_step()
-    }
-
-    #[inline(always)]
-    fn quiet(&mut self, before: u64) -> Pause {
-        self.parts.quiet(before)
+        self.parts.step(got);
     }
 
     #[inline(always)]

@@ -9,7 +9,8 @@ use Rattle.dma_hdma.specs.declared.moves.Move.{Move}
 use Rattle.beam.specs.declared.events.Event.{Event}
 use Rattle.beam.specs.Events.{beam_after, passed}
 use Rattle.console_bus.specs.BusState.{BusState}
-use Rattle.console_steps.specs.ConsoleState.{access_act, access_clocks, after_access, byte_of, move_act, after_move, with_interrupt_levels}
+use Rattle.console_steps.specs.ConsoleState.{access_act, access_clocks, after_access, byte_of, move_act, after_move}
+use Rattle.console_steps.specs.ConsoleState.{with_interrupt_levels}
 
 -- the beam has gone on by so many clocks
 abbrev pub gone_on : BusState → ℕ → BusState
@@ -25,7 +26,8 @@ pub record IsMadeAtOnce (cpu cpu' : Cpu) (bus bus' : BusState) (access : Access)
   pub lasts : clocks ≡ access_clocks access bus.io.fast
   pub nothing : passed_in (after_access bus access 0) clocks ≡ []
   pub rest : bus' ≡ gone_on (after_access bus access 0) clocks
-  pub processor : (s : CpuState) → Stands cpu s → Stands cpu' (with_interrupt_levels (moved_on s (byte_of bus access 0)) (after_access bus access 0))
+  pub processor : (s : CpuState) → Stands cpu s
+      → Stands cpu' (with_interrupt_levels (moved_on s (byte_of bus access 0)) (after_access bus access 0))
 
 -- what a byte of a transfer that is moved so makes of them: its clocks are eight
 pub record IsMovedAtOnce (cpu cpu' : Cpu) (bus bus' : BusState) (move : Move) : Type 0 where

@@ -1,6 +1,7 @@
 -- The console as a machine: its state, the step that is due, what that step does, and what it emits.
 -- The order in which steps are due, and the clocks of refresh, transfers and reset, are this project's own.
-use Rattle.std.specs.Prelude.{ℕ, zero, suc, ◌+◌, ◌%◌, Bool, false, Option, Some, None, List, [], ◌∷◌, ◌++◌, if◌then◌else◌}
+use Rattle.std.specs.Prelude.{ℕ, zero, suc, ◌+◌, ◌%◌, Bool, false, Option, Some, None, List, [], ◌∷◌, ◌++◌}
+use Rattle.std.specs.Prelude.{if◌then◌else◌}
 use Rattle.snes_defs.specs.declared.ports.Act.{Act}
 use Rattle.snes_defs.specs.declared.ports.Act.TheVariants.{Quiet, Read as PortRead, Write as PortWrite, Clear}
 use Rattle.snes_defs.specs.declared.ports.Side.TheVariants.{Console}
@@ -22,7 +23,8 @@ use Rattle.beam.specs.declared.events.Event.{Event}
 use Rattle.beam.specs.Events.{events_of, happens_next, beam_next}
 use Rattle.side_law.specs.Moves.{Moves}
 use Rattle.console_bus.specs.BusState.{BusState, bus_start}
-use Rattle.console_bus.specs.Places.{place_at, a_side, taken_from, is_port, register_byte, register_read, register_written, place_byte, place_read, place_written, on_bus}
+use Rattle.console_bus.specs.Places.{place_at, a_side, taken_from, is_port, register_byte, register_read}
+use Rattle.console_bus.specs.Places.{register_written, place_byte, place_read, place_written, on_bus}
 use Rattle.console_bus.specs.Happenings.{happened, emitted_at, was_reset}
 
 -- the processor with its instruction in hand, all else, and the master clocks since the start
@@ -161,7 +163,10 @@ effect w due got = record w {
 
 -- an event, after which the processor is given the levels again
 abbrev pub after_event : ConsoleState → Event → ConsoleState
-after_event w e = record w { processor = with_interrupt_levels w.processor (happened w.rest e); rest = happened w.rest e }
+after_event w e = record w {
+  processor = with_interrupt_levels w.processor (happened w.rest e);
+  rest = happened w.rest e;
+}
 
 abbrev pub after_events : ConsoleState → List Event → ConsoleState
 after_events w [] = w
@@ -187,7 +192,8 @@ after_clocks w (suc clocks) = after_clocks (after_events (moved w) (events_next 
 
 unfoldable pub bytes_in : ConsoleState → ℕ → List ℕ
 bytes_in w zero = []
-bytes_in w (suc clocks) = bytes_of_events (moved w) (events_next w) ++ bytes_in (after_events (moved w) (events_next w)) clocks
+bytes_in w (suc clocks) = bytes_of_events (moved w) (events_next w)
+    ++ bytes_in (after_events (moved w) (events_next w)) clocks
 
 -- ---- a whole step
 

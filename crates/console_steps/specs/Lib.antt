@@ -5,4 +5,3 @@ pub mod Draws
 pub mod AtOnce
 pub mod Plain
 pub mod PlainPlaces
-pub mod Tried

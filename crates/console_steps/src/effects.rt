@@ -9,8 +9,7 @@ ghost use Rattle.console_bus.specs.Places.{place_at, place_byte, register_writte
 ghost use Rattle.console_bus.specs.Happenings.{was_reset};
 ghost use Rattle.console_steps.specs.ConsoleState.{with_interrupt_levels, after_move, after_read, after_write};
 
-use crate::other_steps::is_port;
-use crate::registers::bus_register;
+use crate::registers::{bus_register, is_port};
 use console_bus::Bus;
 use cpu65816::Cpu;
 use dma_hdma::Move;
@@ -86,8 +85,11 @@ fn put_byte(bus: &mut Bus, addr: u32, v: u8)
 #[inline(always)]
 pub fn make_read(cpu: &mut Cpu, bus: &mut Bus, addr: u32, got: u8)
     requires { IsTrue (gets_byte (access_of cpu.old)) }
-    ensures rest { let place = place_at bus.old.board addr in bus.new ≡ after_read bus.old place (place_byte bus.old place got) }
-    ensures processor { let place = place_at bus.old.board addr in (s : CpuState) → Stands cpu.old s → Stands cpu.new (with_interrupt_levels (moved_on s (place_byte bus.old place got)) bus.new) }
+    ensures rest { let place = place_at bus.old.board addr in
+        bus.new ≡ after_read bus.old place (place_byte bus.old place got) }
+    ensures processor { let place = place_at bus.old.board addr in
+        (s : CpuState) → Stands cpu.old s
+        → Stands cpu.new (with_interrupt_levels (moved_on s (place_byte bus.old place got)) bus.new) }
 {
     let byte = take_byte(bus, addr, got);
     cpu.took(byte);
@@ -99,7 +101,8 @@ pub fn make_read(cpu: &mut Cpu, bus: &mut Bus, addr: u32, got: u8)
 pub fn make_write(cpu: &mut Cpu, bus: &mut Bus, addr: u32, v: u8)
     requires { IsTrue (is_write (access_of cpu.old)) }
     ensures rest { bus.new ≡ after_write bus.old (place_at bus.old.board addr) v }
-    ensures processor { (s : CpuState) → Stands cpu.old s → Stands cpu.new (with_interrupt_levels (moved_on s 0) bus.new) }
+    ensures processor { (s : CpuState) → Stands cpu.old s
+        → Stands cpu.new (with_interrupt_levels (moved_on s 0) bus.new) }
 {
     put_byte(bus, addr, v);
     cpu.wrote();

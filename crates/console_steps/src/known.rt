@@ -17,7 +17,8 @@ use cpu65816::Cpu;
 #[inline(always)]
 pub fn try_read_at(cpu: &mut Cpu, bus: &mut Bus, place: Place) -> Option<u8>
     requires known { cpu.old.micro.place ≡ place }
-    ensures made { IsWired cpu.old bus.old → IfSome result (λ clocks. IsMadeAtOnce cpu.old cpu.new bus.old bus.new (access_of cpu.old) clocks) }
+    ensures made { IsWired cpu.old bus.old
+        → IfSome result (λ clocks. IsMadeAtOnce cpu.old cpu.new bus.old bus.new (access_of cpu.old) clocks) }
     ensures within { IfSome result (λ clocks. clocks < clocks_left bus.old.beam) }
     ensures left { IfSome result (λ clocks. clocks_left bus.new.beam ≡ clocks_left bus.old.beam - clocks) }
     ensures calm { IsCalm bus.old → IsCalm bus.new }
@@ -34,7 +35,8 @@ pub fn try_read_at(cpu: &mut Cpu, bus: &mut Bus, place: Place) -> Option<u8>
 #[inline(always)]
 pub fn try_write_at(cpu: &mut Cpu, bus: &mut Bus, place: Place) -> Option<u8>
     requires known { cpu.old.micro.place ≡ place }
-    ensures made { IsWired cpu.old bus.old → IfSome result (λ clocks. IsMadeAtOnce cpu.old cpu.new bus.old bus.new (access_of cpu.old) clocks) }
+    ensures made { IsWired cpu.old bus.old
+        → IfSome result (λ clocks. IsMadeAtOnce cpu.old cpu.new bus.old bus.new (access_of cpu.old) clocks) }
     ensures within { IfSome result (λ clocks. clocks < clocks_left bus.old.beam) }
     ensures left { IfSome result (λ clocks. clocks_left bus.new.beam ≡ clocks_left bus.old.beam - clocks) }
     ensures calm { IsCalm bus.old → IsCalm bus.new }
@@ -52,7 +54,8 @@ pub fn try_write_at(cpu: &mut Cpu, bus: &mut Bus, place: Place) -> Option<u8>
 #[inline(always)]
 pub fn try_idle_at(cpu: &mut Cpu, bus: &mut Bus, place: Place) -> Option<u8>
     requires known { cpu.old.micro.place ≡ place }
-    ensures made { IsWired cpu.old bus.old → IfSome result (λ clocks. IsMadeAtOnce cpu.old cpu.new bus.old bus.new (access_of cpu.old) clocks) }
+    ensures made { IsWired cpu.old bus.old
+        → IfSome result (λ clocks. IsMadeAtOnce cpu.old cpu.new bus.old bus.new (access_of cpu.old) clocks) }
     ensures within { IfSome result (λ clocks. clocks < clocks_left bus.old.beam) }
     ensures left { IfSome result (λ clocks. clocks_left bus.new.beam ≡ clocks_left bus.old.beam - clocks) }
     ensures calm { IsCalm bus.old → IsCalm bus.new }

@@ -7,27 +7,23 @@
 //! that processor and bus are at. A caller puts the two together in the order of `due_of`.
 #![tactic(auto)]
 
-mod at_once;
 mod drawing;
 mod effects;
 mod happening;
 mod known;
-mod other_steps;
 mod passing;
 mod plain;
 mod plain_places;
 mod registers;
 mod rows;
-mod tried;
+mod transfers;
 
-pub use at_once::try_access;
 pub use effects::{
     give_interrupt_levels, make_inner, make_move, make_read, make_reset, make_write,
 };
 pub use known::{try_idle_at, try_read_at, try_write_at};
-pub use other_steps::{try_move, try_register};
 pub use passing::pass;
 pub use plain::{is_calm, is_wired, try_look, try_plain};
 pub use plain_places::{is_plain_ahead, reach_plain_place};
-pub use registers::{bus_register, place_of};
-pub use tried::Tried;
+pub use registers::{REGISTER_CLOCKS, bus_register, is_port, place_of};
+pub use transfers::{MOVE_CLOCKS, try_move};

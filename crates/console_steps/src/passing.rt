@@ -1,5 +1,6 @@
 // The clocks that pass after a step's effect, with the events of the beam and the rows drawn.
-ghost use Rattle.std.specs.Prelude.{◌≡◌, ◌≢◌, ◌+◌, ◌*◌, ◌-◌, ◌<◌, ◌≤◌, ◌++◌, ◌==◌, ◌&&◌, ◌||◌, nat_lt, nat_le, ℕ, Bool, IsTrue, List, [], length, if◌then◌else◌};
+ghost use Rattle.std.specs.Prelude.{◌≡◌, ◌≢◌, ◌+◌, ◌*◌, ◌-◌, ◌<◌, ◌≤◌, ◌++◌, ◌==◌, ◌&&◌, ◌||◌, nat_lt, nat_le, ℕ};
+ghost use Rattle.std.specs.Prelude.{Bool, IsTrue, List, [], length, if◌then◌else◌};
 ghost use Rattle.beam.specs.Events.{one_if, events_of};
 ghost use Rattle.beam.specs.declared.events.Event.{Event};
 ghost use Rattle.beam.specs.declared.events.Event.TheVariants as events;
@@ -19,7 +20,8 @@ use cpu65816::Cpu;
 #[inline(always)]
 fn pass_event(cpu: &mut Cpu, bus: &mut Bus, comes: bool, event: Event)
     requires { event ≢ events.Draw }
-    ensures at { (w : ConsoleState) → IsAt cpu.old bus.old w → IsAt cpu.new bus.new (after_events w (one_if comes event)) }
+    ensures at { (w : ConsoleState) → IsAt cpu.old bus.old w
+        → IsAt cpu.new bus.new (after_events w (one_if comes event)) }
     ensures none { (w : ConsoleState) → bytes_of_events w (one_if comes event) ≡ [] }
     ensures beam { bus.new.beam ≡ bus.old.beam }
 {
@@ -34,8 +36,10 @@ fn pass_row(cpu: &mut Cpu, bus: &mut Bus, waiting: &mut HeapCircularBuffer<u8>, 
     requires first { IsTrue comes → 1 ≤ bus.old.beam.v }
     requires last { IsTrue comes → bus.old.beam.v ≤ 239 }
     requires room { IsTrue comes → length waiting.old.items + 1024 ≤ waiting.old.capacity }
-    ensures at { (w : ConsoleState) → IsAt cpu.old bus.old w → IsAt cpu.new bus.new (after_events w (one_if comes events.Draw)) }
-    ensures row { (w : ConsoleState) → IsAt cpu.old bus.old w → waiting.new.items ≡ waiting.old.items ++ bytes_of_events w (one_if comes events.Draw) }
+    ensures at { (w : ConsoleState) → IsAt cpu.old bus.old w
+        → IsAt cpu.new bus.new (after_events w (one_if comes events.Draw)) }
+    ensures row { (w : ConsoleState) → IsAt cpu.old bus.old w
+        → waiting.new.items ≡ waiting.old.items ++ bytes_of_events w (one_if comes events.Draw) }
     ensures size { length waiting.new.items ≡ length waiting.old.items + (if comes then 1024 else 0) }
     ensures capacity { waiting.new.capacity ≡ waiting.old.capacity }
     ensures beam { bus.new.beam ≡ bus.old.beam }
@@ -47,7 +51,8 @@ fn pass_row(cpu: &mut Cpu, bus: &mut Bus, waiting: &mut HeapCircularBuffer<u8>, 
 
 /// Passes the events of a place before a row is drawn: line, blank, HDMA of a frame, refresh.
 fn pass_first(cpu: &mut Cpu, bus: &mut Bus, happens: Happens)
-    ensures at { (w : ConsoleState) → IsAt cpu.old bus.old w → IsAt cpu.new bus.new (after_events w (first_of happens)) }
+    ensures at { (w : ConsoleState) → IsAt cpu.old bus.old w
+        → IsAt cpu.new bus.new (after_events w (first_of happens)) }
     ensures none { (w : ConsoleState) → bytes_of_events w (first_of happens) ≡ [] }
     ensures beam { bus.new.beam ≡ bus.old.beam }
 {
@@ -72,8 +77,10 @@ fn pass_place(cpu: &mut Cpu, bus: &mut Bus, waiting: &mut HeapCircularBuffer<u8>
     requires first { IsTrue happens.draw → 1 ≤ bus.old.beam.v }
     requires last { IsTrue happens.draw → bus.old.beam.v ≤ 239 }
     requires room { IsTrue happens.draw → length waiting.old.items + 1024 ≤ waiting.old.capacity }
-    ensures at { (w : ConsoleState) → IsAt cpu.old bus.old w → IsAt cpu.new bus.new (after_events w (events_of happens)) }
-    ensures bytes { (w : ConsoleState) → IsAt cpu.old bus.old w → waiting.new.items ≡ waiting.old.items ++ bytes_of_events w (events_of happens) }
+    ensures at { (w : ConsoleState) → IsAt cpu.old bus.old w
+        → IsAt cpu.new bus.new (after_events w (events_of happens)) }
+    ensures bytes { (w : ConsoleState) → IsAt cpu.old bus.old w
+        → waiting.new.items ≡ waiting.old.items ++ bytes_of_events w (events_of happens) }
     ensures size { length waiting.new.items ≡ length waiting.old.items + (if happens.draw then 1024 else 0) }
     ensures capacity { waiting.new.capacity ≡ waiting.old.capacity }
     ensures beam { bus.new.beam ≡ bus.old.beam }
@@ -89,7 +96,8 @@ fn pass_places(cpu: &mut Cpu, bus: &mut Bus, waiting: &mut HeapCircularBuffer<u8
     requires step { clocks ≤ 40 }
     requires room { length waiting.old.items + room_for bus.old.beam.h clocks ≤ waiting.old.capacity }
     ensures at { (w : ConsoleState) → IsAt cpu.old bus.old w → IsAt cpu.new bus.new (after_clocks w clocks) }
-    ensures bytes { (w : ConsoleState) → IsAt cpu.old bus.old w → waiting.new.items ≡ waiting.old.items ++ bytes_in w clocks }
+    ensures bytes { (w : ConsoleState) → IsAt cpu.old bus.old w
+        → waiting.new.items ≡ waiting.old.items ++ bytes_in w clocks }
     ensures size { length waiting.new.items ≤ length waiting.old.items + room_for bus.old.beam.h clocks }
     ensures capacity { waiting.new.capacity ≡ waiting.old.capacity }
     ensures region { bus.new.beam.region ≡ bus.old.beam.region }
@@ -110,7 +118,8 @@ pub fn pass(cpu: &mut Cpu, bus: &mut Bus, waiting: &mut HeapCircularBuffer<u8>, 
     requires step { clocks ≤ 40 }
     requires room { length waiting.old.items + room_for bus.old.beam.h clocks ≤ waiting.old.capacity }
     ensures at { (w : ConsoleState) → IsAt cpu.old bus.old w → IsAt cpu.new bus.new (after_clocks w clocks) }
-    ensures bytes { (w : ConsoleState) → IsAt cpu.old bus.old w → waiting.new.items ≡ waiting.old.items ++ bytes_in w clocks }
+    ensures bytes { (w : ConsoleState) → IsAt cpu.old bus.old w
+        → waiting.new.items ≡ waiting.old.items ++ bytes_in w clocks }
     ensures size { length waiting.new.items ≤ length waiting.old.items + room_for bus.old.beam.h clocks }
     ensures capacity { waiting.new.capacity ≡ waiting.old.capacity }
     ensures region { bus.new.beam.region ≡ bus.old.beam.region }

@@ -1,6 +1,6 @@
-// An access of the processor with its clocks, if nothing else happens in these, as `at_once` makes it. The levels of
-// the processor's lines are not given again, since they have not changed. A caller that makes many accesses checks once
-// whether a transfer is due and whether the levels are those that were given.
+// An access of the processor with its clocks, if nothing else happens in these. The levels of the processor's lines are
+// not given again, since they have not changed. A caller that makes many accesses checks once whether a transfer is due
+// and whether the levels are those that were given.
 ghost use Rattle.std.specs.Prelude.{◌≡◌, ◌+◌, ◌-◌, ◌<◌, ◌^◌, ℕ, [], None, IsTrue, IfSome, slice_index};
 ghost use Rattle.cpu_tables.specs.declared.access.Access.TheVariants.{Read, Write, Inner};
 ghost use Rattle.cpu_modes.specs.Plan.{gets_byte, is_write, is_inner};
@@ -13,15 +13,11 @@ ghost use Rattle.console_bus.specs.Places.{register_written, on_bus};
 ghost use Rattle.console_steps.specs.AtOnce.{gone_on, passed_in, IsMadeAtOnce};
 ghost use Rattle.console_steps.specs.Plain.{IsWired, IsCalm, IsLook};
 
-use crate::other_steps::{is_port, store_register};
-use crate::registers::bus_register;
+use crate::registers::{REGISTER_CLOCKS, bus_register, is_port, store_register};
 use console_bus::Bus;
 use cpu_modes::Place;
 use cpu_tables::Access;
 use cpu65816::Cpu;
-
-/// Master clocks of an access of the B bus.
-const REGISTER_CLOCKS: u8 = 6;
 
 /// Whether the processor was given the levels that its interrupt lines have now.
 #[inline(always)]
@@ -48,10 +44,15 @@ fn take_plainly(cpu: &mut Cpu, bus: &mut Bus, place: Place, at: usize, clocks: u
     requires gets { IsTrue (gets_byte (access_of cpu.old)) }
     requires at { at < 131072 + bus.old.board.ram + bus.old.board.rom }
     requires few { clocks < clocks_left bus.old.beam }
-    ensures rest { bus.new ≡ record bus.old { last = slice_index bus.old.memory at; beam = beam_after bus.old.picture.registers.settings.overscan bus.old.beam clocks } }
+    ensures rest { bus.new ≡ record bus.old {
+      last = slice_index bus.old.memory at;
+      beam = beam_after bus.old.picture.registers.settings.overscan
+          bus.old.beam clocks;
+    } }
     ensures nothing { passed bus.old.picture.registers.settings.overscan bus.old.beam clocks ≡ [] }
     ensures left { clocks_left bus.new.beam ≡ clocks_left bus.old.beam - clocks }
-    ensures processor { (s : CpuState) → Stands cpu.old s → Stands cpu.new (moved_on s (slice_index bus.old.memory at)) }
+    ensures processor { (s : CpuState) → Stands cpu.old s
+        → Stands cpu.new (moved_on s (slice_index bus.old.memory at)) }
 {
     let byte = bus.load(at);
     bus.put(byte);
@@ -81,7 +82,8 @@ fn give_plainly(cpu: &mut Cpu, bus: &mut Bus, place: Place, at: usize, v: u8, cl
     requires writes { IsTrue (is_write (access_of cpu.old)) }
     requires at { at < 131072 + bus.old.board.ram + bus.old.board.rom }
     requires few { clocks < clocks_left bus.old.beam }
-    ensures rest { bus.new ≡ record (stored bus.old at v) { last = v; beam = beam_after bus.old.picture.registers.settings.overscan bus.old.beam clocks } }
+    ensures rest { bus.new ≡ record (stored bus.old at v)
+        { last = v; beam = beam_after bus.old.picture.registers.settings.overscan bus.old.beam clocks } }
     ensures nothing { passed bus.old.picture.registers.settings.overscan bus.old.beam clocks ≡ [] }
     ensures left { clocks_left bus.new.beam ≡ clocks_left bus.old.beam - clocks }
     ensures calm { IsCalm bus.old → IsCalm bus.new }
@@ -98,7 +100,8 @@ pub(crate) fn read_plainly(cpu: &mut Cpu, bus: &mut Bus, place: Place, addr: u32
     requires known { cpu.old.micro.place ≡ place }
     requires gets { IsTrue (gets_byte (access_of cpu.old)) }
     requires addr { addr < 2 ^ 24 }
-    ensures made { IsWired cpu.old bus.old → IfSome result (λ clocks. IsMadeAtOnce cpu.old cpu.new bus.old bus.new (Read addr) clocks) }
+    ensures made { IsWired cpu.old bus.old
+        → IfSome result (λ clocks. IsMadeAtOnce cpu.old cpu.new bus.old bus.new (Read addr) clocks) }
     ensures looks { IfSome result (λ clocks. IsLook bus.old (Read addr)) }
     ensures within { IfSome result (λ clocks. clocks < clocks_left bus.old.beam) }
     ensures left { IfSome result (λ clocks. clocks_left bus.new.beam ≡ clocks_left bus.old.beam - clocks) }
@@ -137,7 +140,8 @@ fn write_register_plainly(
 ) -> Option<u8>
     requires known { cpu.old.micro.place ≡ place }
     requires writes { IsTrue (is_write (access_of cpu.old)) }
-    ensures made { IsWired cpu.old bus.old → IfSome result (λ clocks. IsMadeAtOnce cpu.old cpu.new bus.old bus.new (Write addr v) clocks) }
+    ensures made { IsWired cpu.old bus.old
+        → IfSome result (λ clocks. IsMadeAtOnce cpu.old cpu.new bus.old bus.new (Write addr v) clocks) }
     ensures within { IfSome result (λ clocks. clocks < clocks_left bus.old.beam) }
     ensures left { IfSome result (λ clocks. clocks_left bus.new.beam ≡ clocks_left bus.old.beam - clocks) }
     ensures calm { IsCalm bus.old → IsCalm bus.new }
@@ -167,7 +171,8 @@ pub(crate) fn write_plainly(
     requires known { cpu.old.micro.place ≡ place }
     requires writes { IsTrue (is_write (access_of cpu.old)) }
     requires addr { addr < 2 ^ 24 }
-    ensures made { IsWired cpu.old bus.old → IfSome result (λ clocks. IsMadeAtOnce cpu.old cpu.new bus.old bus.new (Write addr v) clocks) }
+    ensures made { IsWired cpu.old bus.old
+        → IfSome result (λ clocks. IsMadeAtOnce cpu.old cpu.new bus.old bus.new (Write addr v) clocks) }
     ensures within { IfSome result (λ clocks. clocks < clocks_left bus.old.beam) }
     ensures left { IfSome result (λ clocks. clocks_left bus.new.beam ≡ clocks_left bus.old.beam - clocks) }
     ensures calm { IsCalm bus.old → IsCalm bus.new }
@@ -187,7 +192,8 @@ fn rest_plainly(cpu: &mut Cpu, bus: &mut Bus, place: Place)
     requires known { cpu.old.micro.place ≡ place }
     requires inner { IsTrue (is_inner (access_of cpu.old)) }
     requires few { 6 < clocks_left bus.old.beam }
-    ensures rest { bus.new ≡ record bus.old { beam = beam_after bus.old.picture.registers.settings.overscan bus.old.beam 6 } }
+    ensures rest { bus.new ≡ record bus.old
+        { beam = beam_after bus.old.picture.registers.settings.overscan bus.old.beam 6 } }
     ensures nothing { passed bus.old.picture.registers.settings.overscan bus.old.beam 6 ≡ [] }
     ensures left { clocks_left bus.new.beam ≡ clocks_left bus.old.beam - 6 }
     ensures processor { (s : CpuState) → Stands cpu.old s → Stands cpu.new (moved_on s 0) }
@@ -201,7 +207,8 @@ fn rest_plainly(cpu: &mut Cpu, bus: &mut Bus, place: Place)
 pub(crate) fn idle_plainly(cpu: &mut Cpu, bus: &mut Bus, place: Place) -> Option<u8>
     requires known { cpu.old.micro.place ≡ place }
     requires inner { IsTrue (is_inner (access_of cpu.old)) }
-    ensures made { IsWired cpu.old bus.old → IfSome result (λ clocks. IsMadeAtOnce cpu.old cpu.new bus.old bus.new Inner clocks) }
+    ensures made { IsWired cpu.old bus.old
+        → IfSome result (λ clocks. IsMadeAtOnce cpu.old cpu.new bus.old bus.new Inner clocks) }
     ensures within { IfSome result (λ clocks. clocks < clocks_left bus.old.beam) }
     ensures left { IfSome result (λ clocks. clocks_left bus.new.beam ≡ clocks_left bus.old.beam - clocks) }
     ensures calm { IsCalm bus.old → IsCalm bus.new }
@@ -219,7 +226,8 @@ pub(crate) fn idle_plainly(cpu: &mut Cpu, bus: &mut Bus, place: Place) -> Option
 /// register. Nothing else may happen in these clocks. Returns how many they are. Otherwise nothing has changed.
 #[inline(never)]
 pub fn try_plain(cpu: &mut Cpu, bus: &mut Bus) -> Option<u8>
-    ensures made { IsWired cpu.old bus.old → IfSome result (λ clocks. IsMadeAtOnce cpu.old cpu.new bus.old bus.new (access_of cpu.old) clocks) }
+    ensures made { IsWired cpu.old bus.old
+        → IfSome result (λ clocks. IsMadeAtOnce cpu.old cpu.new bus.old bus.new (access_of cpu.old) clocks) }
     ensures within { IfSome result (λ clocks. clocks < clocks_left bus.old.beam) }
     ensures left { IfSome result (λ clocks. clocks_left bus.new.beam ≡ clocks_left bus.old.beam - clocks) }
     ensures calm { IsCalm bus.old → IsCalm bus.new }
@@ -239,7 +247,8 @@ pub fn try_plain(cpu: &mut Cpu, bus: &mut Bus) -> Option<u8>
 /// happens in these. Returns how many they are. Otherwise, and for every write, nothing has changed.
 #[inline(always)]
 pub fn try_look(cpu: &mut Cpu, bus: &mut Bus) -> Option<u8>
-    ensures made { IsWired cpu.old bus.old → IfSome result (λ clocks. IsMadeAtOnce cpu.old cpu.new bus.old bus.new (access_of cpu.old) clocks) }
+    ensures made { IsWired cpu.old bus.old
+        → IfSome result (λ clocks. IsMadeAtOnce cpu.old cpu.new bus.old bus.new (access_of cpu.old) clocks) }
     ensures looks { IfSome result (λ clocks. IsLook bus.old (access_of cpu.old)) }
     ensures within { IfSome result (λ clocks. clocks < clocks_left bus.old.beam) }
     ensures left { IfSome result (λ clocks. clocks_left bus.new.beam ≡ clocks_left bus.old.beam - clocks) }

@@ -4,10 +4,13 @@ ghost use Rattle.cart_map.specs.declared.places.Place.TheVariants.{BBus};
 ghost use Rattle.cart_map.specs.Clocks.{clocks_of};
 ghost use Rattle.cart_map.specs.Place.{IsInside};
 ghost use Rattle.console_bus.specs.declared.cart_board.CartBoard.{CartBoard};
-ghost use Rattle.console_bus.specs.Places.{place_at};
+ghost use Rattle.console_bus.specs.Places.{place_at, is_port, register_written, on_bus};
 
 use cart_map::Place;
 use console_bus::Bus;
+
+/// Master clocks of an access of the B bus.
+pub const REGISTER_CLOCKS: u8 = 6;
 
 /// Returns the register of the B bus at a 24-bit address, if there is one: its number from 2100 on.
 #[inline(always)]
@@ -20,6 +23,24 @@ pub fn bus_register(addr: u32) -> Option<u8>
         return Some((addr % 256) as u8);
     }
     None
+}
+
+/// Whether a register of the B bus, 2100 plus this, is a port to the sound side.
+#[inline(always)]
+pub fn is_port(register: u8) -> bool
+    ensures { result ≡ is_port register }
+{
+    0x40 <= register && register < 0x80
+}
+
+/// Writes a register of the B bus, and puts the byte on the data bus.
+#[inline(always)]
+pub(crate) fn store_register(bus: &mut Bus, register: u8, v: u8)
+    ensures after { bus.new ≡ on_bus (register_written bus.old register v) v }
+    ensures beam { bus.new.beam ≡ bus.old.beam }
+{
+    bus.write_register(register, v);
+    bus.put(v);
 }
 
 /// Returns what is at a 24-bit address.

@@ -25,7 +25,8 @@ module _ {State : Type 0} (moves : Moves State) (end : ℕ) where
 -- a serial console has made turns from `from`, none of them past the end. `at` has the same bytes at the ports, and
 -- each of its machines is that of the serial console or some quiet steps ahead of it. With those steps each side
 -- has emitted these bytes
-pub record IsLead {C S : Type 0} (console_moves : Moves C) (sound_moves : Moves S) (end : ℕ) (from at : SerialState C S) (video audio : List ℕ) : Type 0 where
+pub record IsLead {C S : Type 0} (console_moves : Moves C) (sound_moves : Moves S) (end : ℕ)
+    (from at : SerialState C S) (video audio : List ℕ) : Type 0 where
   pub turned : SerialState C S
   pub turned_video : List ℕ
   pub turned_audio : List ℕ
@@ -40,7 +41,9 @@ pub record IsLead {C S : Type 0} (console_moves : Moves C) (sound_moves : Moves 
   pub audio_is : turned_audio ++ early_audio ≡ audio
 
 -- the value stands at such a place
-pub record IsLed {C S CState SState : Type 0} (console_moves : Moves CState) (sound_moves : Moves SState) (console_stands : C → CState → Type 0) (sound_stands : S → SState → Type 0) (end : ℕ) (from : SerialState CState SState) (s : Joined C S) (video audio : List ℕ) : Type 0 where
+pub record IsLed {C S CState SState : Type 0} (console_moves : Moves CState) (sound_moves : Moves SState)
+    (console_stands : C → CState → Type 0) (sound_stands : S → SState → Type 0) (end : ℕ)
+    (from : SerialState CState SState) (s : Joined C S) (video audio : List ℕ) : Type 0 where
   pub at : SerialState CState SState
   pub stands : IsAt console_stands sound_stands s at
   pub lead : IsLead console_moves sound_moves end from at video audio
@@ -56,11 +59,13 @@ module _ {State : Type 0} (moves : Moves State) where
   abbrev pub SideSteps : ℕ → ℕ → ℕ → SideState State → SideState State → List ℕ → Type 0
   SideSteps first end zero p q bytes = (p ≡ q) × (bytes ≡ [])
   SideSteps first end (suc n) p q bytes =
-      MayStep first end p × ((later : List ℕ) × (side_bytes moves p ++ later ≡ bytes) × SideSteps first end n (side_step moves p) q later)
+      MayStep first end p
+      × ((later : List ℕ) × (side_bytes moves p ++ later ≡ bytes) × SideSteps first end n (side_step moves p) q later)
 
 -- from a state in which a machine stood it has made such steps to one in which it stands. The bytes at its ports
 -- are those after them, and what they emitted waits behind what waited
-pub record HasLed {State : Type 0} (moves : Moves State) (first end : ℕ) (stands : State → Type 0) (waited waits incoming outgoing : List ℕ) (p : SideState State) : Type 0 where
+pub record HasLed {State : Type 0} (moves : Moves State) (first end : ℕ) (stands : State → Type 0)
+    (waited waits incoming outgoing : List ℕ) (p : SideState State) : Type 0 where
   pub to : State
   pub now_stands : stands to
   pub steps : ℕ

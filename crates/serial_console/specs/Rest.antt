@@ -20,7 +20,8 @@ pub record RestState (S : Type 0) : Type 0 where
   pub console_last : ℕ
 
 -- the value is in this state
-pub record StandsBehind {V S : Type 0} (stands : V → S → Type 0) (waiting : V → List ℕ) (r : Rest V) (w : RestState S) : Type 0 where
+pub record StandsBehind {V S : Type 0} (stands : V → S → Type 0) (waiting : V → List ℕ)
+    (r : Rest V) (w : RestState S) : Type 0 where
   pub sound : stands r.sound w.sound
   pub to_sound : r.bytes.incoming ≡ w.to_sound
   pub to_console : r.bytes.outgoing ≡ w.to_console
@@ -40,7 +41,8 @@ module _ {S : Type 0} (moves : Moves S) (most : ℕ) where
     pub longer : length w.audio ≤ length v.audio
     pub few : length w.audio ≤ most → length v.audio ≤ most
     -- if it emitted, it began before the end, and the last stamp is that of such a step
-    pub begins : length w.audio < length v.audio → (moves.stamp w.sound < w.end) × (moves.stamp w.sound < moves.stamp v.sound)
+    pub begins : length w.audio < length v.audio
+        → (moves.stamp w.sound < w.end) × (moves.stamp w.sound < moves.stamp v.sound)
     pub last : length w.audio < length v.audio → (v.sound_last < w.end) × (v.sound_last < moves.stamp v.sound)
     pub last_stays : length v.audio ≡ length w.audio → v.sound_last ≡ w.sound_last
     pub end_is : w.end ≡ v.end
@@ -61,7 +63,10 @@ module _ {S : Type 0} (moves : Moves S) (most : ℕ) where
     pub followed : HasFollowed at w mid
     pub there : at ≤ moves.stamp mid.sound
     pub got_is : got ≡ got_of act mid.to_console
-    pub after : record mid { to_sound = outgoing_after act mid.to_sound; to_console = incoming_after act mid.to_console } ≡ v
+    pub after : record mid {
+      to_sound = outgoing_after act mid.to_sound;
+      to_console = incoming_after act mid.to_console;
+    } ≡ v
 
   -- it has not come there, since bytes of it wait
   pub record IsBehind (cap at : ℕ) (w v : RestState S) : Type 0 where
@@ -79,7 +84,8 @@ module _ {S : Type 0} (moves : Moves S) (most : ℕ) where
   }
 
 -- the console and the sound side behind it are at a place that is some quiet steps ahead of a serial console
-pub record IsLedOver {C S CState SState : Type 0} (console_moves : Moves CState) (sound_moves : Moves SState) (console_stands : C → CState → Type 0) (sound_stands : S → SState → Type 0)
+pub record IsLedOver {C S CState SState : Type 0} (console_moves : Moves CState) (sound_moves : Moves SState)
+    (console_stands : C → CState → Type 0) (sound_stands : S → SState → Type 0)
     (from : SerialState CState SState) (c : C) (r : Rest S) (video audio : List ℕ) : Type 0 where
   pub at : SerialState CState SState
   pub console : console_stands c at.console

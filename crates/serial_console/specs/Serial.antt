@@ -16,7 +16,8 @@ module _ {C S : Type 0} where
 
 -- the console is a serial machine in this state, where `console_stands` and `sound_stands` relate
 -- each machine to its states
-pub record IsAt {C S CState SState : Type 0} (console_stands : C → CState → Type 0) (sound_stands : S → SState → Type 0) (s : Joined C S) (w : SerialState CState SState) : Type 0 where
+pub record IsAt {C S CState SState : Type 0} (console_stands : C → CState → Type 0)
+    (sound_stands : S → SState → Type 0) (s : Joined C S) (w : SerialState CState SState) : Type 0 where
   pub console : console_stands s.console w.console
   pub sound : sound_stands s.sound w.sound
   pub to_sound : s.to_sound ≡ w.to_sound

@@ -21,7 +21,8 @@ impl<C: Machine, S: Machine> Serial<C, S> {
     pub fn ports(&self) -> ([u8; 4], [u8; 4])
         ensures to_sound { result.0 ≡ bytes_to_sound self.now }
         ensures to_console { result.1 ≡ bytes_to_console self.now }
-        ensures of_the_state { (w : SerialState C.State S.State) → IsAt C.stands S.stands self.now w → (result.0 ≡ w.to_sound) × (result.1 ≡ w.to_console) }
+        ensures of_the_state { (w : SerialState C.State S.State) → IsAt C.stands S.stands self.now w
+            → (result.0 ≡ w.to_sound) × (result.1 ≡ w.to_console) }
     {
         (self.rest.bytes.incoming, self.rest.bytes.outgoing)
     }
@@ -32,7 +33,8 @@ impl<C: Machine, S: Machine> Serial<C, S> {
         ensures to_console { bytes_to_console self.new ≡ to_console }
         ensures console { console_of self.new ≡ console_of self.old }
         ensures sound { sound_of self.new ≡ sound_of self.old }
-        ensures of_the_state { (w : SerialState C.State S.State) → IsAt C.stands S.stands self.old w → IsAt C.stands S.stands self.new (record w { to_sound = to_sound; to_console = to_console }) }
+        ensures of_the_state { (w : SerialState C.State S.State) → IsAt C.stands S.stands self.old w
+            → IsAt C.stands S.stands self.new (record w { to_sound = to_sound; to_console = to_console }) }
     {
         self.rest.bytes.incoming = to_sound;
         self.rest.bytes.outgoing = to_console;

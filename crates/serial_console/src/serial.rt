@@ -1,7 +1,9 @@
 // The serial console and its turn: one step of the earlier machine.
-ghost use Rattle.std.specs.Prelude.{◌≡◌, ◌+◌, ◌/◌, ◌%◌, ◌^◌, ◌<◌, ◌≤◌, ◌==◌, ◌↔◌, ◌++◌, ℕ, IsTrue, if◌then◌else◌, length, min};
+ghost use Rattle.std.specs.Prelude.{◌≡◌, ◌+◌, ◌/◌, ◌%◌, ◌^◌, ◌<◌, ◌≤◌, ◌==◌, ◌↔◌, ◌++◌, ℕ, IsTrue, if◌then◌else◌};
+ghost use Rattle.std.specs.Prelude.{length, min};
 ghost use Rattle.clock_ratio.specs.Stamp.{least_of, most_of};
-ghost use Rattle.side_law.specs.Serial.{SerialState, serial_of, turn, console_emits, sound_emits, cleared_from, got_of, incoming_after, outgoing_after};
+ghost use Rattle.side_law.specs.Serial.{SerialState, serial_of, turn, console_emits, sound_emits, cleared_from};
+ghost use Rattle.side_law.specs.Serial.{got_of, incoming_after, outgoing_after};
 ghost use Rattle.side_law.specs.Moves.{IsAtPorts};
 ghost use Rattle.side_law.specs.SerialRun.{IsPast};
 ghost use Rattle.serial_console.specs.Serial.{IsAt, console_of, sound_of, earlier_side, LendsConsole, LendsSound};
@@ -88,35 +90,9 @@ fn exchange(act: Act, incoming: &mut [u8; 4], outgoing: &mut [u8; 4])
     }
 }
 
-/// Runs one step of a machine, by its act, against the bytes that come in to it and go out from it.
+/// Runs one step of a machine against the bytes that come in to it and go out from it.
 #[inline(always)]
 #[tactic(auto, using(crate::proofs::Taken::taken_got))]
-fn step_by<M: Machine>(act: Act, machine: &mut M, incoming: &mut [u8; 4], outgoing: &mut [u8; 4])
-    requires at_ports { IsAtPorts act }
-    requires act { (m : M.State) → M.stands machine.old m → M.moves.act m ≡ act }
-    requires room { length (M.waiting machine.old) + M.MOST ≤ M.CAP }
-    requires early { M.stamp_of machine.old ≤ 2 ^ 62 }
-    ensures next { (m : M.State) → M.stands machine.old m
-        → M.stands machine.new (M.moves.next m (got_of (M.moves.act m) incoming.old)) }
-    ensures emits { (m : M.State) → M.stands machine.old m
-        → M.waiting machine.new ≡ M.waiting machine.old ++ M.moves.bytes m (got_of (M.moves.act m) incoming.old) }
-    ensures incoming { (m : M.State) → M.stands machine.old m
-        → incoming.new ≡ incoming_after (M.moves.act m) incoming.old }
-    ensures outgoing { (m : M.State) → M.stands machine.old m
-        → outgoing.new ≡ outgoing_after (M.moves.act m) outgoing.old }
-    ensures rises { M.stamp_of machine.old + least_of (M.region_of machine.old) ≤ M.stamp_of machine.new }
-    ensures rises_at_most { M.stamp_of machine.new ≤ M.stamp_of machine.old + most_of (M.region_of machine.old) }
-    ensures emits_at_most { length (M.waiting machine.new) ≤ length (M.waiting machine.old) + M.MOST }
-    ensures same_region { M.region_of machine.new ≡ M.region_of machine.old }
-{
-    machine.step(got(act, incoming));
-    exchange(act, incoming, outgoing);
-}
-
-/// Runs one step of a machine against the bytes that come in to it and go out from it. A step that the machine quickly
-/// finds to be quiet runs without its act.
-#[inline(always)]
-#[tactic(auto, using(crate::proofs::Taken::quiet))]
 pub fn step<M: Machine>(machine: &mut M, incoming: &mut [u8; 4], outgoing: &mut [u8; 4])
     requires room { length (M.waiting machine.old) + M.MOST ≤ M.CAP }
     requires early { M.stamp_of machine.old ≤ 2 ^ 62 }
@@ -133,10 +109,9 @@ pub fn step<M: Machine>(machine: &mut M, incoming: &mut [u8; 4], outgoing: &mut 
     ensures emits_at_most { length (M.waiting machine.new) ≤ length (M.waiting machine.old) + M.MOST }
     ensures same_region { M.region_of machine.new ≡ M.region_of machine.old }
 {
-    if !machine.try_step() {
-        let act = machine.act();
-        step_by(act, machine, incoming, outgoing);
-    }
+    let act = machine.act();
+    machine.step(got(act, incoming));
+    exchange(act, incoming, outgoing);
 }
 
 impl<C: Machine, S: Machine> Serial<C, S> {

@@ -1,5 +1,5 @@
 pub mod Gone
 pub mod Cleared
-pub mod QuietRuns
+pub mod SilentSteps
 pub mod SerialKeeps
 pub mod SerialRuns

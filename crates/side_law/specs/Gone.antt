@@ -111,19 +111,23 @@ module _ {State Ports : Type 0} (moves : Moves State) (calls : Calls Ports) (unt
   HasStopped most cap Refused x y = WasRefused x y
 
 -- from states in which a machine and its ports stood, steps led to states in which they stand
-pub record IsOnWay {State Ports : Type 0} (moves : Moves State) (calls : Calls Ports) (until : ℕ) (stands : State → Type 0) (stand : Ports → Type 0)
-    (waited waits : List ℕ) (m : State) (p : Ports) : Type 0 where
+pub record IsOnWay {State Ports : Type 0} (moves : Moves State) (calls : Calls Ports) (until : ℕ)
+    (stands : State → Type 0) (stand : Ports → Type 0) (waited waits : List ℕ)
+    (m : State) (p : Ports) : Type 0 where
   pub to : State
   pub now_stands : stands to
   pub ports : Ports
   pub ports_stand : stand ports
-  pub gone : Gone moves calls until (record { own = m; ports = p; waits = waited }) (record { own = to; ports = ports; waits = waits })
+  pub gone : Gone moves calls until (record { own = m; ports = p; waits = waited })
+      (record { own = to; ports = ports; waits = waits })
 
 -- and it stopped there
-pub record HasGone {State Ports : Type 0} (moves : Moves State) (calls : Calls Ports) (until most cap : ℕ) (stands : State → Type 0) (stand : Ports → Type 0)
-    (waited waits : List ℕ) (stop : Stop) (m : State) (p : Ports) : Type 0 where
+pub record HasGone {State Ports : Type 0} (moves : Moves State) (calls : Calls Ports) (until most cap : ℕ)
+    (stands : State → Type 0) (stand : Ports → Type 0) (waited waits : List ℕ) (stop : Stop)
+    (m : State) (p : Ports) : Type 0 where
   pub to : State
   pub now_stands : stands to
   pub ports : Ports
   pub ports_stand : stand ports
-  pub stopped : HasStopped moves calls until most cap stop (record { own = m; ports = p; waits = waited }) (record { own = to; ports = ports; waits = waits })
+  pub stopped : HasStopped moves calls until most cap stop (record { own = m; ports = p; waits = waited })
+      (record { own = to; ports = ports; waits = waits })

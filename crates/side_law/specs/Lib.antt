@@ -1,6 +1,5 @@
 pub mod Gone
 pub mod Moves
-pub mod Quiet
 pub mod Serial
 pub mod SerialRun
 pub mod Sides

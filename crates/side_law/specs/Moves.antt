@@ -32,7 +32,8 @@ IsAtPorts (Clear mask) = (1 ≤ mask) × (mask ≤ 15)
 
 -- what every machine of a region keeps in its valid states, at each step by a byte: a step emits at
 -- most `bytes` bytes
-pub record IsLawful {State : Type 0} (region : Region) (valid : State → Type 0) (bytes : ℕ) (moves : Moves State) : Type 0 where
+pub record IsLawful {State : Type 0} (region : Region) (valid : State → Type 0) (bytes : ℕ)
+    (moves : Moves State) : Type 0 where
   pub at_ports : (m : State) → valid m → IsAtPorts (moves.act m)
   pub stays_valid : (m : State) (got : ℕ) → valid m → got < 256 → valid (moves.next m got)
   pub rises : (m : State) (got : ℕ) → valid m → got < 256

@@ -1,5 +1,6 @@
 -- A tape keeps the laws of a machine.
-use Rattle.std.proofs.Common.{◌≡◌, ℕ, ◌+◌, ◌≤◌, List, [], ◌∷◌, length, drop, zero, suc, refl, ap, subst, sym, arith, add-one}
+use Rattle.std.proofs.Common.{◌≡◌, ℕ, ◌+◌, ◌≤◌, List, [], ◌∷◌, length, drop, zero, suc, refl, ap, subst, sym, arith}
+use Rattle.std.proofs.Common.{add-one}
 use Rattle.snes_defs.specs.declared.ports.Act.{Act}
 use Rattle.snes_defs.specs.declared.ports.Act.TheVariants.{Quiet, Read, Write, Clear}
 use Rattle.snes_defs.specs.declared.region.Region.{Region}
@@ -9,12 +10,18 @@ use Rattle.side_law.specs.Moves.{IsLawful}
 use Rattle.side_law.specs.Tape.{IsBeat, AreBeats, TapeState, first_beat, later_beats, echo, tape_moves, IsTape}
 
 -- the next beat is in range
-pub first_is_beat : (region : Region) (beats : List Beat) → AreBeats region beats → IsBeat region (first_beat region beats)
+pub first_is_beat : (region : Region) (beats : List Beat) → AreBeats region beats
+    → IsBeat region (first_beat region beats)
 first_is_beat region [] h =
-    record { least = omega arith; most = omega (arith, (numbers region).cycle_low, (numbers region).cycle_high); at_ports = tt }
+    record {
+      least = omega arith;
+      most = omega (arith, (numbers region).cycle_low, (numbers region).cycle_high);
+      at_ports = tt;
+    }
 first_is_beat region (b ∷ bs) h = h.0
 
-pub later_are_beats : (region : Region) (beats : List Beat) → AreBeats region beats → AreBeats region (later_beats beats)
+pub later_are_beats : (region : Region) (beats : List Beat) → AreBeats region beats
+    → AreBeats region (later_beats beats)
 later_are_beats region [] h = h
 later_are_beats region (b ∷ bs) h = h.1
 
@@ -40,7 +47,9 @@ tape_is_lawful region = record {
 
 -- what holds of the state of a value
 pub state_is_tape : (state t : TapeState) → state ≡ t → IsTape t.region t → IsTape state.region t
-state_is_tape state t is h = (ap (λ (q : TapeState). q.region) (sym is), subst (λ r. AreBeats r t.beats) (ap (λ (q : TapeState). q.region) (sym is)) h.1)
+state_is_tape state t is h =
+    let same = ap (λ (q : TapeState). q.region) (sym is) in
+    (same, subst (λ r. AreBeats r t.beats) same h.1)
 
 -- the list from a place on, past its first beat
 later-drop-suc : (beats : List Beat) (k : ℕ) → later_beats (drop k beats) ≡ drop (suc k) beats
@@ -60,7 +69,8 @@ later_past (b ∷ bs) zero h = absurd (omega arith)
 later_past (b ∷ bs) (suc k) h = later_past bs k (omega arith)
 
 -- the beats from the next place on are in range where those from this one on are
-pub drop_are_beats : (region : Region) (beats : List Beat) (k : ℕ) → AreBeats region (drop k beats) → AreBeats region (drop (k + 1) beats)
+pub drop_are_beats : (region : Region) (beats : List Beat) (k : ℕ) → AreBeats region (drop k beats)
+    → AreBeats region (drop (k + 1) beats)
 drop_are_beats region beats k h = subst (AreBeats region) (later_drop beats k) (later_are_beats region (drop k beats) h)
 
 pub ruleset tape_steps = (later_drop, later_past, drop_are_beats)

@@ -14,14 +14,12 @@
 
 mod beat;
 mod machine;
-mod pause;
 mod ports;
 mod tape;
 mod waiting;
 
 pub use beat::Beat;
 pub use machine::Machine;
-pub use pause::Pause;
 pub use ports::{Ports, Stop, call};
 pub use tape::Tape;
 pub use waiting::copy_waiting;

@@ -1,12 +1,11 @@
 // The trait of both halves of the console: a machine that runs by steps, with its laws as members.
-ghost use Rattle.std.specs.Prelude.{◌≡◌, ◌+◌, ◌*◌, ◌^◌, ◌<◌, ◌≤◌, ◌↔◌, ℕ, false, List, ◌++◌, IsTrue, length, min, take, drop};
+ghost use Rattle.std.specs.Prelude.{◌≡◌, ◌+◌, ◌*◌, ◌^◌, ◌<◌, ◌≤◌, ◌↔◌, ℕ, IsTrue};
+ghost use Rattle.std.specs.Prelude.{List, ◌++◌, length, min, take, drop};
 ghost use Rattle.snes_defs.specs.declared.region.Region.{Region};
 ghost use Rattle.clock_ratio.specs.Stamp.{least_of, most_of};
 ghost use Rattle.side_law.specs.Moves.{Moves, IsLawful, IsAtPorts, taken};
-ghost use Rattle.side_law.specs.Quiet.{HasGoneQuietly};
 ghost use Rattle.side_law.specs.Gone.{HasGone};
 
-use crate::pause::Pause;
 use crate::ports::{Ports, Stop, call};
 use snes_defs::{Act, Region};
 
@@ -77,34 +76,6 @@ pub trait Machine: Send {
         ensures emits_at_most { length (waiting self.new) ≤ length (waiting self.old) + MOST }
         ensures same_region { region_of self.new ≡ region_of self.old };
 
-    /// Runs the next step if the machine quickly finds that it is quiet, and returns whether it did. If not, nothing
-    /// has changed. A caller that calls this first runs a quiet step without reading its act. If it returns false,
-    /// `act` and `step` still serve.
-    #[inline(always)]
-    fn try_step(&mut self) -> bool
-        requires room { length (waiting self.old) + MOST ≤ CAP }
-        requires early { stamp_of self.old ≤ 2 ^ 62 }
-        ensures quiet { IsTrue result → (m : State) → stands self.old m → moves.act m ≡ Act.Quiet }
-        ensures next { IsTrue result → (m : State) → stands self.old m → stands self.new (moves.next m 0) }
-        ensures emits { IsTrue result → (m : State) → stands self.old m
-            → waiting self.new ≡ waiting self.old ++ moves.bytes m 0 }
-        ensures rises { IsTrue result → stamp_of self.old + least_of (region_of self.old) ≤ stamp_of self.new }
-        ensures rises_at_most { IsTrue result → stamp_of self.new ≤ stamp_of self.old + most_of (region_of self.old) }
-        ensures emits_at_most { IsTrue result → length (waiting self.new) ≤ length (waiting self.old) + MOST }
-        ensures same_region { region_of self.new ≡ region_of self.old }
-        ensures stays { result ≡ false → self.new ≡ self.old }
-    {
-        match self.act() {
-            Act::Quiet => {
-                self.step(0);
-                true
-            }
-            Act::Read(_) => false,
-            Act::Write(_, _) => false,
-            Act::Clear(_) => false,
-        }
-    }
-
     /// Returns how many emitted bytes are buffered.
     fn pending(&self) -> usize
         ensures { result ≡ length (waiting self.now) };
@@ -137,42 +108,6 @@ pub trait Machine: Send {
         ensures same_state { (m : State) → stands self.old m → stands self.new m }
         ensures same_stamp { stamp_of self.new ≡ stamp_of self.old }
         ensures same_region { region_of self.new ≡ region_of self.old };
-
-    /// Runs quiet steps, as many as the machine chooses to run in one call, or none, and returns where it stops. Each
-    /// begins before the stamp `before`, and none follows one that emitted bytes. A caller that wants more steps calls
-    /// again, and if the stamp hasn't risen, `step` serves.
-    #[inline(always)]
-    fn quiet(&mut self, before: u64) -> Pause
-        requires room { length (waiting self.old) + MOST ≤ CAP }
-        requires early { before ≤ 2 ^ 62 }
-        ensures went { (m : State) → stands self.old m
-            → HasGoneQuietly moves before (stands self.new) (waiting self.old) (waiting self.new) result.at m }
-        ensures at_ports { IsAtPorts result.act }
-        ensures act { (m : State) → stands self.new m → moves.act m ≡ result.act }
-        ensures forward { stamp_of self.old ≤ stamp_of self.new }
-        ensures silent { length (waiting self.new) ≡ length (waiting self.old) → result.at ≡ stamp_of self.new }
-        ensures emitted { length (waiting self.old) < length (waiting self.new) → (stamp_of self.old ≤ result.at)
-            × (result.at < before) × (result.at < stamp_of self.new) }
-        ensures emits_at_most { length (waiting self.new) ≤ length (waiting self.old) + MOST }
-        ensures same_region { region_of self.new ≡ region_of self.old }
-    {
-        let at = self.stamp();
-        let waited = self.pending();
-        if at >= before {
-            let act = self.act();
-            return Pause { at, act };
-        }
-        if !self.try_step() {
-            let act = self.act();
-            return Pause { at, act };
-        }
-        let act = self.act();
-        if self.pending() > waited {
-            return Pause { at, act };
-        }
-        let at = self.stamp();
-        Pause { at, act }
-    }
 
     /// Runs steps in order, each begun before the stamp `until`, and its call at the ports made by `ports`. Returns why
     /// it stopped. How many it runs is left to the machine. It runs none after one whose call is refused, and none that

@@ -28,9 +28,13 @@ impl Model for Tape {
 
     ghost Value = { TapeValue };
 
-    ghost view = { λ t. record { state = record { region = t.region; beats = drop t.played t.beats.items; stamp = t.stamp }; waiting = t.waiting.items } };
+    ghost view = { λ t. record {
+      state = record { region = t.region; beats = drop t.played t.beats.items; stamp = t.stamp };
+      waiting = t.waiting.items;
+    } };
 
-    ghost invariant = { λ t. (t.played ≤ length t.beats.items) × AreBeats t.region (drop t.played t.beats.items) × (t.waiting.capacity ≡ 4096) × (length t.waiting.items ≤ 4096) };
+    ghost invariant = { λ t. (t.played ≤ length t.beats.items) × AreBeats t.region (drop t.played t.beats.items)
+        × (t.waiting.capacity ≡ 4096) × (length t.waiting.items ≤ 4096) };
 }
 
 impl Tape {

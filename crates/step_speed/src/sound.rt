@@ -3,20 +3,21 @@
 //! `play` makes samples with eight voices and echo on, `rest` with none as after power on, and `quiet` with eight
 //! voices that were released and still have a pitch. `cycles` takes steps of the whole sound machine over a loop that
 //! reads a timer and writes a port, and `work` over one that touches the memory alone. Both are taken as in a run, by
-//! `Machine::quiet`.
+//! `Machine::advance` over the bytes at the ports.
 //!
-//! In the stored run the sum is 0 at rest, and 1 for 160 cycles. The loop takes 25 cycles, begins at cycle 10, and
-//! reads the counter in its third cycle. So its sixth iteration, from cycle 135 on, is the first after the tick of
-//! cycle 127 and writes a 1; the five before it write 0, and the seventh comes too late. For `work` the sum is the byte
-//! that each iteration of 49 cycles increments in its tenth: 4 after 160.
+//! In the stored run the sum is 0 at rest, and for `cycles` it is the byte at port 0, which is 1 after 160. The loop
+//! takes 25 cycles, begins at cycle 10, and reads the counter in its third cycle. So its sixth iteration, from cycle
+//! 135 on, is the first after the tick of cycle 127 and writes a 1; the five before it write 0, and the seventh comes
+//! too late. For `work` the sum is the byte that each iteration of 49 cycles increments in its tenth: 4 after 160.
 
 ghost use Rattle.std.specs.Prelude.{◌≡◌, length};
 
 use audio_side::AudioSide;
 use sdsp_echo::Echo;
 use sdsp_voice::Voices;
+use serial_console::Bytes as PortBytes;
 use side_law::Machine;
-use snes_defs::{Act, Bytes, Cart, Job, MapKind, Region, Spans, Table};
+use snes_defs::{Bytes, Cart, Job, MapKind, Profile, Region, Spans, Table};
 use std::alloc::Global;
 use std::io;
 
@@ -90,7 +91,7 @@ fn samples(ram: &mut [u8], scene: Scene, count: u64) -> u64 {
         return 0;
     }
     let playing = scene == Scene::Play;
-    let mut voices = Voices::new();
+    let mut voices = Voices::new(Profile::First);
     let mut echo = Echo::new();
     let table = Table::of([1024; 512]);
     if scene != Scene::BusState {
@@ -162,34 +163,25 @@ fn job(alloc: Global, program: [u8; 24]) -> io::Result<Job> {
 /// The stamps of a cycle.
 const RATE: u64 = 118_125;
 
-/// Runs the given number of cycles, at most 2^40, and returns the sum of the bytes that they write to the ports.
+/// Runs the given number of cycles, at most 2^40, and returns the byte that they left at port 0.
 fn cycles(side: &mut AudioSide, count: u64) -> u64 {
     let end = count.min(1 << 40) * RATE;
     let mut bytes = [0u8; 4096];
-    let mut sum = 0u64;
+    let mut ports = PortBytes {
+        incoming: [0, 1, 2, 3],
+        outgoing: [0; 4],
+        first: u64::MAX,
+        hold: u64::MAX,
+        last: 0,
+    };
     for _ in 0..count {
-        if !side.ready() {
-            let _count = side.drain(&mut bytes);
-        }
-        if !side.ready() {
-            return sum;
-        }
-        let pause = side.quiet(end);
         if side.stamp() >= end {
-            return sum;
+            break;
         }
-        let got = match pause.act {
-            Act::Read(port) => port,
-            Act::Write(_, byte) => {
-                sum = sum.wrapping_mul(31).wrapping_add(byte as u64);
-                0
-            }
-            Act::Quiet => 0,
-            Act::Clear(_) => 0,
-        };
-        side.step(got);
+        let _stop = side.advance(end, &mut ports);
+        let _count = side.drain(&mut bytes);
     }
-    sum
+    ports.outgoing[0] as u64
 }
 
 /// Returns the given number of zeros.

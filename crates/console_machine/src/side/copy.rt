@@ -3,7 +3,8 @@ ghost use Rattle.std.specs.Prelude.{◌≡◌, ◌+◌, ◌<◌, ◌≤◌, ◌+
 ghost use Rattle.snes_defs.specs.Script.{RiseWithin, frames_of};
 ghost use Rattle.console_steps.specs.ConsoleState.{ConsoleState};
 ghost use Rattle.console_machine.specs.Side.{StandsAt};
-ghost use Rattle.console_machine.specs.Playing.{value_played, value_pressed, value_with_room, console_played, console_pressed, console_with_room};
+ghost use Rattle.console_machine.specs.Playing.{value_played, value_pressed, value_with_room, console_played};
+ghost use Rattle.console_machine.specs.Playing.{console_pressed, console_with_room};
 
 use super::ConsoleSide;
 use side_law::copy_waiting;
@@ -16,11 +17,13 @@ impl ConsoleSide {
     #[tactic(auto, using(crate::proofs::Copies::copied))]
     pub fn copy_into(&self, into: &mut ConsoleSide)
         requires board { self.now.rest.board ≡ into.old.rest.board }
-        requires rom { drop (131072 + self.now.rest.board.ram) self.now.rest.memory ≡ drop (131072 + self.now.rest.board.ram) into.old.rest.memory }
+        requires rom { drop (131072 + self.now.rest.board.ram) self.now.rest.memory
+            ≡ drop (131072 + self.now.rest.board.ram) into.old.rest.memory }
         requires room { length self.now.rest.script.spans ≤ into.old.rest.script.room }
         requires reset_room { length self.now.rest.script.resets ≤ into.old.rest.script.room }
         ensures same { into.new ≡ value_with_room self.now into.old.rest.script.room }
-        ensures stands { (w : ConsoleState) → StandsAt self.now w → StandsAt into.new (console_with_room w into.old.rest.script.room) }
+        ensures stands { (w : ConsoleState) → StandsAt self.now w
+            → StandsAt into.new (console_with_room w into.old.rest.script.room) }
     {
         into.parts.cpu = self.parts.cpu;
         self.parts.bus.copy_into(&mut into.parts.bus);
@@ -29,11 +32,15 @@ impl ConsoleSide {
         copy_waiting(&self.parts.waiting, &mut into.parts.waiting);
     }
 
-    /// Makes room for that many more spans of the script, and for as many resets in all as spans. Fails only if allocation fails; then nothing has changed.
+    /// Makes room for that many more spans of the script, and for as many resets in all as spans. Fails only if
+    /// allocation fails; then nothing has changed.
     #[tactic(auto, using(crate::proofs::Copies::copied))]
     pub fn reserve(&mut self, spans: usize) -> Result<(), NoMemory>
-        ensures ok { OnOk result (self.new ≡ value_with_room self.old (max self.old.rest.script.room (length self.old.rest.script.spans + spans))) }
-        ensures stands { OnOk result ((w : ConsoleState) → StandsAt self.old w → StandsAt self.new (console_with_room w (max self.old.rest.script.room (length self.old.rest.script.spans + spans)))) }
+        ensures ok { OnOk result (self.new
+            ≡ value_with_room self.old (max self.old.rest.script.room (length self.old.rest.script.spans + spans))) }
+        ensures stands { OnOk result ((w : ConsoleState) → StandsAt self.old w
+            → StandsAt self.new (console_with_room w
+            (max self.old.rest.script.room (length self.old.rest.script.spans + spans)))) }
         ensures err { OnErr result (self.new ≡ self.old) }
     {
         self.parts.bus.reserve(spans)

@@ -16,27 +16,27 @@ runs-init g c =
       times = refl;
     }
 
-pub returns-then-clocks_left-le-REGISTER_CLOCKS-clause-made : goal.returns-then-clocks_left-le-REGISTER_CLOCKS-clause-made
-returns-then-clocks_left-le-REGISTER_CLOCKS-clause-made g c = λ done.
+pub returns-then-clocks_left-clause-made : goal.returns-then-clocks_left-clause-made
+returns-then-clocks_left-clause-made g c = λ done.
     let P = g.P.Ports in
     run_following P.calls c.args.region c.args.goal c.args.cpu.now c.runs.cpu c.args.bus.now c.runs.bus (P.stands c.args.ports.now) (P.stands c.runs.ports) c.runs.invariant.run
     c.make_all.new.cpu c.make_all.new.bus c.make_all.ensures
 
-pub returns-then-clocks_left-le-REGISTER_CLOCKS-clause-some : goal.returns-then-clocks_left-le-REGISTER_CLOCKS-clause-some
-returns-then-clocks_left-le-REGISTER_CLOCKS-clause-some g c = λ w h.
+pub returns-then-clocks_left-clause-some : goal.returns-then-clocks_left-clause-some
+returns-then-clocks_left-clause-some g c = λ w h.
     let was = c.runs.invariant.some w h in
     follows_before c.args.region c.args.goal c.runs.cpu c.make_all.new.cpu c.runs.bus c.make_all.new.bus was.0 c.make_all.ensures was.1
 
-pub returns-then-clocks_left-le-REGISTER_CLOCKS-clause-fewer : goal.returns-then-clocks_left-le-REGISTER_CLOCKS-clause-fewer
-returns-then-clocks_left-le-REGISTER_CLOCKS-clause-fewer g c = (let left = c.make_all.ensures.left in omega (arith, left, c.runs.invariant.fewer))
+pub returns-then-clocks_left-clause-fewer : goal.returns-then-clocks_left-clause-fewer
+returns-then-clocks_left-clause-fewer g c = (let left = c.make_all.ensures.left in omega (arith, left, c.runs.invariant.fewer))
 
-pub returns-then-clocks_left-le-REGISTER_CLOCKS-clause-in_order : goal.returns-then-clocks_left-le-REGISTER_CLOCKS-clause-in_order
-returns-then-clocks_left-le-REGISTER_CLOCKS-clause-in_order g c =
+pub returns-then-clocks_left-clause-in_order : goal.returns-then-clocks_left-clause-in_order
+returns-then-clocks_left-clause-in_order g c =
     let later = stamp_later c.args.region c.args.goal c.runs.bus c.make_all.new.bus c.make_all.ensures.left in
     omega (arith, later, c.runs.invariant.in_order)
 
-pub returns-then-clocks_left-le-REGISTER_CLOCKS-clause-times : goal.returns-then-clocks_left-le-REGISTER_CLOCKS-clause-times
-returns-then-clocks_left-le-REGISTER_CLOCKS-clause-times g c = c.runs.invariant.times
+pub returns-then-clocks_left-clause-times : goal.returns-then-clocks_left-clause-times
+returns-then-clocks_left-clause-times g c = c.runs.invariant.times
 
 -- the stamp of the next step is before the place
 pub stamp_before-at-requires : goal.stamp_before-at-requires
@@ -55,7 +55,7 @@ make_register-requires-clause-in_time g c =
     let P = g.P.Ports in
     let left = c.make_all.ensures.left in
     let less = rate_least c.args.region (clocks_left c.make_all.new.bus.beam) (clocks_left c.args.bus.now.beam) (omega (arith, left, c.runs.invariant.fewer)) in
-    let early = stamp_early c.args.region c.args.goal c.make_all.new.bus (omega (arith, c.if-clocks_left-le-REGISTER_CLOCKS.false, c.clocks_left.ensures.clocks)) (omega (arith, less, c.requires.begun)) in
+    let early = stamp_early c.args.region c.args.goal c.make_all.new.bus (omega (arith, c.if-clocks_left.false, c.clocks_left.ensures.clocks)) (omega (arith, less, c.requires.begun)) in
     subst (λ t. c.stamp_before-at.result < t.before) (sym c.runs.invariant.times) (omega (arith, early, c.stamp_before-at.ensures, c.requires.in_time))
 
 pub returns-in-Left-clause-made : goal.returns-in-Left-clause-made
@@ -98,7 +98,7 @@ returns-in-Refused-clause-refused g c = λ held.
     let run = run_following P.calls c.args.region c.args.goal c.args.cpu.now c.runs.cpu c.args.bus.now c.runs.bus (P.stands c.args.ports.now) (P.stands c.runs.ports) c.runs.invariant.run
     c.make_all.new.cpu c.make_all.new.bus c.make_all.ensures in
     let stopped = run_refused P.calls c.args.region c.args.goal c.args.cpu.now c.make_all.new.cpu c.args.bus.now c.make_all.new.bus (P.stands c.args.ports.now) (P.stands c.runs.ports) run
-    c.stamp_before-at.result (P.stands c.make_register.new.ports) (omega (arith, c.if-clocks_left-le-REGISTER_CLOCKS.false, c.clocks_left.ensures.clocks)) c.stamp_before-at.ensures
+    c.stamp_before-at.result (P.stands c.make_register.new.ports) (omega (arith, c.if-clocks_left.false, c.clocks_left.ensures.clocks)) c.stamp_before-at.ensures
     (c.in-Refused.ensures.refused refl) in
     subst (λ x. HeldBefore P.calls c.args.region c.args.goal c.args.cpu.now x c.args.bus.now c.make_register.new.bus (P.stands c.args.ports.now) (P.stands c.make_register.new.ports)) (sym same.0)
     (subst (λ (x : BusState). HeldBefore P.calls c.args.region c.args.goal c.args.cpu.now c.make_all.new.cpu c.args.bus.now x (P.stands c.args.ports.now) (P.stands c.make_register.new.ports)) (sym same.1) stopped)
@@ -121,7 +121,7 @@ returns-in-Refused-clause-times g c = c.make_register.ensures.times ∙ c.runs.i
 pub runs-preserved : goal.runs-preserved
 runs-preserved g c =
     let P = g.P.Ports in
-    let few : 6 < clocks_left c.make_all.new.bus.beam = omega (arith, c.if-clocks_left-le-REGISTER_CLOCKS.false, c.clocks_left.ensures.clocks) in
+    let few : 6 < clocks_left c.make_all.new.bus.beam = omega (arith, c.if-clocks_left.false, c.clocks_left.ensures.clocks) in
     let left = c.make_all.ensures.left in
     let passed = c.in-Made.ensures.passed refl in
     let fewer = passed.left in

@@ -1,13 +1,11 @@
-use Rattle.std.proofs.Common.{rules, ◌≡◌, ◌<◌, inl, inr, refl, sym, subst, arith}
+use Rattle.std.proofs.Common.{rules, ◌≡◌, ◌∙◌, ◌<◌, inl, inr, refl, sym, subst, arith}
 use Rattle.std.proofs.lemmas.Grind.{common_steps}
+use Rattle.side_law.specs.Moves.{taken}
 use Rattle.side_law.specs.declared.ports.Stop.TheVariants.{Refused}
-use Rattle.side_law.specs.Gone.{HasGone}
-use Rattle.side_law.proofs.Gone.{way_after, stops_after, stops_until, stops_refused}
-use Rattle.audio_side.specs.Clock.{stamp_now}
+use Rattle.side_law.proofs.Gone.{goes_silently, goes_emitting, way_after, way_on, way_to, stops_after, stops_until, stops_refused}
 use Rattle.audio_side.specs.Parts.{value_of}
-use Rattle.audio_side.specs.Sound.{AudioValue, StandsAt, sound_act, sound_moves}
+use Rattle.audio_side.specs.Sound.{StandsAt, sound_act, sound_moves, sound_next}
 use Rattle.audio_side.specs.SoundLaws.{stamp_stands}
-use Rattle.audio_side.proofs.PortRuns.{way_emitting, way_silently}
 use Rattle.audio_side.proofs.parts.Parts.advance.Goals as goal
 
 pub returns-then-run-clause-gone : goal.returns-then-run-clause-gone
@@ -54,21 +52,20 @@ returns-then-waited-gt-CAPACITY-clause-gone g c = λ m p h stand.
     stops_until sound_moves P.calls c.args.until (StandsAt (value_of c.run.new.self)) (P.stands c.run.new.ports) waited waits m p 4 4096 ran
     (inr (inr (omega (arith, c.if-waited-gt-CAPACITY.true, c.len-waited.ensures.len))))
 
-pub returns-then-not-step_over-clause-gone : goal.returns-then-not-step_over-clause-gone
-returns-then-not-step_over-clause-gone g c = λ m p h stand.
+pub returns-in_default-clause-gone : goal.returns-in_default-clause-gone
+returns-in_default-clause-gone g c = λ m p h stand.
     let P = g.P.Ports in
     let waited = c.args.self.now.waiting.items in
     let waits = c.run.new.self.waiting.items in
+    let stood = StandsAt (value_of c.run.new.self) in
     let was = c.steps.invariant.gone m p h stand in
-    let ran = way_after sound_moves P.calls c.args.until (StandsAt (value_of c.steps.self)) (StandsAt (value_of c.run.new.self)) (P.stands c.steps.ports) (P.stands c.run.new.ports)
+    let ran = way_after sound_moves P.calls c.args.until (StandsAt (value_of c.steps.self)) stood (P.stands c.steps.ports) (P.stands c.run.new.ports)
     waited c.steps.self.waiting.items waits m p was (c.if-run.ensures.gone refl was.to was.ports was.now_stands was.ports_stand) in
-    let stamp = stamp_stands (value_of c.run.new.self) ran.to ran.now_stands in
-    let have = P.stands c.step_over.new.ports in
-    let R : AudioValue → Type 0 = λ x. HasGone sound_moves P.calls c.args.until 4 4096 (StandsAt x) have waited x.waiting Refused m p in
-    subst R (sym (c.if-not-step_over.ensures.stays refl))
-    (stops_refused sound_moves P.calls c.args.until (StandsAt (value_of c.run.new.self)) (P.stands c.run.new.ports) waited waits m p 4 4096
-    (stamp_now c.run.new.self.clock) (sound_act ran.to) have ran stamp refl (omega (arith, c.stamp-at.ensures, c.if-at-until.false))
-    (c.if-not-step_over.ensures.refused refl ran.to ran.now_stands ran.ports ran.ports_stand))
+    let is = stamp_stands (value_of c.run.new.self) ran.to ran.now_stands ∙ sym c.stamp-at.ensures in
+    let acts = c.act.ensures.value ran.to ran.now_stands in
+    let early : c.stamp-at.result < c.args.until = omega (arith, c.if-at-until.false) in
+    stops_refused sound_moves P.calls c.args.until stood (P.stands c.run.new.ports) waited waits m p 4 4096
+    c.stamp-at.result c.act.result (P.stands c.call.new.ports) ran is acts early (c.in_default.ensures.refused refl ran.ports ran.ports_stand)
 
 pub steps-preserved : goal.steps-preserved
 steps-preserved g c = record {
@@ -76,14 +73,20 @@ steps-preserved g c = record {
       let P = g.P.Ports in
       let waited = c.args.self.now.waiting.items in
       let waits = c.run.new.self.waiting.items in
+      let stood = StandsAt (value_of c.run.new.self) in
       let was = c.steps.invariant.gone m p h stand in
-      let ran = way_after sound_moves P.calls c.args.until (StandsAt (value_of c.steps.self)) (StandsAt (value_of c.run.new.self)) (P.stands c.steps.ports) (P.stands c.run.new.ports)
+      let ran = way_after sound_moves P.calls c.args.until (StandsAt (value_of c.steps.self)) stood (P.stands c.steps.ports) (P.stands c.run.new.ports)
       waited c.steps.self.waiting.items waits m p was (c.if-run.ensures.gone refl was.to was.ports was.now_stands was.ports_stand) in
-      let stamp = stamp_stands (value_of c.run.new.self) ran.to ran.now_stands in
-      let took = c.if-not-step_over.ensures.taken refl ran.to ran.ports ran.now_stands ran.ports_stand in
-      let early : stamp_now ran.to.clock < c.args.until = omega (arith, stamp, c.stamp-at.ensures, c.if-at-until.false) in
-      way_silently P.calls c.args.until (StandsAt (value_of c.run.new.self)) (P.stands c.run.new.ports) waited waits c.step_over.new.self.waiting.items m p ran
-      (value_of c.step_over.new.self) (P.stands c.step_over.new.ports) took early (omega (arith, c.if-waits-waited.false, c.len-waits.ensures.len, c.len-waited.ensures.len));
+      let is = stamp_stands (value_of c.run.new.self) ran.to ran.now_stands ∙ sym c.stamp-at.ensures in
+      let acts = c.act.ensures.value ran.to ran.now_stands in
+      let early : c.stamp-at.result < c.args.until = omega (arith, c.if-at-until.false) in
+      let called = c.in-Some.ensures.answered ran.ports ran.ports_stand in
+      let from = way_to sound_moves P.calls c.args.until stood (P.stands c.run.new.ports) waited waits m p ran in
+      let goes = goes_silently sound_moves P.calls c.args.until c.stamp-at.result c.act.result from c.in-Some.got called.to c.step.new.self.waiting.items is acts early
+      (search rules) called.led (c.step.ensures.emits ran.to ran.now_stands)
+      (omega (arith, c.if-waits-waited.false, c.len-waits.ensures.len, c.len-waited.ensures.len)) in
+      way_on sound_moves P.calls c.args.until stood (P.stands c.run.new.ports) waited waits m p (StandsAt (value_of c.step.new.self)) (P.stands c.call.new.ports)
+      c.step.new.self.waiting.items ran (sound_next ran.to (taken (sound_act ran.to) c.in-Some.got)) called.to goes (c.step.ensures.next ran.to ran.now_stands) called.now_stands;
   forward = grind (arith, common_steps);
   in_order = grind (arith, common_steps);
   times = search rules;
@@ -99,17 +102,22 @@ steps-preserved-then-waits-waited g c = record {
       let P = g.P.Ports in
       let waited = c.args.self.now.waiting.items in
       let waits = c.run.new.self.waiting.items in
+      let stood = StandsAt (value_of c.run.new.self) in
       let was = c.steps.invariant.gone m p h stand in
-      let ran = way_after sound_moves P.calls c.args.until (StandsAt (value_of c.steps.self)) (StandsAt (value_of c.run.new.self)) (P.stands c.steps.ports) (P.stands c.run.new.ports)
+      let ran = way_after sound_moves P.calls c.args.until (StandsAt (value_of c.steps.self)) stood (P.stands c.steps.ports) (P.stands c.run.new.ports)
       waited c.steps.self.waiting.items waits m p was (c.if-run.ensures.gone refl was.to was.ports was.now_stands was.ports_stand) in
-      let stamp = stamp_stands (value_of c.run.new.self) ran.to ran.now_stands in
-      let took = c.if-not-step_over.ensures.taken refl ran.to ran.ports ran.now_stands ran.ports_stand in
-      let early : stamp_now ran.to.clock < c.args.until = omega (arith, stamp, c.stamp-at.ensures, c.if-at-until.false) in
+      let is = stamp_stands (value_of c.run.new.self) ran.to ran.now_stands ∙ sym c.stamp-at.ensures in
+      let acts = c.act.ensures.value ran.to ran.now_stands in
+      let early : c.stamp-at.result < c.args.until = omega (arith, c.if-at-until.false) in
+      let called = c.in-Some.ensures.answered ran.ports ran.ports_stand in
+      let from = way_to sound_moves P.calls c.args.until stood (P.stands c.run.new.ports) waited waits m p ran in
+      let told = c.emitted.ensures.told called.to called.now_stands in
       let room = subst (λ n. P.calls.room ran.ports n ≡ c.room.result) c.len-waited.ensures.len (c.room.ensures ran.ports ran.ports_stand) in
-      way_emitting P.calls c.args.until (StandsAt (value_of c.run.new.self)) (P.stands c.run.new.ports) waited waits c.step_over.new.self.waiting.items m p ran
-      (value_of c.step_over.new.self) (P.stands c.step_over.new.ports) took early c.stamp-at.result c.len-waits.result (P.stands c.emitted.new.self)
-      (omega (arith, stamp, c.stamp-at.ensures)) (sym c.len-waits.ensures.len) (omega (arith, c.if-waits-waited.true, c.len-waited.ensures.len))
-      (omega (arith, c.if-at-room.false, room)) c.emitted.ensures.told;
+      let goes = goes_emitting sound_moves P.calls c.args.until c.stamp-at.result c.act.result from c.in-Some.got called.to c.step.new.self.waiting.items is acts early
+      (search rules) called.led (c.step.ensures.emits ran.to ran.now_stands) told.to c.len-waits.result (sym c.len-waits.ensures.len)
+      (omega (arith, c.if-waits-waited.true, c.len-waited.ensures.len)) (omega (arith, c.if-at-room.false, room)) told.led in
+      way_on sound_moves P.calls c.args.until stood (P.stands c.run.new.ports) waited waits m p (StandsAt (value_of c.step.new.self)) (P.stands c.emitted.new.self)
+      c.step.new.self.waiting.items ran (sound_next ran.to (taken (sound_act ran.to) c.in-Some.got)) told.to goes (c.step.ensures.next ran.to ran.now_stands) told.now_stands;
   forward = grind (arith, common_steps);
   in_order = grind (arith, common_steps);
   times = search rules;

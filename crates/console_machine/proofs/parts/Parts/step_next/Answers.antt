@@ -48,7 +48,7 @@ returns-then-not-step_over-clause-stopped g c = λ w p h stand.
     let R : ConsoleValue → Type 0 = λ x. HasGone console_moves P.calls c.args.until 1024 65536 (StandsAt x) have waited x.waiting Refused w p in
     subst R (sym (c.if-not-step_over.ensures.stays refl))
     (stops_refused console_moves P.calls c.args.until stands (P.stands c.args.ports.now) waited waits w p 1024 65536
-    c.args.self.now.stamp c.act_by-act.result have ran (stamp_stands (value_of c.args.self.now) ran.to ran.now_stands) (c.act_by-act.ensures.value ran.to ran.now_stands)
+    c.args.self.now.stamp c.act-act.result have ran (stamp_stands (value_of c.args.self.now) ran.to ran.now_stands) (c.act-act.ensures.value ran.to ran.now_stands)
     (omega (arith, c.if-at-until.false)) (c.if-not-step_over.ensures.refused refl ran.ports ran.ports_stand))
 
 pub returns-then-waits-waited-clause-stopped : goal.returns-then-waits-waited-clause-stopped
@@ -60,9 +60,9 @@ returns-then-waits-waited-clause-stopped g c = λ w p h stand.
     let ran = way_none console_moves P.calls c.args.until stands (P.stands c.args.ports.now) waited waits w p h stand in
     let room = subst (λ n. P.calls.room ran.ports n ≡ c.room.result) c.len-waited.ensures.len (c.room.ensures ran.ports ran.ports_stand) in
     way_emitting P.calls c.args.until stands (P.stands c.args.ports.now) waited waits c.step_over.new.self.waiting.items w p ran
-    c.args.self.now.stamp c.act_by-act.result (value_of c.step_over.new.self) (P.stands c.step_over.new.ports)
+    c.args.self.now.stamp c.act-act.result (value_of c.step_over.new.self) (P.stands c.step_over.new.ports)
     (c.if-not-step_over.ensures.taken refl ran.to ran.ports ran.now_stands ran.ports_stand)
-    (stamp_stands (value_of c.args.self.now) ran.to ran.now_stands) (c.act_by-act.ensures.value ran.to ran.now_stands) (omega (arith, c.if-at-until.false))
+    (stamp_stands (value_of c.args.self.now) ran.to ran.now_stands) (c.act-act.ensures.value ran.to ran.now_stands) (omega (arith, c.if-at-until.false))
     1024 65536 c.len-waits.result (P.stands c.emitted.new.self) (sym c.len-waits.ensures.len) (omega (arith, c.if-waits-waited.true, c.len-waited.ensures.len))
     (omega (arith, c.if-at-room.false, room)) c.emitted.ensures.told
 
@@ -74,7 +74,7 @@ returns-clause-gone g c = λ none w p h stand.
     let waits = c.args.self.now.waiting.items in
     let ran = way_none console_moves P.calls c.args.until stands (P.stands c.args.ports.now) waited waits w p h stand in
     way_silently P.calls c.args.until stands (P.stands c.args.ports.now) waited waits c.step_over.new.self.waiting.items w p ran
-    c.args.self.now.stamp c.act_by-act.result (value_of c.step_over.new.self) (P.stands c.step_over.new.ports)
+    c.args.self.now.stamp c.act-act.result (value_of c.step_over.new.self) (P.stands c.step_over.new.ports)
     (c.if-not-step_over.ensures.taken refl ran.to ran.ports ran.now_stands ran.ports_stand)
-    (stamp_stands (value_of c.args.self.now) ran.to ran.now_stands) (c.act_by-act.ensures.value ran.to ran.now_stands) (omega (arith, c.if-at-until.false))
+    (stamp_stands (value_of c.args.self.now) ran.to ran.now_stands) (c.act-act.ensures.value ran.to ran.now_stands) (omega (arith, c.if-at-until.false))
     (omega (arith, c.if-waits-waited.false, c.len-waits.ensures.len, c.len-waited.ensures.len))
