@@ -1,7 +1,8 @@
 -- How a leg over a pass goes on: by a try that was answered, and by one that was held back.
-use Rattle.std.proofs.Common.{◌≡◌, ℕ, zero, suc, ◌+◌, ◌<◌, ◌≤◌, List, [], ◌++◌, ap, sym, ◌∙◌, subst, arith, append_assoc}
+use Rattle.std.proofs.Common.{◌≡◌, ℕ, zero, suc, ◌+◌, ◌<◌, ◌≤◌, List, [], ◌++◌, refl, ap, sym, ◌∙◌, subst, arith, append_assoc}
 use Rattle.std.proofs.lemmas.List.{append-nil}
 use Rattle.snes_defs.specs.declared.ports.Side.{Side}
+use Rattle.snes_defs.specs.declared.region.Region.{Region}
 use Rattle.port_entries.specs.Entry.{Entry, entry_stamp}
 use Rattle.side_law.specs.Moves.{Moves}
 use Rattle.commute_laws.specs.History.{History}
@@ -11,9 +12,10 @@ use Rattle.commute_laws.proofs.Ports.{All_append, All_map}
 use Rattle.commute_laws.proofs.Legs.{leg_at_once, leg_on, leg_longer}
 use Rattle.port_wire.specs.Seen.{Half}
 use Rattle.port_wire.specs.Answers.{HearsOn}
+use Rattle.port_wire.specs.Reach.{IsInReach}
 use Rattle.pair_run.specs.Tried.{Tried}
 use Rattle.pair_run.specs.Leg.{LegRan}
-use Rattle.pair_run.specs.Over.{HasRunOn}
+use Rattle.pair_run.specs.Over.{HasRunOn, HasTold}
 
 -- what was heard by one call after another
 pub hears_then : (old mid new : Half) → HearsOn old mid → HearsOn mid new → HearsOn old new
@@ -136,3 +138,19 @@ module _ {State : Type 0} (side : Side) (moves : Moves State) where
             (leg_below_later new.heard new.upto (old.known + window + 1) (new.known + window + 1) before ran.after (omega (arith, on.hears.known))
             (leg_longer side moves old.heard new.heard old.upto new.upto (old.known + window + 1) before ran.after ran.within heard on.hears.upto)) on.ran.within;
       }
+
+-- ---- a clock that is told
+
+-- nothing was told yet
+pub told_nothing : (region : Region) (at : ℕ) (half : Half) → half.at ≤ at → IsInReach region at half → HasTold region at half half
+told_nothing region at half clock reach = record { hears = hears_nothing half; mine = refl; clock = clock; reach = reach; counted = λ n risen. risen }
+
+-- and once more
+pub told_then : (region : Region) (at : ℕ) (old mid new : Half) → HasTold region at old mid → HasTold region at mid new → HasTold region at old new
+told_then region at old mid new first next = record {
+  hears = hears_then old mid new first.hears next.hears;
+  mine = next.mine ∙ first.mine;
+  clock = next.clock;
+  reach = next.reach;
+  counted = λ n risen. next.counted n (first.counted n risen);
+}

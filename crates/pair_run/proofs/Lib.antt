@@ -1,11 +1,12 @@
 pub mod Fronts
 pub mod LegGoesOn
 pub mod Meets
-pub mod Reaches
+pub mod OneStep
 pub mod Refusals
 pub mod Rows
 pub mod Tries
 pub mod TurnGoesOn
 pub mod Unrefused
 pub mod WaySteps
+pub mod WholeSteps
 pub mod Ways

@@ -1,7 +1,7 @@
 -- How the tally counts: refusals of one call in a row, and how the stamps and tries run out.
-use Rattle.std.proofs.Common.{◌≡◌, ℕ, zero, suc, ◌+◌, ◌^◌, ◌<◌, ◌≤◌, inl, inr, ⊎_elim, true, Result, Ok, Err, refl, ap, sym, ◌∙◌, subst, arith}
+use Rattle.std.proofs.Common.{◌≡◌, ℕ, zero, suc, ◌+◌, ◌^◌, ◌<◌, ◌≤◌, inl, inr, ⊎_elim, true, refl, ap, sym, ◌∙◌, subst, arith}
 use Rattle.std.proofs.lemmas.Bool.{cases_lt}
-use Rattle.std.specs.Prelude.{OnErr, IfErr, if◌then◌else◌}
+use Rattle.std.specs.Prelude.{if◌then◌else◌}
 use Rattle.port_wire.specs.declared.late.PassLate.{PassLate}
 use Rattle.port_wire.specs.declared.late.PassLate.TheVariants.{Behind, Ahead, Held}
 use Rattle.port_wire.specs.declared.late.CallName.{CallName}
@@ -13,7 +13,6 @@ use Rattle.pair_run.specs.declared.ends.LegEnd.{LegEnd}
 use Rattle.pair_run.specs.declared.ends.LegEnd.TheVariants.{Done, Drain}
 use Rattle.pair_run.specs.declared.ends.LegEnd.TheVariants as ends
 use Rattle.pair_run.specs.Leg.{IfHeldBack, IsSpent, end_of}
-use Rattle.pair_run.specs.Tried.{IsHeldBack}
 
 -- the last calls, so many, were all of this name at this stamp, and each was refused
 pub record InRow (name : CallName) (at k : ℕ) (tally : Tally) : Type 0 where
@@ -89,18 +88,6 @@ pub refusal_counts : (name : CallName) (at before : ℕ) (late : PassLate) (old 
 refusal_counts name at before late old new h risen =
     counted_once before old.tally.refused new.tally.refused risen (ap (λ (t : Tally). t.refused) h.tally)
 
--- the last try of a row, whatever it answered
-pub row_ends : {X : Type 0} (stands : X → Type 0) (name : X → CallName) (at k tries first : ℕ) (mid new : Half) (r : Result (Unit {0}) PassLate)
-    → ((x : X) → stands x → InRow (name x) at k mid.tally) → k < 2 ^ 32 → k + 1 ≡ tries
-    → ((before : ℕ) → HasRisenBy 0 before first → HasRisenBy k before mid.tally.refused)
-    → OnErr r (new.tally.refused ≡ counted_on mid.tally.refused)
-    → IfErr r (λ late. (x : X) → stands x → IsHeldBack (name x) at late mid new)
-    → IfErr r (λ late. (x : X) → stands x → (before : Half) → HasRisenBy 0 before.tally.refused first → IsSpent (name x) at late tries before new)
-row_ends stands name at k tries first mid new (Ok done) row few all risen counted held = tt
-row_ends stands name at k tries first mid new (Err late) row few all risen counted held = λ x is before rose.
-    row_is_spent (name x) at k tries late before mid new (row x is) few all
-    (risen_on k before.tally.refused mid.tally.refused new.tally.refused (risen before.tally.refused rose) counted) (held x is).tally
-
 -- what is said of the refusal by which a leg was held back
 pub of_refusal : (late : PassLate) (P : PassLate → Type 0) → P late → IfHeldBack (end_of late) P
 of_refusal (Behind need other) P h = h
@@ -120,3 +107,9 @@ unfolding number_of
 held_is_no_drain (Behind need other) is = omega (arith, ap number_of is)
 held_is_no_drain (Ahead at other) is = omega (arith, ap number_of is)
 held_is_no_drain (Held by) is = omega (arith, ap number_of is)
+
+pub held_is_not_done : (late : PassLate) → end_of late ≡ Done → ⊥
+unfolding number_of
+held_is_not_done (Behind need other) is = omega (arith, ap number_of is)
+held_is_not_done (Ahead at other) is = omega (arith, ap number_of is)
+held_is_not_done (Held by) is = omega (arith, ap number_of is)

@@ -1,22 +1,20 @@
 -- How a row of refusals goes on in the loop of a leg, and what it is where the tries are spent.
-use Rattle.std.proofs.Common.{◌≡◌, ℕ, zero, suc, ◌+◌, ◌-◌, ◌*◌, ◌^◌, ◌<◌, ◌≤◌, List, Option, refl, ap, sym, ◌∙◌, subst, arith}
+use Rattle.std.proofs.Common.{◌≡◌, ℕ, zero, suc, ◌+◌, ◌-◌, ◌^◌, ◌<◌, ◌≤◌, Option, ap, sym, subst, arith}
 use mathlib.Core.Logic.{∥∥₁_elim, ∥∥₁_map}
 use base.Stored.{Coded-set}
 use Rattle.std.proofs.Props.{props}
 use Rattle.std.proofs.Math.Bridge.{le_prop}
 use Rattle.std.proofs.Math.Nat.{ℕ_set}
-use Rattle.snes_defs.specs.declared.ports.Side.{Side}
 use Rattle.side_law.specs.Moves.{Moves}
-use Rattle.commute_laws.specs.History.{History}
 use Rattle.port_wire.specs.declared.late.PassLate.{PassLate}
 use Rattle.port_wire.specs.declared.late.CallName.{CallName}
 use Rattle.port_wire.specs.contracts.late.PassLate as late
 use Rattle.port_wire.specs.contracts.late.CallName as names
 use Rattle.port_wire.specs.Tally.{Tally, Refused, counted_on, HasRisenBy}
 use Rattle.port_wire.specs.Seen.{Half}
-use Rattle.pair_run.specs.Leg.{LegRan, IsSpent}
+use Rattle.pair_run.specs.Leg.{IsSpent}
 use Rattle.pair_run.specs.Tried.{call_of}
-use Rattle.pair_run.specs.Over.{IsHeldOff, IsHeldStill}
+use Rattle.pair_run.specs.Over.{IsHeldOff}
 use Rattle.pair_run.proofs.Refusals.{InRow, none_in_row, in_row_on, risen_on, row_is_spent}
 
 late_set : (a b : PassLate) → IsProp (a ≡ b)
@@ -28,7 +26,7 @@ name_set = Coded-set names.the_row.coded
 refused_set : (a b : Refused) → IsProp (a ≡ b)
 refused_set = hlevel (late_set, name_set, ℕ_set)
 
-last_set : (a b : Option Refused) → IsProp (a ≡ b)
+pub last_set : (a b : Option Refused) → IsProp (a ≡ b)
 last_set = hlevel (props, refused_set)
 
 -- a state that a value can be in, with so many refusals of its call in a row

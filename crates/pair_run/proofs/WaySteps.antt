@@ -18,7 +18,7 @@ use Rattle.port_entries.specs.Window.{IsSettled}
 use Rattle.side_law.specs.declared.ports.Stop.{Stop}
 use Rattle.side_law.specs.declared.ports.Stop.TheVariants.{Until, Emitted, Refused}
 use Rattle.side_law.specs.Moves.{Moves, IsLawful, taken}
-use Rattle.side_law.specs.Gone.{Over, IsAnswered, IsRefused, Goes, GoneBy, Gone, IsFull, HasStopped, HasGone}
+use Rattle.side_law.specs.Gone.{Over, IsAnswered, IsRefused, Goes, GoneBy, Gone, HasStopped, HasGone}
 use Rattle.side_law.proofs.Gone.{goes_up, gone_up, taken_answered}
 use Rattle.commute_laws.specs.History.{History, entry_of}
 use Rattle.commute_laws.specs.Heard.{OnLook, heard_got}
@@ -29,8 +29,9 @@ use Rattle.port_wire.specs.Answers.{HearsOn}
 use Rattle.pair_run.specs.Leg.{LegRan, HasRun}
 use Rattle.pair_run.specs.Tried.{IsHeldBack, call_of}
 use Rattle.port_wire.specs.Reach.{IsInReach}
-use Rattle.pair_run.specs.Over.{Way, IsSameWay, IsByPass, IsLateBy, pass_calls, KeepsWithin, HasRunOn, HasTold, IsLimit, HasTried, IsHeldStill, IsHeldOff}
+use Rattle.pair_run.specs.Over.{Way, IsSameWay, IsLateBy, pass_calls, KeepsWithin, HasRunOn, HasTold, IsLimit, HasTried, IsHeldStill, IsHeldOff}
 use Rattle.pair_run.proofs.LegGoesOn.{hears_then, hears_nothing, leg_begins, leg_waits, leg_steps, leg_runs, leg_below_later}
+use Rattle.pair_run.proofs.OneStep.{nowhere_by}
 use Rattle.pair_run.proofs.Refusals.{counted_once}
 use Rattle.pair_run.proofs.Tries.{tried}
 
@@ -161,14 +162,6 @@ module _ {State Wire : Type 0} (region : Region) (valid : State → Type 0) (mos
         refused = call.refused ∙ h.refused;
       }
 
-  -- no step was made where the stamp has not risen
-  nowhere_by : (n : ℕ) (y : Over State (Way Wire)) → valid before.now → GoneBy moves pass_calls until n start y → moves.stamp y.own ≤ moves.stamp before.now → start ≡ y
-  nowhere_by zero y is_valid same le = same
-  nowhere_by (suc n) y is_valid (last, steps, goes) le =
-      let risen = gone_up region valid most moves lawful pass_calls until start last is_valid (record { steps = n; made = steps }) in
-      let step = goes_up region valid most moves lawful pass_calls until last y risen.is_valid goes in
-      absurd (omega (arith, le, risen.forward, step.up, (numbers region).rises))
-
   -- the call of the next step was refused, and none was made
   pub record IsHeldHere (to : State) (q : Way Wire) (waits : List ℕ) : Type 0 where
     pub loud : moves.act before.now ≡ Quiet → ⊥
@@ -195,7 +188,7 @@ module _ {State Wire : Type 0} (region : Region) (valid : State → Type 0) (mos
     quiet_within x gone below quiet = ⊎_elim
         (λ le. omega (arith, le, below))
         (λ one.
-        (let same = nowhere_by gone.steps x is_valid gone.made (omega (arith, one.0, below)) in
+        (let same = nowhere_by region valid most moves lawful pass_calls until start is_valid gone.steps x gone.made (omega (arith, one.0, below)) in
         absurd (one.1 before.now refl (ap (λ (z : Over State (Way Wire)). moves.act z.own) same ∙ quiet))))
         keeps
 
@@ -229,7 +222,7 @@ module _ {State Wire : Type 0} (region : Region) (valid : State → Type 0) (mos
     went_by cap Until y cap_is h =
         let walk = walk_by h.gone.steps y h.gone.made in
         went_on y walk (⊎_elim (λ up. inl up) (λ not.
-        (let same = nowhere_by h.gone.steps y is_valid h.gone.made not in
+        (let same = nowhere_by region valid most moves lawful pass_calls until start is_valid h.gone.steps y h.gone.made not in
         let waits = ap (λ (z : Over State (Way Wire)). length z.waits) same in
         absurd (⊎_elim
         (λ there. omega (arith, there, early, not))
@@ -257,7 +250,7 @@ module _ {State Wire : Type 0} (region : Region) (valid : State → Type 0) (mos
           counted = λ n risen. counted_once n p.half.tally.refused y.ports.half.tally.refused risen
               (ap (λ (t : Tally). t.refused) late.refused.tally ∙ ap counted_on walk.refused);
           goes = ⊎_elim (λ up. inl up) (λ not.
-              (let same = nowhere_by h.gone.steps x is_valid h.gone.made not in
+              (let same = nowhere_by region valid most moves lawful pass_calls until start is_valid h.gone.steps x h.gone.made not in
               inr (record {
                 loud = λ quiet. loud_by (moves.stamp y.own) (moves.act y.own) h.called y.ports h.refused (ap (λ (z : Over State (Way Wire)). moves.act z.own) (sym same) ∙ quiet);
                 still = ap (λ (z : Over State (Way Wire)). z.own) same;
@@ -275,7 +268,7 @@ number_of Console = 0
 number_of Sound = 1
 
 -- a side is another, if something shows it
-side_sure : {X : Type 0} (a b : Side) → ∥ X ∥₁ → (X → a ≡ b) → a ≡ b
+pub side_sure : {X : Type 0} (a b : Side) → ∥ X ∥₁ → (X → a ≡ b) → a ≡ b
 unfolding number_of
 side_sure Console Console some shows = refl
 side_sure Sound Sound some shows = refl

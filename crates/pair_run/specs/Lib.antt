@@ -1,4 +1,5 @@
 pub mod Leg
 pub mod Over
+pub mod OverWhole
 pub mod Tried
 pub mod Turn

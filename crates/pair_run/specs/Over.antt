@@ -10,7 +10,7 @@ use Rattle.side_law.specs.Gone.{Calls}
 use Rattle.commute_laws.specs.History.{History}
 use Rattle.port_wire.specs.declared.late.PassLate.{PassLate}
 use Rattle.port_wire.specs.Reach.{IsInReach}
-use Rattle.port_wire.specs.Seen.{Half}
+use Rattle.port_wire.specs.Seen.{Half, Seen}
 use Rattle.port_wire.specs.Tally.{HasRisenBy}
 use Rattle.port_wire.specs.Answers.{HearsOn, IsRefused, HasRead, HasWritten, HasCleared}
 use Rattle.pair_run.specs.Tried.{IsHeldBack, call_of}
@@ -29,6 +29,11 @@ pub record Way (Wire : Type 0) : Type 0 where
   -- a step may emit with so many bytes buffered, or fewer
   pub held : ℕ
 
+-- the way of these parts
+abbrev pub way_of : {Wire : Type 0} → Wire → Region → ℕ → Seen → PassLate → ℕ → Way Wire
+way_of wire region name seen late held =
+    record { wire = wire; region = region; name = name; side = seen.side; half = seen.half; late = late; held = held }
+
 -- what every call keeps
 pub record IsSameWay {Wire : Type 0} (p q : Way Wire) : Type 0 where
   pub wire : q.wire ≡ p.wire
@@ -42,7 +47,8 @@ pub record IsSameWay {Wire : Type 0} (p q : Way Wire) : Type 0 where
 abbrev pub EndsCall : {Wire : Type 0} → Way Wire → ℕ → Act → ℕ → Half → Half → Type 0
 EndsCall p at Quiet got old new = Unit {0}
 EndsCall p at (Read port) got old new = HasRead p.side at port got old new
-EndsCall p at (Write port byte) got old new = HasWritten (window_of p.region) at port byte (at + least_of p.region) old new
+EndsCall p at (Write port byte) got old new =
+    HasWritten (window_of p.region) at port byte (at + least_of p.region) old new
 EndsCall p at (Clear mask) got old new = HasCleared p.side at mask old new
 
 pub record IsByPass {Wire : Type 0} (at : ℕ) (act : Act) (got : ℕ) (p q : Way Wire) : Type 0 where
@@ -64,10 +70,12 @@ pass_calls = record {
 
 -- quiet steps begun before a stamp keep to the window: up to `bound`, or the next step alone, which isn't quiet
 abbrev pub KeepsWithin : {State : Type 0} → Moves State → (State → Type 0) → ℕ → ℕ → ℕ → Type 0
-KeepsWithin moves stood at until bound = (until ≤ bound + 1) ⊎ ((until ≤ at + 1) × ((m : _) → stood m → moves.act m ≡ Quiet → ⊥))
+KeepsWithin moves stood at until bound =
+    (until ≤ bound + 1) ⊎ ((until ≤ at + 1) × ((m : _) → stood m → moves.act m ≡ Quiet → ⊥))
 
 -- steps of a machine over its pass, from a history on: a leg, and what the pass has heard meanwhile
-pub record HasRunOn {State : Type 0} (side : Side) (moves : Moves State) (window end : ℕ) (stands : State → Type 0) (old new : Half) (waited waits : List ℕ) (before : History State) : Type 0 where
+pub record HasRunOn {State : Type 0} (side : Side) (moves : Moves State) (window end : ℕ)
+    (stands : State → Type 0) (old new : Half) (waited waits : List ℕ) (before : History State) : Type 0 where
   pub ran : LegRan side moves window end stands new waited waits before
   pub hears : HearsOn old new
 
@@ -80,8 +88,9 @@ pub record HasTold (region : Region) (at : ℕ) (old new : Half) : Type 0 where
   -- refusals that were counted are still
   pub counted : (before : ℕ) → HasRisenBy 0 before old.tally.refused → HasRisenBy 0 before new.tally.refused
 
--- before this stamp, which is by the end, steps may be begun. If the next one isn't quiet, nothing was done to find that
-pub record IsLimit {State : Type 0} (moves : Moves State) (stood : State → Type 0) (at end bound : ℕ) (old new : Half) (until : ℕ) : Type 0 where
+-- before this stamp, which is by the end, steps may be begun. If the next one isn't quiet, nothing was done to find it
+pub record IsLimit {State : Type 0} (moves : Moves State)
+    (stood : State → Type 0) (at end bound : ℕ) (old new : Half) (until : ℕ) : Type 0 where
   pub above : at < until
   pub by_end : until ≤ end
   pub keeps : KeepsWithin moves stood at until bound
@@ -96,8 +105,10 @@ pub record MayRun (region : Region) (most cap at end : ℕ) (half : Half) (waits
   pub reach : IsInReach region at half
 
 -- steps of a value, which stood at a stamp and stands at another, with what they keep
-pub record HasTried {State : Type 0} (region : Region) (side : Side) (moves : Moves State) (most cap end : ℕ) (stood stands : State → Type 0) (was now : ℕ) (old new : Half) (waited waits : List ℕ) : Type 0 where
-  pub ran : (before : History State) → stood before.now → before.entries ≡ old.mine → HasRunOn side moves (window_of region) end stands old new waited waits before
+pub record HasTried {State : Type 0} (region : Region) (side : Side) (moves : Moves State) (most cap end : ℕ)
+    (stood stands : State → Type 0) (was now : ℕ) (old new : Half) (waited waits : List ℕ) : Type 0 where
+  pub ran : (before : History State) → stood before.now → before.entries ≡ old.mine
+      → HasRunOn side moves (window_of region) end stands old new waited waits before
   pub forward : was ≤ now
   pub clock : new.at ≤ now
   pub reach : IsInReach region now new
@@ -107,12 +118,14 @@ pub record HasTried {State : Type 0} (region : Region) (side : Side) (moves : Mo
   pub counted : (before : ℕ) → HasRisenBy 0 before old.tally.refused → HasRisenBy 0 before new.tally.refused
 
 -- no step was made, since the call of the next one was refused
-pub record IsHeldStill {State : Type 0} (moves : Moves State) (stands : State → Type 0) (at : ℕ) (late : PassLate) (old new : Half) (m : State) : Type 0 where
+pub record IsHeldStill {State : Type 0} (moves : Moves State)
+    (stands : State → Type 0) (at : ℕ) (late : PassLate) (old new : Half) (m : State) : Type 0 where
   pub now_stands : stands m
   pub held : IsHeldBack (call_of (moves.act m)) at late old new
 
 -- so of a value
-pub record IsHeldOff {State : Type 0} (moves : Moves State) (stood stands : State → Type 0) (was now : ℕ) (old new : Half) (late : PassLate) : Type 0 where
+pub record IsHeldOff {State : Type 0} (moves : Moves State)
+    (stood stands : State → Type 0) (was now : ℕ) (old new : Half) (late : PassLate) : Type 0 where
   pub still : now ≡ was
   pub held : (m : State) → stood m → IsHeldStill moves stands was late old new m
   -- all states that it can be in now have the same act

@@ -21,7 +21,8 @@ call_of (act.Write port byte) = Write
 call_of (act.Clear mask) = Clear
 
 -- the step was made, against what the pass has heard by now
-pub record Tried {State : Type 0} (side : Side) (moves : Moves State) (window : ℕ) (stands : State → Type 0) (new : Half) (waited waits : List ℕ) (before : History State) : Type 0 where
+pub record Tried {State : Type 0} (side : Side) (moves : Moves State) (window : ℕ)
+    (stands : State → Type 0) (new : Half) (waited waits : List ℕ) (before : History State) : Type 0 where
   pub now_stands : stands (heard_step side moves new.heard before).now
   pub entries : (heard_step side moves new.heard before).entries ≡ new.mine
   -- the bytes that it emitted wait

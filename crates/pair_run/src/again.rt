@@ -1,8 +1,6 @@
 // What a side does before it tries a step again.
-ghost use Rattle.std.specs.Prelude.{◌≡◌, ◌≤◌, ℕ, IsTrue};
-ghost use Rattle.port_wire.specs.Answers.{HearsOn};
+ghost use Rattle.std.specs.Prelude.{◌≡◌, ◌≤◌, IsTrue};
 ghost use Rattle.port_wire.specs.Reach.{IsInReach};
-ghost use Rattle.port_wire.specs.Tally.{HasRisenBy};
 ghost use Rattle.pair_run.specs.Over.{HasTold};
 
 use port_wire::Wire;
@@ -31,11 +29,7 @@ fn tell<W: Wire>(wire: &W, pass: &mut W::Pass, at: u64) -> bool
     requires reach { IsInReach (W.region_of wire.now) at (W.seen pass.old).half }
     ensures still_of { W.is_pass_of wire.now pass.new }
     ensures side { (W.seen pass.new).side ≡ (W.seen pass.old).side }
-    ensures hears { HearsOn (W.seen pass.old).half (W.seen pass.new).half }
-    ensures mine { (W.seen pass.new).half.mine ≡ (W.seen pass.old).half.mine }
-    ensures clock { (W.seen pass.new).half.at ≤ at }
-    ensures reach { IsInReach (W.region_of wire.now) at (W.seen pass.new).half }
-    ensures counted { (before : ℕ) → HasRisenBy 0 before (W.seen pass.old).half.tally.refused → HasRisenBy 0 before (W.seen pass.new).half.tally.refused }
+    ensures told { HasTold (W.region_of wire.now) at (W.seen pass.old).half (W.seen pass.new).half }
     ensures published { IsTrue result → (W.seen pass.new).half.at ≡ at }
 {
     match wire.advance(pass, at) {
@@ -51,11 +45,7 @@ pub(crate) fn publish<W: Wire>(wire: &W, pass: &mut W::Pass, at: u64)
     requires reach { IsInReach (W.region_of wire.now) at (W.seen pass.old).half }
     ensures still_of { W.is_pass_of wire.now pass.new }
     ensures side { (W.seen pass.new).side ≡ (W.seen pass.old).side }
-    ensures hears { HearsOn (W.seen pass.old).half (W.seen pass.new).half }
-    ensures mine { (W.seen pass.new).half.mine ≡ (W.seen pass.old).half.mine }
-    ensures clock { (W.seen pass.new).half.at ≤ at }
-    ensures reach { IsInReach (W.region_of wire.now) at (W.seen pass.new).half }
-    ensures counted { (before : ℕ) → HasRisenBy 0 before (W.seen pass.old).half.tally.refused → HasRisenBy 0 before (W.seen pass.new).half.tally.refused }
+    ensures told { HasTold (W.region_of wire.now) at (W.seen pass.old).half (W.seen pass.new).half }
 {
     for _ in 0..TELLS {
         if tell(wire, pass, at) {

@@ -6,13 +6,14 @@ use side_law::Ports;
 impl<'a, W: Wire> Ports for Over<'a, W> {
     ghost use Rattle.std.specs.Prelude.{◌≡◌, ◌^◌};
     ghost use Rattle.clock_ratio.specs.Stamp.{least_of};
-    ghost use Rattle.pair_run.specs.Over.{Way, pass_calls};
+    ghost use Rattle.pair_run.specs.Over.{Way, pass_calls, way_of};
 
     ghost State = { Way W };
 
     ghost calls = { pass_calls };
 
-    ghost stands = { λ o p. (record { wire = o.wire.now; region = W.region_of o.wire.now; name = o.pass.ghost_name; side = (W.seen o.pass.now).side; half = (W.seen o.pass.now).half; late = o.late; held = o.held }) ≡ p };
+    ghost stands = { λ o p. way_of o.wire.now (W.region_of o.wire.now) o.pass.ghost_name (W.seen o.pass.now)
+        o.late o.held ≡ p };
 
     ghost clock = { λ o. (W.seen o.pass.now).half.at };
 

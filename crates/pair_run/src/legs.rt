@@ -1,8 +1,5 @@
-ghost use Rattle.std.specs.Prelude.{◌≡◌, ◌+◌, ◌*◌, ◌^◌, ◌<◌, ◌≤◌, ◌↔◌, ℕ, length};
-ghost use Rattle.clock_ratio.specs.Stamp.{window_of};
-ghost use Rattle.port_wire.specs.Reach.{IsInReach};
-ghost use Rattle.pair_run.specs.Leg.{HasRun, IfHeldBack, IsSpent};
-ghost use Rattle.pair_run.specs.Tried.{call_of};
+ghost use Rattle.std.specs.Prelude.{◌^◌, ◌≤◌};
+ghost use Rattle.pair_run.specs.Leg.{IsReady, HasMadeLeg};
 
 use crate::again::{pause, publish};
 use crate::ends::{LegEnd, held_back};
@@ -25,22 +22,14 @@ pub fn leg<W: Wire, M: Machine, G: Gate>(
     tries: u32,
 ) -> LegEnd
     requires of { W.is_pass_of wire.now pass.old }
-    requires region { M.region_of machine.old ≡ W.region_of wire.now }
+    requires ready { IsReady (W.region_of wire.now) (M.region_of machine.old) M.MOST M.CAP (M.stamp_of machine.old)
+        (W.seen pass.old).half (M.waiting machine.old) }
     requires tries { 1 ≤ tries }
-    requires ready { length (M.waiting machine.old) + 2 * M.MOST ≤ M.CAP }
-    requires clock { (W.seen pass.old).half.at ≤ M.stamp_of machine.old }
-    requires reach { IsInReach (W.region_of wire.now) (M.stamp_of machine.old) (W.seen pass.old).half }
     requires end { end ≤ 2 ^ 51 }
     ensures still_of { W.is_pass_of wire.now pass.new }
-    ensures side { (W.seen pass.new).side ≡ (W.seen pass.old).side }
-    ensures clock { (W.seen pass.new).half.at ≤ M.stamp_of machine.new }
-    ensures reach { IsInReach (W.region_of wire.now) (M.stamp_of machine.new) (W.seen pass.new).half }
-    ensures same_region { M.region_of machine.new ≡ M.region_of machine.old }
-    ensures room { length (M.waiting machine.new) + M.MOST ≤ M.CAP }
-    ensures ran { HasRun (W.seen pass.old).side M.moves (window_of (W.region_of wire.now)) end (M.stands machine.old) (M.stands machine.new) (W.seen pass.old).half (W.seen pass.new).half (M.waiting machine.old) (M.waiting machine.new) }
-    ensures done { (result ≡ LegEnd.Done) ↔ (end ≤ M.stamp_of machine.new) }
-    ensures drain { (result ≡ LegEnd.Drain) ↔ ((M.stamp_of machine.new < end) × (¬ (length (M.waiting machine.new) + 2 * M.MOST ≤ M.CAP))) }
-    ensures spent { (m : M.State) → M.stands machine.new m → IfHeldBack result (λ late. IsSpent (call_of (M.moves.act m)) (M.stamp_of machine.new) late tries (W.seen pass.old).half (W.seen pass.new).half) }
+    ensures made { HasMadeLeg (W.region_of wire.now) (M.region_of machine.new) M.moves M.MOST M.CAP end tries
+        (M.stands machine.old) (M.stands machine.new) (M.stamp_of machine.new) (W.seen pass.old) (W.seen pass.new)
+        (M.waiting machine.old) (M.waiting machine.new) result }
 {
     gate.arrive(wire.side(pass), turn);
     let mut tried = 0;

@@ -14,6 +14,7 @@
 mod again;
 mod apart;
 mod calls;
+mod calls_whole;
 mod earlier;
 mod ends;
 mod legs;

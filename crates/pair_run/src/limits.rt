@@ -1,9 +1,8 @@
 // Up to which stamp a machine may run over its pass.
-ghost use Rattle.std.specs.Prelude.{◌≡◌, ◌+◌, ◌<◌, ◌≤◌, ◌↔◌, ℕ, IsTrue, OnOk, IfOk, IfErr};
+ghost use Rattle.std.specs.Prelude.{◌≡◌, ◌+◌, ◌<◌, ◌≤◌, ◌↔◌, IsTrue, OnOk, IfOk, IfErr};
 ghost use Rattle.clock_ratio.specs.Stamp.{window_of};
-ghost use Rattle.port_wire.specs.Answers.{HearsOn};
 ghost use Rattle.port_wire.specs.Reach.{IsInReach};
-ghost use Rattle.port_wire.specs.Tally.{HasRisenBy, after_refusal};
+ghost use Rattle.port_wire.specs.Tally.{after_refusal};
 ghost use Rattle.pair_run.specs.Over.{HasTold, IsLimit, MayRun, IsHeldOff};
 
 use clock_ratio::window;
@@ -29,14 +28,10 @@ fn tell_before<W: Wire>(wire: &W, pass: &mut W::Pass, at: u64) -> Result<(), Pas
     requires reach { IsInReach (W.region_of wire.now) at (W.seen pass.old).half }
     ensures still_of { W.is_pass_of wire.now pass.new }
     ensures side { (W.seen pass.new).side ≡ (W.seen pass.old).side }
-    ensures hears { HearsOn (W.seen pass.old).half (W.seen pass.new).half }
-    ensures mine { (W.seen pass.new).half.mine ≡ (W.seen pass.old).half.mine }
-    ensures clock { (W.seen pass.new).half.at ≤ at }
-    ensures reach { IsInReach (W.region_of wire.now) at (W.seen pass.new).half }
+    ensures told { HasTold (W.region_of wire.now) at (W.seen pass.old).half (W.seen pass.new).half }
     ensures within { OnOk result (at ≤ (W.seen pass.new).half.known + window_of (W.region_of wire.now)) }
-    ensures counted { (before : ℕ) → HasRisenBy 0 before (W.seen pass.old).half.tally.refused
-        → HasRisenBy 0 before (W.seen pass.new).half.tally.refused }
-    ensures held_back { IfErr result (λ late. (W.seen pass.new).half.tally ≡ after_refusal (W.seen pass.old).half.tally CallName.Advance at late) }
+    ensures held_back { IfErr result (λ late. (W.seen pass.new).half.tally
+        ≡ after_refusal (W.seen pass.old).half.tally CallName.Advance at late) }
 {
     let window = window(wire.region());
     match wire.advance(pass, at) {

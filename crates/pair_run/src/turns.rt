@@ -1,13 +1,10 @@
 // A turn: two legs, the reunion of their passes, and one step of the earlier side.
-ghost use Rattle.std.specs.Prelude.{◌≡◌, ◌+◌, ◌*◌, ◌^◌, ◌<◌, ◌≤◌, ◌⊎◌, ◌↔◌, ℕ, length};
-ghost use Rattle.clock_ratio.specs.Stamp.{least_of, window_of};
-ghost use Rattle.snes_defs.specs.declared.ports.Side.TheVariants.{Console, Sound};
+ghost use Rattle.std.specs.Prelude.{◌≡◌, ◌^◌, ◌<◌, ◌≤◌, ◌⊎◌};
 ghost use Rattle.commute_laws.specs.History.{History};
 ghost use Rattle.commute_laws.specs.OnRun.{IsOnRun};
 ghost use Rattle.port_wire.specs.Reach.{IsInReach};
-ghost use Rattle.pair_run.specs.Leg.{HasRun, IfHeldBack, IsSpent};
-ghost use Rattle.pair_run.specs.Tried.{call_of};
-ghost use Rattle.pair_run.specs.Turn.{HasGone, HasTurned, tries_of_turn};
+ghost use Rattle.pair_run.specs.Leg.{IsReady, HasMadeLeg};
+ghost use Rattle.pair_run.specs.Turn.{HasPublished, IsAfterTurn, HasGone, HasTurned, tries_of_turn};
 
 use crate::apart::Apart;
 use crate::ends::LegEnd;
@@ -43,46 +40,34 @@ fn both_legs<R: Threads, W: Wire, C: Machine, S: Machine, G: Gate>(
     end: u64,
 ) -> (LegEnd, LegEnd)
     requires console_pass { W.is_pass_of wire.now console_pass.old }
-    requires console_region { C.region_of console.old ≡ W.region_of wire.now }
-    requires console_ready { length (C.waiting console.old) + 2 * C.MOST ≤ C.CAP }
-    requires console_clock { (W.seen console_pass.old).half.at ≤ C.stamp_of console.old }
-    requires console_reach { IsInReach (W.region_of wire.now) (C.stamp_of console.old) (W.seen console_pass.old).half }
     requires sound_pass { W.is_pass_of wire.now sound_pass.old }
-    requires sound_region { S.region_of sound.old ≡ W.region_of wire.now }
-    requires sound_ready { length (S.waiting sound.old) + 2 * S.MOST ≤ S.CAP }
-    requires sound_clock { (W.seen sound_pass.old).half.at ≤ S.stamp_of sound.old }
-    requires sound_reach { IsInReach (W.region_of wire.now) (S.stamp_of sound.old) (W.seen sound_pass.old).half }
+    requires console { IsReady (W.region_of wire.now) (C.region_of console.old) C.MOST C.CAP (C.stamp_of console.old)
+        (W.seen console_pass.old).half (C.waiting console.old) }
+    requires sound { IsReady (W.region_of wire.now) (S.region_of sound.old) S.MOST S.CAP (S.stamp_of sound.old)
+        (W.seen sound_pass.old).half (S.waiting sound.old) }
     requires end { end ≤ 2 ^ 51 }
     ensures console_pass { W.is_pass_of wire.now console_pass.new }
-    ensures console_side { (W.seen console_pass.new).side ≡ (W.seen console_pass.old).side }
-    ensures console_clock { (W.seen console_pass.new).half.at ≤ C.stamp_of console.new }
-    ensures console_reach { IsInReach (W.region_of wire.now) (C.stamp_of console.new) (W.seen console_pass.new).half }
-    ensures console_region { C.region_of console.new ≡ C.region_of console.old }
-    ensures console_room { length (C.waiting console.new) + C.MOST ≤ C.CAP }
-    ensures console_ran { HasRun (W.seen console_pass.old).side C.moves (window_of (W.region_of wire.now)) end (C.stands console.old) (C.stands console.new) (W.seen console_pass.old).half (W.seen console_pass.new).half (C.waiting console.old) (C.waiting console.new) }
-    ensures console_done { (result.0 ≡ LegEnd.Done) ↔ (end ≤ C.stamp_of console.new) }
-    ensures console_drain { (result.0 ≡ LegEnd.Drain) ↔ ((C.stamp_of console.new < end) × (¬ (length (C.waiting console.new) + 2 * C.MOST ≤ C.CAP))) }
-    ensures console_spent { (m : C.State) → C.stands console.new m → IfHeldBack result.0 (λ late. IsSpent (call_of (C.moves.act m)) (C.stamp_of console.new) late tries_of_turn (W.seen console_pass.old).half (W.seen console_pass.new).half) }
     ensures sound_pass { W.is_pass_of wire.now sound_pass.new }
-    ensures sound_side { (W.seen sound_pass.new).side ≡ (W.seen sound_pass.old).side }
-    ensures sound_clock { (W.seen sound_pass.new).half.at ≤ S.stamp_of sound.new }
-    ensures sound_reach { IsInReach (W.region_of wire.now) (S.stamp_of sound.new) (W.seen sound_pass.new).half }
-    ensures sound_region { S.region_of sound.new ≡ S.region_of sound.old }
-    ensures sound_room { length (S.waiting sound.new) + S.MOST ≤ S.CAP }
-    ensures sound_ran { HasRun (W.seen sound_pass.old).side S.moves (window_of (W.region_of wire.now)) end (S.stands sound.old) (S.stands sound.new) (W.seen sound_pass.old).half (W.seen sound_pass.new).half (S.waiting sound.old) (S.waiting sound.new) }
-    ensures sound_done { (result.1 ≡ LegEnd.Done) ↔ (end ≤ S.stamp_of sound.new) }
-    ensures sound_drain { (result.1 ≡ LegEnd.Drain) ↔ ((S.stamp_of sound.new < end) × (¬ (length (S.waiting sound.new) + 2 * S.MOST ≤ S.CAP))) }
-    ensures sound_spent { (m : S.State) → S.stands sound.new m → IfHeldBack result.1 (λ late. IsSpent (call_of (S.moves.act m)) (S.stamp_of sound.new) late tries_of_turn (W.seen sound_pass.old).half (W.seen sound_pass.new).half) }
+    ensures console { HasMadeLeg (W.region_of wire.now) (C.region_of console.new) C.moves C.MOST C.CAP end tries_of_turn
+        (C.stands console.old) (C.stands console.new) (C.stamp_of console.new)
+        (W.seen console_pass.old) (W.seen console_pass.new) (C.waiting console.old) (C.waiting console.new) result.0 }
+    ensures sound { HasMadeLeg (W.region_of wire.now) (S.region_of sound.new) S.moves S.MOST S.CAP end tries_of_turn
+        (S.stands sound.old) (S.stands sound.new) (S.stamp_of sound.new)
+        (W.seen sound_pass.old) (W.seen sound_pass.new) (S.waiting sound.old) (S.waiting sound.new) result.1 }
 {
     // The console has most of the work. It stays in the caller's thread, which is running, next to what it left in that
     // processor's caches, while the other thread begins.
     let (sound_end, console_end) = join_mut(
         rt,
         &mut || -> LegEnd
-            requires { (W.is_pass_of wire.now sound_pass.now) × (S.region_of sound.now ≡ W.region_of wire.now) × (length (S.waiting sound.now) + 2 * S.MOST ≤ S.CAP) × ((W.seen sound_pass.now).half.at ≤ S.stamp_of sound.now) × IsInReach (W.region_of wire.now) (S.stamp_of sound.now) (W.seen sound_pass.now).half × (end ≤ 2 ^ 51) }
+            requires { (W.is_pass_of wire.now sound_pass.now) × (end ≤ 2 ^ 51)
+                × IsReady (W.region_of wire.now) (S.region_of sound.now) S.MOST S.CAP (S.stamp_of sound.now)
+                (W.seen sound_pass.now).half (S.waiting sound.now) }
         { leg(wire, sound_pass, sound, gate, number, end, 4096) },
         &mut || -> LegEnd
-            requires { (W.is_pass_of wire.now console_pass.now) × (C.region_of console.now ≡ W.region_of wire.now) × (length (C.waiting console.now) + 2 * C.MOST ≤ C.CAP) × ((W.seen console_pass.now).half.at ≤ C.stamp_of console.now) × IsInReach (W.region_of wire.now) (C.stamp_of console.now) (W.seen console_pass.now).half × (end ≤ 2 ^ 51) }
+            requires { (W.is_pass_of wire.now console_pass.now) × (end ≤ 2 ^ 51)
+                × IsReady (W.region_of wire.now) (C.region_of console.now) C.MOST C.CAP (C.stamp_of console.now)
+                (W.seen console_pass.now).half (C.waiting console.now) }
         { leg(wire, console_pass, console, gate, number, end, 4096) },
     );
     (console_end, sound_end)
@@ -97,16 +82,10 @@ fn publish_both<W: Wire>(wire: &W, whole: &mut W::Whole, console_at: u64, sound_
     requires console_reach { IsInReach (W.region_of wire.now) console_at (W.both whole.old).console }
     requires sound_reach { IsInReach (W.region_of wire.now) sound_at (W.both whole.old).sound }
     ensures still_of { W.is_whole_of wire.now whole.new }
-    ensures console_mine { (W.both whole.new).console.mine ≡ (W.both whole.old).console.mine }
-    ensures sound_mine { (W.both whole.new).sound.mine ≡ (W.both whole.old).sound.mine }
-    ensures console_tally { (W.both whole.new).console.tally ≡ (W.both whole.old).console.tally }
-    ensures sound_tally { (W.both whole.new).sound.tally ≡ (W.both whole.old).sound.tally }
-    ensures console_clock { (W.both whole.new).console.at ≡ console_at }
-    ensures sound_clock { (W.both whole.new).sound.at ≡ sound_at }
-    ensures console_reach { IsInReach (W.region_of wire.now) console_at (W.both whole.new).console }
-    ensures sound_reach { IsInReach (W.region_of wire.now) sound_at (W.both whole.new).sound }
-    ensures console_knows { sound_at ≤ (W.both whole.new).console.known }
-    ensures sound_knows { console_at ≤ (W.both whole.new).sound.known }
+    ensures console { HasPublished (W.region_of wire.now) console_at sound_at
+        (W.both whole.old).console (W.both whole.new).console }
+    ensures sound { HasPublished (W.region_of wire.now) sound_at console_at
+        (W.both whole.old).sound (W.both whole.new).sound }
 {
     wire.advance_whole(whole, Side::Console, console_at);
     wire.advance_whole(whole, Side::Sound, sound_at);
@@ -126,31 +105,30 @@ pub fn turn<R: Threads, W: Wire, C: Machine, S: Machine, G: Gate>(
     end: u64,
 ) -> Turned<W::Whole>
     requires of { W.is_whole_of wire.now whole }
-    requires console_region { C.region_of console.old ≡ W.region_of wire.now }
-    requires sound_region { S.region_of sound.old ≡ W.region_of wire.now }
-    requires console_ready { length (C.waiting console.old) + 2 * C.MOST ≤ C.CAP }
-    requires sound_ready { length (S.waiting sound.old) + 2 * S.MOST ≤ S.CAP }
-    requires console_clock { (W.both whole).console.at ≤ C.stamp_of console.old }
-    requires sound_clock { (W.both whole).sound.at ≤ S.stamp_of sound.old }
-    requires console_reach { IsInReach (W.region_of wire.now) (C.stamp_of console.old) (W.both whole).console }
-    requires sound_reach { IsInReach (W.region_of wire.now) (S.stamp_of sound.old) (W.both whole).sound }
+    requires console { IsReady (W.region_of wire.now) (C.region_of console.old) C.MOST C.CAP (C.stamp_of console.old)
+        (W.both whole).console (C.waiting console.old) }
+    requires sound { IsReady (W.region_of wire.now) (S.region_of sound.old) S.MOST S.CAP (S.stamp_of sound.old)
+        (W.both whole).sound (S.waiting sound.old) }
     requires end { end ≤ 2 ^ 51 }
     requires before_end { (C.stamp_of console.old < end) ⊎ (S.stamp_of sound.old < end) }
     ensures still_of { W.is_whole_of wire.now result.whole }
-    ensures console_region { C.region_of console.new ≡ C.region_of console.old }
-    ensures sound_region { S.region_of sound.new ≡ S.region_of sound.old }
-    ensures console_clock { (W.both result.whole).console.at ≤ C.stamp_of console.new }
-    ensures sound_clock { (W.both result.whole).sound.at ≤ S.stamp_of sound.new }
-    ensures console_reach { IsInReach (W.region_of wire.now) (C.stamp_of console.new) (W.both result.whole).console }
-    ensures sound_reach { IsInReach (W.region_of wire.now) (S.stamp_of sound.new) (W.both result.whole).sound }
-    ensures console_room { length (C.waiting console.new) ≤ C.CAP }
-    ensures sound_room { length (S.waiting sound.new) ≤ S.CAP }
-    ensures turned { (console_start : C.State) (sound_start : S.State) → C.valid (W.region_of wire.now) console_start → S.valid (W.region_of wire.now) sound_start → (c : History C.State) (s : History S.State) → IsOnRun C.moves S.moves console_start sound_start c s → C.stands console.old c.now → S.stands sound.old s.now → c.entries ≡ (W.both whole).console.mine → s.entries ≡ (W.both whole).sound.mine → HasTurned C.moves S.moves console_start sound_start end (C.stands console.new) (S.stands sound.new) (W.both whole) (W.both result.whole) (C.waiting console.old) (C.waiting console.new) (S.waiting sound.old) (S.waiting sound.new) result.console result.sound result.stepped c s }
-    ensures gone { (c : History C.State) (s : History S.State) → C.stands console.old c.now → S.stands sound.old s.now → c.entries ≡ (W.both whole).console.mine → s.entries ≡ (W.both whole).sound.mine → HasGone C.moves S.moves end C.MOST C.CAP S.MOST S.CAP (C.stands console.new) (S.stands sound.new) (W.both whole) (W.both result.whole) (C.waiting console.old) (C.waiting console.new) (S.waiting sound.old) (S.waiting sound.new) result.console result.sound result.stepped c s }
-    ensures console_done { result.console ≡ LegEnd.Done → end ≤ C.stamp_of console.new }
-    ensures sound_done { result.sound ≡ LegEnd.Done → end ≤ S.stamp_of sound.new }
-    ensures console_drain { result.console ≡ LegEnd.Drain → ¬ (length (C.waiting console.new) + 2 * C.MOST ≤ C.CAP) }
-    ensures sound_drain { result.sound ≡ LegEnd.Drain → ¬ (length (S.waiting sound.new) + 2 * S.MOST ≤ S.CAP) }
+    ensures console { IsAfterTurn (W.region_of wire.now) (C.region_of console.new) C.MOST C.CAP end
+        (C.stamp_of console.new) result.console (W.both result.whole).console (C.waiting console.new) }
+    ensures sound { IsAfterTurn (W.region_of wire.now) (S.region_of sound.new) S.MOST S.CAP end
+        (S.stamp_of sound.new) result.sound (W.both result.whole).sound (S.waiting sound.new) }
+    ensures turned { (console_start : C.State) (sound_start : S.State)
+        → C.valid (W.region_of wire.now) console_start → S.valid (W.region_of wire.now) sound_start
+        → (c : History C.State) (s : History S.State) → IsOnRun C.moves S.moves console_start sound_start c s
+        → C.stands console.old c.now → S.stands sound.old s.now
+        → c.entries ≡ (W.both whole).console.mine → s.entries ≡ (W.both whole).sound.mine
+        → HasTurned C.moves S.moves console_start sound_start end (C.stands console.new) (S.stands sound.new)
+        (W.both whole) (W.both result.whole) (C.waiting console.old) (C.waiting console.new)
+        (S.waiting sound.old) (S.waiting sound.new) result.console result.sound result.stepped c s }
+    ensures gone { (c : History C.State) (s : History S.State) → C.stands console.old c.now → S.stands sound.old s.now
+        → c.entries ≡ (W.both whole).console.mine → s.entries ≡ (W.both whole).sound.mine
+        → HasGone C.moves S.moves end C.MOST C.CAP S.MOST S.CAP (C.stands console.new) (S.stands sound.new)
+        (W.both whole) (W.both result.whole) (C.waiting console.old) (C.waiting console.new)
+        (S.waiting sound.old) (S.waiting sound.new) result.console result.sound result.stepped c s }
 {
     let (console_pass, sound_pass) = wire.part(whole);
     let mut console_way = Apart {

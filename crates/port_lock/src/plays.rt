@@ -7,7 +7,8 @@ ghost use Rattle.std.specs.Prelude.{◌≡◌, ℕ, List, []};
 ghost use Rattle.port_entries.specs.Entry.{Entry};
 ghost use Rattle.port_lock.specs.Known.{Here, Book, spent_lock, spent_list};
 ghost use Rattle.port_lock.specs.LockRule.{LockHolds, Tries, given_back, console_part, sound_part, both_parts};
-ghost use Rattle.port_lock.specs.ListRule.{ListHolds, IsTrueTo, IsOrderly, logged, told_by, side_of, book_in, without_book, note_of, console_half, sound_half, joined, first_view};
+ghost use Rattle.port_lock.specs.ListRule.{ListHolds, IsTrueTo, IsOrderly, logged, told_by, side_of, book_in};
+ghost use Rattle.port_lock.specs.ListRule.{without_book, note_of, console_half, sound_half, joined, first_view};
 
 use crate::kept::Kept;
 use crate::views::{ListView, LockView};

@@ -6,7 +6,8 @@ ghost use Rattle.port_entries.specs.Entry.{WriteAt, ClearAt};
 ghost use Rattle.port_wire.specs.Whole.{HearBoth};
 ghost use Rattle.port_lock.specs.PassCalls.{logged_by, clock_by};
 ghost use Rattle.port_lock.specs.Wholes.{IsWholeOf, both_of};
-ghost use Rattle.port_lock.specs.WholeCalls.{own_half, other_half, whole_after, ReadsWhole, ClearsWhole, WritesWhole, console_clocks, sound_clocks};
+ghost use Rattle.port_lock.specs.WholeCalls.{own_half, other_half, whole_after, ReadsWhole};
+ghost use Rattle.port_lock.specs.WholeCalls.{ClearsWhole, WritesWhole, console_clocks, sound_clocks};
 
 use crate::late::as_of_log;
 use crate::ports::Ports;

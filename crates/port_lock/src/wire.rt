@@ -23,6 +23,8 @@ impl Wire for Ports {
 
     ghost one_proof = { λ ports pass. ports_set pass.ports ports };
 
+    ghost one_whole = { λ ports whole. ports_set whole.ports ports };
+
     ghost seen = { seen_of };
 
     ghost both = { both_of };

@@ -4,7 +4,8 @@ ghost use Rattle.snes_defs.specs.declared.region.Region.{Region};
 ghost use Rattle.clock_ratio.specs.Stamp.{least_of, most_of, window_of};
 ghost use Rattle.port_wire.specs.Reach.{IsInReach};
 ghost use Rattle.port_wire.specs.Seen.{Seen, Both, Half, parted, AreReunited, half_of, with_half};
-ghost use Rattle.port_wire.specs.Whole.{other_of, IsOwn, HearBoth, EndsReadWhole, EndsClearWhole, EndsWriteWhole, AdvancesWhole};
+ghost use Rattle.port_wire.specs.Whole.{other_of, IsOwn, HearBoth};
+ghost use Rattle.port_wire.specs.Whole.{EndsReadWhole, EndsClearWhole, EndsWriteWhole, AdvancesWhole};
 ghost use Rattle.port_wire.specs.Answers.{HearsOn, EndsRead, EndsClear, EndsWrite, EndsAdvance};
 
 use crate::late::PassLate;
@@ -33,8 +34,10 @@ pub trait Wire: Sync {
 
     ghost is_whole_of: { Self → Self.Whole → Type 0 };
 
-    // That a pass is of a wire has one proof at most, so a struct can keep it beside the pass.
+    // That a pass, or a whole, is of a wire has one proof at most, so a struct can keep it beside the pass.
     ghost one_proof: { (wire : Self) (pass : Self.Pass) → IsProp (is_pass_of wire pass) };
+
+    ghost one_whole: { (wire : Self) (whole : Self.Whole) → IsProp (is_whole_of wire whole) };
 
     // What is seen of them.
     ghost seen: { Self.Pass → Seen };
@@ -115,7 +118,8 @@ pub trait Wire: Sync {
         ensures still_of { is_pass_of self.now pass.new }
         ensures side { (seen pass.new).side ≡ (seen pass.old).side }
         ensures hears { HearsOn (seen pass.old).half (seen pass.new).half }
-        ensures ends { EndsWrite (window_of (region_of self.now)) at port v next result (seen pass.old).half (seen pass.new).half };
+        ensures ends { EndsWrite (window_of (region_of self.now)) at port v next result (seen pass.old).half
+            (seen pass.new).half };
 
     /// Publishes a clock, and returns the other side's.
     fn advance(&self, pass: &mut Self::Pass, at: u64) -> Result<u64, PassLate>
@@ -125,7 +129,8 @@ pub trait Wire: Sync {
         ensures still_of { is_pass_of self.now pass.new }
         ensures side { (seen pass.new).side ≡ (seen pass.old).side }
         ensures hears { HearsOn (seen pass.old).half (seen pass.new).half }
-        ensures ends { EndsAdvance (window_of (region_of self.now)) at result (seen pass.old).half (seen pass.new).half };
+        ensures ends { EndsAdvance (window_of (region_of self.now)) at result (seen pass.old).half
+            (seen pass.new).half };
 
     /// Returns the incoming byte of a port of a side at a stamp, while no pass is out. It is refused as
     /// `PassLate::Behind` alone.
@@ -142,7 +147,8 @@ pub trait Wire: Sync {
         ensures still_of { is_whole_of self.now whole.new }
         ensures own { IsOwn side (both whole.old) (both whole.new) }
         ensures hears { HearBoth (both whole.old) (both whole.new) }
-        ensures ends { EndsReadWhole side at port result (half_of side (both whole.old)) (half_of (other_of side) (both whole.old)) (half_of side (both whole.new)) };
+        ensures ends { EndsReadWhole side at port result (half_of side (both whole.old))
+            (half_of (other_of side) (both whole.old)) (half_of side (both whole.new)) };
 
     /// Zeroes a side's own incoming bytes of a mask at a stamp, while no pass is out. It is refused as
     /// `PassLate::Behind` alone.
@@ -159,7 +165,8 @@ pub trait Wire: Sync {
         ensures still_of { is_whole_of self.now whole.new }
         ensures own { IsOwn side (both whole.old) (both whole.new) }
         ensures hears { HearBoth (both whole.old) (both whole.new) }
-        ensures ends { EndsClearWhole side at mask result (half_of side (both whole.old)) (half_of (other_of side) (both whole.old)) (half_of side (both whole.new)) };
+        ensures ends { EndsClearWhole side at mask result (half_of side (both whole.old))
+            (half_of (other_of side) (both whole.old)) (half_of side (both whole.new)) };
 
     /// Writes a byte to an outgoing port of a side at a stamp, and publishes the clock `next` with it, while no pass is
     /// out. It is refused as `PassLate::Ahead` alone.
@@ -181,7 +188,9 @@ pub trait Wire: Sync {
         ensures still_of { is_whole_of self.now whole.new }
         ensures own { IsOwn side (both whole.old) (both whole.new) }
         ensures hears { HearBoth (both whole.old) (both whole.new) }
-        ensures ends { EndsWriteWhole (window_of (region_of self.now)) at port v next result (half_of side (both whole.old)) (half_of (other_of side) (both whole.old)) (half_of side (both whole.new)) };
+        ensures ends { EndsWriteWhole (window_of (region_of self.now)) at port v next result
+            (half_of side (both whole.old)) (half_of (other_of side) (both whole.old))
+            (half_of side (both whole.new)) };
 
     /// Publishes a clock of a side, and returns the other side's, while no pass is out.
     fn advance_whole(&self, whole: &mut Self::Whole, side: Side, at: u64) -> u64
@@ -192,5 +201,6 @@ pub trait Wire: Sync {
         ensures own { IsOwn side (both whole.old) (both whole.new) }
         ensures hears { HearBoth (both whole.old) (both whole.new) }
         ensures told { result ≡ (half_of (other_of side) (both whole.old)).at }
-        ensures advances { AdvancesWhole at (half_of side (both whole.old)) (half_of (other_of side) (both whole.old)) (half_of side (both whole.new)) };
+        ensures advances { AdvancesWhole at (half_of side (both whole.old)) (half_of (other_of side) (both whole.old))
+            (half_of side (both whole.new)) };
 }

@@ -3,10 +3,10 @@ ghost use Rattle.snes_defs.specs.declared.cart.Job.{Job};
 ghost use Rattle.run_drive.specs.Played.{IsPlayable, PlayedWhole, PlayedFirst};
 
 use crate::sink::Sink;
-use port_wire::Gate;
 use snes_defs::{Job, NoMemory, Side};
 use std::alloc::Global;
 use std::thread::Threads;
+use worker_gate::Gate;
 
 /// A player of a job: two machines at their start, and all the memory that their run needs.
 ///

@@ -22,7 +22,8 @@ pub fn pour<M: Machine, K: Sink>(
     ensures empty { M.waiting machine.new ≡ [] }
     ensures whole { OnOk result (Adds (K.holds sink.old side) (K.holds sink.new side) (M.waiting machine.old)) }
     ensures some { OnErr result (AddsSome (K.holds sink.old side) (K.holds sink.new side) (M.waiting machine.old)) }
-    ensures other { (other : Side) (had : List ℕ) → other ≢ side → K.holds sink.old other had → K.holds sink.new other had }
+    ensures other { (other : Side) (had : List ℕ) → other ≢ side → K.holds sink.old other had
+        → K.holds sink.new other had }
     ensures failed { OnErr result (K.failed sink.old sink.new side) }
     ensures only { K.only_takes sink.old sink.new }
 {

@@ -31,9 +31,12 @@ pub fn run_to_end<C: Machine + Drop, S: Machine + Drop, K: Sink>(
     requires sound_empty { S.waiting sound ≡ [] }
     requires no_video { K.holds sink.old Side.Console [] }
     requires no_sound { K.holds sink.old Side.Sound [] }
-    ensures whole { OnOk result ((c : C.State) (s : S.State) → C.stands console c → S.stands sound s → TookRun C.moves S.moves c s end (K.holds sink.new)) }
-    ensures first { (c : C.State) (s : S.State) → C.stands console c → S.stands sound s → TookFirst C.moves S.moves c s end (K.holds sink.new) }
-    ensures ended { IfOk result (λ serial. (c : C.State) (s : S.State) → C.stands console c → S.stands sound s → HasEnded C.moves S.moves C.stands S.stands c s end serial) }
+    ensures whole { OnOk result ((c : C.State) (s : S.State) → C.stands console c → S.stands sound s
+        → TookRun C.moves S.moves c s end (K.holds sink.new)) }
+    ensures first { (c : C.State) (s : S.State) → C.stands console c → S.stands sound s
+        → TookFirst C.moves S.moves c s end (K.holds sink.new) }
+    ensures ended { IfOk result (λ serial. (c : C.State) (s : S.State) → C.stands console c → S.stands sound s
+        → HasEnded C.moves S.moves C.stands S.stands c s end serial) }
     ensures failed { IfErr result (K.failed sink.old sink.new) }
     ensures only { K.only_takes sink.old sink.new }
 {
@@ -76,8 +79,10 @@ pub fn run_serial<C: Machine + Drop, S: Machine + Drop, K: Sink>(
     requires sound_empty { S.waiting sound ≡ [] }
     requires no_video { K.holds sink.old Side.Console [] }
     requires no_sound { K.holds sink.old Side.Sound [] }
-    ensures whole { OnOk result ((c : C.State) (s : S.State) → C.stands console c → S.stands sound s → TookRun C.moves S.moves c s end (K.holds sink.new)) }
-    ensures first { (c : C.State) (s : S.State) → C.stands console c → S.stands sound s → TookFirst C.moves S.moves c s end (K.holds sink.new) }
+    ensures whole { OnOk result ((c : C.State) (s : S.State) → C.stands console c → S.stands sound s
+        → TookRun C.moves S.moves c s end (K.holds sink.new)) }
+    ensures first { (c : C.State) (s : S.State) → C.stands console c → S.stands sound s
+        → TookFirst C.moves S.moves c s end (K.holds sink.new) }
     ensures failed { IfErr result (K.failed sink.old sink.new) }
     ensures only { K.only_takes sink.old sink.new }
 {

@@ -20,7 +20,8 @@ pub trait Sink {
     fn take(&mut self, side: Side, bytes: &[u8]) -> Result<(), Failed>
         ensures whole { OnOk result (Adds (holds self.old side) (holds self.new side) bytes.now) }
         ensures some { OnErr result (AddsSome (holds self.old side) (holds self.new side) bytes.now) }
-        ensures other { (other : Side) (had : List ℕ) → other ≢ side → holds self.old other had → holds self.new other had }
+        ensures other { (other : Side) (had : List ℕ) → other ≢ side → holds self.old other had
+            → holds self.new other had }
         ensures failed { OnErr result (failed self.old self.new side) }
         ensures only { only_takes self.old self.new };
 

@@ -33,10 +33,14 @@ pub(crate) fn pour_both<C: Machine, S: Machine, K: Sink>(
     ensures sound_region { S.region_of sound.new ≡ S.region_of sound.old }
     ensures console_empty { OnOk result (C.waiting console.new ≡ []) }
     ensures sound_empty { OnOk result (S.waiting sound.new ≡ []) }
-    ensures video { OnOk result (Adds (K.holds sink.old Side.Console) (K.holds sink.new Side.Console) (C.waiting console.old)) }
-    ensures audio { OnOk result (Adds (K.holds sink.old Side.Sound) (K.holds sink.new Side.Sound) (S.waiting sound.old)) }
-    ensures some_video { OnErr result (AddsSome (K.holds sink.old Side.Console) (K.holds sink.new Side.Console) (C.waiting console.old)) }
-    ensures some_audio { OnErr result (AddsSome (K.holds sink.old Side.Sound) (K.holds sink.new Side.Sound) (S.waiting sound.old)) }
+    ensures video { OnOk result (Adds (K.holds sink.old Side.Console) (K.holds sink.new Side.Console)
+        (C.waiting console.old)) }
+    ensures audio { OnOk result (Adds (K.holds sink.old Side.Sound) (K.holds sink.new Side.Sound)
+        (S.waiting sound.old)) }
+    ensures some_video { OnErr result (AddsSome (K.holds sink.old Side.Console) (K.holds sink.new Side.Console)
+        (C.waiting console.old)) }
+    ensures some_audio { OnErr result (AddsSome (K.holds sink.old Side.Sound) (K.holds sink.new Side.Sound)
+        (S.waiting sound.old)) }
     ensures failed { IfErr result (K.failed sink.old sink.new) }
     ensures only { K.only_takes sink.old sink.new }
 {

@@ -53,11 +53,18 @@ where
     requires sound_empty { S.waiting sound ≡ [] }
     requires no_video { K.holds sink.old Side.Console [] }
     requires no_sound { K.holds sink.old Side.Sound [] }
-    ensures whole { OnOk result ((c : C.State) (s : S.State) → C.stands console c → S.stands sound s → TookRun C.moves S.moves c s end (K.holds sink.new)) }
-    ensures first { (c : C.State) (s : S.State) → C.stands console c → S.stands sound s → TookFirst C.moves S.moves c s end (K.holds sink.new) }
-    ensures made { IfOk result (λ turns. (c : C.State) (s : S.State) → C.stands console c → S.stands sound s → HasMadeTurns C.moves S.moves c s end turns (K.holds sink.new)) }
-    ensures turns { IfOk result (λ turns. (c : C.State) (s : S.State) (most : ℕ) → C.stands console c → S.stands sound s → RunsFor C.moves S.moves (serial_of c s) end most → turns ≤ most) }
-    ensures bounded { IfOk result (λ turns. (c : C.State) (s : S.State) (frames : ℕ) → C.stands console c → S.stands sound s → C.moves.stamp c ≡ 0 → S.moves.stamp s ≡ 0 → StepsByCycle (W.region_of wire.now) (S.valid (W.region_of wire.now)) S.moves → end ≡ end_stamp_of (W.region_of wire.now) frames → turns ≤ most_turns (W.region_of wire.now) frames) }
+    ensures whole { OnOk result ((c : C.State) (s : S.State) → C.stands console c → S.stands sound s
+        → TookRun C.moves S.moves c s end (K.holds sink.new)) }
+    ensures first { (c : C.State) (s : S.State) → C.stands console c → S.stands sound s
+        → TookFirst C.moves S.moves c s end (K.holds sink.new) }
+    ensures made { IfOk result (λ turns. (c : C.State) (s : S.State) → C.stands console c → S.stands sound s
+        → HasMadeTurns C.moves S.moves c s end turns (K.holds sink.new)) }
+    ensures turns { IfOk result (λ turns. (c : C.State) (s : S.State) (most : ℕ) → C.stands console c → S.stands sound s
+        → RunsFor C.moves S.moves (serial_of c s) end most → turns ≤ most) }
+    ensures bounded { IfOk result (λ turns. (c : C.State) (s : S.State) (frames : ℕ) → C.stands console c
+        → S.stands sound s → C.moves.stamp c ≡ 0 → S.moves.stamp s ≡ 0
+        → StepsByCycle (W.region_of wire.now) (S.valid (W.region_of wire.now)) S.moves
+        → end ≡ end_stamp_of (W.region_of wire.now) frames → turns ≤ most_turns (W.region_of wire.now) frames) }
     ensures failed { IfErr result (K.failed sink.old sink.new) }
     ensures only { K.only_takes sink.old sink.new }
 {

@@ -39,9 +39,13 @@ impl<const ROOM: usize, const SIZE: usize> Model for Emitter<ROOM, SIZE> {
 
     ghost Value = { EmitterValue };
 
-    ghost view = { λ e. record { state = record { region = e.region; rhythm = e.rhythm; row = e.row.items; left = e.left; rows = e.rows; stamp = e.stamp }; waiting = e.waiting.items } };
+    ghost view = { λ e. record {
+      state = record { region = e.region; rhythm = e.rhythm; row = e.row.items; left = e.left; rows = e.rows; stamp = e.stamp };
+      waiting = e.waiting.items;
+    } };
 
-    ghost invariant = { λ e. (e.waiting.capacity ≡ ROOM) × (length e.waiting.items ≤ ROOM) × (least_of e.region ≤ e.rhythm.rise) × (e.rhythm.rise ≤ most_of e.region) × (length e.row.items ≤ SIZE) };
+    ghost invariant = { λ e. (e.waiting.capacity ≡ ROOM) × (length e.waiting.items ≤ ROOM)
+        × (least_of e.region ≤ e.rhythm.rise) × (e.rhythm.rise ≤ most_of e.region) × (length e.row.items ≤ SIZE) };
 }
 
 impl<const ROOM: usize, const SIZE: usize> Emitter<ROOM, SIZE> {

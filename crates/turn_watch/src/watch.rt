@@ -1,10 +1,10 @@
 use crate::counts::Counts;
 use crate::thread_number::thread_number;
-use port_wire::Gate;
 use snes_defs::Side;
 use std::rt::Files;
 use std::sync::atomic::{AtomicU64, Ordering};
 use std::thread::yield_now;
+use worker_gate::Gate;
 
 /// How many times a worker looks for the other one as it starts a turn.
 const LOOKS: u32 = 1_000_000;

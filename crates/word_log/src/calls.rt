@@ -115,7 +115,8 @@ impl Words {
         requires own_clock { (half_in side seat.old.me.0).at ≤ at }
         ensures table { seat.new.table_id ≡ seat.old.table_id }
         ensures no_slot { seat.new.me.1 ≡ [] }
-        ensures listens { Listens side seat.old.me.0 seat.new.me.0 (logged_by result (ClearAt at mask)) (half_in side seat.old.me.0).at }
+        ensures listens { Listens side seat.old.me.0 seat.new.me.0 (logged_by result (ClearAt at mask))
+            (half_in side seat.old.me.0).at }
         ensures ready { IsReady side self.now.region (half_in side seat.new.me.0) desk.new }
         ensures answer { ClearAnswers side at result (half_in side seat.new.me.0).other }
     {
@@ -142,7 +143,8 @@ impl Words {
         requires stamp { at < end_of_stamps }
         requires written { written ≡ length (writes_of (half_in side seat.old.me.0).mine) }
         ensures table { seat.new.table_id ≡ seat.old.table_id }
-        ensures put { seat.new.me ≡ (changed side (after_put (WriteAt at port v) (half_in side seat.old.me.0)) seat.old.me.0, []) }
+        ensures put { seat.new.me
+            ≡ (changed side (after_put (WriteAt at port v) (half_in side seat.old.me.0)) seat.old.me.0, []) }
     {
         let number = packed(at, port, v);
         self.table
@@ -174,9 +176,11 @@ impl Words {
         requires no_slot { seat.old.me.1 ≡ [] }
         requires half { has side seat.old.me.0 ≡ 1 }
         requires rises { (half_in side seat.old.me.0).at ≤ clock }
-        requires near { clock ≤ (half_in side seat.old.me.0).upto + window_of self.now.region + most_of self.now.region }
+        requires near { clock
+            ≤ (half_in side seat.old.me.0).upto + window_of self.now.region + most_of self.now.region }
         ensures table { seat.new.table_id ≡ seat.old.table_id }
-        ensures published { seat.new.me ≡ (changed side (after_publish clock (half_in side seat.old.me.0)) seat.old.me.0, []) }
+        ensures published { seat.new.me
+            ≡ (changed side (after_publish clock (half_in side seat.old.me.0)) seat.old.me.0, []) }
     {
         self.table
             .shared
@@ -202,7 +206,8 @@ impl Words {
         requires stamp { at < end_of_stamps }
         requires written { written ≡ length (writes_of (half_in side seat.old.me.0).mine) }
         requires few { written < 2 ^ 63 }
-        requires done { end_of (least_of self.now.region) (writes_of (half_in side seat.old.me.0).mine) ≤ (half_in side seat.old.me.0).at }
+        requires done { end_of (least_of self.now.region) (writes_of (half_in side seat.old.me.0).mine)
+            ≤ (half_in side seat.old.me.0).at }
         requires own_clock { (half_in side seat.old.me.0).at ≤ at }
         requires within { at ≤ (half_in side seat.old.me.0).other + window_of self.now.region }
         requires upto { (half_in side seat.old.me.0).upto ≡ (half_in side seat.old.me.0).other }
@@ -210,7 +215,9 @@ impl Words {
         requires near { next ≤ at + most_of self.now.region }
         ensures table { seat.new.table_id ≡ seat.old.table_id }
         ensures no_slot { seat.new.me.1 ≡ [] }
-        ensures wrote { seat.new.me.0 ≡ changed side (after_publish next (after_count (after_put (WriteAt at port v) (half_in side seat.old.me.0)))) seat.old.me.0 }
+        ensures wrote { seat.new.me.0 ≡ changed side
+            (after_publish next (after_count (after_put (WriteAt at port v) (half_in side seat.old.me.0))))
+            seat.old.me.0 }
     {
         self.put(side, seat, written, at, port, v);
         self.count(side, seat, written);
@@ -241,7 +248,8 @@ impl Words {
         requires near { next ≤ at + most_of self.now.region }
         ensures table { seat.new.table_id ≡ seat.old.table_id }
         ensures no_slot { seat.new.me.1 ≡ [] }
-        ensures listens { Listens side seat.old.me.0 seat.new.me.0 (logged_by result (WriteAt at port v)) (clock_by result next (half_in side seat.old.me.0).at) }
+        ensures listens { Listens side seat.old.me.0 seat.new.me.0 (logged_by result (WriteAt at port v))
+            (clock_by result next (half_in side seat.old.me.0).at) }
         ensures ready { IsReady side self.now.region (half_in side seat.new.me.0) desk.new }
         ensures answer { WriteAnswers (window_of self.now.region) at result (half_in side seat.new.me.0).other }
     {

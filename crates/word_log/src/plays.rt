@@ -9,7 +9,8 @@ ghost use Rattle.word_log.specs.Layout.{owner_of, entry_in};
 ghost use Rattle.port_log.specs.Kept.{other_side};
 ghost use Rattle.word_log.specs.Known.{half_in, changed, spent, first_view, console_half, sound_half, joined};
 ghost use Rattle.word_log.specs.Rule.{WordsHold};
-ghost use Rattle.word_log.specs.Steps.{after_put, after_count, after_publish, TellsClock, TellsLength, TellsEntry, TellsAll};
+ghost use Rattle.word_log.specs.Steps.{after_put, after_count, after_publish};
+ghost use Rattle.word_log.specs.Steps.{TellsClock, TellsLength, TellsEntry, TellsAll};
 
 use crate::views::View;
 use atomic_table::{Join, Play, Seat, Split, TableRule};
@@ -64,21 +65,24 @@ impl Play<(), View> for Taking {
 pub struct Put;
 
 impl Play<(), View> for Put {
-    ghost then = { λ st m r n. n ≡ (changed (owner_of st.word) (after_put (entry_in r) (half_in (owner_of st.word) m.0)) m.0, []) };
+    ghost then = { λ st m r n.
+        n ≡ (changed (owner_of st.word) (after_put (entry_in r) (half_in (owner_of st.word) m.0)) m.0, []) };
 }
 
 /// A store of the own count word, raised by one.
 pub struct Count;
 
 impl Play<(), View> for Count {
-    ghost then = { λ st m r n. n ≡ (changed (owner_of st.word) (after_count (half_in (owner_of st.word) m.0)) m.0, []) };
+    ghost then = { λ st m r n.
+        n ≡ (changed (owner_of st.word) (after_count (half_in (owner_of st.word) m.0)) m.0, []) };
 }
 
 /// A store of the own clock word.
 pub struct Publish;
 
 impl Play<(), View> for Publish {
-    ghost then = { λ st m r n. n ≡ (changed (owner_of st.word) (after_publish r (half_in (owner_of st.word) m.0)) m.0, []) };
+    ghost then = { λ st m r n.
+        n ≡ (changed (owner_of st.word) (after_publish r (half_in (owner_of st.word) m.0)) m.0, []) };
 }
 
 /// A load that changes nothing, and shows what the rule knows of the two sides.

@@ -67,7 +67,8 @@ impl Words {
         ensures table { seat.new.table_id ≡ seat.old.table_id }
         ensures no_slot { seat.new.me.1 ≡ [] }
         ensures ready { IsReady side self.now.region (half_in side seat.new.me.0) desk.new }
-        ensures meets { Meets side seat.old.me.0 seat.new.me.0 (logged_by result (ClearAt at mask)) (half_in side seat.old.me.0).at }
+        ensures meets { Meets side seat.old.me.0 seat.new.me.0 (logged_by result (ClearAt at mask))
+            (half_in side seat.old.me.0).at }
         ensures answer { ClearAnswers side at result (half_in side seat.new.me.0).other }
     {
         let answer = self.clear_by(side, seat, desk, at, mask);
@@ -100,7 +101,8 @@ impl Words {
         ensures table { seat.new.table_id ≡ seat.old.table_id }
         ensures no_slot { seat.new.me.1 ≡ [] }
         ensures ready { IsReady side self.now.region (half_in side seat.new.me.0) desk.new }
-        ensures meets { Meets side seat.old.me.0 seat.new.me.0 (logged_by result (WriteAt at port v)) (clock_by result next (half_in side seat.old.me.0).at) }
+        ensures meets { Meets side seat.old.me.0 seat.new.me.0 (logged_by result (WriteAt at port v))
+            (clock_by result next (half_in side seat.old.me.0).at) }
         ensures answer { WriteAnswers (window_of self.now.region) at result (half_in side seat.new.me.0).other }
     {
         let answer = self.write_by(side, seat, desk, at, port, v, next);
@@ -167,7 +169,8 @@ impl Words {
         requires mask { (1 ≤ mask) × (mask ≤ 15) }
         requires own_clock { (own_half side whole.old).at ≤ at }
         ensures answer { ClearsWhole side at result whole.old }
-        ensures whole { whole.new ≡ whole_after side (logged_by result (ClearAt at mask)) (own_half side whole.old).at whole.old }
+        ensures whole { whole.new
+            ≡ whole_after side (logged_by result (ClearAt at mask)) (own_half side whole.old).at whole.old }
         ensures hears { HearBoth (both_of whole.old) (both_of whole.new) }
     {
         match side {
@@ -198,7 +201,8 @@ impl Words {
         requires near { next ≤ at + most_of self.now.region }
         requires own_clock { (own_half side whole.old).at ≤ at }
         ensures answer { WritesWhole (window_of self.now.region) side at result whole.old }
-        ensures whole { whole.new ≡ whole_after side (logged_by result (WriteAt at port v)) (clock_by result next (own_half side whole.old).at) whole.old }
+        ensures whole { whole.new ≡ whole_after side (logged_by result (WriteAt at port v))
+            (clock_by result next (own_half side whole.old).at) whole.old }
         ensures hears { HearBoth (both_of whole.old) (both_of whole.new) }
     {
         match side {

@@ -22,6 +22,8 @@ impl Wire for Words {
 
     ghost one_proof = { λ words pass. words_set pass.words words };
 
+    ghost one_whole = { λ words whole. words_set whole.words words };
+
     ghost seen = { seen_of };
 
     ghost both = { both_of };

@@ -53,7 +53,8 @@ impl Words {
         requires seat { seat.old.table_id ≡ self.now.table }
         requires no_slot { seat.old.me.1 ≡ [] }
         requires half { has side seat.old.me.0 ≡ 1 }
-        requires done { end_of (least_of self.now.region) (writes_of (half_in side seat.old.me.0).mine) ≤ (half_in side seat.old.me.0).at }
+        requires done { end_of (least_of self.now.region) (writes_of (half_in side seat.old.me.0).mine)
+            ≤ (half_in side seat.old.me.0).at }
         requires clears { (found : ℕ) → AllByRecursion (IsClearFrom (half_in side seat.old.me.0).at) (T.logs found) }
         ensures table { seat.new.table_id ≡ seat.old.table_id }
         ensures no_slot { seat.new.me.1 ≡ [] }
@@ -110,7 +111,8 @@ impl Words {
         ensures no_slot { seat.new.me.1 ≡ [] }
         ensures takes { Takes side seat.old.me.0 seat.new.me.0 }
         ensures desk { IsDesk side self.now.region (half_in side seat.new.me.0) desk.new }
-        ensures reads { (clears : List Entry) → ReadsBy side clears (half_in side seat.old.me.0) desk.old → ReadsBy side clears (half_in side seat.new.me.0) desk.new }
+        ensures reads { (clears : List Entry) → ReadsBy side clears (half_in side seat.old.me.0) desk.old
+            → ReadsBy side clears (half_in side seat.new.me.0) desk.new }
         ensures one { desk.new.heard ≡ desk.old.heard + 1 }
         ensures written { desk.new.written ≡ desk.old.written }
     {
@@ -136,7 +138,8 @@ impl Words {
         requires half { has side seat.old.me.0 ≡ 1 }
         requires place { seat.old.me.0.region ≡ self.now.region }
         requires many { (half_in side seat.old.me.0).may ≡ many }
-        requires raised { many ≤ length (half_in side seat.old.me.0).heard → (half_in side seat.old.me.0).upto ≡ (half_in side seat.old.me.0).other }
+        requires raised { many ≤ length (half_in side seat.old.me.0).heard
+            → (half_in side seat.old.me.0).upto ≡ (half_in side seat.old.me.0).other }
         requires desk { IsDesk side self.now.region (half_in side seat.old.me.0) desk.old }
         ensures table { seat.new.table_id ≡ seat.old.table_id }
         ensures no_slot { seat.new.me.1 ≡ [] }
@@ -144,7 +147,8 @@ impl Words {
         ensures written { desk.new.written ≡ desk.old.written }
         ensures all { many ≤ length (half_in side seat.new.me.0).heard }
         ensures desk { IsDesk side self.now.region (half_in side seat.new.me.0) desk.new }
-        ensures reads { (clears : List Entry) → ReadsBy side clears (half_in side seat.old.me.0) desk.old → ReadsBy side clears (half_in side seat.new.me.0) desk.new }
+        ensures reads { (clears : List Entry) → ReadsBy side clears (half_in side seat.old.me.0) desk.old
+            → ReadsBy side clears (half_in side seat.new.me.0) desk.new }
     {
         'taking: while desk.heard < many {
             self.take(side, seat, desk, many);
@@ -170,9 +174,11 @@ impl Words {
         requires clears { (found : ℕ) → AllByRecursion (IsClearFrom (half_in side seat.old.me.0).at) (T.logs found) }
         ensures table { seat.new.table_id ≡ seat.old.table_id }
         ensures no_slot { seat.new.me.1 ≡ [] }
-        ensures listens { Listens side seat.old.me.0 seat.new.me.0 (T.logs (half_in side seat.new.me.0).other) (half_in side seat.old.me.0).at }
+        ensures listens { Listens side seat.old.me.0 seat.new.me.0 (T.logs (half_in side seat.new.me.0).other)
+            (half_in side seat.old.me.0).at }
         ensures desk { IsDesk side self.now.region (half_in side seat.new.me.0) desk.new }
-        ensures reads { ReadsBy side (clears_of (half_in side seat.old.me.0).mine) (half_in side seat.new.me.0) desk.new }
+        ensures reads { ReadsBy side (clears_of (half_in side seat.old.me.0).mine)
+            (half_in side seat.new.me.0) desk.new }
         ensures known { desk.new.known ≡ (half_in side seat.new.me.0).other }
         ensures soon { (half_in side seat.new.me.0).other ≤ other_clock side desk.new.log }
         ensures written { desk.new.written ≡ desk.old.written }

@@ -1,7 +1,5 @@
-use Rattle.std.proofs.Common.{◌≡◌, ◌≤◌, ℕ}
-use Rattle.port_wire.specs.Answers.{HearsOn}
-use Rattle.port_wire.specs.Reach.{IsInReach}
-use Rattle.port_wire.specs.Tally.{HasRisenBy}
+use Rattle.std.proofs.Common.{◌≡◌}
+use Rattle.pair_run.specs.Over.{HasTold}
 use Rattle.pair_run.proofs.again.publish.Given as goal
 
 abbrev pub invariant-loop : goal.invariant-loop
@@ -10,9 +8,5 @@ invariant-loop g l =
     record {
       still_of : wire.is_pass_of l.wire l.pass;
       side : (wire.seen l.pass).side ≡ (wire.seen l.initial.pass).side;
-      hears : HearsOn (wire.seen l.initial.pass).half (wire.seen l.pass).half;
-      mine : (wire.seen l.pass).half.mine ≡ (wire.seen l.initial.pass).half.mine;
-      clock : (wire.seen l.pass).half.at ≤ l.at;
-      reach : IsInReach (wire.region_of l.wire) l.at (wire.seen l.pass).half;
-      counted : (before : ℕ) → HasRisenBy 0 before (wire.seen l.initial.pass).half.tally.refused → HasRisenBy 0 before (wire.seen l.pass).half.tally.refused;
+      told : HasTold (wire.region_of l.wire) l.at (wire.seen l.initial.pass).half (wire.seen l.pass).half;
     }

@@ -1,8 +1,7 @@
 use Rattle.std.proofs.Common.{◌≡◌, ◌+◌, ◌-◌, ◌*◌, ◌≤◌, ℕ, length}
 use Rattle.clock_ratio.specs.Stamp.{window_of}
-use Rattle.port_wire.specs.Reach.{IsInReach}
 use Rattle.port_wire.specs.Tally.{HasRisenBy}
-use Rattle.pair_run.specs.Leg.{HasRun}
+use Rattle.pair_run.specs.Leg.{HasRun, IsBeside}
 use Rattle.pair_run.proofs.Rows.{InRowAt}
 use Rattle.pair_run.proofs.legs.leg.Given as goal
 
@@ -13,9 +12,7 @@ invariant-steps g l =
     record {
       still_of : wire.is_pass_of l.wire l.pass;
       side : (wire.seen l.pass).side ≡ (wire.seen l.fn.pass).side;
-      clock : (wire.seen l.pass).half.at ≤ machine.stamp_of l.machine;
-      reach : IsInReach (wire.region_of l.wire) (machine.stamp_of l.machine) (wire.seen l.pass).half;
-      region : machine.region_of l.machine ≡ machine.region_of l.fn.machine;
+      beside : IsBeside (wire.region_of l.wire) (machine.region_of l.machine) (machine.stamp_of l.machine) (wire.seen l.pass).half;
       room : length (machine.waiting l.machine) + machine.MOST ≤ machine.CAP;
       ran : HasRun (wire.seen l.fn.pass).side machine.moves (window_of (wire.region_of l.wire)) l.end (machine.stands l.fn.machine) (machine.stands l.machine) (wire.seen l.fn.pass).half (wire.seen l.pass).half (machine.waiting l.fn.machine) (machine.waiting l.machine);
       few : l.tried ≤ l.tries;

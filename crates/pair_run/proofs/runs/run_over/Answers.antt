@@ -1,7 +1,7 @@
 use Rattle.std.proofs.Common.{refl, subst, arith}
 use base.Stored.{Coded-set}
 use Rattle.pair_run.specs.declared.over.Over as value
-use Rattle.pair_run.specs.Over.{Way}
+use Rattle.pair_run.specs.Over.{Way, way_of}
 use Rattle.pair_run.proofs.WaySteps.{HasRunWay, way_run}
 use Rattle.pair_run.proofs.runs.run_over.Given.{Over}
 use Rattle.pair_run.proofs.runs.run_over.Goals.{After-advance-stop}
@@ -9,15 +9,7 @@ use Rattle.pair_run.proofs.runs.run_over.Goals as goal
 
 -- the pass of a value, as the calls see it
 abbrev way : (g : Over) → value.Over g.row.W.Denot g.row.W-Pass.Denot g.row.W-Whole.Denot g.W.Wire → Way g.row.W.Denot
-way g o = record {
-  wire = o.wire.now;
-  region = g.W.Wire.region_of o.wire.now;
-  name = o.pass.ghost_name;
-  side = (g.W.Wire.seen o.pass.now).side;
-  half = (g.W.Wire.seen o.pass.now).half;
-  late = o.late;
-  held = o.held;
-}
+way g o = way_of o.wire.now (g.W.Wire.region_of o.wire.now) o.pass.ghost_name (g.W.Wire.seen o.pass.now) o.late o.held
 
 facts : (g : Over) (c : After-advance-stop g)
     → HasRunWay (g.W.Wire.region_of c.args.over.now.wire.now) g.M.Machine.moves g.M.Machine.MOST g.M.Machine.CAP c.args.until
@@ -32,8 +24,8 @@ facts g c =
     way_run region (M.valid region) M.MOST M.CAP M.moves (law.lawful region) c.args.until (M.stands c.args.machine.now) (M.stands c.advance-stop.new.self)
     (M.stamp_of c.args.machine.now) (M.stamp_of c.advance-stop.new.self) p (way g c.advance-stop.new.ports) (M.waiting c.args.machine.now) (M.waiting c.advance-stop.new.self) c.advance-stop.result
     (λ m stands. subst (λ r. M.valid r m) c.requires.region (law.stands_valid c.args.machine.now m stands)) (law.stands_stamp c.args.machine.now) (law.stands_stamp c.advance-stop.new.self)
-    refl may.before (omega (arith, may.early)) c.requires.held may.ready may.reach c.requires.keeps
-    (λ m stands. c.advance-stop.ensures.gone m p stands refl)
+    (refl {a = region}) may.before (omega (arith, may.early)) c.requires.held may.ready may.reach c.requires.keeps
+    (λ m stands. c.advance-stop.ensures.gone m p stands (refl {a = p}))
     c.stamp-begun.ensures.stands (Coded-set g.row.W.coded) c.advance-stop.ensures.forward c.advance-stop.ensures.in_order
 
 pub returns-clause-same_reference : goal.returns-clause-same_reference

@@ -41,7 +41,7 @@ returns-else-console_at-end-clause-stepped g c = λ a b on_a on_b a_is b_is.
     console_made console.moves sound.moves c.args.end (window_of (wire.region_of c.args.wire.now)) (console.stands c.step_over.new.machine) (sound.stands c.args.sound.now)
     (wire.both c.args.whole.now) (wire.both c.step_over.new.whole) (console.waiting c.args.console.now) (console.waiting c.step_over.new.machine)
     (sound.waiting c.args.sound.now) (sound.waiting c.args.sound.now) a b a_is b_is
-    (c.step_over.ensures.steps a on_a a_is) c.step_over.ensures.own.other.mine on_b
+    (c.step_over.ensures.made.step a on_a a_is).tried (c.step_over.ensures.made.step a on_a a_is).other on_b
     (omega (arith, c_at, s_at, first, c.stamp-console_at.ensures.stamp, c.stamp-sound_at.ensures.stamp)) (omega (arith, c_at, s_at, first, c.stamp-console_at.ensures.stamp, c.stamp-sound_at.ensures.stamp, c.if-console_at-end.false))
 
 pub returns-else-sound_at-end-clause-stepped : goal.returns-else-sound_at-end-clause-stepped
@@ -55,5 +55,5 @@ returns-else-sound_at-end-clause-stepped g c = λ a b on_a on_b a_is b_is.
     sound_made console.moves sound.moves c.args.end (window_of (wire.region_of c.args.wire.now)) (console.stands c.args.console.now) (sound.stands c.step_over-else-console_first.new.machine)
     (wire.both c.args.whole.now) (wire.both c.step_over-else-console_first.new.whole) (console.waiting c.args.console.now) (console.waiting c.args.console.now)
     (sound.waiting c.args.sound.now) (sound.waiting c.step_over-else-console_first.new.machine) a b a_is b_is
-    (c.step_over-else-console_first.ensures.steps b on_b b_is) c.step_over-else-console_first.ensures.own.other.mine on_a
+    (c.step_over-else-console_first.ensures.made.step b on_b b_is).tried (c.step_over-else-console_first.ensures.made.step b on_b b_is).other on_a
     (omega (arith, c_at, s_at, first, c.stamp-console_at.ensures.stamp, c.stamp-sound_at.ensures.stamp)) (omega (arith, c_at, s_at, first, c.stamp-console_at.ensures.stamp, c.stamp-sound_at.ensures.stamp, c.if-sound_at-end.false))

@@ -17,12 +17,8 @@ loop-ends-init g c = record {
       going_starts region (C.valid region) (S.valid region) C.MOST S.MOST C.moves S.moves (of_console.lawful region) (of_sound.lawful region) m n console_ok sound_ok
       _ _ _ _ _ console sound c.requires.no_console_entries c.requires.no_sound_entries c.requires.no_video c.requires.no_sound;
   of = search rules;
-  console_region = search rules;
-  sound_region = search rules;
-  console_clock = search rules;
-  sound_clock = search rules;
-  console_reach = search rules;
-  sound_reach = search rules;
+  console = search rules;
+  sound = search rules;
   console_empty = search rules;
   sound_empty = search rules;
   to_end = search rules;
@@ -34,12 +30,8 @@ pub loop-ends-preserved-then-both_at : goal.loop-ends-preserved-then-both_at
 loop-ends-preserved-then-both_at g c = record {
   going = λ m n console sound. going_nearer g.C.Machine.moves g.S.Machine.moves m n _ _ _ _ _ _ _ c.go_on.ensures.stays (c.loop-ends.invariant.going m n console sound);
   of = search rules;
-  console_region = search rules;
-  sound_region = search rules;
-  console_clock = search rules;
-  sound_clock = search rules;
-  console_reach = search rules;
-  sound_reach = search rules;
+  console = search rules;
+  sound = search rules;
   console_empty = search rules;
   sound_empty = search rules;
   to_end = search rules;
@@ -87,12 +79,8 @@ loop-ends-preserved g c = record {
       (g.K.Sink.holds c.pour_both.new.sink) c.loop-ends.invariant.console_empty c.loop-ends.invariant.sound_empty
       (C.stands c.pour_both.new.console) (S.stands c.pour_both.new.sound) c.pour_both.ensures.console_state c.pour_both.ensures.sound_state c.in_ok-pour_both.ensures.video c.in_ok-pour_both.ensures.audio;
   of = search rules;
-  console_region = search rules;
-  sound_region = search rules;
-  console_clock = search rules;
-  sound_clock = search rules;
-  console_reach = search rules;
-  sound_reach = search rules;
+  console = search rules;
+  sound = search rules;
   console_empty = search rules;
   sound_empty = search rules;
   to_end = search rules;

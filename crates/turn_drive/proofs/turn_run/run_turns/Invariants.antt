@@ -1,5 +1,5 @@
 use Rattle.std.proofs.Common.{◌≡◌, ◌+◌, ◌-◌, ◌*◌, ◌≤◌, []}
-use Rattle.port_wire.specs.Reach.{IsInReach}
+use Rattle.pair_run.specs.Leg.{IsBeside}
 use Rattle.turn_drive.proofs.Going.{IsGoing}
 use Rattle.turn_drive.proofs.turn_run.run_turns.Given as goal
 
@@ -12,12 +12,8 @@ invariant-loop-ends g l =
       going : (c : C.State) (s : S.State) → C.stands l.fn.console c → S.stands l.fn.sound s
           → IsGoing C.moves S.moves c s l.ends.near l.turns (C.stands l.console.value) (S.stands l.sound.value) (W.both l.whole) (g.K.Sink.holds l.sink);
       of : W.is_whole_of l.wire l.whole;
-      console_region : C.region_of l.console.value ≡ W.region_of l.wire;
-      sound_region : S.region_of l.sound.value ≡ W.region_of l.wire;
-      console_clock : (W.both l.whole).console.at ≤ C.stamp_of l.console.value;
-      sound_clock : (W.both l.whole).sound.at ≤ S.stamp_of l.sound.value;
-      console_reach : IsInReach (W.region_of l.wire) (C.stamp_of l.console.value) (W.both l.whole).console;
-      sound_reach : IsInReach (W.region_of l.wire) (S.stamp_of l.sound.value) (W.both l.whole).sound;
+      console : IsBeside (W.region_of l.wire) (C.region_of l.console.value) (C.stamp_of l.console.value) (W.both l.whole).console;
+      sound : IsBeside (W.region_of l.wire) (S.region_of l.sound.value) (S.stamp_of l.sound.value) (W.both l.whole).sound;
       console_empty : C.waiting l.console.value ≡ [];
       sound_empty : S.waiting l.sound.value ≡ [];
       to_end : l.ends.end ≡ l.end;

@@ -3,7 +3,6 @@ use Rattle.snes_defs.specs.declared.ports.Act.TheVariants.{Write}
 use Rattle.clock_ratio.specs.Stamp.{window_of}
 use Rattle.port_wire.specs.Answers.{HasWritten}
 use Rattle.pair_run.proofs.Ways.{way_answered, way_refused}
-use Rattle.pair_run.proofs.WaySteps.{HasWalked}
 use Rattle.pair_run.proofs.calls.OverPorts.write.Goals as goal
 
 pub returns-in-Ok-clause-answered : goal.returns-in-Ok-clause-answered

@@ -1,0 +1,12 @@
+use Rattle.std.proofs.Common.{refl}
+use Rattle.snes_defs.specs.declared.ports.Act.TheVariants.{Clear}
+use Rattle.pair_run.proofs.Ways.{whole_answered, whole_refused}
+use Rattle.pair_run.proofs.calls_whole.OverWholePorts.clear.Goals as goal
+
+pub returns-in-Ok-clause-answered : goal.returns-in-Ok-clause-answered
+returns-in-Ok-clause-answered g c = λ done p stand.
+    whole_answered _ _ p c.args.at (Clear c.args.mask) stand refl refl refl refl c.clear_whole.ensures.own c.clear_whole.ensures.hears 0 c.in-Ok.ensures.ends
+
+pub returns-in-Err-clause-refused : goal.returns-in-Err-clause-refused
+returns-in-Err-clause-refused g c = λ none p stand.
+    whole_refused _ _ p c.args.at (Clear c.args.mask) stand _ c.in-Err.ensures.ends.1

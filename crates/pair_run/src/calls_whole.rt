@@ -1,0 +1,62 @@
+// The calls of the earlier side's machine over a whole. The other side's clock settles them, so none is refused.
+use crate::over::OverWhole;
+use port_wire::Wire;
+use side_law::Ports;
+
+impl<'a, W: Wire> Ports for OverWhole<'a, W> {
+    ghost use Rattle.std.specs.Prelude.{◌≡◌, ◌^◌};
+    ghost use Rattle.clock_ratio.specs.Stamp.{least_of};
+    ghost use Rattle.port_wire.specs.Seen.{half_of};
+    ghost use Rattle.pair_run.specs.OverWhole.{WholeWay, whole_calls, whole_way};
+
+    ghost State = { WholeWay W };
+
+    ghost calls = { whole_calls };
+
+    ghost stands = { λ o p. whole_way o.wire.now (W.region_of o.wire.now) o.whole.ghost_name o.side
+        (W.both o.whole.now) ≡ p };
+
+    ghost clock = { λ o. (half_of o.side (W.both o.whole.now)).at };
+
+    ghost times = { λ o. record { before = 2 ^ 52; rise = least_of (W.region_of o.wire.now) } };
+
+    #[inline(always)]
+    fn read(&mut self, at: u64, port: u8) -> Option<u8> {
+        match self.wire.read_whole(self.whole, self.side, at, port) {
+            Ok(byte) => Some(byte),
+            Err(_) => None,
+        }
+    }
+
+    #[inline(always)]
+    fn write(&mut self, at: u64, port: u8, byte: u8) -> bool {
+        let next = at + self.least;
+        match self
+            .wire
+            .write_whole(self.whole, self.side, at, port, byte, next)
+        {
+            Ok(()) => true,
+            Err(_) => false,
+        }
+    }
+
+    #[inline(always)]
+    fn clear(&mut self, at: u64, mask: u8) -> bool {
+        match self.wire.clear_whole(self.whole, self.side, at, mask) {
+            Ok(()) => true,
+            Err(_) => false,
+        }
+    }
+
+    #[inline(always)]
+    fn room(&self, waiting: usize) -> u64 {
+        let _waiting = waiting;
+        u64::MAX
+    }
+
+    #[inline(always)]
+    fn emitted(&mut self, at: u64, waiting: usize) {
+        let _at = at;
+        let _waiting = waiting;
+    }
+}
