@@ -14,14 +14,15 @@
 //! volume 40, divided by 64, the same; by the main volume 7F, divided by 128, 26 and -4. The right
 //! volumes are 0.
 //!
-//! Last come rows of the free boot ROM (`upload`).
+//! Then come rows of the rules in which the second profile differs (`profiles`), and rows of the free boot ROM (`upload`).
 #![tactic(auto)]
 
+mod profiles;
 mod upload;
 
 use audio_side::AudioSide;
 use side_law::Machine;
-use snes_defs::{Act, Bytes, Cart, Job, MapKind, Region, Spans, Table};
+use snes_defs::{Act, Bytes, Cart, Job, MapKind, Profile, Region, Spans, Table};
 use std::alloc::Global;
 use std::io;
 
@@ -41,6 +42,13 @@ const BLOCK_PROGRAM: [u8; 49] = [
     0xF2, 0x8F, 0x7F, 0xF3, 0x8F, 0x6C, 0xF2, 0x8F, 0x20, 0xF3, 0x8F, 0x4C, 0xF2, 0x8F, 0x01, 0xF3,
     0xEF,
 ];
+
+/// Returns the program that plays one block, with the end in the block's header.
+fn ended_block() -> [u8; 49] {
+    let mut program = BLOCK_PROGRAM;
+    program[4] = 0x41;
+    program
+}
 
 /// Returns a boot ROM that begins with a program, and whose vector leads to it.
 fn boot_rom(program: &[u8]) -> [u8; 64] {
@@ -82,7 +90,7 @@ fn job(alloc: Global, boot: [u8; 64], region: Region, with_reset: bool) -> io::R
         },
         boot,
         table: empty_table(),
-        script: Spans::versioned(Vec::new(alloc), region, resets),
+        script: Spans::versioned(Vec::new(alloc), region, Profile::First, resets),
         frames: 2,
         region,
     })
@@ -151,6 +159,18 @@ fn main(rt: HostRuntime) -> io::Result<()> {
     println!(rt; "block")?;
     let mut block = job(alloc, boot_rom(&BLOCK_PROGRAM), Region::Ntsc, false)?;
     block.table = newest_alone();
+    listen(&rt, alloc, &block)?;
+    profiles::show(&rt, alloc)?;
+    println!(rt; "the block with the end, first profile")?;
+    block.boot = boot_rom(&ended_block());
+    listen(&rt, alloc, &block)?;
+    println!(rt; "the block with the end, second profile")?;
+    block.script = Spans::versioned(
+        Vec::new(alloc),
+        Region::Ntsc,
+        Profile::Second,
+        Vec::new(alloc),
+    );
     listen(&rt, alloc, &block)?;
     upload::show(&rt, alloc)
 }

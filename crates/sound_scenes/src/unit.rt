@@ -3,7 +3,7 @@ ghost use Rattle.std.specs.Prelude.{◌≡◌, ◌≤◌, All, length};
 use case_text::{Generator, hashed, hexadecimal, no_hash, part, put};
 use sdsp_echo::Echo;
 use sdsp_voice::Voices;
-use snes_defs::Table;
+use snes_defs::{Profile, Table};
 use std::str::SplitWhitespace;
 
 /// The voices and the echo with a table, and the number of the next sample.
@@ -25,10 +25,10 @@ pub enum Outcome {
 }
 
 impl Unit {
-    /// Returns new voices and a new echo, with the ramp as table and the sample number 0.
+    /// Returns new voices of the first profile and a new echo, with the ramp as table and the sample number 0.
     pub fn new() -> Unit {
         Unit {
-            voices: Voices::new(),
+            voices: Voices::new(Profile::First),
             echo: Echo::new(),
             table: ramp(),
             sample: 0,

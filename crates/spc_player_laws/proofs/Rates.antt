@@ -1,11 +1,13 @@
 -- Events by a rate come again after 30,720 samples, so a sample that much later makes the same.
-use Rattle.std.proofs.Common.{◌≡◌, ℕ, zero, suc, ◌+◌, ◌*◌, ◌/◌, ◌%◌, ◌==◌, ◌<◌, not, ◌&&◌, ℤ, List, [], ◌∷◌, length, slice_index, refl, ap, sym, ◌∙◌, arith}
+use Rattle.std.proofs.Common.{◌≡◌, ℕ, Bool, zero, suc, ◌+◌, ◌*◌, ◌/◌, ◌%◌, ◌==◌, ◌<◌, not, ◌&&◌, ℤ, List, [], ◌∷◌, length, slice_index, refl, ap, sym, ◌∙◌, arith, if◌then◌else◌}
 use Rattle.std.proofs.Math.Nat.{add-mul-mod_self_left, mul_assoc}
+use Rattle.snes_defs.specs.declared.profile.Profile.{Profile}
+use Rattle.snes_defs.specs.declared.profile.Profile.TheVariants.{First, Second}
 use Rattle.sdsp_voice.specs.Envelope.{is_due, after_attack, after_decay, after_sustain, after_gain, after_phase, after_envelope}
 use Rattle.sdsp_voice.specs.Noise.{after_noise}
-use Rattle.sdsp_voice.specs.Keys.{after_keys}
+use Rattle.sdsp_voice.specs.Keys.{after_keys, keyed_below, looks}
 use Rattle.sdsp_voice.specs.Registers.{kept, setting}
-use Rattle.sdsp_voice.specs.Sample.{Pass, gone_on, moved, pitch_of, shown, turn, turns, prepared, after_sample, sums_of}
+use Rattle.sdsp_voice.specs.Sample.{Pass, gone_on, moved, pitch_of, shown, turn, turns, prepared, after_sample, after_turns, sums_of}
 use Rattle.sdsp_voice.specs.declared.voice.Phase.{Phase}
 use Rattle.sdsp_voice.specs.declared.voice.Phase.TheVariants.{Attack, Decay, Sustain, Release}
 use Rattle.sdsp_voice.specs.declared.setting.Setting.{Setting}
@@ -86,15 +88,30 @@ module _ (s k : ℕ) where
   turns_again ram table d (suc n) =
       turn_again ram table d n (turns ram table (s + 30720 * k) d n) ∙ ap (turn ram table s d n) (turns_again ram table d n)
 
+  looks_again : (profile : Profile) → looks profile (s + 30720 * k) ≡ looks profile s
+  unfolding Divides
+  looks_again First = refl
+  looks_again Second = ap (λ (n : ℕ). n == 0) (again 2 s k (15360, refl))
+
+  keys_again : (ram : List ℕ) (d : Voices) → after_keys ram (s + 30720 * k) d ≡ after_keys ram s d
+  unfolding after_keys
+  keys_again ram d =
+      ap (λ (seen : Bool). record d { voices = keyed_below ram d (if seen then kept d 0x5C else 0) (if seen then d.notes else 0) 8; notes = if seen then 0 else d.notes })
+      (looks_again d.profile)
+
+  noise_again : (d : Voices) → after_noise (s + 30720 * k) d ≡ after_noise s d
+  unfolding after_noise
+  noise_again d = rw (due_again (kept d 0x6C % 32) s k (omega arith)) refl
+
   prepared_again : (ram : List ℕ) (d : Voices) → prepared ram (s + 30720 * k) d ≡ prepared ram s d
-  unfolding prepared after_noise
-  prepared_again ram d = rw (due_again (kept (after_keys ram d) 0x6C % 32) s k (omega arith)) refl
+  unfolding prepared
+  prepared_again ram d = ap (after_noise (s + 30720 * k)) (keys_again ram d) ∙ noise_again (after_keys ram s d)
 
   voices_again : (ram table : List ℕ) (d : Voices) → after_sample ram table (s + 30720 * k) d ≡ after_sample ram table s d
   unfolding after_sample
   voices_again ram table d =
-      ap (λ (x : Voices). record x { voices = (turns ram table (s + 30720 * k) x 8).voices }) (prepared_again ram d)
-      ∙ ap (λ (q : Pass). record (prepared ram s d) { voices = q.voices }) (turns_again ram table (prepared ram s d) 8)
+      ap (λ (x : Voices). record x { voices = after_turns d.profile ram (turns ram table (s + 30720 * k) x 8).voices }) (prepared_again ram d)
+      ∙ ap (λ (q : Pass). record (prepared ram s d) { voices = after_turns d.profile ram q.voices }) (turns_again ram table (prepared ram s d) 8)
 
   sums_again : (ram table : List ℕ) (d : Voices) → sums_of ram table (s + 30720 * k) d ≡ sums_of ram table s d
   unfolding sums_of

@@ -1,9 +1,9 @@
 -- Voices whose volumes differ and nothing else: their voices go on alike.
-use Rattle.std.proofs.Common.{◌≡◌, ◌≢◌, ◌∙◌, ℕ, ℤ, zero, suc, Bool, true, false, ◌+◌, ◌*◌, ◌%◌, ◌<◌, ◌==◌, ◌||◌, List, slice_index_or, slice_set, refl, ap, sym, arith}
+use Rattle.std.proofs.Common.{◌≡◌, ◌≢◌, ◌∙◌, ℕ, ℤ, zero, suc, Bool, true, false, ◌+◌, ◌*◌, ◌%◌, ◌<◌, ◌==◌, ◌||◌, List, slice_index_or, slice_set, refl, ap, sym, arith, if◌then◌else◌}
 use Rattle.std.proofs.lemmas.Bool.{false≢true}
 use Rattle.std.proofs.lemmas.List.{get_or-set_other}
 use Rattle.sdsp_voice.specs.Envelope.{after_attack, after_decay, after_envelope, after_gain, after_phase, after_sustain}
-use Rattle.sdsp_voice.specs.Keys.{after_keys, keyed, keyed_below}
+use Rattle.sdsp_voice.specs.Keys.{after_keys, keyed, keyed_below, looks}
 use Rattle.sdsp_voice.specs.Noise.{after_noise}
 use Rattle.sdsp_voice.specs.Registers.{bit, kept, resting_voice, setting, written}
 use Rattle.sdsp_voice.specs.Sample.{Pass, added, gone_on, mixed, output, pitch_of, prepared, turn, turns}
@@ -23,10 +23,11 @@ pub record IsAlike (d d' : Voices) : Type 0 where
   pub voices_same : d'.voices ≡ d.voices
   pub noise_same : d'.noise ≡ d.noise
   pub notes_same : d'.notes ≡ d.notes
+  pub profile_same : d'.profile ≡ d.profile
   pub kept_same : (reg : ℕ) → is_volume reg ≡ false → kept d' reg ≡ kept d reg
 
 alike_refl : (d : Voices) → IsAlike d d
-alike_refl d = record { voices_same = refl; noise_same = refl; notes_same = refl; kept_same = λ reg h. refl }
+alike_refl d = record { voices_same = refl; noise_same = refl; notes_same = refl; profile_same = refl; kept_same = λ reg h. refl }
 
 alike_then : (a b c : Voices) → IsAlike a b → IsAlike b c → IsAlike a c
 alike_then a b c f g =
@@ -34,6 +35,7 @@ alike_then a b c f g =
       voices_same = g.voices_same ∙ f.voices_same;
       noise_same = g.noise_same ∙ f.noise_same;
       notes_same = g.notes_same ∙ f.notes_same;
+      profile_same = g.profile_same ∙ f.profile_same;
       kept_same = λ reg h. g.kept_same reg h ∙ f.kept_same reg h;
     }
 
@@ -56,6 +58,7 @@ written_alike d reg byte is =
       voices_same = refl;
       noise_same = refl;
       notes_same = refl;
+      profile_same = refl;
       kept_same = λ other none. get_or-set_other d.registers reg other byte 0 (no_volume reg other is none);
     })
 
@@ -106,25 +109,42 @@ module _ (d d' : Voices) (same : IsAlike d d') where
         same.kept_same 0x4D refl,
       ) refl
 
-  keyed_same : (ram : List ℕ) (v : ℕ) (w : Voice) → v < 8 → keyed ram d' v w ≡ keyed ram d v w
+  keyed_same : (ram : List ℕ) (off on v : ℕ) (w : Voice) → v < 8 → keyed ram d' off on v w ≡ keyed ram d off on v w
   unfolding keyed setting
-  keyed_same ram v w near =
-      rw (same.kept_same 0x6C refl, same.kept_same 0x5C refl, same.notes_same, same.kept_same 0x5D refl, source_same v near) refl
+  keyed_same ram off on v w near = rw (same.kept_same 0x6C refl, same.kept_same 0x5D refl, source_same v near) refl
 
-  keys_same : (ram : List ℕ) (n : ℕ) → n < 9 → keyed_below ram d' n ≡ keyed_below ram d n
+  keys_same : (ram : List ℕ) (off on n : ℕ) → n < 9 → keyed_below ram d' off on n ≡ keyed_below ram d off on n
   unfolding keyed_below
-  keys_same ram zero near = same.voices_same
-  keys_same ram (suc v) near =
-      ap (λ (xs : List Voice). slice_set xs v (keyed ram d' v (slice_index_or xs v resting_voice))) (keys_same ram v (omega arith))
-      ∙ ap (λ (w : Voice). slice_set (keyed_below ram d v) v w) (keyed_same ram v (slice_index_or (keyed_below ram d v) v resting_voice) (omega arith))
+  keys_same ram off on zero near = same.voices_same
+  keys_same ram off on (suc v) near =
+      ap (λ (xs : List Voice). slice_set xs v (keyed ram d' off on v (slice_index_or xs v resting_voice)))
+      (keys_same ram off on v (omega arith))
+      ∙ ap (λ (w : Voice). slice_set (keyed_below ram d off on v) v w)
+      (keyed_same ram off on v (slice_index_or (keyed_below ram d off on v) v resting_voice) (omega arith))
+
+  -- what of KOFF and the notes of KON a sample looks at, and the notes that it leaves
+  seen_same : (s : ℕ) → looks d'.profile s ≡ looks d.profile s
+  seen_same s = ap (λ p. looks p s) same.profile_same
+
+  off_same : (s : ℕ) → (if looks d'.profile s then kept d' 0x5C else 0) ≡ (if looks d.profile s then kept d 0x5C else 0)
+  off_same s = rw (seen_same s, same.kept_same 0x5C refl) refl
+
+  on_same : (s : ℕ) → (if looks d'.profile s then d'.notes else 0) ≡ (if looks d.profile s then d.notes else 0)
+  on_same s = rw (seen_same s, same.notes_same) refl
+
+  left_same : (s : ℕ) → (if looks d'.profile s then 0 else d'.notes) ≡ (if looks d.profile s then 0 else d.notes)
+  left_same s = rw (seen_same s, same.notes_same) refl
 
   pub prepared_alike : (ram : List ℕ) (s : ℕ) → IsAlike (prepared ram s d) (prepared ram s d')
   unfolding prepared after_keys after_noise
   prepared_alike ram s =
       record {
-        voices_same = keys_same ram 8 (omega arith);
+        voices_same = ap (λ off. keyed_below ram d' off (if looks d'.profile s then d'.notes else 0) 8) (off_same s)
+            ∙ ap (λ on. keyed_below ram d' (if looks d.profile s then kept d 0x5C else 0) on 8) (on_same s)
+            ∙ keys_same ram (if looks d.profile s then kept d 0x5C else 0) (if looks d.profile s then d.notes else 0) 8 (omega arith);
         noise_same = rw (same.noise_same, same.kept_same 0x6C refl) refl;
-        notes_same = refl;
+        notes_same = left_same s;
+        profile_same = same.profile_same;
         kept_same = same.kept_same;
       }
 
