@@ -12,8 +12,9 @@ work=$(mktemp -d) || exit 2
 trap 'rm -rf "$work"' EXIT
 cp -r "$top/examples" "$work" || exit 2
 status=0
-declare -A made=([hello]="hello" [game]="game" [speed]="sieve mode7 tune")
-for name in hello game speed; do
+declare -A made=([hello]="hello" [game]="game" [speed]="sieve mode7 tune"
+  [profiles]="autoread flips lineirq hires region field vram keyon keyoff oneshot latch")
+for name in hello game speed profiles; do
   folder=$work/examples/$name
   make -s -C "$folder" clean && make -s -C "$folder" || { echo "build_examples: $name could not be built" >&2; exit 2; }
   # shellcheck disable=SC2046
@@ -35,7 +36,7 @@ if [ "${1-}" = --write ]; then
   "$top/tools/write_game.py" "${images[@]}" || exit 2
 fi
 if "$top/tools/write_game.py" "${images[@]}" --compare; then
-  echo "the crates free_game, speed_carts and game_rows have these bytes"
+  echo "the crates free_game, speed_carts, idiom_carts and game_rows have these bytes"
 else
   status=1
 fi

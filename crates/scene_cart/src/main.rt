@@ -5,8 +5,10 @@
 //! run of them needs: the free boot ROM `boot.bin`, the interpolation table `table.bin` and the empty `script.txt`. Both
 //! cartridges send a sound program to the APU. `scene_cart --measured FOLDER` writes the scene without its tune, with
 //! the demo's boot ROM and table: the files by which speed has always been measured. Beside them it writes `sieve.sfc` and
-//! `mode7.sfc`, and `tune.sfc` with the free boot ROM `tune_boot.bin` and the table `tune_table.bin`. Without a folder it
-//! writes nothing. It prints the length of each cartridge, once all is written.
+//! `mode7.sfc`, and `tune.sfc` with the free boot ROM `tune_boot.bin` and the table `tune_table.bin`. `scene_cart --idioms
+//! FOLDER` writes the cartridges that show the rules of both profiles (`examples/profiles`) in place of all these, each with a
+//! script for each profile, and the free boot ROM and table. Without a folder it writes nothing. It prints the length of each
+//! cartridge, once all is written.
 //!
 //! The status is 0 only if all was written and printed, else 2, as of every companion. Standard error says which file could
 //! not be written, and what the system said.
@@ -15,6 +17,7 @@
 mod assembler;
 mod graphics;
 mod header;
+mod idioms;
 mod image;
 mod landscape;
 mod objects;
@@ -28,6 +31,7 @@ use companion_words::{Companion, DONE, Kind, Program, Word, run, words};
 use demo_files::{demo_boot_rom, demo_table};
 use free_files::{free_boot_rom, interpolation_table};
 use free_game::game_cartridge;
+use idioms::{print_idioms, write_idioms};
 use image::{Image, NUMBERS};
 use snes_defs::Table;
 use speed_carts::{mode7_cartridge, sieve_cartridge, tune_cartridge};
@@ -145,9 +149,14 @@ fn write_inputs<R: Files + AllocGlobal>(
     write_file(rt, folder, names.1, table.as_slice())
 }
 
+/// Makes a folder.
+fn make_folder<R: Files + AllocGlobal>(rt: &R, folder: &str) -> Result<()> {
+    fs::create_dir_all(rt, folder).context(format_args!("cannot write {folder}"))
+}
+
 /// Makes a folder, and writes the files into it. The tune is sent to the APU, so it gets a boot ROM that takes uploads.
 fn write_all<R: Files + AllocGlobal>(rt: &R, folder: &str, files: &Scene) -> Result<()> {
-    fs::create_dir_all(rt, folder).context(format_args!("cannot write {folder}"))?;
+    make_folder(rt, folder)?;
     write_file(rt, folder, "scene.sfc", files.cartridge.bytes())?;
     for one in &files.more {
         write_file(rt, folder, one.name, one.bytes.as_slice())?;
@@ -172,9 +181,10 @@ fn print_length<R: Print>(rt: &R, name: &str, bytes: &[u8]) -> Result<()> {
 }
 
 /// The words of the command line.
-static WORDS: [Word; 2] = words![
+static WORDS: [Word; 3] = words![
     "" Kind::MayBePlaced, "FOLDER" "" "" "where the files go; it is made; without it only the lengths are printed";
     "" Kind::Flag, "measured" "" "" "the files by which speed is measured: the scene without its tune, with the boot ROM and table of snes demo; and sieve.sfc, mode7.sfc, tune.sfc";
+    "" Kind::Flag, "idioms" "" "" "the cartridges that show what the two profiles do, with a script for each profile";
 ];
 
 /// This program, as a companion of `snes`.
@@ -199,6 +209,14 @@ impl Companion for SceneCart {
         _command: &str,
         words: &ArgMatches<'_>,
     ) -> Result<u8> {
+        if words.get_flag("idioms") {
+            if let Some(folder) = words.get_str("FOLDER") {
+                make_folder(rt, folder)?;
+                write_idioms(rt, folder)?;
+            }
+            print_idioms(rt)?;
+            return Ok(DONE);
+        }
         let Some(files) = files(rt.alloc(), words.get_flag("measured"))? else {
             bail!("the program doesn't fit into the cartridge");
         };

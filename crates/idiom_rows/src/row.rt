@@ -1,0 +1,139 @@
+//! Follows a line of a file of rows.
+
+use crate::film::Film;
+use cart_map::accept;
+use free_files::{free_boot_rom, interpolation_table};
+use idiom_carts::{IDIOMS, Idiom, cartridge, first_script, name, second_script};
+use input_files::read_script;
+use job_player::Console;
+use run_drive::Player;
+use snes_defs::Job;
+use std::alloc::Global;
+use std::io;
+use std::str::SplitWhitespace;
+
+/// The cartridge, profile and number of a row.
+#[derive(Clone, Copy, Debug, PartialEq, Eq)]
+struct Play {
+    idiom: Idiom,
+    is_second: bool,
+    frames: u32,
+}
+
+/// Returns the idiom of a name.
+fn idiom_of(word: &str) -> Option<Idiom> {
+    for idiom in &IDIOMS {
+        if name(*idiom) == word {
+            return Some(*idiom);
+        }
+    }
+    None
+}
+
+/// Reads the cartridge, profile and number of a row.
+fn play_of(words: &mut SplitWhitespace<'_>) -> Option<Play> {
+    let idiom = idiom_of(words.next()?)?;
+    let is_second = match words.next()?.as_bytes() {
+        b"first" => false,
+        b"second" => true,
+        _ => return None,
+    };
+    let frames = words.next()?.parse::<u32>().ok()?;
+    Some(Play {
+        idiom,
+        is_second,
+        frames,
+    })
+}
+
+/// Returns the job of a row, with the given number of frames.
+fn job_of(alloc: Global, play: Play, frames: u32) -> Option<Job> {
+    let text = if play.is_second {
+        second_script(play.idiom)
+    } else {
+        first_script(play.idiom)
+    };
+    let script = read_script(alloc, text.as_bytes()).ok()?;
+    let region = script.region();
+    Some(Job {
+        cart: accept(cartridge(alloc, play.idiom).ok()?).ok()?,
+        boot: free_boot_rom(),
+        table: interpolation_table(),
+        script,
+        frames,
+        region,
+    })
+}
+
+/// Plays a row, and returns its film with the sum of a frame.
+fn film_of(alloc: Global, play: Play, frames: u32, frame: u32) -> Option<Film> {
+    let job = job_of(alloc, play, frames)?;
+    if job.frames > 36_000 {
+        return None;
+    }
+    let mut film = Film::new(frame);
+    let Ok(player) = Console::ready(alloc, &job) else {
+        return None;
+    };
+    player.play_serial(&mut film).ok()?;
+    Some(film)
+}
+
+/// Prints the frame of a row.
+fn show<R: Print + AllocGlobal>(
+    rt: &R,
+    line: &str,
+    words: &mut SplitWhitespace<'_>,
+) -> Option<io::Result<()>> {
+    let play = play_of(words)?;
+    let wanted = words.next()?;
+    let film = film_of(rt.alloc(), play, play.frames.checked_add(1)?, play.frames)?;
+    let sum = hex::encode(rt.alloc(), film.sum()?).ok()?;
+    let (stem, frame) = (name(play.idiom), play.frames);
+    let profile = if play.is_second { "second" } else { "first" };
+    if sum.as_str() == wanted {
+        return Some(println!(rt; "{stem}, {profile} profile, frame {frame}: as in the row"));
+    }
+    Some(println!(rt; "{line}: the sum is {sum}"))
+}
+
+/// Prints the sounds of a row.
+fn hear<R: Print + AllocGlobal>(
+    rt: &R,
+    line: &str,
+    words: &mut SplitWhitespace<'_>,
+) -> Option<io::Result<()>> {
+    let play = play_of(words)?;
+    let film = film_of(rt.alloc(), play, play.frames, 0)?;
+    let mut sound = 0usize;
+    for word in words {
+        let length = word.parse::<u32>().ok()?;
+        if film.length(sound) != Some(length) {
+            return Some(match film.length(sound) {
+                Some(other) => println!(rt; "{line}: a sound has {other} samples"),
+                None => println!(rt; "{line}: a sound is missing"),
+            });
+        }
+        sound = sound.saturating_add(1);
+    }
+    let stem = name(play.idiom);
+    let profile = if play.is_second { "second" } else { "first" };
+    Some(match film.length(sound) {
+        Some(other) => println!(rt; "{line}: one more sound, of {other} samples"),
+        None => println!(rt; "{stem}, {profile} profile, {sound} sounds: as in the row"),
+    })
+}
+
+/// Follows a line.
+pub fn follow<R: Print + AllocGlobal>(rt: &R, line: &str) -> io::Result<()> {
+    let mut words = line.split_whitespace();
+    let told = match words.next() {
+        Some(word) if word == "frame" => show(rt, line, &mut words),
+        Some(word) if word == "sounds" => hear(rt, line, &mut words),
+        _ => None,
+    };
+    match told {
+        Some(result) => result,
+        None => println!(rt; "no line of a row: {line}"),
+    }
+}
