@@ -1,4 +1,5 @@
-/* Plays a cartridge a frame at a time by the lines of a script, and writes its video and sound as `snes serial` does:
+/* Plays a cartridge a frame at a time by the lines of a script of version 1 or 2, and writes its video and sound as
+ * `snes serial` does:
  *
  *     frames [--boot FILE] [--table FILE] [--try FRAME] CART SCRIPT FRAMES VIDEO-FILE SOUND-FILE
  *

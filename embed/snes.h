@@ -139,8 +139,8 @@ uint32_t snes_begin(struct snes_console *console,
  *
  * Rooms of SNES_FRAME_BYTES and SNES_FRAME_SOUND_ROOM serve every frame. At SNES_OK the frame's picture is at the front of
  * `video`, and its samples are at the front of `sound`. What is behind them is as it was. `answer` has the bytes of both.
- * The frames 1 to n of a path have the bytes that snes_play gives for n frames and any script that gives each frame the
- * same pads, in this region and with a reset before the frames before which the button was pressed.
+ * The frames 1 to n of a path have the bytes that snes_play gives for n frames and any script of version 1 or 2 that gives
+ * each frame the same pads, in this region and with a reset before the frames before which the button was pressed.
  *
  * At every other status the console and both rooms are as they were. SNES_FRAMES says that the path has `most` frames:
  * go back to a slot, or end and begin again. */

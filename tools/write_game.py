@@ -5,13 +5,16 @@
 
 EXAMPLES is the folder with the built images, CRATES is the folder crates. The bytes of the game become statics in
 free_game/src/bytes.rt, those of the cartridges of examples/speed statics in speed_carts/src/bytes.rt: those from the first one up to
-the last that is not zero, in parts of 1,024, and the 64 bytes of header and vectors. Those of hello become lines of
-game_rows/data/hello.txt, 32 bytes in each, without lines of zeros. With --compare nothing is written, and the status is 1
-if a file is not what it should be.
+the last that is not zero, in parts of 1,024, and the 64 bytes of header and vectors. So do those of examples/profiles, in idiom_carts/src/bytes.rt, where
+what all of them have from F800 on stands once. Those of hello become lines of game_rows/data/hello.txt, 32 bytes in each, without
+lines of zeros. With --compare nothing is written, and the status is 1 if a file is not what it should be.
 """
 import sys
 
 PART = 1024
+# The cartridges of examples/profiles, and where what they share begins in the file.
+IDIOMS = ("autoread", "flips", "lineirq", "hires", "region", "field", "vram", "keyon", "keyoff", "oneshot", "latch")
+SHARED_AT = 0x7800
 
 
 def lines_of(data):
@@ -41,6 +44,21 @@ def speed_of(images):
     return text
 
 
+def idioms_of(images):
+    shared = {image[SHARED_AT:0x7FC0] for image in images.values()}
+    if len(shared) != 1:
+        sys.exit("write_game: the cartridges of examples/profiles don't have the same bytes from F800 on")
+    part = shared.pop().rstrip(b"\0")
+    text = ("//! The bytes of the cartridges of `examples/profiles`, written by `tools/write_game.py`: what all have from F800 on,\n"
+            "//! and of each its program from 8000 on, and what is from FFC0 on.\n\n"
+            f"pub static SHARED: [u8; {len(part)}] = [\n{lines_of(part)}];\n")
+    for name, image in images.items():
+        program = image[:SHARED_AT].rstrip(b"\0")
+        text += (f"\npub static {name.upper()}: [u8; {len(program)}] = [\n{lines_of(program)}];\n\n"
+                 f"pub static {name.upper()}_HEADER: [u8; 64] = [\n{lines_of(image[0x7FC0:])}];\n")
+    return text
+
+
 def patches_of(image):
     text = "# The bytes of examples/hello/hello.sfc, written by tools/write_game.py.\n"
     for at in range(0, len(image), 32):
@@ -59,6 +77,7 @@ def main():
     texts = {
         "/free_game/src/bytes.rt": game_of(image_of("game/game")),
         "/speed_carts/src/bytes.rt": speed_of({name: image_of(f"speed/{name}") for name in ("sieve", "mode7", "tune")}),
+        "/idiom_carts/src/bytes.rt": idioms_of({name: image_of(f"profiles/{name}") for name in IDIOMS}),
         "/game_rows/data/hello.txt": patches_of(image_of("hello/hello")),
     }
     status = 0

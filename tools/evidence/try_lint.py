@@ -1128,6 +1128,24 @@ def free_cartridges(lint, folder):
         yield f"no finding in {name}.sfc", "" if status == 0 else text + said
 
 
+# The rules that warn of what only the first profile does otherwise than a console, and some that hold in both.
+SILENT = ("wait-for-busy", "timer-on-its-line", "field-and-region-bits", "vertical-flip-of-halves", "backdrop-in-high-resolution", "latch-by-4201")
+HOLDING = ("vram-outside-blank", "pads-while-busy", "key-on-twice", "key-off-short", "register-inside-line", "blank-near-edge")
+
+
+def in_second_profile(lint, folder):
+    """The cases of these rules with a script of version 3: the first ones are silent, the others are found."""
+    with open(os.path.join(folder, "second.txt"), "w", encoding="utf-8") as file:
+        file.write("version 3 ntsc\n")
+    for rule, name, make, wanted in CASES:
+        if rule in SILENT + HOLDING and any(one == rule for one, _ in wanted):
+            words = written(folder, make()), "--frames", "8", "--script", "second.txt", "--format", "json"
+            status, text, said = call(lint, folder, *words)
+            found = status != 2 and any(one["rule"] == rule for one in json.loads(text)["findings"])
+            right = status != 2 and found == (rule in HOLDING)
+            yield f"{name} in the second profile", "" if right else said or text
+
+
 def validated(lint, folder, validator):
     """Validates a log of each case with a finding, of a run without one, and of the planted faults; and has changed logs refused."""
     def log_of(*words):
@@ -1171,7 +1189,7 @@ def main():
                     failed += 1
                     print(f"{rule}: {name}: {wrong}")
         if given.only is None:
-            more = [*words_and_formats(given.lint, folder), *free_cartridges(given.lint, folder)]
+            more = [*words_and_formats(given.lint, folder), *in_second_profile(given.lint, folder), *free_cartridges(given.lint, folder)]
             if shutil.which("ca65"):
                 more.append(("five planted faults", planted(given.lint, folder)))
             if validator:

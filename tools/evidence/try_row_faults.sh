@@ -1,8 +1,8 @@
 #!/usr/bin/env bash
 # Plants each fault of tools/evidence/row_faults/*.edit in the code, one at a time, and runs rows, which have to tell it: their output has to
-# differ from that in the `stdout` of their crate. With no fault planted it has to be that. A fault of crates/free_files is
-# met by the rows of crates/sound_rows, one whose name begins with `pads_` by the rows of both pads of crates/game_rows, any
-# other by those of crates/console_rows.
+# differ from that in the `stdout` of their crate. With no fault planted it has to be that. A fault of crates/free_files and one
+# whose name begins with `voices_` are met by the rows of crates/sound_rows, one whose name begins with `pads_` by the rows of
+# both pads of crates/game_rows, any other by those of crates/console_rows.
 #
 # Nothing is proved here: `rt try` runs a program as it stands, so that a fault is met by the rows alone and not by a contract.
 # A fault of the free boot ROM changes its definition with its bytes, so it would be proved too.
@@ -39,6 +39,7 @@ take_rows() {
 rows_of() {
   case $1 in
     pads_*) echo game_rows ;;
+    voices_*) echo sound_rows ;;
     *) if grep -q '^file: crates/free_files/' "$top/tools/evidence/row_faults/$1.edit"; then echo sound_rows; else echo console_rows; fi ;;
   esac
 }

@@ -4,14 +4,14 @@ use crate::fields::Fields;
 use crate::warnings::no_warnings_in;
 use anyhow::{Context, Result, anyhow, bail};
 use bench_checks::{Address, Case, Expected, FrameCheck, Memory, MemoryCheck, Reach, Sum};
-use snes_defs::{MOST_FRAMES, Region};
+use snes_defs::{MOST_FRAMES, Profile, Region};
 use std::alloc::Global;
 use toml::Table;
 
 /// The keys of a case.
-static CASE: [&str; 18] = [
-    "name", "cart", "boot", "table", "script", "region", "frames", "symbols", "sums", "film",
-    "sound", "warnings", "allow", "allowed", "refused", "frame", "memory", "reach",
+static CASE: [&str; 19] = [
+    "name", "cart", "boot", "table", "script", "region", "profile", "frames", "symbols", "sums",
+    "film", "sound", "warnings", "allow", "allowed", "refused", "frame", "memory", "reach",
 ];
 
 /// The keys of a memory check.
@@ -170,6 +170,18 @@ fn region_in(alloc: Global, fields: &Fields<'_>) -> Result<Option<Region>> {
     }
 }
 
+/// The profile of a case.
+fn profile_in(alloc: Global, fields: &Fields<'_>) -> Result<Option<Profile>> {
+    let Some(text) = fields.text(alloc, "profile")? else {
+        return Ok(None);
+    };
+    match text.as_str() {
+        "first" => Ok(Some(Profile::First)),
+        "second" => Ok(Some(Profile::Second)),
+        _ => bail!("{}: profile is neither first nor second", fields.path()),
+    }
+}
+
 /// Whether anything is to be heard.
 fn heard_in(alloc: Global, fields: &Fields<'_>) -> Result<Option<bool>> {
     let Some(text) = fields.text(alloc, "sound")? else {
@@ -296,6 +308,7 @@ fn unread_case(alloc: Global) -> Case {
         table: None,
         script: None,
         region: None,
+        profile: None,
         frames: 0,
         symbols: None,
         sums: None,
@@ -330,6 +343,7 @@ fn read_case(alloc: Global, fields: &Fields<'_>, case: &mut Case) -> Result<()> 
     read_text(alloc, fields, "table", &mut case.table)?;
     read_text(alloc, fields, "script", &mut case.script)?;
     case.region = region_in(alloc, fields)?;
+    case.profile = profile_in(alloc, fields)?;
     read_text(alloc, fields, "symbols", &mut case.symbols)?;
     read_text(alloc, fields, "sums", &mut case.sums)?;
     read_text(alloc, fields, "film", &mut case.film)?;

@@ -2,7 +2,7 @@
 
 use crate::sums::Sum;
 use lint_rules::Rule;
-use snes_defs::Region;
+use snes_defs::{Profile, Region};
 
 /// A memory whose bytes can be expected.
 #[derive(Clone, Copy, PartialEq, Eq)]
@@ -102,6 +102,8 @@ pub struct Case {
     pub script: Option<String>,
     /// The region.
     pub region: Option<Region>,
+    /// The profile.
+    pub profile: Option<Profile>,
     /// How many frames are run.
     pub frames: u32,
     /// The file of the labels.

@@ -7,7 +7,7 @@ use file_shelf::FileShelf;
 use free_files::{free_boot_rom, interpolation_table};
 use input_files::{ScriptEnd, read_boot, read_script, read_table};
 use shelf::{LoadEnd, Shelf};
-use snes_defs::{Cart, Job, Region, Spans, Table};
+use snes_defs::{Cart, Job, Profile, Region, Spans, Table};
 use std::alloc::{AllocError, Global};
 use std::rt::Files;
 
@@ -108,12 +108,14 @@ fn table_of<R: Files + Print>(
     }
 }
 
-/// A script that presses nothing, of a region.
-fn empty_script(alloc: Global, region: Region) -> Spans {
-    Spans::versioned(Vec::new(alloc), region, Vec::new(alloc))
+/// The script of a case without one: it presses nothing.
+fn empty_script(alloc: Global, case: &Case) -> Spans {
+    let region = case.region.unwrap_or(Region::Ntsc);
+    let profile = case.profile.unwrap_or(Profile::First);
+    Spans::versioned(Vec::new(alloc), region, profile, Vec::new(alloc))
 }
 
-/// Reads the script of a case. Its region is the case's, if the case names one.
+/// Reads the script of a case. Its region and its profile are the case's, if the case names them.
 fn script_of<R: Files + Print>(
     shelf: &mut FileShelf<'_, R>,
     alloc: Global,
@@ -121,7 +123,7 @@ fn script_of<R: Files + Print>(
     case: &Case,
 ) -> Result<Spans> {
     let Some(name) = &case.script else {
-        return Ok(empty_script(alloc, case.region.unwrap_or(Region::Ntsc)));
+        return Ok(empty_script(alloc, case));
     };
     let name = name_in(alloc, folder, name.as_str())?;
     let bytes = load(shelf, alloc, name.as_str(), SCRIPT)?;
@@ -132,6 +134,12 @@ fn script_of<R: Files + Print>(
     };
     if case.region.is_some_and(|region| region != script.region()) {
         bail!("{name} is a script of the other region: its first line says which");
+    }
+    if case
+        .profile
+        .is_some_and(|profile| profile != script.profile())
+    {
+        bail!("{name} is a script of the other profile: its first line says which");
     }
     Ok(script)
 }

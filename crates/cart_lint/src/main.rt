@@ -176,7 +176,6 @@ fn run_opened<R: Eprint + AllocGlobal>(
     opened: Opened,
 ) -> Result<Run> {
     let alloc = rt.alloc();
-    let mut findings = Findings::new(alloc);
     let Opened {
         size,
         map_byte,
@@ -184,6 +183,7 @@ fn run_opened<R: Eprint + AllocGlobal>(
     } = opened;
     let front = front_of(size);
     let Some(job) = job else {
+        let mut findings = Findings::new(alloc);
         no_header(&mut findings, map_byte)?;
         return Ok(Run {
             findings,
@@ -193,6 +193,7 @@ fn run_opened<R: Eprint + AllocGlobal>(
         });
     };
     let frames = frames_of(words)?;
+    let mut findings = Findings::in_profile(alloc, job.script.profile());
     check_file(&mut findings, size, &job.cart)?;
     let mut run = WatchedRun::new(alloc, &job, findings)?;
     run_frames(rt, &mut run, frames, words.get_flag("progress"))?;

@@ -10,7 +10,7 @@ use crate::frame_bytes::{FrameBytes, SideBytes};
 use free_files::{free_boot_rom, interpolation_file};
 use memory_player::{End, Inputs, job_in};
 use snapshot::Rewind;
-use snes_defs::{Job, MOST_FRAMES, NoMemory, Region, Spans};
+use snes_defs::{Job, MOST_FRAMES, NoMemory, Profile, Region, Spans};
 use std::alloc::Global;
 
 /// The bytes of a picture: 239 rows of 512 dots of two bytes.
@@ -96,7 +96,7 @@ fn in_region(alloc: Global, job: Job, region: Region) -> Job
         cart,
         boot,
         table,
-        script: Spans::versioned(Vec::new(alloc), region, Vec::new(alloc)),
+        script: Spans::versioned(Vec::new(alloc), region, Profile::First, Vec::new(alloc)),
         frames: 0,
         region,
     }

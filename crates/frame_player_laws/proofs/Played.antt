@@ -3,16 +3,18 @@ use Rattle.std.proofs.Common.{◌≡◌, ℕ, zero, suc, ◌+◌, ◌-◌, ◌<�
 use Rattle.std.proofs.Common.{refl, ap, sym, subst, ◌∙◌, append_assoc, append-nil, length-append, arith, ltb, if◌then◌else◌}
 use Rattle.std.proofs.lemmas.Bool.Decides.{nat_tests}
 use Rattle.snes_defs.specs.declared.cart.Job.{Job}
+use Rattle.snes_defs.specs.declared.profile.Profile.{Profile}
+use Rattle.snes_defs.specs.declared.profile.Profile.TheVariants.{First}
 use Rattle.snes_defs.specs.declared.script.Span.{Span}
 use Rattle.snes_defs.specs.Script.{frames_of, pads_at}
 use Rattle.clock_ratio.specs.Stamp.{end_stamp_of}
 use Rattle.side_law.specs.Serial.{serial_of}
 use Rattle.side_law.specs.SerialRun.{IsOutput}
-use Rattle.console_steps.specs.ConsoleState.{console_moves}
+use Rattle.console_steps.specs.ConsoleState.{console_moves, console_start}
 use Rattle.audio_side.specs.Sound.{sound_start, sound_moves}
 use Rattle.plan_drive.specs.Paths.{Path}
 use Rattle.snapshot.specs.Path.{PathEmits}
-use Rattle.job_player.specs.Start.{Emits, console_of}
+use Rattle.job_player.specs.Start.{Emits}
 use Rattle.frame_player.specs.Told.{Told, IsJobOf, gone_on, spans_of}
 use Rattle.frame_player.specs.Joined.{Frame, ArePlayed, reset_if, told_after, pictures_of, samples_of, frames_from_first}
 use Rattle.frame_player_laws.specs.Scripts.{HasPadsOf, ArePlayedWith, pads_played, presses_from}
@@ -130,20 +132,21 @@ module _ (told : Told) (frames : List Frame) (job : Job) (none : told.pads ≡ [
       (record { lasts = spans_last frames ∙ sym lasts; pads = λ k lt. sym (pads_same frames path.spans h k lt) })
       resets few_spans by_frames
 
-  pub any_job : job.frames ≡ length frames → job.script.resets ≡ presses_from 0 frames → HasPadsOf job.script.spans frames
+  pub any_job : job.script.profile ≡ First → job.frames ≡ length frames → job.script.resets ≡ presses_from 0 frames → HasPadsOf job.script.spans frames
       → Emits job (pictures_of frames) (samples_of frames)
   unfolding path_played
-  any_job lasts resets h =
+  any_job profile lasts resets h =
       let video = pictures_of frames in
       let audio = samples_of frames in
-      let Emitted : ℕ → Type 0
-      = λ (count : ℕ). IsOutput console_moves sound_moves
-      (serial_of (console_of job) (sound_start job.region job.script.resets job.boot job.table))
+      let Emitted : Profile → ℕ → Type 0
+      = λ own count. IsOutput console_moves sound_moves
+      (serial_of (console_start job.cart (record job.script { profile = own }) job.region)
+      (sound_start job.region own job.script.resets job.boot job.table))
       (end_stamp_of job.region count) video audio in
-      let by_script : Emitted (frames_of (spans_played frames))
+      let by_script : Emitted First (frames_of (spans_played frames))
       = same_job job most path_played job.script resets (pads_same frames job.script.spans h)
       video audio few_spans by_frames in
-      subst Emitted (spans_last frames ∙ sym lasts) by_script
+      subst (λ own. Emitted own job.frames) (sym profile) (subst (Emitted First) (spans_last frames ∙ sym lasts) by_script)
 
 -- ---- one span
 

@@ -2,6 +2,7 @@
 -- are one run.
 use Rattle.std.proofs.Common.{◌≡◌, ℕ, ◌<◌, ◌≤◌, false, List, refl, ap, sym, subst, ◌∙◌, arith}
 use Rattle.snes_defs.specs.declared.cart.Job.{Job}
+use Rattle.snes_defs.specs.declared.profile.Profile.TheVariants.{First}
 use Rattle.plan_drive.specs.Paths.{Path, path_script}
 use Rattle.snes_defs.specs.Script.{Script, frames_of, is_reset, pads_at}
 use Rattle.clock_ratio.specs.Stamp.{end_stamp_of}
@@ -19,12 +20,17 @@ use Rattle.snapshot.proofs.Runs.{SameRun, same_runs, alike_stamp, starts_own, wo
 use Rattle.snapshot.proofs.Rooms.{output_roomy}
 use Rattle.frame_player_laws.specs.Scripts.{HaveSamePads}
 
-module _ (job : Job) (n : ℕ) (path : Path) (t : Script) (resets : t.resets ≡ path.resets)
-    (pads : (k : ℕ) → k < frames_of path.spans → pads_at t.spans k ≡ pads_at path.spans k) where
+module _ (job : Job) (n : ℕ) (path : Path) (other : Script) (resets : other.resets ≡ path.resets)
+    (pads : (k : ℕ) → k < frames_of path.spans → pads_at other.spans k ≡ pads_at path.spans k) where
+  -- the other script by the first profile, which is that of paths
+  abbrev t : Script
+  t = record other { profile = First }
+
   abbrev agree : Agree (frames_of path.spans) (path_script job.region n path) t
   agree =
       let f = frames_of path.spans in
       record {
+        profile = refl;
         pads = pads;
         change = words_of t f;
         harmless = words_harmless (pads_at t.spans f).0 (pads_at t.spans f).1;
@@ -104,11 +110,11 @@ module _ (job : Job) (n : ℕ) (path : Path) (t : Script) (resets : t.resets ≡
   -- and without room for more resets on the sound side
   pub same_job : (video audio : List ℕ) → frames_of path.spans ≤ 36000 → PathEmits job n path video audio
       → IsOutput console_moves sound_moves
-      (serial_of (console_start job.cart t job.region) (sound_start job.region t.resets job.boot job.table))
+      (serial_of (console_start job.cart t job.region) (sound_start job.region First t.resets job.boot job.table))
       (end_of_path job.region path) video audio
   same_job video audio few h =
       output_roomy t.room
-      (serial_of (console_start job.cart t job.region) (sound_start job.region t.resets job.boot job.table))
+      (serial_of (console_start job.cart t job.region) (sound_start job.region First t.resets job.boot job.table))
       (end_of_path job.region path) video audio (same_output video audio few h)
 
 pub same_pads : (job : Job) (n m : ℕ) (path other : Path) (video audio : List ℕ)

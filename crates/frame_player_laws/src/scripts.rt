@@ -1,5 +1,6 @@
 ghost use Rattle.std.specs.Prelude.{◌≡◌, ◌≤◌, ℕ, List, [], length};
 ghost use Rattle.snes_defs.specs.declared.cart.Job.{Job};
+ghost use Rattle.snes_defs.specs.declared.profile.Profile.TheVariants.{First};
 ghost use Rattle.snes_defs.specs.Script.{frames_of};
 ghost use Rattle.plan_drive.specs.Paths.{Path};
 ghost use Rattle.snapshot.specs.Path.{PathEmits};
@@ -29,14 +30,15 @@ pub fn frames_are_what_any_script_emits()
         → PathEmits job n path (pictures_of frames) (samples_of frames) }
 {}
 
-/// States that frames from power-on, joined, are the output of the job with as many frames whose script gives each its
-/// pads, and has the resets that were pressed. It may last longer than the frames; behind its last span the pads are
-/// zeros.
+/// States that frames from power-on, joined, are the output of the job with as many frames whose script is of the first
+/// profile, gives each its pads, and has the resets that were pressed. It may last longer than the frames; behind its
+/// last span the pads are zeros.
 #[tactic(none)]
 pub fn frames_are_what_a_job_emits()
     ensures { (told : Told) (frames : List Frame) (job : Job)
         → told.pads ≡ [] → told.resets ≡ [] → IsJobOf told job → ArePlayed told frames → length frames ≤ 36000
-        → job.frames ≡ length frames → job.script.resets ≡ presses_from 0 frames → HasPadsOf job.script.spans frames
+        → job.script.profile ≡ First → job.frames ≡ length frames → job.script.resets ≡ presses_from 0 frames
+        → HasPadsOf job.script.spans frames
         → Emits job (pictures_of frames) (samples_of frames) }
 {}
 

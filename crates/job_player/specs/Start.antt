@@ -18,10 +18,10 @@ use Rattle.audio_side.specs.Sound as sound_side
 abbrev pub console_of : Job → ConsoleState
 console_of job = console_start job.cart job.script job.region
 
--- the sound side before its first step: the job's boot ROM and table, and the resets of its script, in
+-- the sound side before its first step: the job's boot ROM and table, the profile and the resets of its script, in
 -- the job's region
 abbrev pub sound_of : Job → SoundState
-sound_of job = sound_start job.region job.script.resets job.boot job.table
+sound_of job = sound_start job.region job.script.profile job.script.resets job.boot job.table
 
 -- the end of the job's frames
 abbrev pub end_of : Job → ℕ

@@ -7,3 +7,4 @@ pub mod Memories
 pub mod Shown
 pub mod Slivers
 pub mod Turned
+pub mod Profiles

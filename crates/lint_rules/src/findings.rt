@@ -4,6 +4,7 @@ ghost use Rattle.std.specs.Prelude.{◌≡◌, ◌<◌, ◌≤◌, ◌+◌, ◌^
 
 use crate::moment::Moment;
 use crate::rule::Rule;
+use snes_defs::Profile;
 use std::alloc::{AllocError, Global};
 
 /// The most findings that are kept: further ones are counted only.
@@ -93,15 +94,23 @@ impl Finding {
 /// The findings of a run.
 #[derive(Drop)]
 pub struct Findings {
+    /// The profile of the machine that runs.
+    profile: Profile,
     list: Vec<Finding>,
     /// How often rules were broken whose causes are not kept.
     more: u64,
 }
 
 impl Findings {
-    /// Returns no findings.
+    /// Returns no findings, of a run in the first profile.
     pub fn new(alloc: Global) -> Findings {
+        Findings::in_profile(alloc, Profile::First)
+    }
+
+    /// Returns no findings, of a run in a profile.
+    pub fn in_profile(alloc: Global, profile: Profile) -> Findings {
         Findings {
+            profile,
             list: Vec::new(alloc),
             more: 0,
         }
@@ -117,8 +126,12 @@ impl Findings {
         self.more
     }
 
-    /// Adds a finding to the one of the same rule and cause, or as a new one.
+    /// Adds a finding to the one of the same rule and cause, or as a new one. A finding of a rule that is silent in the profile of
+    /// the run is dropped.
     pub fn add(&mut self, found: Finding) -> Result<(), AllocError> {
+        if found.rule.is_mended(self.profile) {
+            return Ok(());
+        }
         for kept in self.list.iter_mut() {
             if kept.is_same(&found) {
                 kept.see_again(&found);

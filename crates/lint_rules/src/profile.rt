@@ -1,4 +1,4 @@
-//! What the profile of this machine does otherwise than a console.
+//! What this machine does otherwise than a console, in both profiles or in the first alone.
 
 ghost use Rattle.std.specs.Prelude.{◌≡◌};
 ghost use Rattle.lint_rules.specs.Picture.{changes_picture, register_broken, is_near_edge, edge_broken, status_broken};
@@ -34,7 +34,7 @@ pub fn register_rule(mode7: bool, register: u8, moment: &Moment) -> Option<Rule>
 
 /// Returns the rule that a write of VTIME breaks, given the timer's kind of 4200 and the new VTIME.
 ///
-/// A console compares the lines as long as the line lasts. Here V-IRQ (kind 2) comes at the line's first clock alone.
+/// A console compares the lines as long as the line lasts. In the first profile V-IRQ (kind 2) comes at the line's first clock alone.
 pub fn timer_rule(kind: u8, vtime: u16, moment: &Moment) -> Option<Rule>
     ensures { result ≡ timer_broken kind vtime moment.now }
 {

@@ -1,4 +1,9 @@
-//! The rules: their names, what they say, and how much they weigh.
+//! The rules: their names, what they say, how much they weigh, and in which profile they are silent.
+
+ghost use Rattle.std.specs.Prelude.{◌≡◌};
+ghost use Rattle.lint_rules.specs.Profiles.{is_of_first_alone, is_mended};
+
+use snes_defs::Profile;
 
 /// How much a finding weighs.
 #[derive(Clone, Copy, PartialEq, Eq)]
@@ -30,7 +35,7 @@ pub enum Rule {
     PadsWhileBusy,
     /// The strobe is written while auto-read would be busy.
     StrobeWhileBusy,
-    /// A loop waits for the busy bit of auto-read, which never comes here.
+    /// A loop waits for the busy bit of auto-read, which never comes in the first profile.
     WaitForBusy,
     /// A transfer from work RAM to the port of work RAM.
     WramToWram,
@@ -108,7 +113,7 @@ pub enum Rule {
     TimerOnItsLine,
     /// The counters latched by 4201.
     LatchBy4201,
-    /// A read of 213F, whose bits of field and region are always clear here.
+    /// A read of 213F, whose bits of field and region are always clear in the first profile.
     FieldAndRegionBits,
     /// An object that is not square, turned over from top to bottom.
     VerticalFlipOfHalves,
@@ -413,6 +418,31 @@ impl Rule {
     /// Returns how much the rule weighs.
     pub fn severity(self) -> Severity {
         described(self).severity
+    }
+
+    /// Whether the rule warns of what only the first profile does otherwise than a console.
+    fn is_of_first_alone(self) -> bool
+        ensures { result ≡ is_of_first_alone self }
+    {
+        match self {
+            Rule::WaitForBusy
+            | Rule::TimerOnItsLine
+            | Rule::LatchBy4201
+            | Rule::FieldAndRegionBits
+            | Rule::VerticalFlipOfHalves
+            | Rule::BackdropInHighResolution => true,
+            _ => false,
+        }
+    }
+
+    /// Whether a machine of a profile does what the rule warns of as a console does, so that the rule is silent.
+    pub fn is_mended(self, profile: Profile) -> bool
+        ensures { result ≡ is_mended profile self }
+    {
+        match profile {
+            Profile::First => false,
+            Profile::Second => self.is_of_first_alone(),
+        }
     }
 }
 

@@ -71,8 +71,8 @@ fn sorted(mut findings: Findings) -> Result<Findings> {
 }
 
 impl WatchedRun {
-    /// Returns the run of a job before its first step. What it finds is added to `findings`. A run of more than the job's frames
-    /// goes on with no button pressed. Fails if memory runs out.
+    /// Returns the run of a job before its first step. What it finds is added to `findings`, which are those of the job's profile.
+    /// A run of more than the job's frames goes on with no button pressed. Fails if memory runs out.
     pub fn new(alloc: Global, job: &Job, findings: Findings) -> Result<WatchedRun> {
         let Ok(console) = ConsoleSide::new(alloc, job) else {
             bail!("no memory");
@@ -164,7 +164,7 @@ impl WatchedRun {
 /// Checks the file of a cartridge, runs so many frames of its job, and returns what was found, by rule and then by cause. `size`
 /// is the number of bytes of the file.
 pub fn watch_job(alloc: Global, size: usize, job: &Job, frames: u32) -> Result<Findings> {
-    let mut findings = Findings::new(alloc);
+    let mut findings = Findings::in_profile(alloc, job.script.profile());
     check_file(&mut findings, size, &job.cart)?;
     let mut run = WatchedRun::new(alloc, job, findings)?;
     for _ in 0..frames {

@@ -3,6 +3,7 @@
 use Rattle.std.specs.Prelude.{ℕ, ◌+◌, ◌==◌, nat_lt, not, ◌&&◌, Bool, max, List, [], ◌∷◌, ◌++◌, if◌then◌else◌}
 use Rattle.snes_defs.specs.declared.cart.Job.{Job}
 use Rattle.snes_defs.specs.declared.region.Region.{Region}
+use Rattle.snes_defs.specs.declared.profile.Profile.TheVariants.{First}
 use Rattle.snes_defs.specs.declared.script.Span.{Span}
 use Rattle.snes_defs.specs.Script.{Script, RiseWithin, frames_of, is_reset}
 use Rattle.input_files.specs.declared.plan.PlanStep.{PlanStep}
@@ -76,10 +77,10 @@ abbrev pub after_steps : List PlanStep → Paths → Paths
 after_steps [] p = p
 after_steps (step ∷ rest) p = after_steps rest (after_step p step)
 
--- THE JOB of a path: the machines of a job, played in its region with a script of just the path; the run ends with the
--- path. The script has memory for n spans and n resets, at which no machine looks
+-- THE JOB of a path: the machines of a job, played in its region and by the first profile with a script of just the path; the
+-- run ends with the path. The script has memory for n spans and n resets, at which no machine looks
 abbrev pub path_script : Region → ℕ → Path → Script
-path_script region n path = record { region = region; spans = path.spans; resets = path.resets; room = n }
+path_script region n path = record { region = region; profile = First; spans = path.spans; resets = path.resets; room = n }
 
 abbrev pub path_job : Job → ℕ → Path → Job
 path_job job n path = record { cart = job.cart; boot = job.boot; table = job.table; script = path_script job.region n path; frames = frames_of path.spans; region = job.region }

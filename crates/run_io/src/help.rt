@@ -41,6 +41,8 @@ snes --help, snes -h, snes --version\n\
 \x20 --cart    a raw LoROM or HiROM image        --boot    the sound processor's boot ROM, 64 bytes\n\
 \x20 --table   512 numbers of 16 bits            --script  lines of frames and pads; may be empty\n\
 \x20 --spc     a sound file\n\
+\x20 The first line of a script may be version 2 or 3, and ntsc or pal; 3 is the second profile, nearer to a\n\
+\x20 console (docs/machine/PROFILES.md).\n\
 \x20 What stands in brackets may be left out: the free boot ROM, the free table, an empty script,\n\
 \x20 all voices, no fade, no tags.\n\
 \x20 ./scene FOLDER writes two free cartridges, a boot ROM, a table and an empty script.\n\

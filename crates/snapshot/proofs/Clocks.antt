@@ -5,6 +5,7 @@ use Rattle.std.proofs.Common.{◌≡◌, ℕ, ◌+◌, ◌-◌, ◌<◌, ◌≤�
 use Rattle.std.proofs.lemmas.Bool.{cases_lt}
 use Rattle.std.proofs.lemmas.Bool.Decides.{nat_tests}
 use Rattle.snes_defs.specs.declared.region.Region.{Region}
+use Rattle.snes_defs.specs.declared.profile.Profile.{Profile}
 use Rattle.snes_defs.specs.Script.{Script, pads_at, is_reset}
 use Rattle.beam.specs.declared.events.Event.{Event}
 use Rattle.beam.specs.declared.events.Event.TheVariants.{Line, Blank, HdmaFrame, Refresh, Draw, HdmaLine, Timer}
@@ -16,6 +17,7 @@ use Rattle.io_math.specs.Words.{with_words}
 use Rattle.cpu65816.specs.Instruction.{CpuState, signalled}
 use Rattle.ppu_regs.specs.Writes.{after_over}
 use Rattle.console_bus.specs.BusState.{BusState, next_frame}
+use Rattle.console_bus.specs.Profiles.{reading_noted}
 use Rattle.console_bus.specs.Happenings.{happened, emitted_at, frame_begun, blank_begun, row_drawn, row_bytes, row_over, shown_dot, is_shown}
 use Rattle.audio_side.specs.Clock.{reset_frames}
 use Rattle.console_steps.specs.ConsoleState.{ConsoleState, after_event, after_events, bytes_of_events, with_interrupt_levels}
@@ -149,9 +151,10 @@ events_clock w (e ∷ es) = events_clock (after_event w e) es
 
 -- ---- the two consoles
 
--- the scripts give the same pads up to a frame, and the same resets. In frame f the words may change, and t alone may
--- have a reset
+-- the scripts have the same profile. Up to a frame they give the same pads, and the same resets. In frame f the words may
+-- change, and t alone may have a reset
 pub record Agree (f : ℕ) (s t : Script) : Type 0 where
+  pub profile : t.profile ≡ s.profile
   pub pads : (n : ℕ) → n < f → pads_at t.spans n ≡ pads_at s.spans n
   pub change : IoRegisters → IoRegisters
   pub harmless : IsHarmless change
@@ -247,7 +250,10 @@ module _ (f : ℕ) (small : f < 65535) (s t : Script) (agree : Agree f s t) wher
   blank_put : (r : BusState) → r.script ≡ s → r.frame < f → blank_begun (put t (λ io. io) false r) ≡ put t (λ io. io) false (blank_begun r)
   unfolding blank_begun
   blank_put r is lt =
-      ap (λ p. record r { script = t; io = blanked r.io p.0 p.1; picture = (blank_begun r).picture }) (agree.pads r.frame lt ∙ ap (λ v. pads_at v.spans r.frame) (sym is))
+      let noted : Profile → IoRegisters = λ p. reading_noted p r.beam.v r.io in
+      ap (λ p. record r { script = t; io = blanked (noted t.profile) p.0 p.1; picture = (blank_begun r).picture }) (agree.pads r.frame lt ∙ ap (λ v. pads_at v.spans r.frame) (sym is))
+      ∙ ap (λ p. record r { script = t; io = blanked (noted p) (pads_at r.script.spans r.frame).0 (pads_at r.script.spans r.frame).1; picture = (blank_begun r).picture })
+      (agree.profile ∙ ap (λ v. v.profile) (sym is))
 
   blank_alike : (w x : ConsoleState) → (w.rest.frame < f) → w.rest.script ≡ s → Alike f s t agree w x → Alike f s t agree (after_event w Blank) (after_event x Blank)
   blank_alike w x lt is h = record {

@@ -268,28 +268,31 @@ module _ (own : Region) (f : ℕ) (small : f < 65535) (s t : Script) (agree : Ag
 
   -- ---- a whole step
 
-  processor_told : (p : CpuState) (r : BusState) (d : Due) (got : ℕ) → processor_after p (with_script t r) d got ≡ processor_after p r d got
-  processor_told p r Resets got = refl
-  processor_told p r Refreshes got = refl
-  processor_told p r (Moves_byte m) got = refl
-  processor_told p r (Accesses a) got = ap (λ b. moved_on p b) (byte_told t r a got)
+  of_profile : (r : BusState) → r.script ≡ s → t.profile ≡ r.script.profile
+  of_profile r is = agree.profile ∙ ap (λ v. v.profile) (sym is)
+
+  processor_told : (p : CpuState) (r : BusState) (d : Due) (got : ℕ) → r.script ≡ s → processor_after p (with_script t r) d got ≡ processor_after p r d got
+  processor_told p r Resets got is = refl
+  processor_told p r Refreshes got is = refl
+  processor_told p r (Moves_byte m) got is = refl
+  processor_told p r (Accesses a) got is = ap (λ b. moved_on p b) (byte_told t r a got (of_profile r is))
 
   pub effect_alike : (w : ConsoleState) (d : Due) (got : ℕ) → w.rest.script ≡ s → w.rest.frame < f → effect (console_put t (λ io. io) false w) d got ≡ console_put t (λ io. io) false (effect w d got)
   effect_alike w d got is early =
-      ap (λ p. record w { processor = with_interrupt_levels p (rest_after (with_script t w.rest) d got); rest = rest_after (with_script t w.rest) d got }) (processor_told w.processor w.rest d got)
+      ap (λ p. record w { processor = with_interrupt_levels p (rest_after (with_script t w.rest) d got); rest = rest_after (with_script t w.rest) d got }) (processor_told w.processor w.rest d got is)
       ∙ ap (λ q. record w { processor = with_interrupt_levels (processor_after w.processor w.rest d got) q; rest = q })
-      (effect_told t w.rest d got (agree.pads w.rest.frame early ∙ ap (λ v. pads_at v.spans w.rest.frame) (sym is)))
+      (effect_told t w.rest d got (of_profile w.rest is) (agree.pads w.rest.frame early ∙ ap (λ v. pads_at v.spans w.rest.frame) (sym is)))
 
-  act_told : (r : BusState) (d : Due) → act_of (with_script t r) d ≡ act_of r d
-  act_told r Resets = refl
-  act_told r Refreshes = refl
-  act_told r (Moves_byte (ToB from port)) = ap (λ v. write_at (BBus port) v) (taken_told t r from)
-  act_told r (Moves_byte (ToA port to)) = refl
-  act_told r (Moves_byte (Load from)) = refl
-  act_told r (Accesses a) = refl
+  act_told : (r : BusState) (d : Due) → r.script ≡ s → act_of (with_script t r) d ≡ act_of r d
+  act_told r Resets is = refl
+  act_told r Refreshes is = refl
+  act_told r (Moves_byte (ToB from port)) is = ap (λ v. write_at (BBus port) v) (taken_told t r from (of_profile r is))
+  act_told r (Moves_byte (ToA port to)) is = refl
+  act_told r (Moves_byte (Load from)) is = refl
+  act_told r (Accesses a) is = refl
 
-  pub step_act : (w : ConsoleState) → act_of (with_script t w.rest) (due_of (console_put t (λ io. io) false w)) ≡ act_of w.rest (due_of w)
-  step_act w = act_told w.rest (due_of w)
+  pub step_act : (w : ConsoleState) → w.rest.script ≡ s → act_of (with_script t w.rest) (due_of (console_put t (λ io. io) false w)) ≡ act_of w.rest (due_of w)
+  step_act w is = act_told w.rest (due_of w) is
 
   pub step_alike : (w : ConsoleState) (got : ℕ) → due_clocks (due_of w) w.rest.io.fast ≤ 40 → IsTimed own w → w.clock + 40 < frame_clocks own * 65535 → w.rest.script ≡ s → w.rest.frame < f
       → Alike f s t agree (console_after w (due_of w) got) (console_after (console_put t (λ io. io) false w) (due_of w) got)

@@ -3,6 +3,7 @@ use Rattle.std.proofs.Common.{◌≡◌, ℕ, ◌+◌, ◌*◌, ◌/◌, ◌%◌
 use Rattle.std.proofs.lemmas.List.{drop-set-lt}
 use Rattle.std.proofs.Math.Nat.{mod-lt}
 use Rattle.std.proofs.lemmas.Bool.Decides.{nat_tests}
+use Rattle.snes_defs.specs.declared.profile.Profile.{Profile}
 use Rattle.snes_defs.specs.declared.cart.MapKind.{MapKind}
 use Rattle.snes_defs.specs.declared.cart.MapKind.TheVariants.{LoRom, HiRom}
 use Rattle.snes_defs.specs.Script.{Script, pads_at}
@@ -18,11 +19,10 @@ use Rattle.dma_hdma.specs.Channel as channel
 use Rattle.dma_hdma.specs.Channels.{channel_at, channel_number, register_number, by_bits, after_byte}
 use Rattle.io_math.specs.Registers as io
 use Rattle.io_math.specs.Registers.{registers_start, framed}
-use Rattle.ppu_regs.specs.Reads as picture_reads
 use Rattle.ppu_regs.specs.Writes as picture_writes
 use Rattle.console_bus.specs.declared.cart_board.CartBoard.{CartBoard}
-use Rattle.console_bus.specs.BusState.{BusState, spot_of, with_io, channels_start}
-use Rattle.console_bus.specs.Places.{is_channel, register_byte, register_read, register_written, chip_byte, chip_read, chip_written, place_byte, place_read, place_written, a_side, place_at, taken_from, on_bus}
+use Rattle.console_bus.specs.BusState.{BusState, with_io, with_picture, channels_start}
+use Rattle.console_bus.specs.Places.{is_channel, register_byte, register_read, register_written, chip_byte, chip_read, chip_written, picture_after_read, picture_after_write, io_register_written, place_byte, place_read, place_written, a_side, place_at, taken_from, on_bus}
 use Rattle.console_bus.specs.Happenings.{was_reset}
 use Rattle.console_steps.specs.ConsoleState.{Due, Resets, Refreshes, Moves_byte, Accesses, rest_after, byte_of}
 
@@ -225,50 +225,57 @@ effect_keeps r Refreshes got = unmoved r _ refl refl refl refl refl refl
 effect_keeps r (Moves_byte m) got = move_keeps r m got
 effect_keeps r (Accesses a) got = access_keeps r a got
 
--- ---- an effect under another script
+-- ---- an effect under another script of the same profile
 
 abbrev pub with_script : Script → BusState → BusState
 with_script s r = record r { script = s }
 
-pick : (s : Script) (b : Bool) (x y x' y' : BusState) → x' ≡ with_script s x → y' ≡ with_script s y → (if b then x' else y') ≡ with_script s (if b then x else y)
+-- the other script, with the profile of this one
+abbrev in_profile_of : Script → BusState → Script
+in_profile_of s r = record s { profile = r.script.profile }
+
+abbrev told : Script → BusState → BusState
+told s r = with_script (in_profile_of s r) r
+
+pick : (s : Script) (b : Bool) (x y x' y' : BusState) → x' ≡ told s x → y' ≡ told s y → (if b then x' else y') ≡ told s (if b then x else y)
 pick s true x y x' y' e f = e
 pick s false x y x' y' e f = f
 
-read_register_told : (s : Script) (r : BusState) (n : ℕ) → register_read (with_script s r) n ≡ with_script s (register_read r n)
+read_register_told : (s : Script) (r : BusState) (n : ℕ) → register_read (told s r) n ≡ told s (register_read r n)
 unfolding register_read
 read_register_told s r n =
-    pick s (nat_lt n 0x40) (record r { picture = picture_reads.after_read r.picture n (spot_of r.beam) }) _ _ _ refl
+    pick s (nat_lt n 0x40) (with_picture r (picture_after_read r n)) _ _ _ refl
     (pick s (n == 0x80) (record r { port = (r.port + 1) % 0x20000 }) r _ _ refl refl)
 
-written_register_told : (s : Script) (r : BusState) (n v : ℕ) → register_written (with_script s r) n v ≡ with_script s (register_written r n v)
+written_register_told : (s : Script) (r : BusState) (n v : ℕ) → register_written (told s r) n v ≡ told s (register_written r n v)
 unfolding register_written
 written_register_told s r n v =
-    pick s (nat_lt n 0x40) (record r { picture = picture_writes.after_write r.picture n v }) _ _ _ refl
+    pick s (nat_lt n 0x40) (with_picture r (picture_after_write r n v)) _ _ _ refl
     (pick s (n == 0x80) (record r { memory = slice_set r.memory r.port v; port = (r.port + 1) % 0x20000 }) _ _ _ refl
     (pick s (n == 0x81) (record r { port = r.port / 0x100 * 0x100 + v % 0x100 }) _ _ _ refl
     (pick s (n == 0x82) (record r { port = r.port / 0x10000 * 0x10000 + 0x100 * (v % 0x100) + r.port % 0x100 }) _ _ _ refl
     (pick s (n == 0x83) (record r { port = 0x10000 * (v % 2) + r.port % 0x10000 }) r _ _ refl refl))))
 
-read_chip_told : (s : Script) (r : BusState) (n : ℕ) → chip_read (with_script s r) n ≡ with_script s (chip_read r n)
+read_chip_told : (s : Script) (r : BusState) (n : ℕ) → chip_read (told s r) n ≡ told s (chip_read r n)
 unfolding chip_read
 read_chip_told s r n = pick s (is_channel n) r (record r { io = io.after_read r.io n }) _ _ refl refl
 
-written_chip_told : (s : Script) (r : BusState) (n v : ℕ) → chip_written (with_script s r) n v ≡ with_script s (chip_written r n v)
+written_chip_told : (s : Script) (r : BusState) (n v : ℕ) → chip_written (told s r) n v ≡ told s (chip_written r n v)
 unfolding chip_written
 written_chip_told s r n v =
     pick s (is_channel n) (record r { channels = slice_set r.channels (channel_number n) (channel.written (channel_at r.channels (channel_number n)) (register_number n) v) }) _ _ _ refl
     (pick s (n == 0x420b) (record r { channels = by_bits channel.started r.channels v }) _ _ _ refl
-    (pick s (n == 0x420c) (record r { channels = by_bits channel.enabled_as r.channels v }) (with_io r (io.written r.io n v)) _ _ refl refl))
+    (pick s (n == 0x420c) (record r { channels = by_bits channel.enabled_as r.channels v }) (io_register_written r n v) _ _ refl refl))
 
-register_byte_told : (s : Script) (r : BusState) (n got : ℕ) → register_byte (with_script s r) n got ≡ register_byte r n got
+register_byte_told : (s : Script) (r : BusState) (n got : ℕ) → register_byte (told s r) n got ≡ register_byte r n got
 unfolding register_byte
 register_byte_told s r n got = refl
 
-chip_byte_told : (s : Script) (r : BusState) (n : ℕ) → chip_byte (with_script s r) n ≡ chip_byte r n
+chip_byte_told : (s : Script) (r : BusState) (n : ℕ) → chip_byte (told s r) n ≡ chip_byte r n
 unfolding chip_byte
 chip_byte_told s r n = refl
 
-place_byte_told : (s : Script) (r : BusState) (p : Place) (got : ℕ) → place_byte (with_script s r) p got ≡ place_byte r p got
+place_byte_told : (s : Script) (r : BusState) (p : Place) (got : ℕ) → place_byte (told s r) p got ≡ place_byte r p got
 place_byte_told s r (Wram i) got = refl
 place_byte_told s r (Ram i) got = refl
 place_byte_told s r (Rom i) got = refl
@@ -276,7 +283,7 @@ place_byte_told s r (BBus n) got = register_byte_told s r n got
 place_byte_told s r (Cpu n) got = chip_byte_told s r n
 place_byte_told s r Open got = refl
 
-place_read_told : (s : Script) (r : BusState) (p : Place) → place_read (with_script s r) p ≡ with_script s (place_read r p)
+place_read_told : (s : Script) (r : BusState) (p : Place) → place_read (told s r) p ≡ told s (place_read r p)
 place_read_told s r (Wram i) = refl
 place_read_told s r (Ram i) = refl
 place_read_told s r (Rom i) = refl
@@ -284,7 +291,7 @@ place_read_told s r (BBus n) = read_register_told s r n
 place_read_told s r (Cpu n) = read_chip_told s r n
 place_read_told s r Open = refl
 
-place_written_told : (s : Script) (r : BusState) (p : Place) (v : ℕ) → place_written (with_script s r) p v ≡ with_script s (place_written r p v)
+place_written_told : (s : Script) (r : BusState) (p : Place) (v : ℕ) → place_written (told s r) p v ≡ told s (place_written r p v)
 place_written_told s r (Wram i) v = refl
 place_written_told s r (Ram i) v = refl
 place_written_told s r (Rom i) v = refl
@@ -292,8 +299,8 @@ place_written_told s r (BBus n) v = written_register_told s r n v
 place_written_told s r (Cpu n) v = written_chip_told s r n v
 place_written_told s r Open v = refl
 
-pub taken_told : (s : Script) (r : BusState) (addr : ℕ) → taken_from (with_script s r) addr ≡ taken_from r addr
-taken_told s r addr = place_byte_told s r (a_side (place_at r.board addr)) 0
+taken_as : (s : Script) (r : BusState) (addr : ℕ) → taken_from (told s r) addr ≡ taken_from r addr
+taken_as s r addr = place_byte_told s r (a_side (place_at r.board addr)) 0
 
 abbrev by_bus : BusState → ℕ → BusState
 by_bus q byte = on_bus q byte
@@ -301,42 +308,60 @@ by_bus q byte = on_bus q byte
 abbrev by_channels : BusState → ℕ → BusState
 by_channels q byte = record q { channels = after_byte q.channels byte }
 
-move_told : (s : Script) (r : BusState) (m : Move) (got : ℕ) → rest_after (with_script s r) (Moves_byte m) got ≡ with_script s (rest_after r (Moves_byte m) got)
+move_told : (s : Script) (r : BusState) (m : Move) (got : ℕ) → rest_after (told s r) (Moves_byte m) got ≡ told s (rest_after r (Moves_byte m) got)
 move_told s r (ToB from port) got =
-    ap (λ b. by_channels (register_written (on_bus (with_script s r) b) port b) b) (taken_told s r from)
+    ap (λ b. by_channels (register_written (on_bus (told s r) b) port b) b) (taken_as s r from)
     ∙ ap (λ q. by_channels q (taken_from r from)) (written_register_told s (on_bus r (taken_from r from)) port (taken_from r from))
 move_told s r (ToA port to) got =
     let byte = register_byte r port got in
     let read = on_bus (register_read r port) byte in
-    ap (λ b. by_channels (place_written (on_bus (register_read (with_script s r) port) b) (a_side (place_at (register_read (with_script s r) port).board to)) b) b) (register_byte_told s r port got)
+    ap (λ b. by_channels (place_written (on_bus (register_read (told s r) port) b) (a_side (place_at (register_read (told s r) port).board to)) b) b) (register_byte_told s r port got)
     ∙ ap (λ q. by_channels (place_written (on_bus q byte) (a_side (place_at q.board to)) byte) byte) (read_register_told s r port)
     ∙ ap (λ q. by_channels q byte) (place_written_told s read (a_side (place_at read.board to)) byte)
-move_told s r (Load from) got = ap (λ b. by_channels (on_bus (with_script s r) b) b) (taken_told s r from)
+move_told s r (Load from) got = ap (λ b. by_channels (on_bus (told s r) b) b) (taken_as s r from)
 
-access_told : (s : Script) (r : BusState) (a : Access) (got : ℕ) → rest_after (with_script s r) (Accesses a) got ≡ with_script s (rest_after r (Accesses a) got)
+access_told : (s : Script) (r : BusState) (a : Access) (got : ℕ) → rest_after (told s r) (Accesses a) got ≡ told s (rest_after r (Accesses a) got)
 access_told s r (Fetch addr) got =
     let p = place_at r.board addr in
-    ap (λ b. on_bus (place_read (with_script s r) p) b) (place_byte_told s r p got) ∙ ap (λ q. on_bus q (place_byte r p got)) (place_read_told s r p)
+    ap (λ b. on_bus (place_read (told s r) p) b) (place_byte_told s r p got) ∙ ap (λ q. on_bus q (place_byte r p got)) (place_read_told s r p)
 access_told s r (Read addr) got =
     let p = place_at r.board addr in
-    ap (λ b. on_bus (place_read (with_script s r) p) b) (place_byte_told s r p got) ∙ ap (λ q. on_bus q (place_byte r p got)) (place_read_told s r p)
+    ap (λ b. on_bus (place_read (told s r) p) b) (place_byte_told s r p got) ∙ ap (λ q. on_bus q (place_byte r p got)) (place_read_told s r p)
 access_told s r (Write addr v) got = ap (λ q. on_bus q v) (place_written_told s r (place_at r.board addr) v)
 access_told s r Inner got = refl
 
 -- a reset takes the pads of the frame
-reset_told : (s : Script) (r : BusState) → pads_at s.spans r.frame ≡ pads_at r.script.spans r.frame → was_reset (with_script s r) ≡ with_script s (was_reset r)
+reset_told : (s : Script) (r : BusState) → pads_at s.spans r.frame ≡ pads_at r.script.spans r.frame → was_reset (told s r) ≡ told s (was_reset r)
 unfolding was_reset
-reset_told s r same = ap (λ p. with_script s (with_io (record r { channels = channels_start; picture = picture_writes.after_write r.picture 0 0x80; last = 0; reset = false }) (framed registers_start p.0 p.1))) same
+reset_told s r same = ap (λ p. told s (with_io (record r { channels = channels_start; picture = picture_writes.after_write r.picture 0 0x80; last = 0; reset = false }) (framed registers_start p.0 p.1))) same
 
-pub effect_told : (s : Script) (r : BusState) (d : Due) (got : ℕ) → pads_at s.spans r.frame ≡ pads_at r.script.spans r.frame
+effect_as : (s : Script) (r : BusState) (d : Due) (got : ℕ) → pads_at s.spans r.frame ≡ pads_at r.script.spans r.frame
+    → rest_after (told s r) d got ≡ told s (rest_after r d got)
+effect_as s r Resets got same = reset_told s r same
+effect_as s r Refreshes got same = refl
+effect_as s r (Moves_byte m) got same = move_told s r m got
+effect_as s r (Accesses a) got same = access_told s r a got
+
+byte_as : (s : Script) (r : BusState) (a : Access) (got : ℕ) → byte_of (told s r) a got ≡ byte_of r a got
+byte_as s r (Fetch addr) got = place_byte_told s r (place_at r.board addr) got
+byte_as s r (Read addr) got = place_byte_told s r (place_at r.board addr) got
+byte_as s r (Write addr v) got = refl
+byte_as s r Inner got = refl
+
+-- the other script is the same with the profile of this one
+same_profile : (s : Script) (r : BusState) → s.profile ≡ r.script.profile → s ≡ in_profile_of s r
+same_profile s r profile = ap (λ (p : Profile). record s { profile = p }) profile
+
+pub taken_told : (s : Script) (r : BusState) (addr : ℕ) → s.profile ≡ r.script.profile → taken_from (with_script s r) addr ≡ taken_from r addr
+taken_told s r addr profile = ap (λ v. taken_from (with_script v r) addr) (same_profile s r profile) ∙ taken_as s r addr
+
+pub effect_told : (s : Script) (r : BusState) (d : Due) (got : ℕ) → s.profile ≡ r.script.profile → pads_at s.spans r.frame ≡ pads_at r.script.spans r.frame
     → rest_after (with_script s r) d got ≡ with_script s (rest_after r d got)
-effect_told s r Resets got same = reset_told s r same
-effect_told s r Refreshes got same = refl
-effect_told s r (Moves_byte m) got same = move_told s r m got
-effect_told s r (Accesses a) got same = access_told s r a got
+effect_told s r d got profile same =
+    let q = rest_after r d got in
+    ap (λ v. rest_after (with_script v r) d got) (same_profile s r profile)
+    ∙ effect_as s r d got same
+    ∙ ap (λ v. with_script v q) (sym (same_profile s q (profile ∙ ap (λ (v : Script). v.profile) (sym (effect_keeps r d got).script))))
 
-pub byte_told : (s : Script) (r : BusState) (a : Access) (got : ℕ) → byte_of (with_script s r) a got ≡ byte_of r a got
-byte_told s r (Fetch addr) got = place_byte_told s r (place_at r.board addr) got
-byte_told s r (Read addr) got = place_byte_told s r (place_at r.board addr) got
-byte_told s r (Write addr v) got = refl
-byte_told s r Inner got = refl
+pub byte_told : (s : Script) (r : BusState) (a : Access) (got : ℕ) → s.profile ≡ r.script.profile → byte_of (with_script s r) a got ≡ byte_of r a got
+byte_told s r a got profile = ap (λ v. byte_of (with_script v r) a got) (same_profile s r profile) ∙ byte_as s r a got

@@ -3,6 +3,7 @@ use Rattle.std.proofs.Common.{◌≡◌, ℕ, zero, suc, ◌≤◌, Bool, true, 
 use Rattle.snes_defs.specs.declared.cart.Cart.{Cart}
 use Rattle.snes_defs.specs.declared.cart.Job.{Job}
 use Rattle.snes_defs.specs.declared.region.Region.{Region}
+use Rattle.snes_defs.specs.declared.profile.Profile.TheVariants.{First}
 use Rattle.snes_defs.specs.Script.{frames_of}
 use Rattle.side_law.specs.Serial.{SerialState, serial_of, is_console_first, console_step, sound_step, turn, console_emits, sound_emits}
 use Rattle.side_law.specs.SerialRun.{after_turns, console_output, sound_output, IsPast, IsOutput}
@@ -18,6 +19,7 @@ use Rattle.snapshot.proofs.Runs.{SameRun, same_runs, alike_stamp, starts_own}
 
 rooms_agree : (region : Region) (n m : ℕ) (path : Path) → Agree (frames_of path.spans) (path_script region n path) (path_script region m path)
 rooms_agree region n m path = record {
+  profile = refl;
   pads = λ k lt. refl;
   change = λ io. io;
   harmless = nothing_harmless;
@@ -117,6 +119,6 @@ module _ (k : ℕ) where
 
 -- WHAT A PATH EMITS is the output of its job, whose sound side has no room for more resets than it has
 pub path_is_output : (job : Job) (n : ℕ) (path : Path) (video audio : List ℕ) → PathEmits job n path video audio
-    → IsOutput console_moves sound_moves (serial_of (console_of_path job.region job.cart n path) (sound_start job.region path.resets job.boot job.table)) (end_of_path job.region path) video audio
+    → IsOutput console_moves sound_moves (serial_of (console_of_path job.region job.cart n path) (sound_start job.region First path.resets job.boot job.table)) (end_of_path job.region path) video audio
 path_is_output job n path video audio h =
-    output_roomy n (serial_of (console_of_path job.region job.cart n path) (sound_start job.region path.resets job.boot job.table)) (end_of_path job.region path) video audio h
+    output_roomy n (serial_of (console_of_path job.region job.cart n path) (sound_start job.region First path.resets job.boot job.table)) (end_of_path job.region path) video audio h

@@ -7,6 +7,8 @@ use Rattle.std.proofs.lemmas.Bool.Decides.{nat_tests}
 use Rattle.snes_defs.specs.declared.ports.Act.{Act}
 use Rattle.snes_defs.specs.declared.ports.Side.TheVariants.{Console}
 use Rattle.snes_defs.specs.declared.region.Region.{Region}
+use Rattle.snes_defs.specs.declared.profile.Profile.{Profile}
+use Rattle.snes_defs.specs.declared.profile.Profile.TheVariants.{First}
 use Rattle.clock_ratio.specs.Stamp.{rate_of, end_stamp_of}
 use Rattle.snes_defs.specs.declared.cart.Job.{Job}
 use Rattle.snes_defs.specs.declared.script.Span.{Span}
@@ -138,7 +140,7 @@ module _ (region : Region) (f : ℕ) (small : f ≤ 36000) (s t : Script) (agree
         to_sound = outgoing_after x a.to_sound;
         to_console = incoming_after x a.to_console;
       } in
-      let so : console_step console_moves sound_moves (record a { console = c; sound = sound_put t a.sound }) ≡ step act = ap step (step_act region f fewer s t agree a.console) in (
+      let so : console_step console_moves sound_moves (record a { console = c; sound = sound_put t a.sound }) ≡ step act = ap step (step_act region f fewer s t agree a.console is) in (
         subst (λ y. SameRun (console_step console_moves sound_moves a) y) (sym so) (record { console = all.0; else_same = refl }),
         all.1,
       )
@@ -169,7 +171,7 @@ module _ (region : Region) (f : ℕ) (small : f ≤ 36000) (s t : Script) (agree
       let c = console_put t (λ io. io) false a.console in
       let b : SerialState ConsoleState SoundState = record a { console = c; sound = sound_put t a.sound } in
       let all = console_case a timed is early lt in
-      let act = step_act region f fewer s t agree a.console in
+      let act = step_act region f fewer s t agree a.console is in
       record {
         after = subst (λ x. SameRun x (turn console_moves sound_moves b)) (sym (turn_console console_moves sound_moves a e))
             (subst (λ y. SameRun (console_step console_moves sound_moves a) y) (sym (turn_console console_moves sound_moves b e)) all.0);
@@ -274,6 +276,7 @@ goes_agree region n path span =
     let f = frames_of path.spans in
     let t = path_script region n (longer path span) in
     record {
+      profile = refl;
       pads = pads_before path.spans span;
       change = words_of t f;
       harmless = words_harmless (pads_at t.spans f).0 (pads_at t.spans f).1;
@@ -290,6 +293,7 @@ pub resets_agree : (region : Region) (n : ℕ) (path : Path) → reset_frames (p
 resets_agree region n path more =
     let f = frames_of path.spans in
     record {
+      profile = refl;
       pads = λ k lt. refl;
       change = λ io. io;
       harmless = nothing_harmless;
@@ -313,16 +317,16 @@ rom_at_start : (ram : ℕ) (rom : List ℕ) → drop (131072 + ram) (memory_star
 unfolding memory_start
 rom_at_start ram rom = replicate_dropped (131072 + ram) rom
 
-board_roms : (boot table : List ℕ) → ((hardware_at_start boot table).boot ≡ boot) × ((hardware_at_start boot table).table ≡ table_of table)
+board_roms : (profile : Profile) (boot table : List ℕ) → ((hardware_at_start profile boot table).boot ≡ boot) × ((hardware_at_start profile boot table).table ≡ table_of table)
 unfolding hardware_at_start
-board_roms boot table = (refl, refl)
+board_roms profile boot table = (refl, refl)
 
 pub starts_own : (job : Job) (n : ℕ) (path : Path) → own_at job n path (start_of job n path)
 starts_own job n path = record {
   own = record { board_is = refl; script_is = refl; rom_is = rom_at_start job.cart.ram job.cart.rom; port = lit< tt };
   timed = record { region = refl; clock = omega arith; line = some_lines job.region; dot = lit< tt };
-  boot_is = (board_roms job.boot job.table).0;
-  table_is = (board_roms job.boot job.table).1;
+  boot_is = (board_roms First job.boot job.table).0;
+  table_is = (board_roms First job.boot job.table).1;
   resets_are = refl;
   room_is = refl;
   sound_region = refl;

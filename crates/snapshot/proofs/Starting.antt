@@ -1,6 +1,7 @@
 -- The machines of a job at its start are those of the empty path.
 use Rattle.std.proofs.Common.{◌≡◌, ℕ, ◌+◌, List, [], ◌∷◌, length, max, refl, ap, ◌∙◌, subst, arith}
 use Rattle.snes_defs.specs.declared.cart.Job.{Job}
+use Rattle.snes_defs.specs.declared.profile.Profile.TheVariants.{First}
 use Rattle.snes_defs.specs.Script.{Script}
 use Rattle.side_law.specs.Serial.{serial_of}
 use Rattle.side_law.proofs.SerialRuns.{run_begins}
@@ -23,7 +24,7 @@ pub first_done : (job : Job) (spans : ℕ) (s : Joined ConsoleValue AudioValue) 
     → job.script ≡ path_script job.region job.script.room empty_path
     → console_side.StandsAt old (console_start job.cart job.script job.region)
     → ((w : ConsoleState) → console_side.StandsAt old w → console_side.StandsAt new (console_with_room w (max old.rest.script.room (length old.rest.script.spans + spans))))
-    → sound_side.StandsAt sound (sound_start job.region job.script.resets job.boot job.table)
+    → sound_side.StandsAt sound (sound_start job.region job.script.profile job.script.resets job.boot job.table)
     → ((m : SoundState) → sound_side.StandsAt sound m → sound_side.StandsAt sound_new (sound_with_room m (max sound.clock.room (max job.script.room spans))))
     → ((c : ConsoleState) (m : SoundState) → console_side.StandsAt new c → sound_side.StandsAt sound_new m → IsAt console_side.StandsAt sound_side.StandsAt s (serial_of c m))
     → s.console.waiting ≡ [] → s.sound.waiting ≡ []
@@ -38,9 +39,9 @@ first_done job spans s old new sound sound_new script starts roomy sounds sound_
     let console = subst (λ w. console_side.StandsAt new w) (console_state job.script script)
     (subst (λ m. console_side.StandsAt new (console_with_room (console_start job.cart job.script job.region) m)) room (roomy (console_start job.cart job.script job.region) starts)) in
     let no_room : max sound.clock.room n ≡ n = (let none = ap (λ (c : Clock). c.room) sounds.clock in omega (arith, none)) in
-    let there = subst (λ k. sound_side.StandsAt sound_new (sound_with_room (sound_start job.region [] job.boot job.table) k)) no_room
-    (subst (λ m. sound_side.StandsAt sound_new (sound_with_room m (max sound.clock.room n))) (ap (λ (v : Script). sound_start job.region v.resets job.boot job.table) script)
-    (sound_roomy (sound_start job.region job.script.resets job.boot job.table) sounds)) in
+    let there = subst (λ k. sound_side.StandsAt sound_new (sound_with_room (sound_start job.region First [] job.boot job.table) k)) no_room
+    (subst (λ m. sound_side.StandsAt sound_new (sound_with_room m (max sound.clock.room n))) (ap (λ (v : Script). sound_start job.region v.profile v.resets job.boot job.table) script)
+    (sound_roomy (sound_start job.region job.script.profile job.script.resets job.boot job.table) sounds)) in
     record {
       at = start_of job n empty_path;
       stands = joins (console_of_path job.region job.cart n empty_path) (sound_of_path job.region n [] job.boot job.table) console there;

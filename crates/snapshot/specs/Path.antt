@@ -1,8 +1,9 @@
--- The serial run of a path's job, which is played in the region of the job.
+-- The serial run of a path's job, which is played in the region of the job and by the first profile.
 use Rattle.std.specs.Prelude.{ℕ, List}
 use Rattle.snes_defs.specs.declared.cart.Job.{Job}
 use Rattle.snes_defs.specs.declared.cart.Cart.{Cart}
 use Rattle.snes_defs.specs.declared.region.Region.{Region}
+use Rattle.snes_defs.specs.declared.profile.Profile.TheVariants.{First}
 use Rattle.snes_defs.specs.Script.{frames_of}
 use Rattle.clock_ratio.specs.Stamp.{end_stamp_of}
 use Rattle.side_law.specs.Serial.{SerialState, serial_of}
@@ -17,7 +18,7 @@ abbrev pub console_of_path : Region → Cart → ℕ → Path → ConsoleState
 console_of_path region cart n path = console_start cart (path_script region n path) region
 
 abbrev pub sound_of_path : Region → ℕ → List ℕ → List ℕ → List ℕ → SoundState
-sound_of_path region n resets boot table = sound_with_room (sound_start region resets boot table) n
+sound_of_path region n resets boot table = sound_with_room (sound_start region First resets boot table) n
 
 abbrev pub start_of : Job → ℕ → Path → SerialState ConsoleState SoundState
 start_of job n path =

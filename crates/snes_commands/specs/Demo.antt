@@ -2,6 +2,7 @@
 use Rattle.std.specs.Prelude.{◌≡◌, ℕ, ◌*◌, ◌%◌, ◌^◌, ◌<◌, true, List, [], length, sum, slice_index, Option, Some}
 use Rattle.snes_defs.specs.declared.cart.Job.{Job}
 use Rattle.snes_defs.specs.declared.region.Region.TheVariants.{Ntsc}
+use Rattle.snes_defs.specs.declared.profile.Profile.TheVariants.{First}
 use Rattle.clock_ratio.specs.Stamp.{end_stamp_of, samples_before_of}
 use Rattle.demo_files.specs.Demo.{demo_boot}
 use Rattle.shelf.specs.declared.shelves.Input.{Input}
@@ -18,7 +19,7 @@ abbrev pub demo_form : FormValue
 demo_form = record { numbered = true; inputs = []; optional = []; count = Some Frames; settings = []; outputs = [] }
 
 -- the job of a demo: the cartridge that is read of the image of a number, the demo's boot ROM, a table
--- whose entry i is 2 i, and the empty script, in Ntsc
+-- whose entry i is 2 i, and the empty script, in Ntsc and of the first profile
 pub record IsDemoJob (number frames : ℕ) (job : Job) : Type 0 where
   pub image : List ℕ
   pub of_number : IsImage number image
@@ -26,7 +27,7 @@ pub record IsDemoJob (number frames : ℕ) (job : Job) : Type 0 where
   pub boot : job.boot ≡ demo_boot
   pub table_size : length job.table ≡ 512
   pub table : (i : ℕ) → i < 512 → slice_index job.table i ≡ 2 * i
-  pub script : job.script ≡ record { region = Ntsc; spans = []; resets = []; room = 0 }
+  pub script : job.script ≡ record { region = Ntsc; profile = First; spans = []; resets = []; room = 0 }
   pub frames_are : job.frames ≡ frames
   pub region : job.region ≡ Ntsc
 

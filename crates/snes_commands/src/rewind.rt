@@ -20,7 +20,7 @@ use port_wire::Gate;
 use run_drive::out_of;
 use run_io::{Asked, Form, Line, frames_line};
 use shelf::{Input, Out, Shelf};
-use snes_defs::{Job, NoMemory, Side, Spans};
+use snes_defs::{Job, NoMemory, Profile, Side, Spans};
 use std::alloc::Global;
 use std::marker::PhantomData;
 use std::thread::Threads;
@@ -55,7 +55,8 @@ impl<P: PlanPlayer> Rewind<P> {
     }
 }
 
-/// Returns the machines that the inputs make, as a job without a script in the region of the plan, and the plan.
+/// Returns the machines that the inputs make, as a job without a script in the region of the plan, and the plan. A plan is
+/// played by the first profile.
 fn machines_of(alloc: Global, files: <PlanFiles as Loads>::Value) -> (Job, Plan)
     ensures script { result.0.script ≡ path_script result.0.region 0 empty_path }
     ensures region { result.0.region ≡ result.1.region }
@@ -67,7 +68,7 @@ fn machines_of(alloc: Global, files: <PlanFiles as Loads>::Value) -> (Job, Plan)
         cart,
         boot,
         table,
-        script: Spans::versioned(Vec::new(alloc), region, Vec::new(alloc)),
+        script: Spans::versioned(Vec::new(alloc), region, Profile::First, Vec::new(alloc)),
         frames: 0,
         region,
     };

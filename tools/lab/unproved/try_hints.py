@@ -5,7 +5,7 @@
 
 MODULE.ll is what `MODULE=FILE tools/lab/unproved/build.sh OUT` left. A JOB is a folder with cart.sfc, boot.bin, table.bin and
 script.txt. A CHANGE is FUNCTION=HINT, or several joined by commas that are tried together: a function by its name in the
-module, as console_machine::many_steps::make_accesses, and a hint that is always, never, hint (a plain #[inline]) or none.
+module, as console_machine::many_steps::make_all, and a hint that is always, never, hint (a plain #[inline]) or none.
 
 A line has the million instructions a frame of `serial` for each job, by callgrind's difference of 25 frames and 5, and the
 change; the first line is of the sources as they stand. A try takes a minute or so.

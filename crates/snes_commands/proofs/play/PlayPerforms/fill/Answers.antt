@@ -28,3 +28,6 @@ returns-clause-first g c =
 
 pub returns-in-Ok-clause-only : goal.returns-in-Ok-clause-only
 returns-in-Ok-clause-only g c = play_only (g.H.Shelf.shown c.args.shelf.now) (g.H.Shelf.shown c.play_asked.new.shelf) c.play_asked.ensures.only
+
+pub returns-clause-only : goal.returns-clause-only
+returns-clause-only g c = play_only (g.H.Shelf.shown c.args.shelf.now) (g.H.Shelf.shown c.play_asked.new.shelf) c.play_asked.ensures.only
