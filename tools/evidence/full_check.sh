@@ -183,7 +183,7 @@ plans() {
 edges() {
   local fault name programs=()
   for name in snes_run frame_look scene_cart snes_trace; do programs+=("$top/crates/$name/out/$name"); done
-  local scripts=("$top"/tools/evidence/edges/*.py "$top"/{snes,look,scene,trace,docs/use/CHECKING.md} "$top"/tools/{run_built.sh,built_from.sh,with_progress.sh,lines_below.sh,many_runs.sh,many_runs.sbatch})
+  local scripts=("$top"/tools/evidence/edges/*.py "$top"/{snes,look,scene,trace,docs/use/CHECKING.md} "$top"/tools/{run_built.sh,built_from.sh,gate_over_copy.sh,with_progress.sh,lines_below.sh,many_runs.sh,many_runs.sbatch})
   item cases "$(sum_of "$snes" "${programs[@]}" "${scripts[@]}" "$top/tools/evidence/try_edges.py")" "$top/tools/evidence/try_edges.py" --snes "$snes"
   item hostile "$(sum_of "$snes" "$top"/tools/evidence/edges/{oracle,lab}.py "$top/tools/evidence/try_hostile.py")" "$top/tools/evidence/try_hostile.py" --snes "$snes"
   for fault in "$top"/tools/evidence/edges/*.edit; do

@@ -30,6 +30,7 @@ class Stage:
         os.makedirs(room.path("programs"))
         os.makedirs(f"{self.top}/tools/package")
         for file in ("snes", "look", "scene", "trace", "CHANGELOG.md", "HANDLES", "tools/run_built.sh", "tools/built_from.sh",
+                     "tools/gate_over_copy.sh",
                      "tools/lines_below.sh", "tools/with_progress.sh", "tools/many_runs.sh",
                      "tools/many_runs.sbatch"):
             shutil.copy(f"{lab.TREE}/{file}", f"{self.top}/{file}")
