@@ -8,7 +8,7 @@ many of the 114,688 half-pixels of the 224 rows differ: between the core, both p
 that idiom_pictures.py draws by the rules of each profile. Then come the lengths of the sounds of oneshot.sfc.
 
 With --write the rows of crates/idiom_rows are written: for the second profile with the sums of the core's frames, for
-the first with those of the drawn pictures. The status is 1 if one of these differs: the core's frame or that of the
+the first with those of the drawn pictures. It needs numpy. The status is 1 if one of these differs: the core's frame or that of the
 second profile from the drawn one, the first profile's from its drawn one.
 """
 import argparse
