@@ -6,3 +6,4 @@ pub mod Pages
 pub mod Zeros
 pub mod Starts
 mod Copies
+mod Stretches

@@ -40,6 +40,10 @@ pub record IsMemoryAt (board : CartBoard) (fast : Bool) (addr at clocks : ℕ) :
   pub lies : IsInside board.rom board.ram (place_at board addr)
   pub inside : at < 131072 + board.ram + board.rom
 
+-- from an address on lie the bytes of the memory from this one on, at the same clocks, as far as its page of 8 KiB goes
+pub record IsStretch (board : CartBoard) (fast : Bool) (addr at clocks : ℕ) : Type 0 where
+  pub bytes : (k : ℕ) → addr % 8192 + k < 8192 → IsMemoryAt board fast (addr + k) (at + k) clocks
+
 -- the map as contracts see it: the cartridge's board, and whether ROM is fast
 pub record MapState : Type 0 where
   pub board : CartBoard

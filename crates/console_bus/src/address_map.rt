@@ -1,8 +1,8 @@
 // The address map as pages of 8 KiB, made once for each speed of ROM: the byte of the memory at an address, and an
 // access's clocks.
-ghost use Rattle.std.specs.Prelude.{◌≡◌, ℕ, ◌<◌, ◌≤◌, ◌+◌, ◌*◌, ◌^◌, Bool, false, IfOk, IfSome, length};
+ghost use Rattle.std.specs.Prelude.{◌≡◌, ℕ, ◌<◌, ◌≤◌, ◌+◌, ◌/◌, ◌^◌, Bool, false, IfOk, IfSome, length};
 ghost use Rattle.console_bus.specs.declared.cart_board.CartBoard.{CartBoard};
-ghost use Rattle.console_bus.specs.Memory.{index_of, IsWhole, IsMemoryAt, IsPageOf, ArePages};
+ghost use Rattle.console_bus.specs.Memory.{index_of, IsWhole, IsMemoryAt, IsStretch, IsPageOf, ArePages};
 
 use crate::bus::WORK_RAM;
 use crate::cart_board::CartBoard;
@@ -90,6 +90,20 @@ impl AddressMap {
         self.first = if fast { PAGES } else { 0 };
     }
 
+    /// Returns the access to the memory at an address. The addresses after it in its page of 8 KiB have the bytes after
+    /// that one, at the same clocks. None if the page isn't memory, or an access takes `limit` clocks or more.
+    #[inline(always)]
+    fn stretch_within(&self, addr: u32, limit: u16) -> Option<MemoryAccess>
+        requires addr { addr < 2 ^ 24 }
+        requires limit { limit ≤ 2000 }
+        ensures stretch { IfSome result
+            (λ access. IsStretch self.now.board self.now.fast addr access.at access.clocks) }
+        ensures within { IfSome result (λ access. access.clocks < limit) }
+    {
+        let page = self.pages[(self.first + addr / PAGE) as usize];
+        access(page, addr, limit)
+    }
+
     /// Returns the access to the memory at an address. None if the page of the address isn't memory, or an access
     /// takes `limit` clocks or more.
     #[inline(always)]
@@ -100,8 +114,17 @@ impl AddressMap {
             (λ access. IsMemoryAt self.now.board self.now.fast addr access.at access.clocks) }
         ensures within { IfSome result (λ access. access.clocks < limit) }
     {
-        let page = self.pages[(self.first + addr / PAGE) as usize];
-        access(page, addr % PAGE, limit)
+        self.stretch_within(addr, limit)
+    }
+
+    /// Returns the access to the memory at an address, and so those after it in its page. None if the page isn't
+    /// memory.
+    #[inline(always)]
+    pub(crate) fn stretch_at(&self, addr: u32) -> Option<MemoryAccess>
+        requires { addr < 2 ^ 24 }
+        ensures { IfSome result (λ access. IsStretch self.now.board self.now.fast addr access.at access.clocks) }
+    {
+        self.stretch_within(addr, NO_MEMORY)
     }
 
     /// Returns the access to the memory at an address. None if the page of the address isn't memory.
@@ -114,13 +137,13 @@ impl AddressMap {
     }
 }
 
-/// Returns the access `offset` addresses after a page's first. None if it takes `limit` clocks or more.
+/// Returns the access at an address of a page. None if it takes `limit` clocks or more.
 #[inline(always)]
-fn access(page: Page, offset: u32, limit: u16) -> Option<MemoryAccess>
-    requires offset { offset < 8192 }
+fn access(page: Page, addr: u32, limit: u16) -> Option<MemoryAccess>
+    requires addr { addr < 2 ^ 24 }
     requires limit { limit ≤ 2000 }
-    ensures memory { (board : CartBoard) (fast : Bool) (number : ℕ) → IsPageOf board fast number page
-        → IfSome result (λ access. IsMemoryAt board fast (8192 * number + offset) access.at access.clocks) }
+    ensures stretch { (board : CartBoard) (fast : Bool) → IsPageOf board fast (addr / 8192) page
+        → IfSome result (λ access. IsStretch board fast addr access.at access.clocks) }
     ensures within { IfSome result (λ access. access.clocks < limit) }
 {
     let clocks = page.clocks;
@@ -128,7 +151,7 @@ fn access(page: Page, offset: u32, limit: u16) -> Option<MemoryAccess>
         return None;
     }
     Some(MemoryAccess {
-        at: page.at as usize + offset as usize,
+        at: page.at as usize + (addr % PAGE) as usize,
         clocks,
     })
 }

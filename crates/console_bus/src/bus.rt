@@ -4,7 +4,7 @@ ghost use Rattle.snes_defs.specs.declared.cart.Cart.{Cart};
 ghost use Rattle.beam.specs.Places.{clocks_left};
 ghost use Rattle.cart_map.specs.Place.{IsInside};
 ghost use Rattle.console_bus.specs.BusState.{BusState, bus_start, with_pads};
-ghost use Rattle.console_bus.specs.Memory.{IsMemoryAt, stored};
+ghost use Rattle.console_bus.specs.Memory.{IsMemoryAt, IsStretch, stored};
 ghost use Rattle.console_bus.specs.Places.{place_at, a_side, taken_from, register_byte, register_read};
 ghost use Rattle.console_bus.specs.Places.{register_written, chip_byte, chip_read, chip_written, place_byte};
 ghost use Rattle.console_bus.specs.Places.{place_read, place_written, on_bus};
@@ -112,6 +112,16 @@ impl Bus {
         ensures within { IfSome result (λ access. access.clocks < clocks_left self.now.beam) }
     {
         self.map.memory_within(addr, self.beam.clocks_left())
+    }
+
+    /// Returns the access to the memory at a 24-bit address. The addresses after it in its page of 8 KiB have the
+    /// bytes after that one, at the same clocks. None if the page of the address isn't memory.
+    #[inline(always)]
+    pub fn stretch_at(&self, addr: u32) -> Option<MemoryAccess>
+        requires { addr < 2 ^ 24 }
+        ensures { IfSome result (λ access. IsStretch self.now.board self.now.io.fast addr access.at access.clocks) }
+    {
+        self.map.stretch_at(addr)
     }
 
     /// Returns a byte of the memory.

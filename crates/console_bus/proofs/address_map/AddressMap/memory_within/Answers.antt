@@ -1,22 +1,5 @@
-use Rattle.std.proofs.Common.{◌≡◌, ℕ, ◌+◌, ◌*◌, ◌/◌, ◌%◌, ◌<◌, Bool, nat_le, IfSome, sym, subst, arith}
-use Rattle.console_bus.specs.declared.address_map.Page.{Page}
-use Rattle.console_bus.specs.Memory.{MapState, IsMemoryAt, IsPageOf}
-use Rattle.console_bus.proofs.Pages.{of_speed}
+use Rattle.console_bus.proofs.Stretches.{first_of_stretch}
 use Rattle.console_bus.proofs.address_map.AddressMap.memory_within.Goals as goal
 
 pub returns-clause-memory : goal.returns-clause-memory
-returns-clause-memory c =
-    let addr = c.args.addr in
-    let map = c.self.inside in
-    let has = c.self.invariant in
-    let below : addr / 8192 < 2048 = (let h = c.requires.addr in omega arith) in
-    let number = map.first + addr / 8192 in
-    let page = c.index-page.result.now in
-    let found = subst (λ (q : Page). IsPageOf map.board (nat_le 2048 number) (number % 2048) q) (sym c.index-page.ensures) (has.are number page (let count = has.count in let few = has.few in omega arith)) in
-    let same : number % 2048 ≡ addr / 8192 = (let whole = has.whole in let few = has.few in omega arith) in
-    let numbered = subst (λ (n : ℕ). IsPageOf map.board (nat_le 2048 number) n page) same found in
-    let there = subst (λ (b : Bool). IsPageOf map.board b (addr / 8192) page) (of_speed map.first (addr / 8192) has.whole has.few below) numbered in
-    let whole : 8192 * (addr / 8192) + addr % 8192 ≡ addr = omega arith in
-    let At : ℕ → Type 0 = λ a. IfSome c.access.result (λ access. IsMemoryAt map.board (nat_le 2048 map.first) a access.at access.clocks) in
-    let Of : MapState → Type 0 = λ m. IfSome c.access.result (λ access. IsMemoryAt m.board m.fast addr access.at access.clocks) in
-    subst Of c.self.view_is (subst At whole (c.access.ensures.memory map.board (nat_le 2048 map.first) (addr / 8192) there))
+returns-clause-memory c = first_of_stretch c.before.args.self.now.board c.before.args.self.now.fast c.before.args.addr _ c.stretch_within.ensures.stretch
