@@ -52,12 +52,14 @@ same_ended p q r s same h k = ended_is p r h ∙ ap ends same ∙ sym (ended_is 
 pub same_wait : (p q : Plan) (r s : Regs) → r ≡ s → finished true p ≡ Some r → finished false p ≡ None → finished true q ≡ Some s → finished false q ≡ None → p ≡ q
 same_wait p q r s same h h' k k' = waits_is p r h h' ∙ ap waits same ∙ sym (waits_is q s k k')
 
--- a processor that leaves to do what another one leaves, with the same start and lines, stands for what that one stands for
-pub stands_alike : (x y : Cpu) (s : CpuState) → remaining x.micro ≡ remaining y.micro → x.micro.start ≡ y.micro.start → x.kept ≡ y.kept
+-- a processor that leaves to do what another one leaves, with the same lines, stands for what that one stands for; the
+-- same start is wanted only of an instruction that has not ended
+pub stands_alike : (x y : Cpu) (s : CpuState) → remaining x.micro ≡ remaining y.micro
+    → (finished false (remaining x.micro) ≡ None → x.micro.start ≡ y.micro.start) → x.kept ≡ y.kept
     → x.nmi_level ≡ y.nmi_level → x.irq_level ≡ y.irq_level → Stands x s → Stands y s
 stands_alike x y s left start kept nmi irq h = record {
   left = sym left ∙ h.left;
-  start = sym start ∙ h.start;
+  start = λ on. (let running = ap (λ p. finished false p) left ∙ on in sym (start running) ∙ h.start running);
   kept = sym kept ∙ h.kept;
   nmi_level = sym nmi ∙ h.nmi_level;
   irq_level = sym irq ∙ h.irq_level;

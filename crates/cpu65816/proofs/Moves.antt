@@ -1,4 +1,4 @@
-use Rattle.std.proofs.Common.{◌≡◌, ℕ, Bool, true, false, not, if◌then◌else◌, List, [], ◌∷◌, ◌++◌, Option, Some, None, unwrap_or, refl, sym, ap, ◌∙◌, subst}
+use Rattle.std.proofs.Common.{◌≡◌, ℕ, Bool, true, false, not, if◌then◌else◌, List, [], ◌∷◌, ◌++◌, ◌||◌, Option, Some, None, unwrap_or, refl, sym, ap, ◌∙◌, subst}
 use Rattle.status_bits.specs.StatusBits.{flag}
 use Rattle.cpu_tables.specs.declared.access.Access.{Access}
 use Rattle.cpu_tables.specs.declared.access.Access.TheVariants.{Fetch, Read, Write, Inner}
@@ -21,20 +21,34 @@ left_by-append None r got byte = refl
 left_by-append (Some b) r got byte = plan_after-append got (plan_of b r) byte
 
 -- one access further, whether the instruction has ended before it or not
-pub Stands-moved_by : (f : Option Regs) (old new : Cpu) (s : CpuState) (byte : ℕ) → Stands old s → remaining new.micro ≡ after (ahead_by f old.kept old.irq_level (remaining old.micro)) byte → new.micro.start ≡ registers_by f old.micro.start → new.kept ≡ kept_by f old.kept old.irq_level → new.nmi_level ≡ old.nmi_level → new.irq_level ≡ old.irq_level → Stands new (moved_by f byte s)
-Stands-moved_by None old new s byte h left start kept nmi_level irq_level =
+-- an instruction that has not ended, whatever the lines are
+pub still_running : (awake : Bool) (p : Plan) → finished awake p ≡ None → finished false p ≡ None
+still_running awake (fetches at more) h = refl
+still_running awake (reads at more) h = refl
+still_running awake (writes at byte more) h = refl
+still_running awake (idles more) h = refl
+still_running awake (waits r) h = refl
+still_running awake stops h = refl
+still_running awake (ends r) h = h
+
+pub Stands-moved_by : (f : Option Regs) (old new : Cpu) (s : CpuState) (byte : ℕ) → Stands old s
+    → (f ≡ None → finished false (remaining old.micro) ≡ None)
+    → remaining new.micro ≡ after (ahead_by f old.kept old.irq_level (remaining old.micro)) byte
+    → new.micro.start ≡ registers_by f old.micro.start → new.kept ≡ kept_by f old.kept old.irq_level
+    → new.nmi_level ≡ old.nmi_level → new.irq_level ≡ old.irq_level → Stands new (moved_by f byte s)
+Stands-moved_by None old new s byte h running left start kept nmi_level irq_level =
     record {
       left = left ∙ (ap (λ p. after p byte) h.left ∙ sym (left_by-append s.begun s.start s.got byte));
-      start = start ∙ h.start;
+      start = λ on. start ∙ h.start (running refl);
       kept = kept ∙ h.kept;
       nmi_level = nmi_level ∙ h.nmi_level;
       irq_level = irq_level ∙ h.irq_level;
     }
-Stands-moved_by (Some r) old new s byte h left start kept nmi_level irq_level =
+Stands-moved_by (Some r) old new s byte h running left start kept nmi_level irq_level =
     let same : chosen old.kept old.irq_level r ≡ chosen s.kept s.irq_level r = ap (λ k. chosen k old.irq_level r) h.kept ∙ ap (λ i. chosen s.kept i r) h.irq_level in
     record {
       left = left ∙ ap (λ b. after (plan_of b r) byte) same;
-      start = start;
+      start = λ on. start;
       kept = kept ∙ (ap (λ b. kept_after b old.kept) same ∙ ap (λ k. kept_after (chosen s.kept s.irq_level r) k) h.kept);
       nmi_level = nmi_level ∙ h.nmi_level;
       irq_level = irq_level ∙ h.irq_level;
@@ -123,7 +137,7 @@ Stands-by_end old new s byte h left start kept nmi_level irq_level =
     let same : end_of old.kept old.irq_level (remaining old.micro) ≡ end_of s.kept s.irq_level (left_of s) =
     ap (λ k. end_of k old.irq_level (remaining old.micro)) h.kept ∙ (ap (λ i. end_of s.kept i (remaining old.micro)) h.irq_level ∙ ap (λ p. end_of s.kept s.irq_level p) h.left) in
     subst (λ (f : Option Regs). Stands new (moved_by f byte s)) same
-    (Stands-moved_by (end_of old.kept old.irq_level (remaining old.micro)) old new s byte h left start kept nmi_level irq_level)
+    (Stands-moved_by (end_of old.kept old.irq_level (remaining old.micro)) old new s byte h (still_running (old.kept || old.irq_level) (remaining old.micro)) left start kept nmi_level irq_level)
 
 -- a fetch, a read or a write
 pub Stands-after_access : (old new : Cpu) (s : CpuState) (byte : ℕ) → is_inner (access_of old) ≡ false → remaining new.micro ≡ after (onward (remaining old.micro)) byte → new.micro.start ≡ unwrap_or (finished true (remaining old.micro)) old.micro.start → new.kept ≡ old.kept → new.nmi_level ≡ old.nmi_level → new.irq_level ≡ old.irq_level → Stands old s → Stands new (moved_on s byte)

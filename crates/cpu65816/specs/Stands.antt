@@ -1,18 +1,19 @@
 -- What contracts see of a processor: the instruction and the accesses so far that it stands for, what it does
 -- next, and what it is once an instruction is in hand.
-use Rattle.std.specs.Prelude.{◌≡◌, ℕ, Bool, Option, Some, None}
+use Rattle.std.specs.Prelude.{◌≡◌, ℕ, Bool, false, Option, Some, None}
 use Rattle.cpu_tables.specs.declared.access.Access.{Access}
 use Rattle.cpu_tables.specs.declared.access.Access.TheVariants.{Fetch, Read, Write, Inner}
 use Rattle.cpu_tables.specs.declared.regs.Regs.{Regs}
-use Rattle.cpu_modes.specs.Plan.{Plan, first_access}
+use Rattle.cpu_modes.specs.Plan.{Plan, finished, first_access}
 use Rattle.cpu_modes.specs.Remaining.{remaining}
 use Rattle.cpu65816.specs.Instruction.{CpuState, left_of, ahead, end_of, registers_by, chosen, kept_after}
 use Rattle.cpu65816.specs.declared.processor.Cpu.{Cpu}
 
--- A processor stands for an instruction and its accesses so far where it leaves to do what they leave, and has the same start and lines.
+-- A processor stands for an instruction and its accesses so far where it leaves to do what they leave, and has the same
+-- lines. It has the same start too, unless the instruction has ended: then nothing speaks of its start any more.
 pub record Stands (cpu : Cpu) (s : CpuState) : Type 0 where
   pub left : remaining cpu.micro ≡ left_of s
-  pub start : cpu.micro.start ≡ s.start
+  pub start : finished false (remaining cpu.micro) ≡ None → cpu.micro.start ≡ s.start
   pub kept : cpu.kept ≡ s.kept
   pub nmi_level : cpu.nmi_level ≡ s.nmi_level
   pub irq_level : cpu.irq_level ≡ s.irq_level

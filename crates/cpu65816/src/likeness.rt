@@ -1,5 +1,6 @@
 // Whether two processors between two instructions have the same left to do.
-ghost use Rattle.std.specs.Prelude.{◌≡◌, IsTrue};
+ghost use Rattle.std.specs.Prelude.{◌≡◌, IsTrue, None, false};
+ghost use Rattle.cpu_modes.specs.Plan.{finished};
 ghost use Rattle.cpu_modes.specs.Remaining.{remaining};
 
 use cpu_modes::Micro;
@@ -61,4 +62,12 @@ pub(crate) fn leave_the_same(a: &Micro, b: &Micro) -> bool
         return false;
     }
     both_ended(a, b) || both_wait(a, b)
+}
+
+/// Whether both instructions began with the same registers, or the first has ended.
+#[inline(always)]
+pub(crate) fn starts_alike(a: &Micro, b: &Micro) -> bool
+    ensures { IsTrue result → finished false (remaining a.now) ≡ None → a.now.start ≡ b.now.start }
+{
+    a.has_ended(false) || same_registers(&a.start, &b.start)
 }

@@ -4,7 +4,7 @@ ghost use Rattle.cpu_modes.specs.Plan.{address_of, first_access};
 ghost use Rattle.cpu_modes.specs.Remaining.{remaining};
 ghost use Rattle.cpu65816.specs.Instruction.{ahead};
 
-use crate::likeness::{leave_the_same, same_registers};
+use crate::likeness::{leave_the_same, starts_alike};
 use crate::settling::settle;
 use cpu_modes::{Micro, Place};
 use cpu_tables::{Access, Mode, Op, Regs, Row};
@@ -21,9 +21,9 @@ pub struct Cpu {
 }
 
 impl Cpu {
-    ghost use Rattle.cpu_modes.specs.Plan.{finished, gets_byte, is_inner, is_write};
+    ghost use Rattle.cpu_modes.specs.Plan.{ends, finished, gets_byte, is_inner, is_write};
     ghost use Rattle.cpu_modes.specs.Remaining.{Keeps};
-    ghost use Rattle.cpu65816.specs.Instruction.{CpuState, at_reset, between_instructions, chosen, kept_after, moved_on, next_of, plan_of, registers_of, row_of_signal, signalled};
+    ghost use Rattle.cpu65816.specs.Instruction.{CpuState, at_reset, between_instructions, chosen, kept_after, left_of, moved_on, next_of, plan_of, registers_of, row_of_signal, signalled};
     ghost use Rattle.cpu_tables.specs.declared.operation.Op.TheVariants.{Reset};
     ghost use Rattle.cpu_tables.specs.declared.access.Access.TheVariants.{Inner, Write};
     ghost use Rattle.cpu65816.specs.Stands.{Stands, TakesUp, access_of, gets_at};
@@ -304,7 +304,7 @@ impl Cpu {
         if !leave_the_same(&self.micro, &other.micro) {
             return false;
         }
-        if !same_registers(&self.micro.start, &other.micro.start) {
+        if !starts_alike(&self.micro, &other.micro) {
             return false;
         }
         self.kept == other.kept
@@ -312,7 +312,41 @@ impl Cpu {
             && self.irq_level == other.irq_level
     }
 
+    /// Returns the micro-state if the instruction has ended and the interrupt lines bring no interrupt: no edge of the
+    /// NMI line is kept, and the IRQ line is low.
+    #[inline(always)]
+    pub fn rested(&self) -> Option<Micro>
+        ensures micro { IfSome result (λ micro. micro ≡ self.now.micro) }
+        ensures ended { IfSome result (λ micro. finished false (remaining self.now.micro) ≡ Some self.now.micro.here) }
+        ensures no_edge { IfSome result (λ micro. self.now.kept ≡ false) }
+        ensures no_irq { IfSome result (λ micro. self.now.irq_level ≡ false) }
+    {
+        if self.kept || self.irq_level || !self.micro.has_ended(false) {
+            return None;
+        }
+        Some(self.micro)
+    }
+
+    /// Takes up a micro-state to which whole accesses have led. `has_ended` says whether its instruction has ended. Then
+    /// its place, its access and all that tells of the accesses before count for nothing.
+    #[inline(always)]
+    pub fn go_on_from(&mut self, micro: Micro, has_ended: bool)
+        requires keeps { has_ended ≡ false → Keeps false micro }
+        ensures ended { IsTrue has_ended → (s : CpuState) → left_of s ≡ ends micro.here → s.kept ≡ self.old.kept
+            → s.nmi_level ≡ self.old.nmi_level → s.irq_level ≡ self.old.irq_level → Stands self.new s }
+        ensures running { has_ended ≡ false → (s : CpuState) → left_of s ≡ remaining micro → s.start ≡ micro.start
+            → s.kept ≡ self.old.kept → s.nmi_level ≡ self.old.nmi_level → s.irq_level ≡ self.old.irq_level
+            → Stands self.new s }
+    {
+        self.micro = micro;
+        if has_ended {
+            self.micro.place = Place::Ended;
+        }
+        settle(&mut self.micro, has_ended, self.kept, self.irq_level);
+    }
+
     /// Returns the registers at the start of the current instruction.
+    #[tactic(auto, using(crate::proofs::Moves::still_running))]
     #[inline(always)]
     pub fn regs(&self) -> Regs
         ensures { (s : CpuState) → Stands self.now s → result ≡ registers_of s }

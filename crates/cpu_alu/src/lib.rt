@@ -17,4 +17,6 @@ mod width;
 
 pub use flow::{is_taken, relative};
 pub use registers::pushed_status;
-pub use results::{apply, finish, operand_written, registers_after};
+pub use results::{
+    apply, finish, finish_change, finish_internal, finish_load, operand_written, registers_after,
+};

@@ -177,6 +177,72 @@ pub fn finish(regs: &mut Regs, row: Row, word: u16)
     }
 }
 
+/// Ends an instruction that reads data. It does what `finish` does, and is built into a caller that knows the operation.
+#[tactic(auto, unfolding(crate::specs::Results::registers_after))]
+#[inline(always)]
+pub fn finish_load(regs: &mut Regs, row: Row, word: u16)
+    ensures { regs.new ≡ registers_after row.op row.mode regs.old word }
+{
+    match row.op {
+        Op::Adc => add(regs, word),
+        Op::Sbc => subtract(regs, word),
+        Op::Cmp => *regs = compared(memory_numbers(*regs), regs.a, *regs, word),
+        Op::Cpx => *regs = compared(index_numbers(*regs), regs.x, *regs, word),
+        Op::Cpy => *regs = compared(index_numbers(*regs), regs.y, *regs, word),
+        Op::Bit => *regs = bits_tested(is_immediate(row.mode), *regs, word),
+        Op::Ora => *regs = a_loaded(*regs, (regs.a | word) as u32),
+        Op::And => *regs = a_loaded(*regs, (regs.a & word) as u32),
+        Op::Eor => *regs = a_loaded(*regs, (regs.a ^ word) as u32),
+        Op::Lda => *regs = a_loaded(*regs, word as u32),
+        Op::Ldx => *regs = x_loaded(*regs, word as u32),
+        Op::Ldy => *regs = y_loaded(*regs, word as u32),
+        Op::Pla => *regs = a_loaded(*regs, word as u32),
+        Op::Plx => *regs = x_loaded(*regs, word as u32),
+        Op::Ply => *regs = y_loaded(*regs, word as u32),
+        _ => finish(regs, row, word),
+    }
+}
+
+/// Ends an instruction that changes A or the memory, as `finish_load` ends one that reads.
+#[tactic(auto, unfolding(crate::specs::Results::registers_after))]
+#[inline(always)]
+pub fn finish_change(regs: &mut Regs, row: Row, word: u16)
+    ensures { regs.new ≡ registers_after row.op row.mode regs.old word }
+{
+    let on_a = is_accumulator(row.mode);
+    match row.op {
+        Op::Asl => *regs = with_changed(on_a, *regs, asl(row.mode, *regs, word)),
+        Op::Lsr => *regs = with_changed(on_a, *regs, lsr(row.mode, *regs, word)),
+        Op::Rol => *regs = with_changed(on_a, *regs, rol(row.mode, *regs, word)),
+        Op::Ror => *regs = with_changed(on_a, *regs, ror(row.mode, *regs, word)),
+        Op::Inc => *regs = with_changed(on_a, *regs, inc(row.mode, *regs, word)),
+        Op::Dec => *regs = with_changed(on_a, *regs, dec(row.mode, *regs, word)),
+        _ => finish(regs, row, word),
+    }
+}
+
+/// Ends an instruction that makes only internal cycles, as `finish_load` ends one that reads.
+#[tactic(auto, unfolding(crate::specs::Results::registers_after))]
+#[inline(always)]
+pub fn finish_internal(regs: &mut Regs, row: Row, word: u16)
+    ensures { regs.new ≡ registers_after row.op row.mode regs.old word }
+{
+    match row.op {
+        Op::Inx => *regs = x_loaded(*regs, regs.x as u32 + 1),
+        Op::Iny => *regs = y_loaded(*regs, regs.y as u32 + 1),
+        Op::Dex => *regs = x_loaded(*regs, regs.x as u32 + 65535),
+        Op::Dey => *regs = y_loaded(*regs, regs.y as u32 + 65535),
+        Op::Tax => *regs = x_loaded(*regs, regs.a as u32),
+        Op::Tay => *regs = y_loaded(*regs, regs.a as u32),
+        Op::Txa => *regs = a_loaded(*regs, regs.x as u32),
+        Op::Tya => *regs = a_loaded(*regs, regs.y as u32),
+        Op::Clc => *regs = flag_set(*regs, CARRY, false),
+        Op::Sec => *regs = flag_set(*regs, CARRY, true),
+        Op::Nop => {}
+        _ => finish(regs, row, word),
+    }
+}
+
 /// Returns the operand that an instruction writes or pushes, or 0 if there is none.
 #[tactic(auto, unfolding(crate::specs::Results::operand_written))]
 #[inline(always)]

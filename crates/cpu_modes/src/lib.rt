@@ -26,7 +26,10 @@ mod transitions;
 mod uses;
 mod writes;
 
-pub use address::code_address;
+pub use address::{
+    code_address, direct_address, has_index_cycle, is_wide, pull_address, pulled_stack,
+    pushed_stack, second_address, stack_address,
+};
 pub use micro::Micro;
 pub use place::{
     BankKind, DirectKind, Direction, OperandKind, Place, PointerKind, Reach, ReturnKind,

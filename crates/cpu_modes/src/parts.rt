@@ -16,7 +16,7 @@ impl Micro {
 
     /// Moves on to the data, at an address.
     #[inline(always)]
-    pub(crate) fn reach_data(&mut self, reach: Reach, at: u32)
+    pub fn reach_data(&mut self, reach: Reach, at: u32)
         requires { at < 2 ^ 24 }
         ensures left { remaining self.new ≡ data_at self.old.traffic reach self.old.row self.old.here at }
         ensures keeps { Keeps false self.new }
