@@ -1,5 +1,6 @@
 -- The main screen's colour at a pixel before brightness (2130 to 2132; nocash fullsnes, "SNES PPU Color-Math").
-use Rattle.std.specs.Prelude.{ℕ, Bool, true, false, not, ◌&&◌, ◌||◌, List, slice_index, Option, None, Some, is_some, if◌then◌else◌}
+use Rattle.std.specs.Prelude.{ℕ, Bool, true, false, not, ◌&&◌, ◌||◌, List, slice_index, Option, None, Some, is_some}
+use Rattle.std.specs.Prelude.{if◌then◌else◌}
 use Rattle.ppu_regs.specs.declared.registers.Registers.{Registers}
 use Rattle.ppu_regs.specs.declared.dots.Dot.{Dot}
 use Rattle.ppu_regs.specs.Picture.{Picture, screens_of}
@@ -20,9 +21,9 @@ holds_at Always inside = true
 unfoldable pub fixed_colour : ColourMath → ℕ
 fixed_colour m = colour_of m.red m.green m.blue
 
--- The main screen's colour: `inside` says whether the pixel lies in the colour window, `main` is the colour of the front, `named` whether
--- 2131 names the front, `found` whether the sub screen has anything there, `sub` its colour. It isn't halved where main was made black, nor
--- where the sub screen was asked for and has nothing.
+-- The main screen's colour: `inside` says whether the pixel lies in the colour window, `main` is the colour of the
+-- front, `named` whether 2131 names the front, `found` whether the sub screen has anything there, `sub` its colour. It
+-- isn't halved where main was made black, nor where the sub screen was asked for and has nothing.
 unfoldable pub mixed : ColourMath → Bool → ℕ → Bool → Bool → ℕ → ℕ
 mixed m inside main named found sub =
     let black : Bool = holds_at m.black inside in
@@ -49,8 +50,8 @@ abbrev pub dot_colour : Option Dot → ℕ
 dot_colour None = 0
 dot_colour (Some dot) = dot.colour
 
--- the main screen's colour at the pixel x, of the layer (1 to 4, or 5 for the objects) and dot in front on the main screen, and the
--- dot in front on the sub screen
+-- the main screen's colour at the pixel x, of the layer (1 to 4, or 5 for the objects) and dot in front on the main
+-- screen, and the dot in front on the sub screen
 unfoldable pub mixed_at : Picture → ℕ → Option (ℕ × Dot) → Option Dot → ℕ
 mixed_at p x front sub =
     mixed p.registers.colour (is_inside p.registers 6 x) (front_colour p.cgram front) (is_front_named p.registers front)

@@ -11,7 +11,8 @@ use Rattle.ppu_regs.specs.Picture.{windows_of}
 abbrev pub differs : Bool → Bool → Bool
 differs a b = if a then not b else b
 
--- a window holds the pixels from its left to its right edge, both inclusive, and none where the left edge is the greater one
+-- a window holds the pixels from its left to its right edge, both inclusive, and none where the left edge is the
+-- greater one
 unfoldable pub is_within : Window → ℕ → Bool
 is_within window x = nat_le window.left x && nat_le x window.right
 
@@ -22,8 +23,8 @@ combined And one two = one && two
 combined Xor one two = differs one two
 combined Xnor one two = not (differs one two)
 
--- What a layer makes of being in the two windows: each is turned where it counts outside, both are joined where both are on, one
--- alone counts where it alone is on, and with none on nothing is inside.
+-- What a layer makes of being in the two windows: each is turned where it counts outside, both are joined where both
+-- are on, one alone counts where it alone is on, and with none on nothing is inside.
 unfoldable pub truth_of : LayerWindows → Bool → Bool → Bool
 truth_of w in_one in_two =
     let one : Bool = differs w.one_outside in_one in

@@ -1,10 +1,12 @@
 //! The main screen's colour after colour arithmetic: of one pixel, and of a row.
 
-ghost use Rattle.std.specs.Prelude.{◌≡◌, ℕ, ◌+◌, ◌*◌, ◌/◌, ◌%◌, ◌<◌, ◌≤◌, ◌==◌, Bool, true, false, not, ◌&&◌, ◌||◌, slice_index, if◌then◌else◌};
+ghost use Rattle.std.specs.Prelude.{◌≡◌, ℕ, ◌+◌, ◌*◌, ◌/◌, ◌%◌, ◌<◌, ◌≤◌, ◌==◌, Bool, true, false, not, ◌&&◌, ◌||◌};
+ghost use Rattle.std.specs.Prelude.{slice_index, if◌then◌else◌};
 ghost use Rattle.ppu_regs.specs.declared.registers.WindowPart.TheVariants.{Never};
 ghost use Rattle.color_window.specs.Windows.{is_inside};
 ghost use Rattle.scanline_ops.specs.RankedPixels.{is_named, is_found};
-ghost use Rattle.color_window.specs.Mixing.{holds_at, fixed_colour, mixed, is_mixed, mixed_at, is_front_named, front_colour, dot_colour};
+ghost use Rattle.color_window.specs.Mixing.{holds_at, fixed_colour, mixed, is_mixed, mixed_at, is_front_named};
+ghost use Rattle.color_window.specs.Mixing.{front_colour, dot_colour};
 
 use crate::windows::{inside, mask_row};
 use ppu_regs::{ColourMath, Dot, Ppu, WindowPart};
@@ -394,7 +396,8 @@ fn mark_each(m: &ColourMath, inside: &[u8; 256], keys: &[u8; 256], marks: &mut [
 #[tactic(auto, using(crate::proofs::Cases::masks))]
 pub fn mark_mixed(p: &Ppu, keys: &[u8; 256], marks: &mut [u8; 256]) -> bool
     ensures marks { (x : ℕ) → x < 256 → slice_index marks.new x ≡
-        (if is_mixed p.now.registers.colour (is_inside p.now.registers 6 x) (is_named (slice_index keys.now x)) then 1 else 0) }
+        (if is_mixed p.now.registers.colour (is_inside p.now.registers 6 x) (is_named (slice_index keys.now x))
+        then 1 else 0) }
     ensures any { (x : ℕ) → x < 256 → result ≡ false → slice_index marks.new x ≡ 0 }
 {
     let mut inside = [0u8; 256];
@@ -458,7 +461,8 @@ fn mix_marked_each(
     requires fixed { mixer.fixed ≡ fixed_colour m.now }
     ensures { (x : ℕ) → x < 256 → (inside named : Bool) →
         slice_index marks.now x ≡ (if is_mixed m.now inside named then 1 else 0) →
-        slice_index main.new x ≡ mixed m.now inside (slice_index main.old x) named (is_found (slice_index sub_keys.now x)) (slice_index sub.now x) }
+        slice_index main.new x ≡ mixed m.now inside (slice_index main.old x) named
+        (is_found (slice_index sub_keys.now x)) (slice_index sub.now x) }
 {
     for x in 0..256usize {
         main[x] = mixed_where(
@@ -490,7 +494,8 @@ fn mix_marked_kinds(
     requires fixed { mixer.fixed ≡ fixed_colour m.now }
     ensures { (x : ℕ) → x < 256 → (inside named : Bool) →
         slice_index marks.now x ≡ (if is_mixed m.now inside named then 1 else 0) →
-        slice_index main.new x ≡ mixed m.now inside (slice_index main.old x) named (is_found (slice_index sub_keys.now x)) (slice_index sub.now x) }
+        slice_index main.new x ≡ mixed m.now inside (slice_index main.old x) named
+        (is_found (slice_index sub_keys.now x)) (slice_index sub.now x) }
 {
     match (mixer.subtracts, mixer.halves) {
         (false, false) => {
@@ -539,7 +544,8 @@ pub fn mix_marked(
 )
     requires black { p.now.registers.colour.black ≡ Never }
     ensures { (x : ℕ) → x < 256 → (named : Bool) →
-        slice_index marks.now x ≡ (if is_mixed p.now.registers.colour (is_inside p.now.registers 6 x) named then 1 else 0) →
+        slice_index marks.now x ≡
+        (if is_mixed p.now.registers.colour (is_inside p.now.registers 6 x) named then 1 else 0) →
         slice_index main.new x ≡ mixed p.now.registers.colour (is_inside p.now.registers 6 x) (slice_index main.old x)
         named (is_found (slice_index sub_keys.now x)) (slice_index sub.now x) }
 {

@@ -97,7 +97,8 @@ fn cases_of(w: &LayerWindows) -> Cases
 /// Writes one value at the pixels of a window; the others stay.
 #[tactic(auto, unfolding(crate::specs::Windows::is_within))]
 fn fill_within(window: &Window, value: u8, out: &mut [u8; 256])
-    ensures { (x : ℕ) → x < 256 → slice_index out.new x ≡ (if is_within window.now x then value else slice_index out.old x) }
+    ensures { (x : ℕ) → x < 256 → slice_index out.new x ≡
+        (if is_within window.now x then value else slice_index out.old x) }
 {
     if window.left <= window.right {
         for x in window.left as usize..window.right as usize + 1 {
@@ -109,7 +110,8 @@ fn fill_within(window: &Window, value: u8, out: &mut [u8; 256])
 /// Copies the pixels of a window from another row; the others stay.
 #[tactic(auto, unfolding(crate::specs::Windows::is_within))]
 fn copy_within(window: &Window, from: &[u8; 256], out: &mut [u8; 256])
-    ensures { (x : ℕ) → x < 256 → slice_index out.new x ≡ (if is_within window.now x then slice_index from.now x else slice_index out.old x) }
+    ensures { (x : ℕ) → x < 256 → slice_index out.new x ≡
+        (if is_within window.now x then slice_index from.now x else slice_index out.old x) }
 {
     if window.left <= window.right {
         for x in window.left as usize..window.right as usize + 1 {
@@ -142,7 +144,8 @@ pub fn mask_row(p: &Ppu, layer: u8, out: &mut [u8; 256])
 /// it.
 #[tactic(auto, using(crate::proofs::Cases::cases))]
 fn masks(w: &LayerWindows, one: &Window, two: &Window, out: &mut [u8; 256])
-    ensures { (x : ℕ) → x < 256 → slice_index out.new x ≡ mask_of (truth_of w.now (is_within one.now x) (is_within two.now x)) }
+    ensures { (x : ℕ) → x < 256 → slice_index out.new x ≡
+        mask_of (truth_of w.now (is_within one.now x) (is_within two.now x)) }
 {
     let cases = cases_of(w);
     let mut within_one = [0u8; 256];

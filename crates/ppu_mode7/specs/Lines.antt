@@ -1,5 +1,5 @@
--- What doesn't change along a row of mode 7, and the steps from a place of the plane to its value; words for what stands below
--- `rotated_row` and `rotated_planes`.
+-- What doesn't change along a row of mode 7, and the steps from a place of the plane to its value; words for what
+-- stands below `rotated_row` and `rotated_planes`.
 use Rattle.std.specs.Prelude.{◌≡◌, ℕ, ◌+◌, ◌*◌, ◌/◌, ◌%◌, ◌==◌, Bool, ◌||◌, if◌then◌else◌}
 use Rattle.ppu_regs.specs.declared.registers.Registers.{Registers}
 use Rattle.ppu_regs.specs.Dots.{rank_of}
@@ -27,4 +27,5 @@ outside_mark x y = if is_outside x || is_outside y then 1 else 0
 -- the byte of a value in the plane of ranks
 unfoldable pub rank_at : Bool → ℕ → ℕ → ℕ → ℕ → ℕ
 rank_at is_direct layer low high value =
-    rank_of (if (layer_dot_of is_direct layer value).priority == 1 then high else low) (layer_dot_of is_direct layer value)
+    rank_of (if (layer_dot_of is_direct layer value).priority == 1 then high else low)
+    (layer_dot_of is_direct layer value)

@@ -1,6 +1,7 @@
--- What the rotated background of mode 7 has at a pixel (211A to 2120, 210D, 210E; this project's own profile after nocash
--- fullsnes, "SNES PPU Rotation/Scaling").
-use Rattle.std.specs.Prelude.{ℕ, ◌+◌, ◌-◌, ◌*◌, ◌/◌, ◌%◌, ◌^◌, ◌==◌, Bool, true, false, not, ◌||◌, nat_lt, List, slice_index, if◌then◌else◌}
+-- What the rotated background of mode 7 has at a pixel (211A to 2120, 210D, 210E; this project's own profile after
+-- nocash fullsnes, "SNES PPU Rotation/Scaling").
+use Rattle.std.specs.Prelude.{ℕ, ◌+◌, ◌-◌, ◌*◌, ◌/◌, ◌%◌, ◌^◌, ◌==◌, Bool, true, false, not, ◌||◌, nat_lt, List}
+use Rattle.std.specs.Prelude.{slice_index, if◌then◌else◌}
 use Rattle.ppu_regs.specs.declared.registers.Registers.{Registers}
 use Rattle.ppu_regs.specs.declared.registers.Rotation.{Rotation}
 use Rattle.ppu_regs.specs.declared.registers.Outside.{Outside}
@@ -34,8 +35,8 @@ clipped n = if n / 8192 % 2 == 1 then n % 1024 + (2 ^ 32 - 1024) else n % 1024
 abbrev pub trimmed : ℕ → ℕ
 trimmed n = n / 64 * 64
 
--- Where the pixel in column x of a line y lies in the plane, in 256ths of a pixel, across or down: `across` and `along` are A and B for
--- the column, C and D for the row, `centre` is CX or CY.
+-- Where the pixel in column x of a line y lies in the plane, in 256ths of a pixel, across or down: `across` and `along`
+-- are A and B for the column, C and D for the row, `centre` is CX or CY.
 unfoldable pub line_start : ℕ → ℕ → ℕ → ℕ → ℕ → ℕ → ℕ
 line_start across along p q y centre =
     sum_of (sum_of (trimmed (product_of across p)) (trimmed (product_of along q)))
@@ -50,11 +51,13 @@ distance scroll centre = clipped (difference_of (signed_13 scroll) (signed_13 ce
 
 unfoldable pub start_x : Rotation → ℕ → ℕ
 start_x r y =
-    line_start (signed_16 r.a) (signed_16 r.b) (distance r.scroll_x r.center_x) (distance r.scroll_y r.center_y) y (signed_13 r.center_x)
+    line_start (signed_16 r.a) (signed_16 r.b) (distance r.scroll_x r.center_x) (distance r.scroll_y r.center_y) y
+    (signed_13 r.center_x)
 
 unfoldable pub start_y : Rotation → ℕ → ℕ
 start_y r y =
-    line_start (signed_16 r.c) (signed_16 r.d) (distance r.scroll_x r.center_x) (distance r.scroll_y r.center_y) y (signed_13 r.center_y)
+    line_start (signed_16 r.c) (signed_16 r.d) (distance r.scroll_x r.center_x) (distance r.scroll_y r.center_y) y
+    (signed_13 r.center_y)
 
 -- a place is outside where it isn't in the plane's 1,024 pixels of 256 parts
 abbrev pub is_outside : ℕ → Bool
@@ -64,8 +67,8 @@ is_outside place = not (nat_lt place (1024 * 256))
 abbrev pub pixel_of : ℕ → ℕ
 pixel_of place = place / 256 % 1024
 
--- The tile at a pixel of the plane is the low byte of a word of the map, 128 by 128 tiles; a tile's pixels are the high bytes of 64
--- words.
+-- The tile at a pixel of the plane is the low byte of a word of the map, 128 by 128 tiles; a tile's pixels are the high
+-- bytes of 64 words.
 unfoldable pub tile_at : List ℕ → ℕ → ℕ → ℕ
 tile_at vram x y = slice_index vram (128 * (y / 8) + x / 8) % 256
 
@@ -76,9 +79,11 @@ texel_at vram tile x y = slice_index vram (64 * tile + 8 * (y % 8) + x % 8) / 25
 unfoldable pub value_at : Outside → List ℕ → ℕ → ℕ → ℕ
 value_at Wrap vram x y = texel_at vram (tile_at vram (pixel_of x) (pixel_of y)) (pixel_of x) (pixel_of y)
 value_at Nothing vram x y =
-    if is_outside x || is_outside y then 0 else texel_at vram (tile_at vram (pixel_of x) (pixel_of y)) (pixel_of x) (pixel_of y)
+    if is_outside x || is_outside y then 0
+    else texel_at vram (tile_at vram (pixel_of x) (pixel_of y)) (pixel_of x) (pixel_of y)
 value_at TileZero vram x y =
-    texel_at vram (if is_outside x || is_outside y then 0 else tile_at vram (pixel_of x) (pixel_of y)) (pixel_of x) (pixel_of y)
+    texel_at vram (if is_outside x || is_outside y then 0 else tile_at vram (pixel_of x) (pixel_of y))
+    (pixel_of x) (pixel_of y)
 
 -- a position after mosaic: that of its block's first pixel or row
 unfoldable pub blocked : Bool → ℕ → ℕ → ℕ
@@ -99,15 +104,24 @@ column_of r layer x = turned r.rotation.flip_x (blocked (background_of r layer).
 unfoldable pub rotated_value : Picture → ℕ → ℕ → ℕ → ℕ
 rotated_value p layer row x =
     value_at p.registers.rotation.outside p.vram
-    (place_at (start_x p.registers.rotation (line_of p.registers layer row)) (signed_16 p.registers.rotation.a) (column_of p.registers layer x))
-    (place_at (start_y p.registers.rotation (line_of p.registers layer row)) (signed_16 p.registers.rotation.c) (column_of p.registers layer x))
+    (place_at (start_x p.registers.rotation (line_of p.registers layer row)) (signed_16 p.registers.rotation.a)
+    (column_of p.registers layer x))
+    (place_at (start_y p.registers.rotation (line_of p.registers layer row)) (signed_16 p.registers.rotation.c)
+    (column_of p.registers layer x))
 
--- Layer 1 shows the whole byte, by CGRAM or as a direct colour. Layer 2, of EXTBG, has bit 7 as its priority and the low seven bits as
--- its colour.
+-- Layer 1 shows the whole byte, by CGRAM or as a direct colour. Layer 2, of EXTBG, has bit 7 as its priority and the
+-- low seven bits as its colour.
 unfoldable pub layer_dot_of : Bool → ℕ → ℕ → LayerDot
 layer_dot_of is_direct layer value =
     if layer == 2
-    then (record { on = not (value % 128 == 0); priority = value / 128 % 2; number = value % 128; direct = false; palette = 0; math = true })
+    then (record {
+      on = not (value % 128 == 0);
+      priority = value / 128 % 2;
+      number = value % 128;
+      direct = false;
+      palette = 0;
+      math = true;
+    })
     else (record { on = not (value == 0); priority = 0; number = value; direct = is_direct; palette = 0; math = true })
 
 -- what a layer of mode 7 has at the pixel x of a row

@@ -2,7 +2,8 @@
 
 ghost use Rattle.std.specs.Prelude.{◌≡◌, ℕ, ◌+◌, ◌*◌, ◌/◌, ◌%◌, ◌^◌, ◌<◌, ◌≤◌, if◌then◌else◌};
 ghost use Rattle.ppu_regs.specs.Picture.{background_of};
-ghost use Rattle.ppu_mode7.specs.Rotated.{signed_13, signed_16, clipped, line_start, place_at, distance, start_x, start_y, blocked, turned, line_of};
+ghost use Rattle.ppu_mode7.specs.Rotated.{signed_13, signed_16, clipped, line_start, place_at, distance, start_x};
+ghost use Rattle.ppu_mode7.specs.Rotated.{start_y, blocked, turned, line_of};
 ghost use Rattle.ppu_mode7.specs.Lines.{IsLine};
 
 use ppu_regs::{Registers, Rotation};

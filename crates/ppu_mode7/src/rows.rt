@@ -1,6 +1,7 @@
 //! Rows of mode 7, as dots and as planes.
 
-ghost use Rattle.std.specs.Prelude.{◌≡◌, ℕ, ◌+◌, ◌*◌, ◌/◌, ◌%◌, ◌<◌, ◌≤◌, ◌-◌, ◌⊎◌, ◌==◌, not, Bool, length, slice_index, slice_index_or, if◌then◌else◌};
+ghost use Rattle.std.specs.Prelude.{◌≡◌, ℕ, ◌+◌, ◌*◌, ◌/◌, ◌%◌, ◌<◌, ◌≤◌, ◌-◌, ◌⊎◌, ◌==◌, not, Bool, length};
+ghost use Rattle.std.specs.Prelude.{slice_index, slice_index_or, if◌then◌else◌};
 ghost use Rattle.ppu_regs.specs.Dots.{no_dot, dot_of, rank_of};
 ghost use Rattle.ppu_mode7.specs.Rotated.{place_at, value_at, turned, rotated_value, layer_dot_of, rotated_layer_dot};
 ghost use Rattle.ppu_mode7.specs.Lines.{rank_at};
@@ -97,7 +98,8 @@ pub fn rotated_row(p: &Ppu, layer: u8, row: u16, out: &mut [Dot])
     requires layer { (layer ≡ 1) ⊎ (layer ≡ 2) }
     requires row { row < 239 }
     requires room { length out.old ≡ 256 }
-    ensures { (x : ℕ) → x < 256 → slice_index_or out.new x no_dot ≡ dot_of p.now.cgram (rotated_layer_dot p.now layer row x) }
+    ensures { (x : ℕ) → x < 256 → slice_index_or out.new x no_dot ≡
+        dot_of p.now.cgram (rotated_layer_dot p.now layer row x) }
 {
     let mut values = [0u8; 256];
     row_values(p, layer, row, &mut values);
@@ -121,8 +123,10 @@ fn rank_byte(c: &LayerDot, low: u8, high: u8) -> u8
 #[inline(always)]
 #[tactic(auto, unfolding(crate::specs::Lines::rank_at))]
 fn planes_of(is_direct: bool, layer: u8, values: &[u8; 256], low: u8, high: u8, out: &mut RankedRow)
-    ensures ranks { (x : ℕ) → x < 256 → slice_index out.new.ranks x ≡ rank_at is_direct layer low high (slice_index values.now x) }
-    ensures numbers { (x : ℕ) → x < 256 → slice_index out.new.numbers x ≡ (layer_dot_of is_direct layer (slice_index values.now x)).number }
+    ensures ranks { (x : ℕ) → x < 256 → slice_index out.new.ranks x ≡
+        rank_at is_direct layer low high (slice_index values.now x) }
+    ensures numbers { (x : ℕ) → x < 256 → slice_index out.new.numbers x ≡
+        (layer_dot_of is_direct layer (slice_index values.now x)).number }
 {
     for x in 0..256usize {
         let c = layer_dot(is_direct, layer, values[x]);
@@ -136,7 +140,8 @@ fn planes_of(is_direct: bool, layer: u8, values: &[u8; 256], low: u8, high: u8, 
 pub fn rotated_planes(p: &Ppu, layer: u8, row: u16, low: u8, high: u8, out: &mut RankedRow)
     requires { row < 239 }
     ensures ranks { (x : ℕ) → x < 256 → slice_index out.new.ranks x ≡
-        rank_of (if (rotated_layer_dot p.now layer row x).priority == 1 then high else low) (rotated_layer_dot p.now layer row x) }
+        rank_of (if (rotated_layer_dot p.now layer row x).priority == 1 then high else low)
+        (rotated_layer_dot p.now layer row x) }
     ensures numbers { (x : ℕ) → x < 256 → slice_index out.new.numbers x ≡ (rotated_layer_dot p.now layer row x).number }
 {
     let mut values = [0u8; 256];

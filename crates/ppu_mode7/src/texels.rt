@@ -1,6 +1,7 @@
 //! The values at places of the plane, a row at a time: first their words of the map, then the tiles, then the pixels.
 
-ghost use Rattle.std.specs.Prelude.{◌≡◌, ℕ, ◌+◌, ◌*◌, ◌/◌, ◌%◌, ◌<◌, ◌≤◌, ◌==◌, ◌||◌, length, slice_index, if◌then◌else◌};
+ghost use Rattle.std.specs.Prelude.{◌≡◌, ℕ, ◌+◌, ◌*◌, ◌/◌, ◌%◌, ◌<◌, ◌≤◌, ◌==◌, ◌||◌, length, slice_index};
+ghost use Rattle.std.specs.Prelude.{if◌then◌else◌};
 ghost use Rattle.ppu_mode7.specs.Rotated.{place_at, value_at, pixel_of};
 ghost use Rattle.ppu_mode7.specs.Lines.{map_word, fine_of, outside_mark};
 
@@ -106,7 +107,8 @@ fn unless_marked(mark: u8, v: u8) -> u8
 
 /// Clears the bytes whose mark is set.
 fn clear_marked(marks: &[u8; 256], row: &mut [u8; 256])
-    ensures { (c : ℕ) → c < 256 → slice_index row.new c ≡ (if slice_index marks.now c == 0 then slice_index row.old c else 0) }
+    ensures { (c : ℕ) → c < 256 → slice_index row.new c ≡
+        (if slice_index marks.now c == 0 then slice_index row.old c else 0) }
 {
     for c in 0..256usize {
         row[c] = unless_marked(marks[c], row[c]);

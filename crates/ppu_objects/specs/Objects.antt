@@ -1,7 +1,8 @@
 -- The objects: what OAM says of one, how large it is, and which ones stand on a row (2101 to 2104; nocash
 -- fullsnes, "SNES PPU Sprites (OBJs)"). Their slivers, the limit of 34 with its flag, and what stands at a pixel
 -- are in `Slivers`.
-use Rattle.std.specs.Prelude.{ℕ, zero, suc, ◌+◌, ◌-◌, ◌*◌, ◌/◌, ◌%◌, ◌==◌, Bool, ◌&&◌, ◌||◌, nat_lt, nat_le, List, [], ◌∷◌, ◌++◌, length, take, slice_index, if◌then◌else◌}
+use Rattle.std.specs.Prelude.{ℕ, zero, suc, ◌+◌, ◌-◌, ◌*◌, ◌/◌, ◌%◌, ◌==◌, Bool, ◌&&◌, ◌||◌, nat_lt, nat_le, List, []}
+use Rattle.std.specs.Prelude.{◌∷◌, ◌++◌, length, take, slice_index, if◌then◌else◌}
 use Rattle.ppu_regs.specs.Picture.{Picture}
 use Rattle.ppu_objects.specs.declared.objects.Object.{Object}
 
@@ -10,8 +11,8 @@ unfoldable pub pair_at : ℕ → ℕ → ℕ
 pair_at byte k =
     if k == 0 then byte % 4 else (if k == 1 then byte / 4 % 4 else (if k == 2 then byte / 16 % 4 else byte / 64))
 
--- Object n: four bytes (X low; Y; tile; attributes: 7 turned over top to bottom, 6 left to right, 5-4 priority, 3-1 palette, 0 table) and
--- two bits of the high table (0 X bit 8, 1 large). X has nine bits, the top one its sign.
+-- Object n: four bytes (X low; Y; tile; attributes: 7 turned over top to bottom, 6 left to right, 5-4 priority, 3-1
+-- palette, 0 table) and two bits of the high table (0 X bit 8, 1 large). X has nine bits, the top one its sign.
 unfoldable pub object_of : List ℕ → ℕ → Object
 object_of oam n = record {
   x = slice_index oam (4 * n) + 256 * (pair_at (slice_index oam (512 + n / 4)) (n % 4) % 2);
@@ -25,8 +26,8 @@ object_of oam n = record {
   large = pair_at (slice_index oam (512 + n / 4)) (n % 4) / 2 == 1;
 }
 
--- the widths and heights of small and large objects, by bits 7-5 of 2101: 8 and 16; 8 and 32; 8 and 64; 16 and 32; 16 and 64; 32
--- and 64; 16 by 32 and 32 by 64; 16 by 32 and 32 by 32
+-- the widths and heights of small and large objects, by bits 7-5 of 2101: 8 and 16; 8 and 32; 8 and 64; 16 and 32; 16
+-- and 64; 32 and 64; 16 by 32 and 32 by 64; 16 by 32 and 32 by 32
 unfoldable pub width_of : ℕ → Bool → ℕ
 width_of code large =
     if large

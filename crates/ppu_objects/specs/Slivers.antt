@@ -1,5 +1,6 @@
 -- The slivers of eight pixels that the drawn objects have on a row, and what stands at a pixel.
-use Rattle.std.specs.Prelude.{ℕ, zero, suc, ◌+◌, ◌-◌, ◌*◌, ◌/◌, ◌%◌, ◌^◌, ◌==◌, Bool, false, not, ◌||◌, nat_lt, nat_le, List, [], ◌∷◌, ◌++◌, length, take, fold, slice_index, if◌then◌else◌}
+use Rattle.std.specs.Prelude.{ℕ, zero, suc, ◌+◌, ◌-◌, ◌*◌, ◌/◌, ◌%◌, ◌^◌, ◌==◌, Bool, false, not, ◌||◌, nat_lt, nat_le}
+use Rattle.std.specs.Prelude.{List, [], ◌∷◌, ◌++◌, length, take, fold, slice_index, if◌then◌else◌}
 use Rattle.snes_defs.specs.declared.profile.Profile.{Profile}
 use Rattle.snes_defs.specs.declared.profile.Profile.TheVariants.{First, Second}
 use Rattle.ppu_regs.specs.declared.registers.Registers.{Registers}
@@ -58,7 +59,8 @@ shown_column code o column = if o.flip_x then width_of code o.large / 8 - 1 - co
 unfoldable pub tile_number : ℕ → ℕ → ℕ → ℕ
 tile_number tile column line = (tile % 16 + column) % 16 + 16 * ((tile / 16 + line / 8) % 16)
 
--- the word of VRAM with planes 0 and 1 of a tile's line; planes 2 and 3 are eight words on. Table 1 is (gap + 1) * 1000h words after the base.
+-- the word of VRAM with planes 0 and 1 of a tile's line; planes 2 and 3 are eight words on. Table 1 is (gap + 1) *
+-- 1000h words after the base.
 unfoldable pub tile_word : ObjectTiles → ℕ → ℕ → ℕ → ℕ
 tile_word tiles table tile line =
     (tiles.base + table * (4096 * (tiles.gap + 1)) + 16 * tile + line % 8) % 32768
@@ -66,7 +68,8 @@ tile_word tiles table tile line =
 -- the value of pixel k, from the left, of two words with four planes
 unfoldable pub value_of : ℕ → ℕ → ℕ → ℕ
 value_of first second k =
-    first / 2 ^ (7 - k) % 2 + 2 * (first / 2 ^ (15 - k) % 2) + 4 * (second / 2 ^ (7 - k) % 2) + 8 * (second / 2 ^ (15 - k) % 2)
+    first / 2 ^ (7 - k) % 2 + 2 * (first / 2 ^ (15 - k) % 2) + 4 * (second / 2 ^ (7 - k) % 2)
+    + 8 * (second / 2 ^ (15 - k) % 2)
 
 -- the first word of a sliver on a row
 unfoldable pub sliver_word : Registers → Object → ℕ → ℕ → ℕ
@@ -77,14 +80,16 @@ sliver_word r o column row =
 -- the value of pixel k of a sliver, k from the left on the screen
 unfoldable pub pixel_value : List ℕ → Registers → Object → ℕ → ℕ → ℕ → ℕ
 pixel_value vram r o column row k =
-    value_of (slice_index vram (sliver_word r o column row)) (slice_index vram ((sliver_word r o column row + 8) % 32768))
+    value_of (slice_index vram (sliver_word r o column row))
+    (slice_index vram ((sliver_word r o column row + 8) % 32768))
     (if o.flip_x then 7 - k else k)
 
 -- nothing
 abbrev pub nothing : LayerDot
 nothing = record { on = false; priority = 0; number = 0; direct = false; palette = 0; math = false }
 
--- an object's pixel of a value: colours from 128 on, sixteen a palette; palettes 4 to 7 may take part in colour arithmetic
+-- an object's pixel of a value: colours from 128 on, sixteen a palette; palettes 4 to 7 may take part in colour
+-- arithmetic
 unfoldable pub object_dot : Object → ℕ → LayerDot
 object_dot o value = record {
   on = not (value == 0);
@@ -104,7 +109,8 @@ unfoldable pub sliver_layer_dot : Picture → ℕ → Sliver → ℕ → LayerDo
 sliver_layer_dot p row sliver x =
     if nat_lt (offset_in (sliver_left sliver.object sliver.column) x) 8
     then object_dot sliver.object
-    (pixel_value p.vram p.registers sliver.object sliver.column row (offset_in (sliver_left sliver.object sliver.column) x))
+    (pixel_value p.vram p.registers sliver.object sliver.column row
+    (offset_in (sliver_left sliver.object sliver.column) x))
     else nothing
 
 -- a sliver drawn over what stands at a pixel: it covers it where its value isn't 0
@@ -112,7 +118,7 @@ unfoldable pub painted : Picture → ℕ → ℕ → LayerDot → Sliver → Lay
 painted p row x under sliver =
     if (sliver_layer_dot p row sliver x).on then sliver_layer_dot p row sliver x else under
 
--- What stands at the pixel x of a row: the slivers are drawn from the last object to the first, so the earliest object with a value there is
--- seen.
+-- What stands at the pixel x of a row: the slivers are drawn from the last object to the first, so the earliest object
+-- with a value there is seen.
 unfoldable pub object_layer_dot : Picture → ℕ → ℕ → LayerDot
 object_layer_dot p row x = fold (painted p row x) nothing (drawn_slivers p row)

@@ -1,7 +1,9 @@
 //! One object of OAM, and the objects on a row.
 
-ghost use Rattle.std.specs.Prelude.{◌≡◌, ℕ, ◌+◌, ◌*◌, ◌/◌, ◌%◌, ◌<◌, ◌≤◌, Bool, false, List, [], take, length, nat_lt, slice_index};
-ghost use Rattle.ppu_objects.specs.Objects.{pair_at, object_of, height_of, line_in, stands_on, first_object, place_in_turn, object_in_turn, grown, on_row, drawn_objects, passes_range};
+ghost use Rattle.std.specs.Prelude.{◌≡◌, ℕ, ◌+◌, ◌*◌, ◌/◌, ◌%◌, ◌<◌, ◌≤◌, Bool, false, List, [], take, length, nat_lt};
+ghost use Rattle.std.specs.Prelude.{slice_index};
+ghost use Rattle.ppu_objects.specs.Objects.{pair_at, object_of, height_of, line_in, stands_on, first_object};
+ghost use Rattle.ppu_objects.specs.Objects.{place_in_turn, object_in_turn, grown, on_row, drawn_objects, passes_range};
 ghost use Rattle.ppu_objects.specs.Near.{near_mark};
 ghost use Rattle.ppu_objects.specs.declared.objects.Object.{Object};
 
@@ -130,7 +132,8 @@ fn nth_in_turn(p: &Ppu, first: u8, k: u8) -> Object
 #[tactic(auto, unfolding(crate::specs::Objects::grown))]
 fn note(list: &mut ArrayVec<Object, 32>, more: bool, does: bool, o: Object) -> bool
     ensures items { (xs : List Object) → list.old.items ≡ take 32 xs → list.new.items ≡ take 32 (grown does o xs) }
-    ensures more { (xs : List Object) → list.old.items ≡ take 32 xs → more ≡ nat_lt 32 (length xs) → result ≡ nat_lt 32 (length (grown does o xs)) }
+    ensures more { (xs : List Object) → list.old.items ≡ take 32 xs → more ≡ nat_lt 32 (length xs)
+        → result ≡ nat_lt 32 (length (grown does o xs)) }
 {
     if does {
         if list.len() < 32 {
@@ -177,7 +180,8 @@ fn look(tops: &[u8; 128], tall: u8, row: u8, near: &mut [u8; 256])
 #[inline(always)]
 fn four(near: &[u8; 256], at: usize) -> u64
     requires { at + 4 ≤ 256 }
-    ensures value { result ≡ slice_index near.now at + 256 * slice_index near.now (at + 1) + 65536 * slice_index near.now (at + 2) + 16777216 * slice_index near.now (at + 3) }
+    ensures value { result ≡ slice_index near.now at + 256 * slice_index near.now (at + 1)
+        + 65536 * slice_index near.now (at + 2) + 16777216 * slice_index near.now (at + 3) }
     ensures small { result < 4294967296 }
 {
     near[at] as u64
@@ -218,9 +222,11 @@ fn note_nth(
     requires k { k < 128 }
     requires mark { mark ≡ near_mark tall row (object_in_turn p.now k).y }
     ensures items { (xs : List Object) → list.old.items ≡ take 32 xs →
-        list.new.items ≡ take 32 (grown (stands_on p.now.registers.object_tiles.size (object_in_turn p.now k) row) (object_in_turn p.now k) xs) }
+        list.new.items ≡ take 32 (grown (stands_on p.now.registers.object_tiles.size (object_in_turn p.now k) row)
+        (object_in_turn p.now k) xs) }
     ensures more { (xs : List Object) → list.old.items ≡ take 32 xs → more ≡ nat_lt 32 (length xs) →
-        result ≡ nat_lt 32 (length (grown (stands_on p.now.registers.object_tiles.size (object_in_turn p.now k) row) (object_in_turn p.now k) xs)) }
+        result ≡ nat_lt 32 (length (grown (stands_on p.now.registers.object_tiles.size (object_in_turn p.now k) row)
+        (object_in_turn p.now k) xs)) }
 {
     if mark == 0 {
         return more;
@@ -248,7 +254,8 @@ fn note_group(
     requires first { first ≡ first_object p.now }
     requires small { first < 128 }
     requires group { group < 16 }
-    requires near { (n : ℕ) → n < 256 → slice_index near.now n ≡ near_mark tall row (slice_index p.now.oam (4 * (n % 128) + 1)) }
+    requires near { (n : ℕ) → n < 256 → slice_index near.now n ≡
+        near_mark tall row (slice_index p.now.oam (4 * (n % 128) + 1)) }
     requires items { list.old.items ≡ take 32 (on_row p.now row (8 * group)) }
     requires more { over ≡ nat_lt 32 (length (on_row p.now row (8 * group))) }
     ensures items { list.new.items ≡ take 32 (on_row p.now row (8 * group + 8)) }
@@ -283,7 +290,8 @@ fn note_some(
     requires first { first ≡ first_object p.now }
     requires small { first < 128 }
     requires group { group < 16 }
-    requires near { (n : ℕ) → n < 256 → slice_index near.now n ≡ near_mark tall row (slice_index p.now.oam (4 * (n % 128) + 1)) }
+    requires near { (n : ℕ) → n < 256 → slice_index near.now n ≡
+        near_mark tall row (slice_index p.now.oam (4 * (n % 128) + 1)) }
     requires items { list.old.items ≡ take 32 (on_row p.now row (8 * group)) }
     requires more { over ≡ nat_lt 32 (length (on_row p.now row (8 * group))) }
     ensures items { list.new.items ≡ take 32 (on_row p.now row (8 * group + 8)) }
@@ -321,7 +329,8 @@ fn note_near(
     requires tall { (large : Bool) → height_of p.now.registers.object_tiles.size large ≤ tall }
     requires first { first ≡ first_object p.now }
     requires small { first < 128 }
-    requires near { (n : ℕ) → n < 256 → slice_index near.now n ≡ near_mark tall row (slice_index p.now.oam (4 * (n % 128) + 1)) }
+    requires near { (n : ℕ) → n < 256 → slice_index near.now n ≡
+        near_mark tall row (slice_index p.now.oam (4 * (n % 128) + 1)) }
     requires empty { list.old.items ≡ [] }
     ensures objects { list.new.items ≡ take 32 (on_row p.now row 128) }
     ensures range { result ≡ nat_lt 32 (length (on_row p.now row 128)) }

@@ -1,9 +1,11 @@
 //! Painting slivers over a row.
 
-ghost use Rattle.std.specs.Prelude.{◌≡◌, ℕ, ◌+◌, ◌-◌, ◌*◌, ◌/◌, ◌%◌, ◌<◌, ◌≤◌, ◌==◌, nat_le, length, slice_index, slice_index_or, if◌then◌else◌};
+ghost use Rattle.std.specs.Prelude.{◌≡◌, ℕ, ◌+◌, ◌-◌, ◌*◌, ◌/◌, ◌%◌, ◌<◌, ◌≤◌, ◌==◌, nat_le, length, slice_index};
+ghost use Rattle.std.specs.Prelude.{slice_index_or, if◌then◌else◌};
 ghost use Rattle.tile_cache.specs.Bitplanes.{eight};
 ghost use Rattle.ppu_objects.specs.Covering.{covers, no_sliver, sliver_pixel};
-ghost use Rattle.ppu_objects.specs.Slivers.{turned_line, shown_line, shown_column, tile_number, tile_word, sliver_word, pixel_value, sliver_layer_dot};
+ghost use Rattle.ppu_objects.specs.Slivers.{turned_line, shown_line, shown_column, tile_number, tile_word, sliver_word};
+ghost use Rattle.ppu_objects.specs.Slivers.{pixel_value, sliver_layer_dot};
 ghost use Rattle.ppu_objects.specs.Ranks.{rank_byte, object_rank};
 
 use crate::objects::{Object, line_of_object};
@@ -168,7 +170,8 @@ fn cover(
     ensures ranks { (x : ℕ) → x < 272 → slice_index ranks.new x ≡
         (if covers lines.now from at x then rank else slice_index ranks.old x) }
     ensures numbers { (x : ℕ) → x < 272 → slice_index numbers.new x ≡
-        (if covers lines.now from at x then (colours + slice_index lines.now (from + (x - at))) % 256 else slice_index numbers.old x) }
+        (if covers lines.now from at x then (colours + slice_index lines.now (from + (x - at))) % 256
+        else slice_index numbers.old x) }
 {
     for k in 0..8usize {
         let value = lines[from + k];
@@ -198,7 +201,8 @@ pub fn paint(
     requires room { from + 8 ≤ 272 }
     requires line { (k : ℕ) → k < 8 → slice_index lines.now (from + k) ≡ sliver_pixel p.now row sliver.now k }
     ensures ranks { (x : ℕ) → x < 256 → slice_index ranks.new (x + 8) ≡
-        (if (sliver_layer_dot p.now row sliver.now x).on then object_rank bases.now named (sliver_layer_dot p.now row sliver.now x)
+        (if (sliver_layer_dot p.now row sliver.now x).on
+        then object_rank bases.now named (sliver_layer_dot p.now row sliver.now x)
         else slice_index ranks.old (x + 8)) }
     ensures numbers { (x : ℕ) → x < 256 → slice_index numbers.new (x + 8) ≡
         (if (sliver_layer_dot p.now row sliver.now x).on then (sliver_layer_dot p.now row sliver.now x).number

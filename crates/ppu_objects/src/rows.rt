@@ -1,6 +1,7 @@
 //! Rows of objects, as planes and as dots.
 
-ghost use Rattle.std.specs.Prelude.{◌≡◌, ℕ, ◌+◌, ◌*◌, ◌/◌, ◌%◌, ◌<◌, ◌≤◌, ◌==◌, [], fold, true, length, slice_index, slice_index_or};
+ghost use Rattle.std.specs.Prelude.{◌≡◌, ℕ, ◌+◌, ◌*◌, ◌/◌, ◌%◌, ◌<◌, ◌≤◌, ◌==◌, [], fold, true, length, slice_index};
+ghost use Rattle.std.specs.Prelude.{slice_index_or};
 ghost use Rattle.ppu_regs.specs.Dots.{no_dot, dot_of};
 ghost use Rattle.ppu_objects.specs.Objects.{passes_range};
 ghost use Rattle.ppu_objects.specs.Slivers.{drawn_slivers, passes_time, nothing, painted, object_layer_dot};
@@ -57,8 +58,10 @@ fn paint_all(
     requires bases { (k : ℕ) → slice_index bases.now k ≤ 240 }
     requires ranks_clear { (x : ℕ) → x < 256 → slice_index ranks.old (x + 8) ≡ 0 }
     requires numbers_clear { (x : ℕ) → x < 256 → slice_index numbers.old (x + 8) ≡ 0 }
-    ensures ranks { (x : ℕ) → x < 256 → slice_index ranks.new (x + 8) ≡ object_rank bases.now named (fold (painted p.now row x) nothing slivers.now) }
-    ensures numbers { (x : ℕ) → x < 256 → slice_index numbers.new (x + 8) ≡ (fold (painted p.now row x) nothing slivers.now).number }
+    ensures ranks { (x : ℕ) → x < 256 → slice_index ranks.new (x + 8) ≡
+        object_rank bases.now named (fold (painted p.now row x) nothing slivers.now) }
+    ensures numbers { (x : ℕ) → x < 256 → slice_index numbers.new (x + 8) ≡
+        (fold (painted p.now row x) nothing slivers.now).number }
 {
     let mut lines = [0u8; 272];
     put_lines(p, row, slivers, &mut lines);
@@ -100,8 +103,10 @@ fn paint_row(
     requires row { row < 239 }
     requires most { length slivers.now ≤ 34 }
     requires bases { (k : ℕ) → slice_index bases.now k ≤ 240 }
-    ensures ranks { (x : ℕ) → x < 256 → slice_index out.new.ranks x ≡ object_rank bases.now named (fold (painted p.now row x) nothing slivers.now) }
-    ensures numbers { (x : ℕ) → x < 256 → slice_index out.new.numbers x ≡ (fold (painted p.now row x) nothing slivers.now).number }
+    ensures ranks { (x : ℕ) → x < 256 → slice_index out.new.ranks x ≡
+        object_rank bases.now named (fold (painted p.now row x) nothing slivers.now) }
+    ensures numbers { (x : ℕ) → x < 256 → slice_index out.new.numbers x ≡
+        (fold (painted p.now row x) nothing slivers.now).number }
 {
     if slivers.is_empty() {
         clear(out);
@@ -130,7 +135,8 @@ pub fn paint_drawn(
     requires row { row < 239 }
     requires slivers { slivers.now.items ≡ drawn_slivers p.now row }
     requires bases { (k : ℕ) → slice_index bases.now k ≤ 240 }
-    ensures ranks { (x : ℕ) → x < 256 → slice_index out.new.ranks x ≡ object_rank bases.now named (object_layer_dot p.now row x) }
+    ensures ranks { (x : ℕ) → x < 256 → slice_index out.new.ranks x ≡
+        object_rank bases.now named (object_layer_dot p.now row x) }
     ensures numbers { (x : ℕ) → x < 256 → slice_index out.new.numbers x ≡ (object_layer_dot p.now row x).number }
 {
     paint_row(p, row, slivers.as_slice(), bases, named, out);
@@ -143,7 +149,8 @@ pub fn paint_drawn(
 pub fn obj_planes(p: &Ppu, row: u16, bases: &[u8; 4], named: bool, out: &mut RankedRow) -> Over
     requires row { row < 239 }
     requires bases { (k : ℕ) → slice_index bases.now k ≤ 240 }
-    ensures ranks { (x : ℕ) → x < 256 → slice_index out.new.ranks x ≡ object_rank bases.now named (object_layer_dot p.now row x) }
+    ensures ranks { (x : ℕ) → x < 256 → slice_index out.new.ranks x ≡
+        object_rank bases.now named (object_layer_dot p.now row x) }
     ensures numbers { (x : ℕ) → x < 256 → slice_index out.new.numbers x ≡ (object_layer_dot p.now row x).number }
     ensures range { result.range ≡ passes_range p.now row }
     ensures time { result.time ≡ passes_time p.now row }
@@ -158,7 +165,8 @@ pub fn obj_planes(p: &Ppu, row: u16, bases: &[u8; 4], named: bool, out: &mut Ran
 #[inline(always)]
 #[tactic(auto, unfolding(crate::specs::Ranks::object_rank, crate::specs::Ranks::rank_byte, ppu_regs::specs::Dots::dot_of, ppu_regs::specs::Dots::colour_of))]
 fn dot_at(cgram: &[u16; 256], rank: u8, number: u8) -> Dot
-    ensures { (c : LayerDot) → IsOfObjects c → rank ≡ object_rank row_bases true c → number ≡ c.number → result ≡ dot_of cgram.now c }
+    ensures { (c : LayerDot) → IsOfObjects c → rank ≡ object_rank row_bases true c → number ≡ c.number
+        → result ≡ dot_of cgram.now c }
 {
     if rank == 0 {
         Dot {
@@ -190,7 +198,8 @@ fn dot_in_row(p: &Ppu, row: u16, x: usize, rank: u8, number: u8) -> Dot
 pub fn obj_row(p: &Ppu, row: u16, out: &mut [Dot]) -> Over
     requires row { row < 239 }
     requires room { length out.old ≡ 256 }
-    ensures dots { (x : ℕ) → x < 256 → slice_index_or out.new x no_dot ≡ dot_of p.now.cgram (object_layer_dot p.now row x) }
+    ensures dots { (x : ℕ) → x < 256 → slice_index_or out.new x no_dot ≡
+        dot_of p.now.cgram (object_layer_dot p.now row x) }
     ensures range { result.range ≡ passes_range p.now row }
     ensures time { result.time ≡ passes_time p.now row }
 {

@@ -43,7 +43,8 @@ pub fn on_screen(left: u16) -> bool
 #[tactic(auto, unfolding(crate::specs::Objects::grown))]
 fn note_sliver(list: &mut ArrayVec<Sliver, 34>, more: bool, does: bool, sliver: Sliver) -> bool
     ensures items { (xs : List Sliver) → list.old.items ≡ take 34 xs → list.new.items ≡ take 34 (grown does sliver xs) }
-    ensures more { (xs : List Sliver) → list.old.items ≡ take 34 xs → more ≡ nat_lt 34 (length xs) → result ≡ nat_lt 34 (length (grown does sliver xs)) }
+    ensures more { (xs : List Sliver) → list.old.items ≡ take 34 xs → more ≡ nat_lt 34 (length xs)
+        → result ≡ nat_lt 34 (length (grown does sliver xs)) }
 {
     if does {
         if list.len() < 34 {
@@ -58,8 +59,10 @@ fn note_sliver(list: &mut ArrayVec<Sliver, 34>, more: bool, does: bool, sliver: 
 /// Adds the slivers of one object, left to right.
 #[tactic(auto, unfolding(crate::specs::Slivers::slivers_of, crate::specs::Slivers::first_slivers))]
 fn add_slivers(sizes: &Sizes, o: &Object, list: &mut ArrayVec<Sliver, 34>, over: bool) -> bool
-    ensures items { (xs : List Sliver) → list.old.items ≡ take 34 xs → list.new.items ≡ take 34 (xs ++ slivers_of sizes.now o.now) }
-    ensures more { (xs : List Sliver) → list.old.items ≡ take 34 xs → over ≡ nat_lt 34 (length xs) → result ≡ nat_lt 34 (length (xs ++ slivers_of sizes.now o.now)) }
+    ensures items { (xs : List Sliver) → list.old.items ≡ take 34 xs
+        → list.new.items ≡ take 34 (xs ++ slivers_of sizes.now o.now) }
+    ensures more { (xs : List Sliver) → list.old.items ≡ take 34 xs → over ≡ nat_lt 34 (length xs)
+        → result ≡ nat_lt 34 (length (xs ++ slivers_of sizes.now o.now)) }
 {
     let columns = (sizes.width(o.large) / 8) as u8;
     let mut more = over;

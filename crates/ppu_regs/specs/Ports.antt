@@ -1,7 +1,8 @@
 -- The ports to the picture memories (OAM, VRAM, CGRAM): what a byte that is written or read there makes of
 -- memory and port. After nocash fullsnes; that memories take writes at any time, and what the first and
 -- second bytes keep, are this project's own profile.
-use Rattle.std.specs.Prelude.{ℕ, Bool, true, false, ◌+◌, ◌-◌, ◌*◌, ◌/◌, ◌%◌, ◌==◌, ltb, List, slice_index, slice_set, if◌then◌else◌}
+use Rattle.std.specs.Prelude.{ℕ, Bool, true, false, ◌+◌, ◌-◌, ◌*◌, ◌/◌, ◌%◌, ◌==◌, ltb, List, slice_index, slice_set}
+use Rattle.std.specs.Prelude.{if◌then◌else◌}
 use Rattle.ppu_regs.specs.declared.registers.OamPort.{OamPort}
 use Rattle.ppu_regs.specs.declared.registers.VramPort.{VramPort}
 use Rattle.ppu_regs.specs.declared.registers.CgramPort.{CgramPort}

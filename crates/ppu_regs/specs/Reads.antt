@@ -72,7 +72,9 @@ registers_read p reg spot =
     else if reg == 0x3b then (record r { cgram = cgram_port_read r.cgram })
     else if reg == 0x3c then (record r { counters = record r.counters { h_high = not r.counters.h_high } })
     else if reg == 0x3d then (record r { counters = record r.counters { v_high = not r.counters.v_high } })
-    else if reg == 0x3f then (record r { counters = record r.counters { latched = false; h_high = false; v_high = false } })
+    else if reg == 0x3f then (record r {
+      counters = record r.counters { latched = false; h_high = false; v_high = false };
+    })
     else r
 
 abbrev pub after_read : Picture → ℕ → Spot → Picture

@@ -3,8 +3,18 @@ use Rattle.std.specs.Prelude.{ℕ, true, false, ◌*◌, ◌==◌, ◌||◌, Opt
 use Rattle.ppu_regs.specs.declared.registers.Registers.{Registers}
 use Rattle.ppu_regs.specs.declared.registers.Over.{Over}
 use Rattle.ppu_regs.specs.Picture.{Picture}
-use Rattle.ppu_regs.specs.Pages.{display_written, object_tiles_written, oam_low_written, oam_high_written, mode_written, mosaic_written, map_written, tiles_low_written, tiles_high_written, scrolled_across, scrolled_down, rotation_scrolled_across, rotation_scrolled_down, vram_step_written, rotation_settings_written, rotation_a_written, rotation_b_written, rotation_c_written, rotation_d_written, rotation_x_written, rotation_y_written, cgram_index_written, windows_low_written, windows_high_written, windows_others_written, combines_written, combines_others_written, main_written, sub_written, main_masks_written, sub_masks_written, colour_selected, arithmetic_written, fixed_colour_written, settings_written}
-use Rattle.ppu_regs.specs.Ports.{oam_bytes_written, oam_port_written, vram_place, vram_low_aimed, vram_high_aimed, vram_low_written, vram_high_written, vram_port_after, cgram_written, cgram_port_written}
+use Rattle.ppu_regs.specs.Pages.{display_written, object_tiles_written, oam_low_written, oam_high_written, mode_written}
+use Rattle.ppu_regs.specs.Pages.{mosaic_written, map_written, tiles_low_written, tiles_high_written, scrolled_across}
+use Rattle.ppu_regs.specs.Pages.{scrolled_down, rotation_scrolled_across, rotation_scrolled_down, vram_step_written}
+use Rattle.ppu_regs.specs.Pages.{rotation_settings_written, rotation_a_written, rotation_b_written, rotation_c_written}
+use Rattle.ppu_regs.specs.Pages.{rotation_d_written, rotation_x_written, rotation_y_written, cgram_index_written}
+use Rattle.ppu_regs.specs.Pages.{windows_low_written, windows_high_written, windows_others_written, combines_written}
+use Rattle.ppu_regs.specs.Pages.{combines_others_written, main_written, sub_written, main_masks_written}
+use Rattle.ppu_regs.specs.Pages.{sub_masks_written, colour_selected, arithmetic_written, fixed_colour_written}
+use Rattle.ppu_regs.specs.Pages.{settings_written}
+use Rattle.ppu_regs.specs.Ports.{oam_bytes_written, oam_port_written, vram_place, vram_low_aimed, vram_high_aimed}
+use Rattle.ppu_regs.specs.Ports.{vram_low_written, vram_high_written, vram_port_after, cgram_written}
+use Rattle.ppu_regs.specs.Ports.{cgram_port_written}
 
 -- the registers after a byte v, but for those that reach a memory: 2104, 2116 to 2119 and 2122. 2134 to
 -- 213F can't be written.
@@ -22,8 +32,16 @@ registers_written r reg v =
     else if reg == 0x0a then (record r { bg4 = map_written r.bg4 v })
     else if reg == 0x0b then tiles_low_written r v
     else if reg == 0x0c then tiles_high_written r v
-    else if reg == 0x0d then (record r { bg1 = scrolled_across r.bg1 r.scroll_kept v; scroll_kept = v; rotation = rotation_scrolled_across r.rotation v })
-    else if reg == 0x0e then (record r { bg1 = scrolled_down r.bg1 r.scroll_kept v; scroll_kept = v; rotation = rotation_scrolled_down r.rotation v })
+    else if reg == 0x0d then (record r {
+      bg1 = scrolled_across r.bg1 r.scroll_kept v;
+      scroll_kept = v;
+      rotation = rotation_scrolled_across r.rotation v;
+    })
+    else if reg == 0x0e then (record r {
+      bg1 = scrolled_down r.bg1 r.scroll_kept v;
+      scroll_kept = v;
+      rotation = rotation_scrolled_down r.rotation v;
+    })
     else if reg == 0x0f then (record r { bg2 = scrolled_across r.bg2 r.scroll_kept v; scroll_kept = v })
     else if reg == 0x10 then (record r { bg2 = scrolled_down r.bg2 r.scroll_kept v; scroll_kept = v })
     else if reg == 0x11 then (record r { bg3 = scrolled_across r.bg3 r.scroll_kept v; scroll_kept = v })
@@ -132,4 +150,8 @@ after_frame p = record p { registers = record p.registers { over = record { rang
 abbrev pub after_blank : Picture → Picture
 after_blank p =
     if p.registers.display.blanked then p
-    else (record p { registers = record p.registers { oam = record p.registers.oam { address = 2 * p.registers.oam.word } } })
+    else (record p {
+      registers = record p.registers {
+        oam = record p.registers.oam { address = 2 * p.registers.oam.word };
+      };
+    })

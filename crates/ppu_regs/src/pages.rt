@@ -1,6 +1,15 @@
 //! The bits of each register that is written, register by register.
 ghost use Rattle.std.specs.Prelude.{◌≡◌, ◌<◌, ◌≤◌};
-ghost use Rattle.ppu_regs.specs.Pages.{display_written, object_tiles_written, oam_low_written, oam_high_written, mode_written, mosaic_written, map_written, tiles_low_written, tiles_high_written, scrolled_across, scrolled_down, rotation_scrolled_across, rotation_scrolled_down, vram_step_written, rotation_settings_written, rotation_a_written, rotation_b_written, rotation_c_written, rotation_d_written, rotation_x_written, rotation_y_written, cgram_index_written, windows_selected, windows_low_written, windows_high_written, windows_others_written, combine_of, combines_written, combines_others_written, main_written, sub_written, main_masks_written, sub_masks_written, window_part_of, colour_selected, arithmetic_written, fixed_colour_written, settings_written};
+ghost use Rattle.ppu_regs.specs.Pages.{display_written, object_tiles_written, oam_low_written, oam_high_written};
+ghost use Rattle.ppu_regs.specs.Pages.{mode_written, mosaic_written, map_written, tiles_low_written};
+ghost use Rattle.ppu_regs.specs.Pages.{tiles_high_written, scrolled_across, scrolled_down, rotation_scrolled_across};
+ghost use Rattle.ppu_regs.specs.Pages.{rotation_scrolled_down, vram_step_written, rotation_settings_written};
+ghost use Rattle.ppu_regs.specs.Pages.{rotation_a_written, rotation_b_written, rotation_c_written, rotation_d_written};
+ghost use Rattle.ppu_regs.specs.Pages.{rotation_x_written, rotation_y_written, cgram_index_written, windows_selected};
+ghost use Rattle.ppu_regs.specs.Pages.{windows_low_written, windows_high_written, windows_others_written, combine_of};
+ghost use Rattle.ppu_regs.specs.Pages.{combines_written, combines_others_written, main_written, sub_written};
+ghost use Rattle.ppu_regs.specs.Pages.{main_masks_written, sub_masks_written, window_part_of, colour_selected};
+ghost use Rattle.ppu_regs.specs.Pages.{arithmetic_written, fixed_colour_written, settings_written};
 
 use crate::bits::bit;
 use crate::registers::{

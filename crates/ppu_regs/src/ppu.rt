@@ -1,7 +1,10 @@
 //! The PPU as one value: writes, reads and the events of the beam.
-ghost use Rattle.std.specs.Prelude.{◌≡◌, ℕ, ◌<◌, ◌≤◌, ◌+◌, ◌*◌, length, slice_index, All, IfOk, IfSome, not, true, false};
+ghost use Rattle.std.specs.Prelude.{◌≡◌, ℕ, ◌<◌, ◌≤◌, ◌+◌, ◌*◌, length, slice_index, All, IfOk, IfSome, not, true};
+ghost use Rattle.std.specs.Prelude.{false};
 ghost use Rattle.ppu_regs.specs.Picture.{IsInRange, picture_start, vram_words, zeros};
-ghost use Rattle.ppu_regs.specs.Writes.{registers_written, oam_written, vram_low_set, vram_high_set, vram_low_put, vram_high_put, vram_passed, colour_put, after_write, word_written, after_over, after_frame, after_blank};
+ghost use Rattle.ppu_regs.specs.Writes.{registers_written, oam_written, vram_low_set, vram_high_set, vram_low_put};
+ghost use Rattle.ppu_regs.specs.Writes.{vram_high_put, vram_passed, colour_put, after_write, word_written, after_over};
+ghost use Rattle.ppu_regs.specs.Writes.{after_frame, after_blank};
 ghost use Rattle.ppu_regs.specs.Reads.{byte_read, after_read, latched, count_byte, status_two};
 ghost use Rattle.ppu_regs.specs.Ports.{vram_place, oam_place, oam_stepped, vram_port_read, cgram_byte, cgram_port_read};
 
@@ -34,7 +37,12 @@ impl Model for Ppu {
 
     ghost view = { λ p. record { registers = p.registers; vram = p.vram.items; cgram = p.cgram; oam = p.oam } };
 
-    ghost invariant = { λ p. IsInRange (record { registers = p.registers; vram = p.vram.items; cgram = p.cgram; oam = p.oam }) };
+    ghost invariant = { λ p. IsInRange (record {
+      registers = p.registers;
+      vram = p.vram.items;
+      cgram = p.cgram;
+      oam = p.oam;
+    }) };
 }
 
 impl Ppu {
@@ -287,7 +295,11 @@ impl Ppu {
     #[inline(always)]
     fn read_oam(&mut self) -> u8
         ensures byte { result ≡ slice_index self.old.oam (oam_place self.old.registers.oam.address) }
-        ensures after { self.new ≡ (record self.old { registers = record self.old.registers { oam = oam_stepped self.old.registers.oam } }) }
+        ensures after { self.new ≡ (record self.old {
+          registers = record self.old.registers {
+            oam = oam_stepped self.old.registers.oam;
+          };
+        }) }
     {
         let byte = self.oam.bytes()[oam::place(self.registers.oam.address)];
         oam::step(&mut self.registers.oam);
@@ -298,7 +310,11 @@ impl Ppu {
     #[inline(always)]
     fn read_vram(&mut self, high: bool) -> u16
         ensures word { result ≡ self.old.registers.vram.fetched }
-        ensures after { self.new ≡ (record self.old { registers = record self.old.registers { vram = vram_port_read self.old.vram self.old.registers.vram high } }) }
+        ensures after { self.new ≡ (record self.old {
+          registers = record self.old.registers {
+            vram = vram_port_read self.old.vram self.old.registers.vram high;
+          };
+        }) }
     {
         let word = self.registers.vram.fetched;
         vram::fetch_after_read(self.vram.as_slice(), &mut self.registers.vram, high);
@@ -309,7 +325,11 @@ impl Ppu {
     #[inline(always)]
     fn read_colour(&mut self) -> u8
         ensures byte { result ≡ cgram_byte self.old.cgram self.old.registers.cgram }
-        ensures after { self.new ≡ (record self.old { registers = record self.old.registers { cgram = cgram_port_read self.old.registers.cgram } }) }
+        ensures after { self.new ≡ (record self.old {
+          registers = record self.old.registers {
+            cgram = cgram_port_read self.old.registers.cgram;
+          };
+        }) }
     {
         cgram::read_byte(&self.cgram, &mut self.registers.cgram)
     }
@@ -318,7 +338,11 @@ impl Ppu {
     #[inline(always)]
     fn read_h_count(&mut self) -> u8
         ensures byte { result ≡ count_byte self.old.registers.counters.h self.old.registers.counters.h_high }
-        ensures after { self.new ≡ (record self.old { registers = record self.old.registers { counters = record self.old.registers.counters { h_high = not self.old.registers.counters.h_high } } }) }
+        ensures after { self.new ≡ (record self.old {
+          registers = record self.old.registers {
+            counters = record self.old.registers.counters { h_high = not self.old.registers.counters.h_high };
+          };
+        }) }
     {
         let high = self.registers.counters.h_high;
         self.registers.counters.h_high = !high;
@@ -329,7 +353,11 @@ impl Ppu {
     #[inline(always)]
     fn read_v_count(&mut self) -> u8
         ensures byte { result ≡ count_byte self.old.registers.counters.v self.old.registers.counters.v_high }
-        ensures after { self.new ≡ (record self.old { registers = record self.old.registers { counters = record self.old.registers.counters { v_high = not self.old.registers.counters.v_high } } }) }
+        ensures after { self.new ≡ (record self.old {
+          registers = record self.old.registers {
+            counters = record self.old.registers.counters { v_high = not self.old.registers.counters.v_high };
+          };
+        }) }
     {
         let high = self.registers.counters.v_high;
         self.registers.counters.v_high = !high;
@@ -340,7 +368,11 @@ impl Ppu {
     #[inline(always)]
     fn read_status(&mut self) -> u8
         ensures byte { result ≡ status_two self.old.registers.counters }
-        ensures after { self.new ≡ (record self.old { registers = record self.old.registers { counters = record self.old.registers.counters { latched = false; h_high = false; v_high = false } } }) }
+        ensures after { self.new ≡ (record self.old {
+          registers = record self.old.registers {
+            counters = record self.old.registers.counters { latched = false; h_high = false; v_high = false };
+          };
+        }) }
     {
         let status = self.registers.counters.status();
         self.registers.counters.latched = false;

@@ -1,6 +1,7 @@
 //! The registers at the start.
 ghost use Rattle.std.specs.Prelude.{◌≡◌};
-ghost use Rattle.ppu_regs.specs.Picture.{background_start, windows_start, screens_start, rotation_start, colour_start, registers_start};
+ghost use Rattle.ppu_regs.specs.Picture.{background_start, windows_start, screens_start, rotation_start, colour_start};
+ghost use Rattle.ppu_regs.specs.Picture.{registers_start};
 
 use crate::registers::{
     Background, CgramPort, ColourMath, Combine, Counters, Display, LayerScreens, LayerWindows,

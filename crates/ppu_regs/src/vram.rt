@@ -1,6 +1,8 @@
 //! The port to VRAM: 2115 to 2119, 2139 and 213A.
 ghost use Rattle.std.specs.Prelude.{◌≡◌, ◌<◌, length, true, false};
-ghost use Rattle.ppu_regs.specs.Ports.{rotated, remapped, vram_place, vram_stepped, vram_low_aimed, vram_high_aimed, vram_low_written, vram_high_written, vram_port_after, vram_fetched, vram_port_read};
+ghost use Rattle.ppu_regs.specs.Ports.{rotated, remapped, vram_place, vram_stepped, vram_low_aimed, vram_high_aimed};
+ghost use Rattle.ppu_regs.specs.Ports.{vram_low_written, vram_high_written, vram_port_after, vram_fetched};
+ghost use Rattle.ppu_regs.specs.Ports.{vram_port_read};
 
 use crate::registers::VramPort;
 

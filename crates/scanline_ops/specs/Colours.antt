@@ -15,7 +15,8 @@ blue_of colour = colour / 1024 % 32
 abbrev pub colour_of : ℕ → ℕ → ℕ → ℕ
 colour_of red green blue = red + 32 * green + 1024 * blue
 
--- A component with another: their sum or difference, not below 0, then halved where that is so, downwards, and at most 31.
+-- A component with another: their sum or difference, not below 0, then halved where that is so, downwards, and at most
+-- 31.
 unfoldable pub component_with : Bool → Bool → ℕ → ℕ → ℕ
 component_with subtracts halves one two =
     min 31 ((if subtracts then one - two else one + two) / (if halves then 2 else 1))
@@ -47,5 +48,6 @@ direct_colour byte tint =
 -- colours.
 unfoldable pub pixel_colour : List ℕ → Bool → ℕ → ℕ → ℕ → ℕ → ℕ
 pixel_colour cgram is_direct low high key number =
-    if is_direct && (is_found key && ((rank_of key == low) || (rank_of key == high))) then direct_colour number (tint_of key)
+    if is_direct && (is_found key && ((rank_of key == low) || (rank_of key == high)))
+    then direct_colour number (tint_of key)
     else slice_index cgram number

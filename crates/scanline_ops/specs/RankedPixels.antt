@@ -1,9 +1,9 @@
 -- What stands at one pixel of a screen, in two numbers, and which of two stands in front.
 use Rattle.std.specs.Prelude.{ℕ, zero, suc, ◌/◌, ◌%◌, ◌==◌, Bool, false, ◌||◌, nat_lt, List, slice_index, if◌then◌else◌}
 
--- A ranked pixel's key has in bits 7-4 its rank (0 nothing, else the greater the nearer to the front), in bit 3 whether colour
--- arithmetic is named for it, and in bits 2-0 the palette bits of a direct colour. Its number is that of a colour in CGRAM, or the
--- eight bits of a direct colour.
+-- A ranked pixel's key has in bits 7-4 its rank (0 nothing, else the greater the nearer to the front), in bit 3 whether
+-- colour arithmetic is named for it, and in bits 2-0 the palette bits of a direct colour. Its number is that of a
+-- colour in CGRAM, or the eight bits of a direct colour.
 pub record RankedPixel : Type 0 where
   pub key : ℕ
   pub number : ℕ

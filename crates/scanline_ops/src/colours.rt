@@ -1,6 +1,7 @@
 //! Colours: look-up, arithmetic and brightness.
 
-ghost use Rattle.std.specs.Prelude.{◌≡◌, ℕ, ◌+◌, ◌-◌, ◌*◌, ◌/◌, ◌%◌, ◌<◌, ◌≤◌, ◌^◌, Bool, true, false, not, ◌&&◌, ◌||◌, ◌==◌, length, slice_index, if◌then◌else◌};
+ghost use Rattle.std.specs.Prelude.{◌≡◌, ℕ, ◌+◌, ◌-◌, ◌*◌, ◌/◌, ◌%◌, ◌<◌, ◌≤◌, ◌^◌, Bool, true, false, not, ◌&&◌, ◌||◌};
+ghost use Rattle.std.specs.Prelude.{◌==◌, length, slice_index, if◌then◌else◌};
 ghost use Rattle.scanline_ops.specs.Colours.{component_with, colour_with, dimmed, direct_colour, pixel_colour};
 
 use crate::ranked_pixels::is_found_key;

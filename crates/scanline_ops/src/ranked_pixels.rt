@@ -40,10 +40,12 @@ pub fn lay(
 )
     ensures keys { (x : ℕ) → x < 256 → slice_index front_keys.new x ≡
         (nearest (record { key = slice_index front_keys.old x; number = slice_index front_numbers.old x })
-        (seen (slice_index hidden.now x) (record { key = slice_index keys.now x; number = slice_index numbers.now x }))).key }
+        (seen (slice_index hidden.now x)
+        (record { key = slice_index keys.now x; number = slice_index numbers.now x }))).key }
     ensures numbers { (x : ℕ) → x < 256 → slice_index front_numbers.new x ≡
         (nearest (record { key = slice_index front_keys.old x; number = slice_index front_numbers.old x })
-        (seen (slice_index hidden.now x) (record { key = slice_index keys.now x; number = slice_index numbers.now x }))).number }
+        (seen (slice_index hidden.now x)
+        (record { key = slice_index keys.now x; number = slice_index numbers.now x }))).number }
 {
     for x in 0..256usize {
         let key = key_behind(hidden[x], keys[x]);
