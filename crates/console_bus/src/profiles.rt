@@ -1,6 +1,5 @@
 //! Registers and vertical blank by the profile of the script.
 ghost use Rattle.std.specs.Prelude.{◌≡◌, ◌<◌, ◌+◌, ◌*◌, ◌%◌};
-ghost use Rattle.io_math.specs.Registers.{is_reading};
 ghost use Rattle.console_bus.specs.BusState.{BusState, spot_of, with_picture};
 ghost use Rattle.console_bus.specs.Places.{picture_after_read, picture_after_write, picture_after_port};
 ghost use Rattle.console_bus.specs.Places.{picture_byte_of, io_register_written};
@@ -11,28 +10,12 @@ use io_math::Io;
 use snes_defs::{Profile, Region};
 
 impl Bus {
-    /// Returns the profile of the machine, which is that of its script.
-    #[inline(always)]
-    pub fn profile(&self) -> Profile
-        ensures { result ≡ self.now.script.profile }
-    {
-        self.script.profile()
-    }
-
     /// Returns whether the machine follows the second profile.
     #[inline(always)]
     pub fn is_second(&self) -> bool
         ensures { result ≡ is_second self.now.script.profile }
     {
         is_second(self.script.profile())
-    }
-
-    /// Returns whether an auto-read that takes time runs where the beam stands: HVBJOY (4212) bit 0. In the first
-    /// profile it never does.
-    pub fn is_reading(&self) -> bool
-        ensures { result ≡ is_reading self.now.io (spot_of self.now.beam) }
-    {
-        self.io.is_reading(self.beam.spot())
     }
 
     /// Reads a register of the PPU, 2100 plus `register`.

@@ -93,13 +93,6 @@ impl Io {
         r.pad2.earlier = r.pad2.kept;
     }
 
-    /// Returns whether an auto-read that takes time runs where the beam stands: HVBJOY (4212) bit 0.
-    pub fn is_reading(&self, beam: Spot) -> bool
-        ensures { result ≡ is_reading self.now beam }
-    {
-        is_reading(&self.registers, beam)
-    }
-
     /// Returns bit 0 of 4200 NMITIMEN: whether auto-read is on.
     pub fn auto_read(&self) -> bool
         ensures { result ≡ self.now.interrupts.auto_read }
