@@ -8,6 +8,7 @@ use Rattle.ppu_regs.specs.Picture.{Picture, screens_of}
 use Rattle.ppu_regs.specs.Dots.{rank_of}
 use Rattle.ppu_regs.specs.Reads.{bit_of}
 use Rattle.ppu_tiles.specs.Modes.{is_hires}
+use Rattle.ppu_tiles.specs.Columns.{base_of}
 use Rattle.ppu_tiles.specs.Backgrounds.{background_layer_dot, layer_dot_at, layer_dot_of}
 use Rattle.ppu_mode7.specs.Rotated.{rotated_layer_dot}
 use Rattle.ppu_mode7.specs.Rotated as rotated
@@ -119,6 +120,37 @@ pub layer_plane : (p : Picture) (layer row e : ℕ) → layer ≤ 4 → has_back
     any_layer_dot p layer row e ≡ plane_layer_dot p layer row e
 unfolding any_layer_dot
 layer_plane p layer row e h has = rw (not_five layer h) (rw has refl)
+
+-- two painted bytes are the layer's ranked pixel at a dot, of tiles and of mode 7
+pub tiles_pixel : (p : Picture) (layer row e key number low high : ℕ) → layer ≤ 4 →
+    has_background p.registers.mode layer ≡ true → (p.registers.mode == 7) ≡ false →
+    low ≡ rank_base (layer_rank p.registers layer 0) (screens_of p.registers layer).arithmetic →
+    high ≡ rank_base (layer_rank p.registers layer 1) (screens_of p.registers layer).arithmetic →
+    (let c = background_layer_dot p layer row e in
+    key ≡ rank_of (base_of low high c) c → number ≡ c.number →
+    record { key = key; number = number } ≡ ranked_pixel_of p layer (any_layer_dot p layer row e))
+tiles_pixel p layer row e key number low high last has mode hl hh hk hn =
+    painted_pixel p layer (background_layer_dot p layer row e) key number low high (tiles_priority p layer row e)
+    (tiles_math p layer row e) hl hh hk hn
+    ∙ ap (ranked_pixel_of p layer) (sym (layer_plane p layer row e last has ∙ plane_tiles p layer row e mode))
+
+pub rotated_pixel : (p : Picture) (layer row e x key number low high : ℕ) → layer ≤ 4 → e / 2 ≡ x →
+    has_background p.registers.mode layer ≡ true → (p.registers.mode == 7) ≡ true →
+    low ≡ rank_base (layer_rank p.registers layer 0) (screens_of p.registers layer).arithmetic →
+    high ≡ rank_base (layer_rank p.registers layer 1) (screens_of p.registers layer).arithmetic →
+    (let c = rotated_layer_dot p layer row x in
+    key ≡ rank_of (if c.priority == 1 then high else low) c → number ≡ c.number →
+    record { key = key; number = number } ≡ ranked_pixel_of p layer (any_layer_dot p layer row e))
+rotated_pixel p layer row e x key number low high last half has mode hl hh hk hn =
+    painted_pixel p layer (rotated_layer_dot p layer row x) key number low high (rotated_priority p layer row x)
+    (rotated_math p layer row x) hl hh hk hn
+    ∙ ap (ranked_pixel_of p layer) (sym (layer_plane p layer row e last has ∙ plane_rotated p layer row e x mode half))
+
+pub any_pair : (p : Picture) (layer row x : ℕ) → layer ≤ 4 → has_background p.registers.mode layer ≡ true →
+    is_hires p.registers.mode ≡ false → any_layer_dot p layer row (2 * x + 1) ≡ any_layer_dot p layer row (2 * x)
+any_pair p layer row x last has alike =
+    layer_plane p layer row (2 * x + 1) last has ∙ plane_pair p layer row x alike
+    ∙ sym (layer_plane p layer row (2 * x) last has)
 
 layer_nothing : (p : Picture) (layer row e : ℕ) → layer ≤ 4 → has_background p.registers.mode layer ≡ false →
     any_layer_dot p layer row e ≡ nothing

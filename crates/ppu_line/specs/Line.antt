@@ -1,4 +1,5 @@
--- A row of the picture, dot by dot: what each layer has there, what stands in front on both screens, and the dot that is shown.
+-- A row of the picture, dot by dot: what each layer has there, what stands in front on both screens, and the dot that
+-- is shown.
 use Rattle.std.specs.Prelude.{ℕ, zero, suc, ◌+◌, ◌*◌, ◌/◌, ◌%◌, ◌==◌, Bool, ◌&&◌, ◌||◌, nat_le, if◌then◌else◌}
 use Rattle.ppu_regs.specs.declared.dots.LayerDot.{LayerDot}
 use Rattle.ppu_regs.specs.Picture.{Picture, screens_of}
@@ -11,7 +12,8 @@ use Rattle.scanline_ops.specs.RankedPixels.{RankedPixel, no_pixel, nearest}
 use Rattle.ppu_screens.specs.Order.{layer_rank, rank_base}
 use Rattle.ppu_screens.specs.Screens.{on_main, on_sub, backdrop, even_dot, odd_dot}
 
--- whether a mode has a background: BG1, and BG2 where EXTBG's order has it, in mode 7; else where it has 2, 4 or 8 bits a pixel
+-- whether a mode has a background: BG1, and BG2 where EXTBG's order has it, in mode 7; else where it has 2, 4 or 8 bits
+-- a pixel
 abbrev pub has_depth : ℕ → Bool
 has_depth depth = (depth == 2) || (depth == 4) || (depth == 8)
 
@@ -32,11 +34,13 @@ any_layer_dot p layer row e =
 -- a layer's dot as a ranked pixel: its rank in the order of the mode, whether 2131 names it, and its colour's number
 unfoldable pub ranked_pixel_of : Picture → ℕ → LayerDot → RankedPixel
 ranked_pixel_of p layer c = record {
-  key = rank_of (rank_base (layer_rank p.registers layer c.priority) ((screens_of p.registers layer).arithmetic && c.math)) c;
+  key = rank_of (rank_base (layer_rank p.registers layer c.priority)
+      ((screens_of p.registers layer).arithmetic && c.math)) c;
   number = c.number;
 }
 
--- a layer's ranked pixel on the two screens at the pixel x: the main screen takes the odd dots, the sub screen the even ones
+-- a layer's ranked pixel on the two screens at the pixel x: the main screen takes the odd dots, the sub screen the even
+-- ones
 unfoldable pub main_pixel : Picture → ℕ → ℕ → ℕ → RankedPixel
 main_pixel p row x layer = on_main p.registers layer x (ranked_pixel_of p layer (any_layer_dot p layer row (2 * x + 1)))
 

@@ -7,7 +7,8 @@ ghost use Rattle.ppu_regs.specs.Reads.{bit_of};
 ghost use Rattle.ppu_tiles.specs.Modes.{is_hires, depth_of};
 ghost use Rattle.ppu_objects.specs.Slivers.{drawn_slivers, object_layer_dot};
 ghost use Rattle.ppu_screens.specs.Screens.{ranked_pixel_at};
-ghost use Rattle.ppu_line.specs.Line.{has_background, has_depth, plane_layer_dot, ranked_pixel_of, main_pixel, sub_pixel};
+ghost use Rattle.ppu_line.specs.Line.{has_background, has_depth, plane_layer_dot, ranked_pixel_of, main_pixel};
+ghost use Rattle.ppu_line.specs.Line.{sub_pixel};
 
 use arrayvec::ArrayVec;
 use ppu_mode7::rotated_planes;
@@ -45,67 +46,6 @@ fn rotates(mode: u8) -> bool
     mode == 7
 }
 
-/// Paints a background of modes 0 to 6.
-#[inline(always)]
-fn paint_tiles(p: &Ppu, tiles: &TileCache, layer: u8, row: u16, odd: bool, out: &mut RankedRow)
-    requires first { 1 ≤ layer }
-    requires last { layer ≤ 4 }
-    requires row { row < 239 }
-    requires step { IsInStep tiles.now p.now.vram }
-    requires mode { (p.now.registers.mode == 7) ≡ false }
-    requires has { has_depth (depth_of p.now.registers.mode layer) ≡ true }
-    ensures { (x : ℕ) → x < 256 → ranked_pixel_at out.new x ≡ ranked_pixel_of p.now layer (plane_layer_dot p.now layer row (2 * x + bit_of odd)) }
-{
-    let r = p.registers();
-    let named = r.screens(layer).arithmetic;
-    let low = base(r, layer, 0, named);
-    let high = base(r, layer, 1, named);
-    ranked_row(
-        p,
-        tiles,
-        layer,
-        row,
-        odd,
-        low,
-        high,
-        &mut out.ranks,
-        &mut out.numbers,
-    );
-}
-
-/// Paints a background of mode 7.
-#[inline(always)]
-fn paint_rotated(p: &Ppu, layer: u8, row: u16, odd: bool, out: &mut RankedRow)
-    requires first { 1 ≤ layer }
-    requires last { layer ≤ 4 }
-    requires row { row < 239 }
-    requires mode { (p.now.registers.mode == 7) ≡ true }
-    ensures { (x : ℕ) → x < 256 → ranked_pixel_at out.new x ≡ ranked_pixel_of p.now layer (plane_layer_dot p.now layer row (2 * x + bit_of odd)) }
-{
-    let r = p.registers();
-    let named = r.screens(layer).arithmetic;
-    let low = base(r, layer, 0, named);
-    let high = base(r, layer, 1, named);
-    rotated_planes(p, layer, row, low, high, out);
-}
-
-/// Paints a background that the mode has: its dots 2x, or 2x + 1 if `odd`.
-#[tactic(auto, unfolding(crate::specs::Line::has_background))]
-fn paint_background(p: &Ppu, tiles: &TileCache, layer: u8, row: u16, odd: bool, out: &mut RankedRow)
-    requires first { 1 ≤ layer }
-    requires last { layer ≤ 4 }
-    requires row { row < 239 }
-    requires step { IsInStep tiles.now p.now.vram }
-    requires has { has_background p.now.registers.mode layer ≡ true }
-    ensures { (x : ℕ) → x < 256 → ranked_pixel_at out.new x ≡ ranked_pixel_of p.now layer (plane_layer_dot p.now layer row (2 * x + bit_of odd)) }
-{
-    if rotates(p.registers().mode) {
-        paint_rotated(p, layer, row, odd, out);
-    } else {
-        paint_tiles(p, tiles, layer, row, odd, out);
-    }
-}
-
 #[inline(always)]
 fn hires(mode: u8) -> bool
     ensures { result ≡ is_hires mode }
@@ -113,110 +53,25 @@ fn hires(mode: u8) -> bool
     mode == 5 || mode == 6
 }
 
-/// Lays a background of 512 dots over both screens: the odd dots over the main screen, the even ones over the sub
-/// screen.
-fn lay_both(
-    p: &Ppu,
-    tiles: &TileCache,
-    layer: u8,
-    row: u16,
-    odd: &mut RankedRow,
-    even: &mut RankedRow,
-    main: &mut RankedRow,
-    sub: &mut RankedRow,
-)
-    requires first { 1 ≤ layer }
-    requires last { layer ≤ 4 }
-    requires row { row < 239 }
-    requires step { IsInStep tiles.now p.now.vram }
-    requires has { has_background p.now.registers.mode layer ≡ true }
-    ensures main { (x : ℕ) → x < 256 → ranked_pixel_at main.new x ≡ nearest (ranked_pixel_at main.old x) (main_pixel p.now row x layer) }
-    ensures sub { (x : ℕ) → x < 256 → ranked_pixel_at sub.new x ≡ nearest (ranked_pixel_at sub.old x) (sub_pixel p.now row x layer) }
-{
-    paint_background(p, tiles, layer, row, true, odd);
-    paint_background(p, tiles, layer, row, false, even);
-    lay_layer(p, layer, odd, even, main, sub);
-}
-
-/// Lays a background of 256 pixels over both screens.
-fn lay_same(
-    p: &Ppu,
-    tiles: &TileCache,
-    layer: u8,
-    row: u16,
-    odd: &mut RankedRow,
-    main: &mut RankedRow,
-    sub: &mut RankedRow,
-)
-    requires first { 1 ≤ layer }
-    requires last { layer ≤ 4 }
-    requires row { row < 239 }
-    requires step { IsInStep tiles.now p.now.vram }
-    requires has { has_background p.now.registers.mode layer ≡ true }
-    requires alike { is_hires p.now.registers.mode ≡ false }
-    ensures main { (x : ℕ) → x < 256 → ranked_pixel_at main.new x ≡ nearest (ranked_pixel_at main.old x) (main_pixel p.now row x layer) }
-    ensures sub { (x : ℕ) → x < 256 → ranked_pixel_at sub.new x ≡ nearest (ranked_pixel_at sub.old x) (sub_pixel p.now row x layer) }
-{
-    paint_background(p, tiles, layer, row, true, odd);
-    lay_layer(p, layer, odd, odd, main, sub);
-}
-
-/// Lays a background that the mode has over both screens.
+/// Returns whether the mode has a background, and a screen shows it. Otherwise the background has nothing on either.
 #[inline(always)]
-fn lay_background(
-    p: &Ppu,
-    tiles: &TileCache,
-    layer: u8,
-    row: u16,
-    odd: &mut RankedRow,
-    even: &mut RankedRow,
-    main: &mut RankedRow,
-    sub: &mut RankedRow,
-)
+#[tactic(auto, using(crate::proofs::Painted::absent, crate::proofs::Painted::unshown))]
+pub fn is_shown(p: &Ppu, layer: u8) -> bool
     requires first { 1 ≤ layer }
     requires last { layer ≤ 4 }
-    requires row { row < 239 }
-    requires step { IsInStep tiles.now p.now.vram }
-    requires has { has_background p.now.registers.mode layer ≡ true }
-    ensures main { (x : ℕ) → x < 256 → ranked_pixel_at main.new x ≡ nearest (ranked_pixel_at main.old x) (main_pixel p.now row x layer) }
-    ensures sub { (x : ℕ) → x < 256 → ranked_pixel_at sub.new x ≡ nearest (ranked_pixel_at sub.old x) (sub_pixel p.now row x layer) }
-{
-    if hires(p.registers().mode) {
-        lay_both(p, tiles, layer, row, odd, even, main, sub);
-    } else {
-        lay_same(p, tiles, layer, row, odd, main, sub);
-    }
-}
-
-/// Lays a background that the mode has over both screens, if a screen shows it.
-#[inline(always)]
-#[tactic(auto, using(crate::proofs::Painted::unshown))]
-fn lay_shown(
-    p: &Ppu,
-    tiles: &TileCache,
-    layer: u8,
-    row: u16,
-    odd: &mut RankedRow,
-    even: &mut RankedRow,
-    main: &mut RankedRow,
-    sub: &mut RankedRow,
-)
-    requires first { 1 ≤ layer }
-    requires last { layer ≤ 4 }
-    requires row { row < 239 }
-    requires step { IsInStep tiles.now p.now.vram }
-    requires has { has_background p.now.registers.mode layer ≡ true }
-    ensures main { (x : ℕ) → x < 256 → ranked_pixel_at main.new x ≡ nearest (ranked_pixel_at main.old x) (main_pixel p.now row x layer) }
-    ensures sub { (x : ℕ) → x < 256 → ranked_pixel_at sub.new x ≡ nearest (ranked_pixel_at sub.old x) (sub_pixel p.now row x layer) }
+    ensures has { result ≡ true → has_background p.now.registers.mode layer ≡ true }
+    ensures main { (front : RankedPixel) → (row x : ℕ) → result ≡ false
+        → nearest front (main_pixel p.now row x layer) ≡ front }
+    ensures sub { (front : RankedPixel) → (row x : ℕ) → result ≡ false
+        → nearest front (sub_pixel p.now row x layer) ≡ front }
 {
     let screens = *p.registers().screens(layer);
-    if screens.main || screens.sub {
-        lay_background(p, tiles, layer, row, odd, even, main, sub);
-    }
+    has(p.registers().mode, layer) && (screens.main || screens.sub)
 }
 
-/// Adds a background to both screens, if the mode has it and a screen shows it.
-#[tactic(auto, using(crate::proofs::Painted::absent))]
+/// Adds a background to both screens, if the mode has it and a screen shows it. In modes 5 and 6 it has 512 dots: the
+/// odd ones go to the main screen, the even ones to the sub screen.
+#[tactic(auto, unfolding(crate::specs::Line::has_background))]
 pub fn add_background(
     p: &Ppu,
     tiles: &TileCache,
@@ -231,25 +86,50 @@ pub fn add_background(
     requires last { layer ≤ 4 }
     requires row { row < 239 }
     requires step { IsInStep tiles.now p.now.vram }
-    ensures main { (x : ℕ) → x < 256 → ranked_pixel_at main.new x ≡ nearest (ranked_pixel_at main.old x) (main_pixel p.now row x layer) }
-    ensures sub { (x : ℕ) → x < 256 → ranked_pixel_at sub.new x ≡ nearest (ranked_pixel_at sub.old x) (sub_pixel p.now row x layer) }
+    ensures main { (x : ℕ) → x < 256 → ranked_pixel_at main.new x ≡
+        nearest (ranked_pixel_at main.old x) (main_pixel p.now row x layer) }
+    ensures sub { (x : ℕ) → x < 256 → ranked_pixel_at sub.new x ≡
+        nearest (ranked_pixel_at sub.old x) (sub_pixel p.now row x layer) }
 {
-    if has(p.registers().mode, layer) {
-        lay_shown(p, tiles, layer, row, odd, even, main, sub);
+    if !is_shown(p, layer) {
+        return;
     }
-}
-
-/// Returns whether a background may have anything on either screen: the mode has it, and a screen shows it.
-#[inline(always)]
-#[tactic(auto, using(crate::proofs::Painted::absent, crate::proofs::Painted::unshown))]
-pub fn is_seen(p: &Ppu, layer: u8) -> bool
-    requires first { 1 ≤ layer }
-    requires last { layer ≤ 4 }
-    ensures main { (front : RankedPixel) → (row x : ℕ) → result ≡ false → nearest front (main_pixel p.now row x layer) ≡ front }
-    ensures sub { (front : RankedPixel) → (row x : ℕ) → result ≡ false → nearest front (sub_pixel p.now row x layer) ≡ front }
-{
-    let screens = *p.registers().screens(layer);
-    has(p.registers().mode, layer) && (screens.main || screens.sub)
+    let r = p.registers();
+    let named = r.screens(layer).arithmetic;
+    let low = base(r, layer, 0, named);
+    let high = base(r, layer, 1, named);
+    if rotates(r.mode) {
+        rotated_planes(p, layer, row, low, high, odd);
+        lay_layer(p, layer, odd, odd, main, sub);
+        return;
+    }
+    ranked_row(
+        p,
+        tiles,
+        layer,
+        row,
+        true,
+        low,
+        high,
+        &mut odd.ranks,
+        &mut odd.numbers,
+    );
+    if hires(r.mode) {
+        ranked_row(
+            p,
+            tiles,
+            layer,
+            row,
+            false,
+            low,
+            high,
+            &mut even.ranks,
+            &mut even.numbers,
+        );
+        lay_layer(p, layer, odd, even, main, sub);
+    } else {
+        lay_layer(p, layer, odd, odd, main, sub);
+    }
 }
 
 /// Returns whether no sliver is drawn on a row.
@@ -302,8 +182,10 @@ fn lay_objects(
 )
     requires row { row < 239 }
     requires slivers { slivers.now.items ≡ drawn_slivers p.now row }
-    ensures main { (x : ℕ) → x < 256 → ranked_pixel_at main.new x ≡ nearest (ranked_pixel_at main.old x) (main_pixel p.now row x 5) }
-    ensures sub { (x : ℕ) → x < 256 → ranked_pixel_at sub.new x ≡ nearest (ranked_pixel_at sub.old x) (sub_pixel p.now row x 5) }
+    ensures main { (x : ℕ) → x < 256 → ranked_pixel_at main.new x ≡
+        nearest (ranked_pixel_at main.old x) (main_pixel p.now row x 5) }
+    ensures sub { (x : ℕ) → x < 256 → ranked_pixel_at sub.new x ≡
+        nearest (ranked_pixel_at sub.old x) (sub_pixel p.now row x 5) }
 {
     paint_objects(p, row, slivers, work);
     lay_layer(p, 5, work, work, main, sub);
@@ -320,8 +202,10 @@ pub fn add_objects(
 )
     requires row { row < 239 }
     requires slivers { slivers.now.items ≡ drawn_slivers p.now row }
-    ensures main { (x : ℕ) → x < 256 → ranked_pixel_at main.new x ≡ nearest (ranked_pixel_at main.old x) (main_pixel p.now row x 5) }
-    ensures sub { (x : ℕ) → x < 256 → ranked_pixel_at sub.new x ≡ nearest (ranked_pixel_at sub.old x) (sub_pixel p.now row x 5) }
+    ensures main { (x : ℕ) → x < 256 → ranked_pixel_at main.new x ≡
+        nearest (ranked_pixel_at main.old x) (main_pixel p.now row x 5) }
+    ensures sub { (x : ℕ) → x < 256 → ranked_pixel_at sub.new x ≡
+        nearest (ranked_pixel_at sub.old x) (sub_pixel p.now row x 5) }
 {
     if are_objects_seen(p, row, slivers) {
         lay_objects(p, row, slivers, work, main, sub);

@@ -8,7 +8,7 @@ ghost use Rattle.ppu_objects.specs.Slivers.{drawn_slivers, passes_time};
 ghost use Rattle.ppu_screens.specs.Screens.{ranked_pixel_at, backdrop};
 ghost use Rattle.ppu_line.specs.Line.{main_front, sub_front, pixel};
 
-use crate::layers::{add_background, add_objects, are_objects_seen, is_seen};
+use crate::layers::{add_background, add_objects, are_objects_seen, is_shown};
 use arrayvec::ArrayVec;
 use ppu_objects::{Sliver, gather_row};
 use ppu_regs::{Over, Ppu, RankedRow};
@@ -21,51 +21,6 @@ fn empty_row() -> RankedRow {
         ranks: [0; 256],
         numbers: [0; 256],
     }
-}
-
-/// Finds the pixels in front on both screens.
-fn fronts(
-    p: &Ppu,
-    tiles: &TileCache,
-    row: u16,
-    slivers: &ArrayVec<Sliver, 34>,
-    main: &mut RankedRow,
-    sub: &mut RankedRow,
-)
-    requires row { row < 239 }
-    requires step { IsInStep tiles.now p.now.vram }
-    requires slivers { slivers.now.items ≡ drawn_slivers p.now row }
-    ensures main { (x : ℕ) → x < 256 → ranked_pixel_at main.new x ≡ main_front p.now row x }
-    ensures sub { (x : ℕ) → x < 256 → ranked_pixel_at sub.new x ≡ sub_front p.now row x }
-{
-    let mut odd = empty_row();
-    let mut even = empty_row();
-    start(p, main, sub);
-    add_background(p, tiles, 1, row, &mut odd, &mut even, main, sub);
-    add_background(p, tiles, 2, row, &mut odd, &mut even, main, sub);
-    add_background(p, tiles, 3, row, &mut odd, &mut even, main, sub);
-    add_background(p, tiles, 4, row, &mut odd, &mut even, main, sub);
-    add_objects(p, row, slivers, &mut odd, main, sub);
-}
-
-/// Writes a row from its layers.
-fn draw_layers(
-    p: &Ppu,
-    tiles: &TileCache,
-    row: u16,
-    slivers: &ArrayVec<Sliver, 34>,
-    out: &mut [u16],
-)
-    requires row { row < 239 }
-    requires room { length out.old ≡ 512 }
-    requires step { IsInStep tiles.now p.now.vram }
-    requires slivers { slivers.now.items ≡ drawn_slivers p.now row }
-    ensures { (e : ℕ) → e < 512 → slice_index out.new e ≡ pixel p.now row e }
-{
-    let mut main = empty_row();
-    let mut sub = empty_row();
-    fronts(p, tiles, row, slivers, &mut main, &mut sub);
-    finish(p, &main, &sub, out);
 }
 
 #[inline(always)]
@@ -86,10 +41,10 @@ fn is_bare(p: &Ppu, row: u16, slivers: &ArrayVec<Sliver, 34>) -> bool
     ensures main { (x : ℕ) → result ≡ true → main_front p.now row x ≡ backdrop p.now.registers }
     ensures sub { (x : ℕ) → result ≡ true → sub_front p.now row x ≡ no_pixel }
 {
-    let first = is_seen(p, 1);
-    let second = is_seen(p, 2);
-    let third = is_seen(p, 3);
-    let fourth = is_seen(p, 4);
+    let first = is_shown(p, 1);
+    let second = is_shown(p, 2);
+    let third = is_shown(p, 3);
+    let fourth = is_shown(p, 4);
     let objects = are_objects_seen(p, row, slivers);
     is_none(first, second, third, fourth, objects)
 }
@@ -108,6 +63,33 @@ fn one_colour(p: &Ppu, row: u16, slivers: &ArrayVec<Sliver, 34>) -> Option<u16>
     } else {
         None
     }
+}
+
+/// Writes a row from its layers: what is in front on both screens, layer by layer, and the dots of that.
+fn draw_layers(
+    p: &Ppu,
+    tiles: &TileCache,
+    row: u16,
+    slivers: &ArrayVec<Sliver, 34>,
+    out: &mut [u16],
+)
+    requires row { row < 239 }
+    requires room { length out.old ≡ 512 }
+    requires step { IsInStep tiles.now p.now.vram }
+    requires slivers { slivers.now.items ≡ drawn_slivers p.now row }
+    ensures { (e : ℕ) → e < 512 → slice_index out.new e ≡ pixel p.now row e }
+{
+    let mut main = empty_row();
+    let mut sub = empty_row();
+    let mut odd = empty_row();
+    let mut even = empty_row();
+    start(p, &mut main, &mut sub);
+    add_background(p, tiles, 1, row, &mut odd, &mut even, &mut main, &mut sub);
+    add_background(p, tiles, 2, row, &mut odd, &mut even, &mut main, &mut sub);
+    add_background(p, tiles, 3, row, &mut odd, &mut even, &mut main, &mut sub);
+    add_background(p, tiles, 4, row, &mut odd, &mut even, &mut main, &mut sub);
+    add_objects(p, row, slivers, &mut odd, &mut main, &mut sub);
+    finish(p, &main, &sub, out);
 }
 
 /// Writes the 512 dots of the row `v - 1`. Returns which limits of the objects were passed. The decoded tiles must be

@@ -27,8 +27,6 @@ lay_is inside front ranked_pixel hidden key number h k n =
     ∙ ap (λ (v : ℕ). nearest front (seen v ranked_pixel)) h
     ∙ ap (nearest front) (seen_standing inside ranked_pixel)
 
-pub ruleset lays = lay_is
-
 -- a ranked pixel that no window hides
 pub open_standing : (inside : Bool) (ranked_pixel : RankedPixel) → ranked_pixel ≡ standing true false inside ranked_pixel
 unfolding standing
@@ -40,8 +38,6 @@ pub lay_open_is : (inside : Bool) (front ranked_pixel : RankedPixel) (key number
 lay_open_is inside front ranked_pixel key number k n =
     ranked_pixel_is key number (nearest front ranked_pixel) k n ∙ ap (nearest front) (open_standing inside ranked_pixel)
 
-pub ruleset lays_open = lay_open_is
-
 not_below_zero : (n : ℕ) → nat_lt n 0 ≡ false
 not_below_zero n = grind arith
 
@@ -49,8 +45,6 @@ not_below_zero n = grind arith
 pub nearest_unseen : (masked inside : Bool) (front ranked_pixel : RankedPixel) → nearest front (standing false masked inside ranked_pixel) ≡ front
 unfolding nearest standing is_nearer chosen
 nearest_unseen masked inside front ranked_pixel = rw not_below_zero refl
-
-pub ruleset unseen = nearest_unseen
 
 -- a layer that has nothing at a pixel leaves what stands in front
 either_zero : (b : Bool) (n : ℕ) → n ≡ 0 → (if b then n else 0) ≡ 0
@@ -67,4 +61,5 @@ unfolding standing
 nearest_empty masked inside front ranked_pixel h =
     nearest_keyless front _ (either_zero (true && not (masked && inside)) ranked_pixel.key h)
 
-pub ruleset empty = nearest_empty
+-- a layer that is laid over a screen, or left out there
+pub ruleset over = (lay_is, lay_open_is, nearest_unseen, nearest_empty)

@@ -51,8 +51,6 @@ none_named keys (suc n) x h none = elim (cases_lt x n) [
       )
 ]
 
-pub ruleset named = none_named
-
 -- where main isn't black and arithmetic isn't named, the colour is the one in front
 unnamed_is : (m : ColourMath) (inside : Bool) → is_mixed m inside false ≡ false
 unfolding is_mixed
@@ -64,7 +62,7 @@ pub unnamed_stays :
 unnamed_stays m inside main named found sub black none =
     plain_is m inside main named found sub black (ap (is_mixed m inside) none ∙ unnamed_is m inside)
 
-pub ruleset unnamed = unnamed_stays
+pub ruleset unnamed = (none_named, unnamed_stays)
 
 -- where the sub screen isn't asked for, its colour doesn't count
 picked_apart :

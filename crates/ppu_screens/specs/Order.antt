@@ -1,5 +1,5 @@
--- Which layer stands in front of which, by mode (2105, 2133; Super Nintendo Development Manual, "BG and OBJ priority"; nocash fullsnes,
--- "SNES PPU Background Priority").
+-- Which layer stands in front of which, by mode (2105, 2133; Super Nintendo Development Manual, "BG and OBJ priority";
+-- nocash fullsnes, "SNES PPU Background Priority").
 use Rattle.std.specs.Prelude.{ℕ, ◌+◌, ◌*◌, ◌==◌, Bool, ◌&&◌, List, [], ◌∷◌, length, if◌then◌else◌}
 use Rattle.ppu_regs.specs.declared.registers.Registers.{Registers}
 
@@ -21,7 +21,8 @@ low layer = record { layer = layer; priority = 0 }
 -- each mode's layers, front to back
 abbrev pub order_0 : List Place
 order_0 =
-    objects 3 ∷ high 1 ∷ high 2 ∷ objects 2 ∷ low 1 ∷ low 2 ∷ objects 1 ∷ high 3 ∷ high 4 ∷ objects 0 ∷ low 3 ∷ low 4 ∷ []
+    objects 3 ∷ high 1 ∷ high 2 ∷ objects 2 ∷ low 1 ∷ low 2 ∷ objects 1 ∷ high 3 ∷ high 4 ∷ objects 0 ∷ low 3 ∷
+    low 4 ∷ []
 
 abbrev pub order_1 : List Place
 order_1 = objects 3 ∷ high 1 ∷ high 2 ∷ objects 2 ∷ low 1 ∷ low 2 ∷ objects 1 ∷ high 3 ∷ objects 0 ∷ low 3 ∷ []
@@ -48,7 +49,8 @@ order_of mode bg3_front extbg =
     else (if mode == 7 then (if extbg then order_7_second else order_7)
     else order_2))
 
--- the rank of a layer's priority in an order: the last has 1, the one before 2, and so on; 0 where it isn't in the order
+-- the rank of a layer's priority in an order: the last has 1, the one before 2, and so on; 0 where it isn't in the
+-- order
 abbrev pub rank_in : List Place → ℕ → ℕ → ℕ
 rank_in [] layer priority = 0
 rank_in (place ∷ rest) layer priority =

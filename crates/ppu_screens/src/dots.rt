@@ -6,7 +6,8 @@ ghost use Rattle.scanline_ops.specs.RankedPixels.{no_pixel, is_named, is_found};
 ghost use Rattle.scanline_ops.specs.Colours.{dimmed};
 ghost use Rattle.color_window.specs.Windows.{is_inside};
 ghost use Rattle.color_window.specs.Mixing.{is_mixed};
-ghost use Rattle.ppu_screens.specs.Screens.{ranked_pixel_at, has_direct, front_pixel_colour, main_colour, empty_colour, sub_colour, is_halved, backdrop, even_dot, odd_dot};
+ghost use Rattle.ppu_screens.specs.Screens.{ranked_pixel_at, has_direct, front_pixel_colour, main_colour, empty_colour};
+ghost use Rattle.ppu_screens.specs.Screens.{sub_colour, is_halved, backdrop, even_dot, odd_dot};
 
 use crate::order::rank;
 use color_window::{fixed, mark_mixed, mix_marked, mix_row};
@@ -44,7 +45,8 @@ fn front_colours(p: &Ppu, front: &RankedRow, out: &mut [u16; 256])
 /// Looks up the colours in front on the sub screen, if 2130 asks for them.
 #[inline(always)]
 fn asked_colours(p: &Ppu, sub: &RankedRow, out: &mut [u16; 256])
-    ensures { p.now.registers.colour.sub_screen ≡ true → (x : ℕ) → x < 256 → slice_index out.new x ≡ front_pixel_colour p.now (ranked_pixel_at sub.now x) }
+    ensures { p.now.registers.colour.sub_screen ≡ true → (x : ℕ) → x < 256
+        → slice_index out.new x ≡ front_pixel_colour p.now (ranked_pixel_at sub.now x) }
 {
     if p.registers().colour.sub_screen {
         front_colours(p, sub, out);
@@ -65,7 +67,8 @@ fn is_never(part: WindowPart) -> bool
 /// only if 2130 asks for them.
 #[tactic(auto, unfolding(crate::specs::Screens::main_colour), using(crate::proofs::Mixes::apart))]
 fn mixed_colours(p: &Ppu, main: &RankedRow, sub: &RankedRow, out: &mut [u16; 256])
-    ensures { (x : ℕ) → x < 256 → slice_index out.new x ≡ main_colour p.now x (ranked_pixel_at main.now x) (ranked_pixel_at sub.now x) }
+    ensures { (x : ℕ) → x < 256 → slice_index out.new x ≡
+        main_colour p.now x (ranked_pixel_at main.now x) (ranked_pixel_at sub.now x) }
 {
     let mut subs = [0u16; 256];
     asked_colours(p, sub, &mut subs);
@@ -85,8 +88,10 @@ fn marked_colours(
 )
     requires black { p.now.registers.colour.black ≡ Never }
     requires marks { (x : ℕ) → x < 256 → slice_index marks.now x ≡
-        (if is_mixed p.now.registers.colour (is_inside p.now.registers 6 x) (is_named (slice_index main.now.ranks x)) then 1 else 0) }
-    ensures { (x : ℕ) → x < 256 → slice_index out.new x ≡ main_colour p.now x (ranked_pixel_at main.now x) (ranked_pixel_at sub.now x) }
+        (if is_mixed p.now.registers.colour (is_inside p.now.registers 6 x) (is_named (slice_index main.now.ranks x))
+        then 1 else 0) }
+    ensures { (x : ℕ) → x < 256 → slice_index out.new x ≡
+        main_colour p.now x (ranked_pixel_at main.now x) (ranked_pixel_at sub.now x) }
 {
     let mut subs = [0u16; 256];
     asked_colours(p, sub, &mut subs);
@@ -105,42 +110,21 @@ fn unmixed_colours(
 )
     requires black { p.now.registers.colour.black ≡ Never }
     requires marks { (x : ℕ) → x < 256 → slice_index marks.now x ≡
-        (if is_mixed p.now.registers.colour (is_inside p.now.registers 6 x) (is_named (slice_index main.now.ranks x)) then 1 else 0) }
+        (if is_mixed p.now.registers.colour (is_inside p.now.registers 6 x) (is_named (slice_index main.now.ranks x))
+        then 1 else 0) }
     requires none { (x : ℕ) → x < 256 → slice_index marks.now x ≡ 0 }
-    ensures { (x : ℕ) → x < 256 → slice_index out.new x ≡ main_colour p.now x (ranked_pixel_at main.now x) (ranked_pixel_at sub.now x) }
+    ensures { (x : ℕ) → x < 256 → slice_index out.new x ≡
+        main_colour p.now x (ranked_pixel_at main.now x) (ranked_pixel_at sub.now x) }
 {
     front_colours(p, main, out);
-}
-
-/// Writes the main screen's colours before brightness, if it is black nowhere and arithmetic is named nowhere.
-#[tactic(auto, unfolding(crate::specs::Screens::main_colour), using(crate::proofs::Mixes::unnamed))]
-fn unnamed_colours(p: &Ppu, main: &RankedRow, sub: &RankedRow, out: &mut [u16; 256])
-    requires black { p.now.registers.colour.black ≡ Never }
-    requires names { (x : ℕ) → x < 256 → is_named (slice_index main.now.ranks x) ≡ false }
-    ensures { (x : ℕ) → x < 256 → slice_index out.new x ≡ main_colour p.now x (ranked_pixel_at main.now x) (ranked_pixel_at sub.now x) }
-{
-    front_colours(p, main, out);
-}
-
-/// Writes the main screen's colours before brightness, if it is black nowhere. It is for a colour window that stops
-/// arithmetic nowhere, so that arithmetic is done wherever it is named.
-#[tactic(auto, using(crate::proofs::Mixes::named))]
-fn named_colours(p: &Ppu, main: &RankedRow, sub: &RankedRow, out: &mut [u16; 256])
-    requires black { p.now.registers.colour.black ≡ Never }
-    ensures { (x : ℕ) → x < 256 → slice_index out.new x ≡ main_colour p.now x (ranked_pixel_at main.now x) (ranked_pixel_at sub.now x) }
-{
-    if any_named(&main.ranks) {
-        mixed_colours(p, main, sub, out);
-    } else {
-        unnamed_colours(p, main, sub, out);
-    }
 }
 
 /// Writes the main screen's colours before brightness, if it is black nowhere. The colour window says where
 /// arithmetic is done.
 fn windowed_colours(p: &Ppu, main: &RankedRow, sub: &RankedRow, out: &mut [u16; 256])
     requires black { p.now.registers.colour.black ≡ Never }
-    ensures { (x : ℕ) → x < 256 → slice_index out.new x ≡ main_colour p.now x (ranked_pixel_at main.now x) (ranked_pixel_at sub.now x) }
+    ensures { (x : ℕ) → x < 256 → slice_index out.new x ≡
+        main_colour p.now x (ranked_pixel_at main.now x) (ranked_pixel_at sub.now x) }
 {
     let mut marks = [0u8; 256];
     if mark_mixed(p, &main.ranks, &mut marks) {
@@ -191,34 +175,23 @@ fn halved(r: &Registers) -> bool
     r.settings.half_dots || r.mode == 5 || r.mode == 6
 }
 
-/// Writes the main screen's colours before brightness.
+/// Writes the main screen's colours before brightness. They are those of the pixels in front if the screen is black
+/// nowhere and arithmetic is done nowhere.
+#[tactic(auto, unfolding(crate::specs::Screens::main_colour), using(crate::proofs::Mixes::unnamed))]
 fn main_colours(p: &Ppu, main: &RankedRow, sub: &RankedRow, out: &mut [u16; 256])
-    ensures { (x : ℕ) → x < 256 → slice_index out.new x ≡ main_colour p.now x (ranked_pixel_at main.now x) (ranked_pixel_at sub.now x) }
+    ensures { (x : ℕ) → x < 256 → slice_index out.new x ≡
+        main_colour p.now x (ranked_pixel_at main.now x) (ranked_pixel_at sub.now x) }
 {
     let colour = &p.registers().colour;
     if !is_never(colour.black) {
         mixed_colours(p, main, sub, out);
-    } else if is_never(colour.none) {
-        named_colours(p, main, sub, out);
-    } else {
+    } else if !is_never(colour.none) {
         windowed_colours(p, main, sub, out);
+    } else if any_named(&main.ranks) {
+        mixed_colours(p, main, sub, out);
+    } else {
+        front_colours(p, main, out);
     }
-}
-
-/// Writes the dots of a row whose dots are whole pixels.
-#[tactic(auto, unfolding(crate::specs::Screens::even_dot, crate::specs::Screens::odd_dot), using(crate::proofs::Small::main_small))]
-fn finish_whole(p: &Ppu, main: &RankedRow, sub: &RankedRow, out: &mut [u16])
-    requires room { length out.old ≡ 512 }
-    requires shown { p.now.registers.display.blanked ≡ false }
-    requires whole { is_halved p.now.registers ≡ false }
-    ensures even { (x : ℕ) → x < 256 → slice_index out.new (2 * x) ≡ even_dot p.now x (ranked_pixel_at main.now x) (ranked_pixel_at sub.now x) }
-    ensures odd { (x : ℕ) → x < 256 → slice_index out.new (2 * x + 1) ≡ odd_dot p.now x (ranked_pixel_at main.now x) (ranked_pixel_at sub.now x) }
-{
-    p.in_range();
-    let mut row = [0u16; 256];
-    main_colours(p, main, sub, &mut row);
-    dim_small_row(p.registers().display.brightness, &mut row);
-    write_twice(&row, out);
 }
 
 /// Writes the dots of a row whose even dots are the sub screen's.
@@ -227,8 +200,10 @@ fn finish_halved(p: &Ppu, main: &RankedRow, sub: &RankedRow, out: &mut [u16])
     requires room { length out.old ≡ 512 }
     requires shown { p.now.registers.display.blanked ≡ false }
     requires halved { is_halved p.now.registers ≡ true }
-    ensures even { (x : ℕ) → x < 256 → slice_index out.new (2 * x) ≡ even_dot p.now x (ranked_pixel_at main.now x) (ranked_pixel_at sub.now x) }
-    ensures odd { (x : ℕ) → x < 256 → slice_index out.new (2 * x + 1) ≡ odd_dot p.now x (ranked_pixel_at main.now x) (ranked_pixel_at sub.now x) }
+    ensures even { (x : ℕ) → x < 256 → slice_index out.new (2 * x) ≡
+        even_dot p.now x (ranked_pixel_at main.now x) (ranked_pixel_at sub.now x) }
+    ensures odd { (x : ℕ) → x < 256 → slice_index out.new (2 * x + 1) ≡
+        odd_dot p.now x (ranked_pixel_at main.now x) (ranked_pixel_at sub.now x) }
 {
     p.in_range();
     let brightness = p.registers().display.brightness;
@@ -264,18 +239,24 @@ pub fn backdrop_colour(p: &Ppu) -> Option<u16>
 
 /// Writes the row's 512 dots from the pixels in front on the main and on the sub screen. Dots 2x and 2x + 1 are those
 /// of the pixel x.
-#[tactic(auto, unfolding(crate::specs::Screens::even_dot, crate::specs::Screens::odd_dot))]
+#[tactic(auto, unfolding(crate::specs::Screens::even_dot, crate::specs::Screens::odd_dot), using(crate::proofs::Small::main_small))]
 pub fn finish(p: &Ppu, main: &RankedRow, sub: &RankedRow, out: &mut [u16])
     requires { length out.old ≡ 512 }
-    ensures even { (x : ℕ) → x < 256 → slice_index out.new (2 * x) ≡ even_dot p.now x (ranked_pixel_at main.now x) (ranked_pixel_at sub.now x) }
-    ensures odd { (x : ℕ) → x < 256 → slice_index out.new (2 * x + 1) ≡ odd_dot p.now x (ranked_pixel_at main.now x) (ranked_pixel_at sub.now x) }
+    ensures even { (x : ℕ) → x < 256 → slice_index out.new (2 * x) ≡
+        even_dot p.now x (ranked_pixel_at main.now x) (ranked_pixel_at sub.now x) }
+    ensures odd { (x : ℕ) → x < 256 → slice_index out.new (2 * x + 1) ≡
+        odd_dot p.now x (ranked_pixel_at main.now x) (ranked_pixel_at sub.now x) }
 {
+    p.in_range();
     let r = p.registers();
     if r.display.blanked {
         fill_dots(0, out);
     } else if halved(r) {
         finish_halved(p, main, sub, out);
     } else {
-        finish_whole(p, main, sub, out);
+        let mut row = [0u16; 256];
+        main_colours(p, main, sub, &mut row);
+        dim_small_row(r.display.brightness, &mut row);
+        write_twice(&row, out);
     }
 }

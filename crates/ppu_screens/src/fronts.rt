@@ -29,39 +29,6 @@ pub fn start(p: &Ppu, main: &mut RankedRow, sub: &mut RankedRow)
     fill(0, sub);
 }
 
-/// Lays a layer that is masked by its windows over a screen.
-#[tactic(auto, using(crate::proofs::FrontLemmas::lays))]
-fn lay_masked(p: &Ppu, layer: u8, row: &RankedRow, front: &mut RankedRow)
-    requires first { 1 ≤ layer }
-    requires last { layer ≤ 5 }
-    ensures { (x : ℕ) → x < 256 → ranked_pixel_at front.new x ≡
-        nearest (ranked_pixel_at front.old x) (standing true true (is_inside p.now.registers layer x) (ranked_pixel_at row.now x)) }
-{
-    let mut hidden = [0u8; 256];
-    mask_row(p, layer, &mut hidden);
-    lay(
-        &row.ranks,
-        &row.numbers,
-        &hidden,
-        &mut front.ranks,
-        &mut front.numbers,
-    );
-}
-
-/// Lays a layer that is seen everywhere over a screen.
-#[tactic(auto, using(crate::proofs::FrontLemmas::lays_open))]
-fn lay_open(p: &Ppu, layer: u8, row: &RankedRow, front: &mut RankedRow)
-    ensures { (x : ℕ) → x < 256 → ranked_pixel_at front.new x ≡
-        nearest (ranked_pixel_at front.old x) (standing true false (is_inside p.now.registers layer x) (ranked_pixel_at row.now x)) }
-{
-    lay_unmasked(
-        &row.ranks,
-        &row.numbers,
-        &mut front.ranks,
-        &mut front.numbers,
-    );
-}
-
 /// Returns whether a layer has anything on a row, by its keys.
 fn is_any_there(keys: &[u8; 256]) -> bool
     ensures { (x : ℕ) → x < 256 → result ≡ false → slice_index keys.now x ≡ 0 }
@@ -73,45 +40,37 @@ fn is_any_there(keys: &[u8; 256]) -> bool
     most != 0
 }
 
-/// Lays a layer that is on, if it has anything on the row, over a screen.
-#[inline(always)]
-#[tactic(auto, using(crate::proofs::FrontLemmas::empty))]
-fn lay_there(p: &Ppu, layer: u8, masked: bool, row: &RankedRow, front: &mut RankedRow)
+/// Lays a layer over a screen, if it is on there and has anything on the row. With `masked` its windows hide it.
+#[tactic(auto, using(crate::proofs::FrontLemmas::over))]
+fn lay_over(p: &Ppu, layer: u8, on: bool, masked: bool, row: &RankedRow, front: &mut RankedRow)
     requires first { 1 ≤ layer }
     requires last { layer ≤ 5 }
-    ensures { (x : ℕ) → x < 256 → ranked_pixel_at front.new x ≡
-        nearest (ranked_pixel_at front.old x) (standing true masked (is_inside p.now.registers layer x) (ranked_pixel_at row.now x)) }
+    ensures { (x : ℕ) → x < 256 → ranked_pixel_at front.new x ≡ nearest (ranked_pixel_at front.old x)
+        (standing on masked (is_inside p.now.registers layer x) (ranked_pixel_at row.now x)) }
 {
-    if is_any_there(&row.ranks) {
-        lay_seen(p, layer, masked, row, front);
+    if !on {
+        return;
     }
-}
-
-/// Lays a layer that is on over a screen.
-#[inline(always)]
-fn lay_seen(p: &Ppu, layer: u8, masked: bool, row: &RankedRow, front: &mut RankedRow)
-    requires first { 1 ≤ layer }
-    requires last { layer ≤ 5 }
-    ensures { (x : ℕ) → x < 256 → ranked_pixel_at front.new x ≡
-        nearest (ranked_pixel_at front.old x) (standing true masked (is_inside p.now.registers layer x) (ranked_pixel_at row.now x)) }
-{
+    if !is_any_there(&row.ranks) {
+        return;
+    }
     if masked {
-        lay_masked(p, layer, row, front);
+        let mut hidden = [0u8; 256];
+        mask_row(p, layer, &mut hidden);
+        lay(
+            &row.ranks,
+            &row.numbers,
+            &hidden,
+            &mut front.ranks,
+            &mut front.numbers,
+        );
     } else {
-        lay_open(p, layer, row, front);
-    }
-}
-
-#[inline(always)]
-#[tactic(auto, using(crate::proofs::FrontLemmas::unseen))]
-fn lay_on(p: &Ppu, layer: u8, on: bool, masked: bool, row: &RankedRow, front: &mut RankedRow)
-    requires first { 1 ≤ layer }
-    requires last { layer ≤ 5 }
-    ensures { (x : ℕ) → x < 256 → ranked_pixel_at front.new x ≡
-        nearest (ranked_pixel_at front.old x) (standing on masked (is_inside p.now.registers layer x) (ranked_pixel_at row.now x)) }
-{
-    if on {
-        lay_there(p, layer, masked, row, front);
+        lay_unmasked(
+            &row.ranks,
+            &row.numbers,
+            &mut front.ranks,
+            &mut front.numbers,
+        );
     }
 }
 
@@ -130,10 +89,12 @@ pub fn lay_layer(
 )
     requires first { 1 ≤ layer }
     requires last { layer ≤ 5 }
-    ensures main { (x : ℕ) → x < 256 → ranked_pixel_at main.new x ≡ nearest (ranked_pixel_at main.old x) (on_main p.now.registers layer x (ranked_pixel_at odd_dots.now x)) }
-    ensures sub { (x : ℕ) → x < 256 → ranked_pixel_at sub.new x ≡ nearest (ranked_pixel_at sub.old x) (on_sub p.now.registers layer x (ranked_pixel_at even_dots.now x)) }
+    ensures main { (x : ℕ) → x < 256 → ranked_pixel_at main.new x ≡
+        nearest (ranked_pixel_at main.old x) (on_main p.now.registers layer x (ranked_pixel_at odd_dots.now x)) }
+    ensures sub { (x : ℕ) → x < 256 → ranked_pixel_at sub.new x ≡
+        nearest (ranked_pixel_at sub.old x) (on_sub p.now.registers layer x (ranked_pixel_at even_dots.now x)) }
 {
     let screens = *p.registers().screens(layer);
-    lay_on(p, layer, screens.main, screens.main_masked, odd_dots, main);
-    lay_on(p, layer, screens.sub, screens.sub_masked, even_dots, sub);
+    lay_over(p, layer, screens.main, screens.main_masked, odd_dots, main);
+    lay_over(p, layer, screens.sub, screens.sub_masked, even_dots, sub);
 }

@@ -1,7 +1,8 @@
 //! The rank of each layer's priority in the order of the mode.
 
 ghost use Rattle.std.specs.Prelude.{◌≡◌, ◌≤◌, ◌==◌, ◌&&◌};
-ghost use Rattle.ppu_screens.specs.Order.{order_0, order_1, order_1_front, order_2, order_7, order_7_second, rank_in, rank_at, layer_rank, rank_base};
+ghost use Rattle.ppu_screens.specs.Order.{order_0, order_1, order_1_front, order_2, order_7, order_7_second, rank_in};
+ghost use Rattle.ppu_screens.specs.Order.{rank_at, layer_rank, rank_base};
 
 use ppu_regs::Registers;
 

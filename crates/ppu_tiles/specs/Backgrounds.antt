@@ -60,7 +60,8 @@ two_offsets layer own first second = record {
 unfoldable pub one_offset : ℕ → Scroll → ℕ → Scroll
 one_offset layer own entry =
     if acts_on layer entry
-    then (if entry / 32768 == 1 then (record own { down = entry % 1024 }) else (record own { across = across_by own entry }))
+    then (if entry / 32768 == 1 then (record own { down = entry % 1024 })
+    else (record own { across = across_by own entry }))
     else own
 
 -- the column of tiles in which pixel x of a row lies: a column begins where the scroll across, of which only

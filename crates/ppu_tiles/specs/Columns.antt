@@ -1,7 +1,8 @@
 -- How a row of a background is cut into columns of one tile: column c is the pixels x whose place from the
 -- scroll's low three bits on, x + scroll % 8, is 8c to 8c + 7. A column has one scroll and one map entry. These
 -- words are for the steps below `ranked_row`; a reader of its contract needs none of them but `base_of`.
-use Rattle.std.specs.Prelude.{ℕ, Bool, true, not, ◌+◌, ◌-◌, ◌*◌, ◌/◌, ◌%◌, ◌==◌, ◌||◌, ◌&&◌, List, IsTrue, if◌then◌else◌}
+use Rattle.std.specs.Prelude.{ℕ, Bool, true, not, ◌+◌, ◌-◌, ◌*◌, ◌/◌, ◌%◌, ◌==◌, ◌||◌, ◌&&◌, List, IsTrue}
+use Rattle.std.specs.Prelude.{if◌then◌else◌}
 use Rattle.ppu_regs.specs.declared.registers.Registers.{Registers}
 use Rattle.ppu_regs.specs.declared.registers.Background.{Background}
 use Rattle.ppu_regs.specs.declared.dots.LayerDot.{LayerDot}
@@ -45,7 +46,8 @@ column_row p layer y c = y + 1 + (column_scroll p layer c).down
 
 abbrev pub column_entry : Picture → ℕ → ℕ → ℕ → ℕ
 column_entry p layer y c =
-    entry_at p (background_of p.registers layer) (column_start p.registers.mode (column_m p layer c)) (column_row p layer y c)
+    entry_at p (background_of p.registers layer) (column_start p.registers.mode (column_m p layer c))
+    (column_row p layer y c)
 
 -- the value at place j of column c
 unfoldable pub column_value : Picture → ℕ → ℕ → ℕ → ℕ → ℕ → ℕ
@@ -68,8 +70,8 @@ unfoldable pub column_first : Picture → ℕ → ℕ → ℕ → ℕ
 column_first p layer y c =
     number_of p.registers.mode layer (depth_of p.registers.mode layer) (column_entry p layer y c / 1024 % 8) 0
 
--- the attributes of a map entry in a byte, where values are of 2 or 4 bits: the number from which they are counted, and the
--- priority as bit 7
+-- the attributes of a map entry in a byte, where values are of 2 or 4 bits: the number from which they are counted, and
+-- the priority as bit 7
 unfoldable pub attribute_of : ℕ → ℕ → ℕ → ℕ → ℕ
 attribute_of mode layer depth entry = number_of mode layer depth (entry / 1024 % 8) 0 + 128 * (entry / 8192 % 2)
 

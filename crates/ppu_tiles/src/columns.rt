@@ -1,11 +1,13 @@
 //! One column of a background's row: the eight pixels of a map entry.
-ghost use Rattle.std.specs.Prelude.{◌≡◌, ℕ, List, IsTrue, ◌<◌, ◌≤◌, ◌+◌, ◌*◌, ◌/◌, ◌%◌, ◌==◌, ◌||◌, ◌&&◌, ◌-◌, slice_index, if◌then◌else◌};
+ghost use Rattle.std.specs.Prelude.{◌≡◌, ℕ, List, IsTrue, ◌<◌, ◌≤◌, ◌+◌, ◌*◌, ◌/◌, ◌%◌, ◌==◌, ◌||◌, ◌&&◌, ◌-◌};
+ghost use Rattle.std.specs.Prelude.{slice_index, if◌then◌else◌};
 ghost use Rattle.ppu_regs.specs.Reads.{bit_of};
 ghost use Rattle.tile_cache.specs.Bitplanes.{IsInStep, eight};
 ghost use Rattle.ppu_regs.specs.Picture.{background_of};
 ghost use Rattle.ppu_tiles.specs.Modes.{depth_of, is_hires};
 ghost use Rattle.ppu_tiles.specs.Backgrounds.{own_scroll, entry_at, pixel_at, number_of, tile_of, line_word};
-ghost use Rattle.ppu_tiles.specs.Columns.{IsDepth, column_start, column_place, half_word, half_value, column_value, column_base, column_first};
+ghost use Rattle.ppu_tiles.specs.Columns.{IsDepth, column_start, column_place, half_word, half_value, column_value};
+ghost use Rattle.ppu_tiles.specs.Columns.{column_base, column_first};
 
 use crate::entries::{entry, line_place, tile, turn};
 use crate::modes::{height, hires, width};
@@ -66,7 +68,8 @@ fn half_line(
     requires depth { IsDepth depth }
     requires size { 0 < size }
     requires most { size ≤ 16 }
-    ensures { (vram : List ℕ) → IsInStep tiles.now vram → result ≡ eight (λ k. half_value vram b.now depth entry size n py k) }
+    ensures { (vram : List ℕ) → IsInStep tiles.now vram
+        → result ≡ eight (λ k. half_value vram b.now depth entry size n py k) }
 {
     let flip = entry / 16384 % 2 == 1;
     let word = half_place(b, depth, entry, turn(flip, size, n), py);
@@ -93,7 +96,8 @@ fn put_values(
     requires depth { IsDepth depth }
     requires m { m ≤ 160 }
     requires step { IsInStep tiles.now p.now.vram }
-    ensures put { (k : ℕ) → k < 8 → slice_index row.new (at + k) ≡ pixel_at p.now b.now depth entry (column_place p.now.registers.mode m (bit_of odd) k) py }
+    ensures put { (k : ℕ) → k < 8 → slice_index row.new (at + k) ≡
+        pixel_at p.now b.now depth entry (column_place p.now.registers.mode m (bit_of odd) k) py }
     ensures below { (k : ℕ) → k < at → slice_index row.new k ≡ slice_index row.old k }
 {
     if hires(mode) {
@@ -218,7 +222,8 @@ pub fn put_column(
     requires y { y ≤ 239 }
     requires low { low ≤ 248 }
     requires high { high ≤ 248 }
-    ensures values { (k : ℕ) → k < 8 → slice_index values.new (8 * c + k) ≡ column_value p.now layer y (bit_of odd) c k }
+    ensures values { (k : ℕ) → k < 8 → slice_index values.new (8 * c + k) ≡
+        column_value p.now layer y (bit_of odd) c k }
     ensures values_below { (k : ℕ) → k < 8 * c → slice_index values.new k ≡ slice_index values.old k }
     ensures bases { (k : ℕ) → k < 8 → slice_index bases.new (8 * c + k) ≡ column_base p.now layer y low high c }
     ensures bases_below { (k : ℕ) → k < 8 * c → slice_index bases.new k ≡ slice_index bases.old k }

@@ -1,5 +1,6 @@
 //! Rows of a background as dots with their colours.
-ghost use Rattle.std.specs.Prelude.{◌≡◌, ℕ, IsTrue, ◌<◌, ◌≤◌, ◌+◌, ◌*◌, ◌/◌, ◌%◌, ◌==◌, ◌||◌, ◌&&◌, ◌≢◌, length, slice_index, slice_index_or};
+ghost use Rattle.std.specs.Prelude.{◌≡◌, ℕ, IsTrue, ◌<◌, ◌≤◌, ◌+◌, ◌*◌, ◌/◌, ◌%◌, ◌==◌, ◌||◌, ◌&&◌, ◌≢◌, length};
+ghost use Rattle.std.specs.Prelude.{slice_index, slice_index_or};
 ghost use Rattle.ppu_regs.specs.Dots.{dot_of, no_dot};
 ghost use Rattle.tile_cache.specs.Bitplanes.{IsInStep};
 ghost use Rattle.ppu_tiles.specs.Modes.{depth_of};
@@ -55,7 +56,8 @@ fn fill(
     requires half { half < 2 }
     requires dots { length out.old ≡ 512 }
     ensures size { length out.new ≡ 512 }
-    ensures filled { (x : ℕ) → x < 256 → slice_index_or out.new (2 * x + half) no_dot ≡ dot_of cgram.now (planes_layer_dot (slice_index ranks.now x) (slice_index numbers.now x) direct) }
+    ensures filled { (x : ℕ) → x < 256 → slice_index_or out.new (2 * x + half) no_dot ≡
+        dot_of cgram.now (planes_layer_dot (slice_index ranks.now x) (slice_index numbers.now x) direct) }
     ensures others { (e : ℕ) → e % 2 ≢ half → slice_index_or out.new e no_dot ≡ slice_index_or out.old e no_dot }
 {
     for x in 0..256usize {
@@ -72,7 +74,8 @@ pub fn background_row(p: &Ppu, tiles: &TileCache, layer: u8, row: u16, out: &mut
     requires row { row < 239 }
     requires dots { length out.old ≡ 512 }
     requires step { IsInStep tiles.now p.now.vram }
-    ensures { (e : ℕ) → e < 512 → slice_index_or out.new e no_dot ≡ dot_of p.now.cgram (background_layer_dot p.now layer row e) }
+    ensures { (e : ℕ) → e < 512 → slice_index_or out.new e no_dot ≡
+        dot_of p.now.cgram (background_layer_dot p.now layer row e) }
 {
     let direct = is_direct(p, layer);
     let cgram = p.cgram();

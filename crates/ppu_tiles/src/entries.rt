@@ -1,9 +1,11 @@
 //! Map entries: their places in VRAM, and the tiles and lines that they name.
-ghost use Rattle.std.specs.Prelude.{◌≡◌, ◌<◌, ◌≤◌, ◌-◌, ◌%◌, ◌/◌, ◌==◌, ◌*◌, ◌+◌};
-ghost use Rattle.ppu_tiles.specs.Backgrounds.{map_word, entry_at, turned, tile_of, line_word, number_of, layer_dot_of, block_start};
+ghost use Rattle.std.specs.Prelude.{◌≡◌, ℕ, ◌<◌, ◌≤◌, ◌-◌, ◌%◌, ◌/◌, ◌==◌, ◌*◌, ◌+◌, slice_index};
+ghost use Rattle.ppu_tiles.specs.Backgrounds.{map_word, entry_at, turned, tile_of, line_word, number_of, layer_dot_of};
+ghost use Rattle.ppu_tiles.specs.Backgrounds.{block_start};
 
 use crate::modes::{height, width};
 use ppu_regs::{Background, Ppu, Registers};
+use scanline_ops::spread_blocks;
 
 /// Returns the first row or column of the mosaic block of `n`, or `n` if the layer has no mosaic.
 #[inline(always)]
@@ -16,6 +18,18 @@ pub fn block(r: &Registers, b: &Background, n: u16) -> u16
         n - n % (r.mosaic as u16 + 1)
     } else {
         n
+    }
+}
+
+/// Replaces each byte by that of the first dot of its mosaic block, if the layer has mosaic.
+#[inline(always)]
+#[tactic(auto, unfolding(crate::specs::Backgrounds::block_start))]
+pub fn take_blocks(r: &Registers, b: &Background, row: &mut [u8; 256])
+    requires { r.now.mosaic < 16 }
+    ensures { (x : ℕ) → x < 256 → slice_index row.new x ≡ slice_index row.old (block_start r.now b.now x) }
+{
+    if b.mosaic {
+        spread_blocks(row, r.mosaic as usize + 1);
     }
 }
 

@@ -5,16 +5,15 @@ ghost use Rattle.ppu_regs.specs.Dots.{rank_of};
 ghost use Rattle.ppu_regs.specs.Picture.{background_of};
 ghost use Rattle.tile_cache.specs.Bitplanes.{IsInStep};
 ghost use Rattle.ppu_tiles.specs.Modes.{depth_of};
-ghost use Rattle.ppu_tiles.specs.Backgrounds.{block_start, layer_dot_at, background_layer_dot};
+ghost use Rattle.ppu_tiles.specs.Backgrounds.{background_layer_dot};
 ghost use Rattle.ppu_tiles.specs.Columns.{IsDepth, base_of, column_value, column_base, column_first};
 
 use crate::columns::put_column;
-use crate::entries::block;
+use crate::entries::{block, take_blocks};
 use crate::modes::depth;
 use crate::scrolls::own;
 use crate::small_tiles::small_row;
-use ppu_regs::{Background, Ppu, Registers};
-use scanline_ops::spread_blocks;
+use ppu_regs::{Background, Ppu};
 use tile_cache::TileCache;
 
 /// Paints the 33 columns of a row, side by side: their values, and what they are counted from in both planes. `b` is
@@ -45,7 +44,8 @@ fn paint_columns(
     requires y { y ≤ 239 }
     requires low { low ≤ 248 }
     requires high { high ≤ 248 }
-    ensures values { (k : ℕ) → k < 264 → slice_index values.new k ≡ column_value p.now layer y (bit_of odd) (k / 8) (k % 8) }
+    ensures values { (k : ℕ) → k < 264 → slice_index values.new k ≡
+        column_value p.now layer y (bit_of odd) (k / 8) (k % 8) }
     ensures bases { (k : ℕ) → k < 264 → slice_index bases.new k ≡ column_base p.now layer y low high (k / 8) }
     ensures firsts { (k : ℕ) → k < 264 → slice_index firsts.new k ≡ column_first p.now layer y (k / 8) }
 {
@@ -79,7 +79,8 @@ fn paint(
     requires y { y ≤ 239 }
     requires low { low ≤ 248 }
     requires high { high ≤ 248 }
-    ensures values { (k : ℕ) → k < 264 → slice_index values.new k ≡ column_value p.now layer y (bit_of odd) (k / 8) (k % 8) }
+    ensures values { (k : ℕ) → k < 264 → slice_index values.new k ≡
+        column_value p.now layer y (bit_of odd) (k / 8) (k % 8) }
     ensures bases { (k : ℕ) → k < 264 → slice_index bases.new k ≡ column_base p.now layer y low high (k / 8) }
     ensures firsts { (k : ℕ) → k < 264 → slice_index firsts.new k ≡ column_first p.now layer y (k / 8) }
 {
@@ -145,8 +146,10 @@ fn rank_pixels(
     numbers: &mut [u8; 256],
 )
     requires { from < 8 }
-    ensures ranks { (x : ℕ) → x < 256 → slice_index ranks.new x ≡ (if slice_index values.now (x + from) == 0 then 0 else slice_index bases.now (x + from)) }
-    ensures numbers { (x : ℕ) → x < 256 → slice_index numbers.new x ≡ (slice_index firsts.now (x + from) + slice_index values.now (x + from)) % 256 }
+    ensures ranks { (x : ℕ) → x < 256 → slice_index ranks.new x ≡
+        (if slice_index values.now (x + from) == 0 then 0 else slice_index bases.now (x + from)) }
+    ensures numbers { (x : ℕ) → x < 256 → slice_index numbers.new x ≡
+        (slice_index firsts.now (x + from) + slice_index values.now (x + from)) % 256 }
 {
     for x in 0..256usize {
         let value = values[x + from];
@@ -155,26 +158,14 @@ fn rank_pixels(
     }
 }
 
-/// Replaces each byte by that of the first dot of its mosaic block, if the layer has mosaic.
-#[inline(always)]
-#[tactic(auto, unfolding(crate::specs::Backgrounds::block_start))]
-fn take_blocks(r: &Registers, b: &Background, row: &mut [u8; 256])
-    requires { r.now.mosaic < 16 }
-    ensures { (x : ℕ) → x < 256 → slice_index row.new x ≡ slice_index row.old (block_start r.now b.now x) }
-{
-    if b.mosaic {
-        spread_blocks(row, r.mosaic as usize + 1);
-    }
-}
-
-/// Writes row `y` of the screen without mosaic, from its columns one by one. It is out of line, so that rows of
-/// small tiles, which don't need it, have none of its registers and bytes to keep.
+/// Writes a row from its columns one by one, as `ranked_row` does. It is out of line, so that rows of small tiles,
+/// which don't need it, have none of its registers and bytes to keep.
 #[inline(never)]
 fn columns_row(
     p: &Ppu,
     tiles: &TileCache,
     layer: u8,
-    y: u16,
+    row: u16,
     odd: bool,
     low: u8,
     high: u8,
@@ -184,13 +175,19 @@ fn columns_row(
     requires first { 1 ≤ layer }
     requires last { layer ≤ 4 }
     requires depth { IsDepth (depth_of p.now.registers.mode layer) }
-    requires y { y ≤ 239 }
+    requires row { row < 239 }
     requires low { low ≤ 248 }
     requires high { high ≤ 248 }
     requires step { IsInStep tiles.now p.now.vram }
-    ensures ranks { (x : ℕ) → x < 256 → slice_index ranks.new x ≡ (let c = layer_dot_at p.now layer y x (bit_of odd) in rank_of (base_of low high c) c) }
-    ensures numbers { (x : ℕ) → x < 256 → slice_index numbers.new x ≡ (layer_dot_at p.now layer y x (bit_of odd)).number }
+    ensures ranks { (x : ℕ) → x < 256 → slice_index ranks.new x ≡
+        (let c = background_layer_dot p.now layer row (2 * x + bit_of odd) in rank_of (base_of low high c) c) }
+    ensures numbers { (x : ℕ) → x < 256 → slice_index numbers.new x ≡
+        (background_layer_dot p.now layer row (2 * x + bit_of odd)).number }
 {
+    p.in_range();
+    let r = p.registers();
+    let b = r.background(layer);
+    let y = block(r, b, row);
     let mut values = [0u8; 264];
     let mut bases = [0u8; 264];
     let mut firsts = [0u8; 264];
@@ -206,59 +203,14 @@ fn columns_row(
         &mut bases,
         &mut firsts,
     );
-    let from = (p.registers().background(layer).scroll_x % 8) as usize;
+    let from = (b.scroll_x % 8) as usize;
     rank_pixels(&values, &bases, &firsts, from, ranks, numbers);
+    take_blocks(r, b, ranks);
+    take_blocks(r, b, numbers);
 }
 
-/// Writes row `y` of the screen without mosaic. Small tiles in modes without scrolls by column are written out by
-/// mode and depth.
-#[inline(always)]
-fn plain_row(
-    p: &Ppu,
-    tiles: &TileCache,
-    layer: u8,
-    y: u16,
-    odd: bool,
-    low: u8,
-    high: u8,
-    ranks: &mut [u8; 256],
-    numbers: &mut [u8; 256],
-)
-    requires first { 1 ≤ layer }
-    requires last { layer ≤ 4 }
-    requires depth { IsDepth (depth_of p.now.registers.mode layer) }
-    requires y { y ≤ 239 }
-    requires low { low ≤ 248 }
-    requires high { high ≤ 248 }
-    requires step { IsInStep tiles.now p.now.vram }
-    ensures ranks { (x : ℕ) → x < 256 → slice_index ranks.new x ≡ (let c = layer_dot_at p.now layer y x (bit_of odd) in rank_of (base_of low high c) c) }
-    ensures numbers { (x : ℕ) → x < 256 → slice_index numbers.new x ≡ (layer_dot_at p.now layer y x (bit_of odd)).number }
-{
-    let mode = p.registers().mode;
-    let bits = depth(mode, layer);
-    let b = *p.registers().background(layer);
-    match (mode, bits, b.large) {
-        (0, 2, false) => {
-            let b = Background { large: false, ..b };
-            small_row(p, tiles, &b, 0, 2, layer, y, odd, low, high, ranks, numbers)
-        }
-        (1, 2, false) => {
-            let b = Background { large: false, ..b };
-            small_row(p, tiles, &b, 1, 2, layer, y, odd, low, high, ranks, numbers)
-        }
-        (1, 4, false) => {
-            let b = Background { large: false, ..b };
-            small_row(p, tiles, &b, 1, 4, layer, y, odd, low, high, ranks, numbers)
-        }
-        (3, 4, false) => {
-            let b = Background { large: false, ..b };
-            small_row(p, tiles, &b, 3, 4, layer, y, odd, low, high, ranks, numbers)
-        }
-        _ => columns_row(p, tiles, layer, y, odd, low, high, ranks, numbers),
-    }
-}
-
-/// Writes a row of a layer as two byte planes: its even dots, or its odd ones if `odd`.
+/// Writes a row of a layer as two byte planes: its even dots, or its odd ones if `odd`. Small tiles in modes without
+/// scrolls by column are written out by mode and depth.
 ///
 /// `ranks` has 0 where the layer has nothing, else `low` or `high` by the dot's priority, plus the palette of a
 /// direct colour. `numbers` has the number of the colour. Place x is dot 2x of the row, or 2x + 1 if `odd`.
@@ -280,14 +232,39 @@ pub fn ranked_row(
     requires low { low ≤ 248 }
     requires high { high ≤ 248 }
     requires step { IsInStep tiles.now p.now.vram }
-    ensures ranks { (x : ℕ) → x < 256 → slice_index ranks.new x ≡ (let c = background_layer_dot p.now layer row (2 * x + bit_of odd) in rank_of (base_of low high c) c) }
-    ensures numbers { (x : ℕ) → x < 256 → slice_index numbers.new x ≡ (background_layer_dot p.now layer row (2 * x + bit_of odd)).number }
+    ensures ranks { (x : ℕ) → x < 256 → slice_index ranks.new x ≡
+        (let c = background_layer_dot p.now layer row (2 * x + bit_of odd) in rank_of (base_of low high c) c) }
+    ensures numbers { (x : ℕ) → x < 256 → slice_index numbers.new x ≡
+        (background_layer_dot p.now layer row (2 * x + bit_of odd)).number }
 {
-    p.in_range();
-    let r = p.registers();
-    let b = r.background(layer);
-    let y = block(r, b, row);
-    plain_row(p, tiles, layer, y, odd, low, high, ranks, numbers);
-    take_blocks(r, b, ranks);
-    take_blocks(r, b, numbers);
+    let mode = p.registers().mode;
+    let bits = depth(mode, layer);
+    let b = *p.registers().background(layer);
+    match (mode, bits, b.large) {
+        (0, 2, false) => {
+            let b = Background { large: false, ..b };
+            small_row(
+                p, tiles, &b, 0, 2, layer, row, odd, low, high, ranks, numbers,
+            )
+        }
+        (1, 2, false) => {
+            let b = Background { large: false, ..b };
+            small_row(
+                p, tiles, &b, 1, 2, layer, row, odd, low, high, ranks, numbers,
+            )
+        }
+        (1, 4, false) => {
+            let b = Background { large: false, ..b };
+            small_row(
+                p, tiles, &b, 1, 4, layer, row, odd, low, high, ranks, numbers,
+            )
+        }
+        (3, 4, false) => {
+            let b = Background { large: false, ..b };
+            small_row(
+                p, tiles, &b, 3, 4, layer, row, odd, low, high, ranks, numbers,
+            )
+        }
+        _ => columns_row(p, tiles, layer, row, odd, low, high, ranks, numbers),
+    }
 }

@@ -1,7 +1,8 @@
 //! The scrolls of a background, for all columns or for each (offset per tile).
 ghost use Rattle.std.specs.Prelude.{◌≡◌, ◌<◌, ◌≤◌, ◌%◌, ◌/◌, ◌*◌, ◌+◌, ◌==◌};
 ghost use Rattle.ppu_regs.specs.Picture.{background_of};
-ghost use Rattle.ppu_tiles.specs.Backgrounds.{own_scroll, offset_entry, acts_on, across_by, two_offsets, one_offset, column_scroll};
+ghost use Rattle.ppu_tiles.specs.Backgrounds.{own_scroll, offset_entry, acts_on, across_by, two_offsets, one_offset};
+ghost use Rattle.ppu_tiles.specs.Backgrounds.{column_scroll};
 
 use crate::entries::entry;
 use crate::modes::offsets;

@@ -1,17 +1,18 @@
 //! A row of tiles of 8 by 8 pixels, in modes whose columns have no scrolls of their own. Each thing that a column
 //! needs is taken for all 33 columns in a pass of its own, which the compiler makes vector code of.
 
-ghost use Rattle.std.specs.Prelude.{◌≡◌, ℕ, List, true, false, ◌<◌, ◌≤◌, ◌+◌, ◌-◌, ◌*◌, ◌/◌, ◌%◌, ◌==◌, ◌&&◌, length, slice_index, if◌then◌else◌};
+ghost use Rattle.std.specs.Prelude.{◌≡◌, ℕ, List, true, false, ◌<◌, ◌≤◌, ◌+◌, ◌-◌, ◌*◌, ◌/◌, ◌%◌, ◌==◌, ◌&&◌, length};
+ghost use Rattle.std.specs.Prelude.{slice_index, if◌then◌else◌};
 ghost use Rattle.ppu_regs.specs.Reads.{bit_of};
 ghost use Rattle.ppu_regs.specs.Picture.{background_of};
 ghost use Rattle.tile_cache.specs.Bitplanes.{IsInStep, value_of, eight};
 ghost use Rattle.ppu_tiles.specs.Modes.{depth_of, is_hires, has_offsets};
-ghost use Rattle.ppu_tiles.specs.Backgrounds.{own_scroll, map_word, layer_dot_at};
+ghost use Rattle.ppu_tiles.specs.Backgrounds.{own_scroll, map_word, background_layer_dot};
 ghost use Rattle.ppu_regs.specs.Dots.{rank_of};
-ghost use Rattle.ppu_tiles.specs.Columns.{IsDepth, base_of, half_word, attribute_of, column_entry, column_value};
+ghost use Rattle.ppu_tiles.specs.Columns.{IsDepth, base_of, half_word, attribute_of, column_entry};
 
 use crate::columns::{first_number, half_place, put_bytes, put_same, start};
-use crate::entries::{entry, map_place};
+use crate::entries::{block, entry, map_place, take_blocks};
 use crate::scrolls::{Scroll, in_column, own};
 use ppu_regs::{Background, Ppu};
 use tile_cache::TileCache;
@@ -53,7 +54,8 @@ fn copy_entries(vram: &[u16], from: usize, at: usize, count: usize, entries: &mu
 fn copy_row(vram: &[u16], b: &Background, first: u16, row: u16, entries: &mut [u16; 33]) -> bool
     requires size { length vram.now ≡ 32768 }
     requires first { first < 128 }
-    ensures { (c : ℕ) → c < 33 → result ≡ true → slice_index entries.new c ≡ slice_index vram.now (map_word b.now (first + c) row) }
+    ensures { (c : ℕ) → c < 33 → result ≡ true
+        → slice_index entries.new c ≡ slice_index vram.now (map_word b.now (first + c) row) }
 {
     let left = map_place(b, first / 32 * 32, row);
     let right = map_place(b, first / 32 * 32 + 32, row);
@@ -136,7 +138,8 @@ fn attribute(mode: u8, layer: u8, bits: u8, entry: u16) -> u8
 fn take_attributes(mode: u8, layer: u8, bits: u8, entries: &[u16; 33], attributes: &mut [u8; 33])
     requires first { 1 ≤ layer }
     requires last { layer ≤ 4 }
-    ensures { (c : ℕ) → c < 33 → slice_index attributes.new c ≡ attribute_of mode layer bits (slice_index entries.now c) }
+    ensures { (c : ℕ) → c < 33 → slice_index attributes.new c ≡
+        attribute_of mode layer bits (slice_index entries.now c) }
 {
     for c in 0..33usize {
         attributes[c] = attribute(mode, layer, bits, entries[c]);
@@ -164,37 +167,6 @@ fn spread(bytes: &[u8; 33], row: &mut [u8; 264])
     }
 }
 
-/// Returns the pixels of a map entry whose line begins at a word.
-#[inline(always)]
-fn line_of_entry(tiles: &TileCache, bits: u8, entry: u16, word: u16) -> [u8; 8]
-    requires depth { IsDepth bits }
-    requires word { word < 32768 }
-    ensures { (vram : List ℕ) → IsInStep tiles.now vram → result ≡
-        eight (λ k. value_of vram word bits (if entry / 16384 % 2 == 1 then 7 - k else k)) }
-{
-    tiles.turned_line(word as usize, bits, entry / 16384 % 2 == 1)
-}
-
-/// Puts the pixels of a row of map entries whose lines begin at these words, each mirrored if its entry says so.
-#[inline(always)]
-fn put_pixels(
-    tiles: &TileCache,
-    bits: u8,
-    entries: &[u16; 33],
-    words: &[u16; 33],
-    values: &mut [u8; 264],
-)
-    requires depth { IsDepth bits }
-    requires within { (c : ℕ) → c < 33 → slice_index words.now c < 32768 }
-    ensures { (vram : List ℕ) → IsInStep tiles.now vram → (k : ℕ) → k < 264 → slice_index values.new k ≡
-        value_of vram (slice_index words.now (k / 8)) bits (if slice_index entries.now (k / 8) / 16384 % 2 == 1 then 7 - k % 8 else k % 8) }
-{
-    for c in 0..33usize {
-        let line = line_of_entry(tiles, bits, entries[c], words[c]);
-        put_bytes(values, 8 * c, &line);
-    }
-}
-
 /// Returns whether any of a row of map entries is mirrored.
 #[inline(always)]
 fn is_any_turned(entries: &[u16; 33]) -> bool
@@ -207,23 +179,10 @@ fn is_any_turned(entries: &[u16; 33]) -> bool
     most != 0
 }
 
-/// Puts the pixels of a row of map entries, none of which is mirrored.
+/// Puts the pixels of a row of map entries whose lines begin at these words, each mirrored if its entry says so. A row
+/// with no mirrored entry has a loop of its own.
 #[inline(always)]
-fn put_straight(tiles: &TileCache, bits: u8, words: &[u16; 33], values: &mut [u8; 264])
-    requires depth { IsDepth bits }
-    requires within { (c : ℕ) → c < 33 → slice_index words.now c < 32768 }
-    ensures { (vram : List ℕ) → IsInStep tiles.now vram → (k : ℕ) → k < 264 → slice_index values.new k ≡
-        value_of vram (slice_index words.now (k / 8)) bits (k % 8) }
-{
-    for c in 0..33usize {
-        let line = line_of_entry(tiles, bits, 0, words[c]);
-        put_bytes(values, 8 * c, &line);
-    }
-}
-
-/// Puts the pixels of a row of map entries whose lines begin at these words, by the way that fits the entries.
-#[inline(always)]
-fn put_all(
+fn put_pixels(
     tiles: &TileCache,
     bits: u8,
     entries: &[u16; 33],
@@ -233,52 +192,20 @@ fn put_all(
     requires depth { IsDepth bits }
     requires within { (c : ℕ) → c < 33 → slice_index words.now c < 32768 }
     ensures { (vram : List ℕ) → IsInStep tiles.now vram → (k : ℕ) → k < 264 → slice_index values.new k ≡
-        value_of vram (slice_index words.now (k / 8)) bits (if slice_index entries.now (k / 8) / 16384 % 2 == 1 then 7 - k % 8 else k % 8) }
+        value_of vram (slice_index words.now (k / 8)) bits
+        (if slice_index entries.now (k / 8) / 16384 % 2 == 1 then 7 - k % 8 else k % 8) }
 {
     if is_any_turned(entries) {
-        put_pixels(tiles, bits, entries, words, values);
+        for c in 0..33usize {
+            let line = tiles.turned_line(words[c] as usize, bits, entries[c] / 16384 % 2 == 1);
+            put_bytes(values, 8 * c, &line);
+        }
     } else {
-        put_straight(tiles, bits, words, values);
+        for c in 0..33usize {
+            let line = tiles.turned_line(words[c] as usize, bits, false);
+            put_bytes(values, 8 * c, &line);
+        }
     }
-}
-
-/// Paints the 33 columns of a row, side by side: their values and their attributes.
-#[inline(always)]
-fn paint_small(
-    p: &Ppu,
-    tiles: &TileCache,
-    b: &Background,
-    mode: u8,
-    bits: u8,
-    layer: u8,
-    y: u16,
-    odd: bool,
-    values: &mut [u8; 264],
-    attributes: &mut [u8; 264],
-)
-    requires first { 1 ≤ layer }
-    requires last { layer ≤ 4 }
-    requires mode { mode ≡ p.now.registers.mode }
-    requires small { b.now.large ≡ false }
-    requires halves { is_hires mode ≡ false }
-    requires offsets { has_offsets mode ≡ false }
-    requires background { b.now ≡ background_of p.now.registers layer }
-    requires bits { bits ≡ depth_of p.now.registers.mode layer }
-    requires depth { IsDepth bits }
-    requires step { IsInStep tiles.now p.now.vram }
-    requires y { y ≤ 239 }
-    ensures values { (k : ℕ) → k < 264 → slice_index values.new k ≡ column_value p.now layer y (bit_of odd) (k / 8) (k % 8) }
-    ensures attributes { (k : ℕ) → k < 264 → slice_index attributes.new k ≡ attribute_of mode layer bits (column_entry p.now layer y (k / 8)) }
-{
-    let own = own(b);
-    let mut entries = [0u16; 33];
-    take_entries(p, b, mode, layer, own, y, &mut entries);
-    let mut bytes = [0u8; 33];
-    take_attributes(mode, layer, bits, &entries, &mut bytes);
-    spread(&bytes, attributes);
-    let mut words = [0u16; 33];
-    take_words(b, bits, y + 1 + own.down, &entries, &mut words);
-    put_all(tiles, bits, &entries, &words, values);
 }
 
 /// Returns the byte of a pixel in the plane of ranks.
@@ -303,7 +230,8 @@ fn rank_pixels(
 )
     requires { from < 8 }
     ensures ranks { (x : ℕ) → x < 256 → slice_index ranks.new x ≡
-        (if slice_index values.now (x + from) == 0 then 0 else (if slice_index attributes.now (x + from) / 128 == 1 then high else low)) }
+        (if slice_index values.now (x + from) == 0 then 0
+        else (if slice_index attributes.now (x + from) / 128 == 1 then high else low)) }
     ensures numbers { (x : ℕ) → x < 256 → slice_index numbers.new x ≡
         (slice_index attributes.now (x + from) % 128 + slice_index values.now (x + from)) % 256 }
 {
@@ -315,7 +243,8 @@ fn rank_pixels(
     }
 }
 
-/// Writes row `y` of the screen, of small tiles of 2 or 4 bits, without mosaic.
+/// Writes a row of small tiles of 2 or 4 bits as `ranked_row` does. What each of its 33 columns needs is taken first.
+/// Then come the pixels, their two planes, and the blocks of mosaic.
 #[inline(always)]
 pub fn small_row(
     p: &Ppu,
@@ -324,7 +253,7 @@ pub fn small_row(
     mode: u8,
     bits: u8,
     layer: u8,
-    y: u16,
+    row: u16,
     odd: bool,
     low: u8,
     high: u8,
@@ -342,24 +271,28 @@ pub fn small_row(
     requires depth { IsDepth bits }
     requires few { bits ≤ 4 }
     requires step { IsInStep tiles.now p.now.vram }
-    requires y { y ≤ 239 }
-    ensures ranks { (x : ℕ) → x < 256 → slice_index ranks.new x ≡ (let c = layer_dot_at p.now layer y x (bit_of odd) in rank_of (base_of low high c) c) }
-    ensures numbers { (x : ℕ) → x < 256 → slice_index numbers.new x ≡ (layer_dot_at p.now layer y x (bit_of odd)).number }
+    requires row { row < 239 }
+    ensures ranks { (x : ℕ) → x < 256 → slice_index ranks.new x ≡
+        (let c = background_layer_dot p.now layer row (2 * x + bit_of odd) in rank_of (base_of low high c) c) }
+    ensures numbers { (x : ℕ) → x < 256 → slice_index numbers.new x ≡
+        (background_layer_dot p.now layer row (2 * x + bit_of odd)).number }
 {
-    let mut values = [0u8; 264];
+    p.in_range();
+    let r = p.registers();
+    let y = block(r, b, row);
+    let own = own(b);
+    let mut entries = [0u16; 33];
+    take_entries(p, b, mode, layer, own, y, &mut entries);
+    let mut bytes = [0u8; 33];
+    take_attributes(mode, layer, bits, &entries, &mut bytes);
     let mut attributes = [0u8; 264];
-    paint_small(
-        p,
-        tiles,
-        b,
-        mode,
-        bits,
-        layer,
-        y,
-        odd,
-        &mut values,
-        &mut attributes,
-    );
+    spread(&bytes, &mut attributes);
+    let mut words = [0u16; 33];
+    take_words(b, bits, y + 1 + own.down, &entries, &mut words);
+    let mut values = [0u8; 264];
+    put_pixels(tiles, bits, &entries, &words, &mut values);
     let from = (b.scroll_x % 8) as usize;
     rank_pixels(&values, &attributes, from, low, high, ranks, numbers);
+    take_blocks(r, b, ranks);
+    take_blocks(r, b, numbers);
 }

@@ -8,18 +8,18 @@ pub returns-clause-main : goal.returns-clause-main
 unfolding main_front
 returns-clause-main c x h =
     front_bare (main_pixel c.args.p.now c.args.row x) (backdrop c.args.p.now.registers)
-    (λ i. c.is_seen-first.ensures.main i c.args.row x (c.is_none.ensures.first h))
-    (λ i. c.is_seen-second.ensures.main i c.args.row x (c.is_none.ensures.second h))
-    (λ i. c.is_seen-third.ensures.main i c.args.row x (c.is_none.ensures.third h))
-    (λ i. c.is_seen-fourth.ensures.main i c.args.row x (c.is_none.ensures.fourth h))
+    (λ i. c.is_shown-first.ensures.main i c.args.row x (c.is_none.ensures.first h))
+    (λ i. c.is_shown-second.ensures.main i c.args.row x (c.is_none.ensures.second h))
+    (λ i. c.is_shown-third.ensures.main i c.args.row x (c.is_none.ensures.third h))
+    (λ i. c.is_shown-fourth.ensures.main i c.args.row x (c.is_none.ensures.fourth h))
     (λ i. c.are_objects_seen-objects.ensures.main i x (c.is_none.ensures.objects h))
 
 pub returns-clause-sub : goal.returns-clause-sub
 unfolding sub_front
 returns-clause-sub c x h =
     front_bare (sub_pixel c.args.p.now c.args.row x) no_pixel
-    (λ i. c.is_seen-first.ensures.sub i c.args.row x (c.is_none.ensures.first h))
-    (λ i. c.is_seen-second.ensures.sub i c.args.row x (c.is_none.ensures.second h))
-    (λ i. c.is_seen-third.ensures.sub i c.args.row x (c.is_none.ensures.third h))
-    (λ i. c.is_seen-fourth.ensures.sub i c.args.row x (c.is_none.ensures.fourth h))
+    (λ i. c.is_shown-first.ensures.sub i c.args.row x (c.is_none.ensures.first h))
+    (λ i. c.is_shown-second.ensures.sub i c.args.row x (c.is_none.ensures.second h))
+    (λ i. c.is_shown-third.ensures.sub i c.args.row x (c.is_none.ensures.third h))
+    (λ i. c.is_shown-fourth.ensures.sub i c.args.row x (c.is_none.ensures.fourth h))
     (λ i. c.are_objects_seen-objects.ensures.sub i x (c.is_none.ensures.objects h))

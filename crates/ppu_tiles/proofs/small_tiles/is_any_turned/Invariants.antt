@@ -1,4 +1,4 @@
-use Rattle.std.proofs.Common.{◌≡◌, ℕ, ◌/◌, ◌%◌, ◌<◌, ◌≤◌, slice_index}
+use Rattle.std.proofs.Common.{ℕ, ◌/◌, ◌%◌, ◌<◌, ◌≤◌, slice_index}
 use Rattle.ppu_tiles.proofs.small_tiles.is_any_turned.Given as goal
 
 abbrev pub invariant-loop-c : goal.invariant-loop-c
