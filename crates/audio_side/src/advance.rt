@@ -8,7 +8,7 @@ ghost use Rattle.audio_side.specs.Sound.{IsRunning, SoundState, StandsAt, sound_
 
 use crate::parts::Parts;
 use crate::port_runs::run_accesses;
-use side_law::{Ports, Stop, call};
+use side_law::{Ports, Stop};
 
 /// How many emitted bytes the buffer holds.
 const CAPACITY: usize = 4096;
@@ -95,7 +95,7 @@ impl Parts {
             if waited + SAMPLE > CAPACITY {
                 return Stop::Until;
             }
-            let Some(got) = call(ports, at, self.act()) else {
+            let Some(got) = ports.call(at, self.act()) else {
                 return Stop::Refused;
             };
             self.step(got);

@@ -1,6 +1,5 @@
 // Many cycles in one call, with the ports and the other registers F0 to FF among their accesses.
 ghost use Rattle.std.specs.Prelude.{◌≡◌, ◌≢◌, ◌+◌, ◌-◌, ◌*◌, ◌/◌, ◌^◌, ◌<◌, ◌≤◌, ℕ, List, IfSome, None, IsTrue, false};
-ghost use Rattle.snes_defs.specs.declared.ports.Act.TheVariants as Act;
 ghost use Rattle.snes_defs.specs.declared.ports.Side.TheVariants.{Sound};
 ghost use Rattle.clock_ratio.specs.Stamp.{least_of, rate_of};
 ghost use Rattle.side_law.specs.Gone.{Leads, IsRefused};
@@ -20,6 +19,7 @@ use crate::hardware::Hardware;
 use crate::instructions::make_all;
 use crate::step::is_register;
 use side_law::Ports;
+use snes_defs::Act;
 use spc700::{Place, Spc, SpcAccess};
 
 /// What came of an access over the ports.
@@ -92,7 +92,7 @@ fn byte_at<P: Ports>(hardware: &mut Hardware, address: u16, at: u64, ports: &mut
 {
     if is_register(address) {
         if let Some(port) = port_of(address) {
-            let byte = ports.read(at, port)?;
+            let byte = ports.call(at, Act::Read(port))?;
             return Some(byte);
         }
         return Some(register_byte(hardware, address));
@@ -155,10 +155,9 @@ fn store_at<P: Ports>(
         return Found::Made;
     }
     if let Some(port) = port_of(address) {
-        return if ports.write(at, port, byte) {
-            Found::Made
-        } else {
-            Found::Refused
+        return match ports.call(at, Act::Write(port, byte)) {
+            Some(_) => Found::Made,
+            None => Found::Refused,
         };
     }
     if store_register(hardware, address, byte) {

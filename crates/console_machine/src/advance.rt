@@ -15,7 +15,7 @@ ghost use Rattle.console_machine.specs.Side.{StandsAt};
 use crate::parts::Parts;
 use crate::port_runs::{make_over, stamp_before};
 use console_steps::{is_calm, is_wired};
-use side_law::{Ports, Stop, call};
+use side_law::{Ports, Stop};
 use snes_defs::Act;
 
 /// How many emitted bytes the buffer holds.
@@ -49,7 +49,7 @@ impl Parts {
         ensures times { P.times ports.new ≡ P.times ports.old }
         ensures few { length self.new.waiting.items ≤ length self.old.waiting.items + 1024 }
     {
-        let Some(got) = call(ports, self.stamp, act) else {
+        let Some(got) = ports.call(self.stamp, act) else {
             return false;
         };
         self.step(got);

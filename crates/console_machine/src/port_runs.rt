@@ -23,7 +23,7 @@ use console_steps::{REGISTER_CLOCKS, bus_register, give_interrupt_levels, is_por
 use cpu_tables::Access;
 use cpu65816::Cpu;
 use side_law::Ports;
-use snes_defs::Region;
+use snes_defs::{Act, Region};
 
 /// More accesses of the B bus than a line has room for.
 const MOST_RUNS: u16 = 256;
@@ -133,7 +133,7 @@ fn read_over<P: Ports>(cpu: &mut Cpu, bus: &mut Bus, addr: u32, at: u64, ports: 
         take_register(cpu, bus, register);
         return Found::Made;
     }
-    let Some(got) = ports.read(at, register % 4) else {
+    let Some(got) = ports.call(at, Act::Read(register % 4)) else {
         return Found::Refused;
     };
     take_port(cpu, bus, got);
@@ -172,9 +172,9 @@ fn write_over<P: Ports>(
     if !is_port(register) {
         return Found::Left;
     }
-    if !ports.write(at, register % 4, v) {
+    let Some(_) = ports.call(at, Act::Write(register % 4, v)) else {
         return Found::Refused;
-    }
+    };
     give_port(cpu, bus, v);
     Found::Made
 }

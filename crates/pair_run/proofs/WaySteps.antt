@@ -19,7 +19,7 @@ use Rattle.side_law.specs.declared.ports.Stop.{Stop}
 use Rattle.side_law.specs.declared.ports.Stop.TheVariants.{Until, Emitted, Refused}
 use Rattle.side_law.specs.Moves.{Moves, IsLawful, taken}
 use Rattle.side_law.specs.Gone.{Over, IsAnswered, IsRefused, Goes, GoneBy, Gone, HasStopped, HasGone}
-use Rattle.side_law.proofs.Gone.{goes_up, gone_up, taken_answered}
+use Rattle.side_law.proofs.Gone.{refused_by, goes_up, gone_up, taken_answered}
 use Rattle.commute_laws.specs.History.{History, entry_of}
 use Rattle.commute_laws.specs.Heard.{OnLook, heard_got}
 use Rattle.port_wire.specs.declared.late.PassLate.{PassLate}
@@ -29,7 +29,7 @@ use Rattle.port_wire.specs.Answers.{HearsOn}
 use Rattle.pair_run.specs.Leg.{LegRan, HasRun}
 use Rattle.pair_run.specs.Tried.{IsHeldBack, call_of}
 use Rattle.port_wire.specs.Reach.{IsInReach}
-use Rattle.pair_run.specs.Over.{Way, IsSameWay, IsLateBy, pass_calls, KeepsWithin, HasRunOn, HasTold, IsLimit, HasTried, IsHeldStill, IsHeldOff}
+use Rattle.pair_run.specs.Over.{Way, IsSameWay, pass_calls, KeepsWithin, HasRunOn, HasTold, IsLimit, HasTried, IsHeldStill, IsHeldOff}
 use Rattle.pair_run.proofs.LegGoesOn.{hears_then, hears_nothing, leg_begins, leg_waits, leg_steps, leg_runs, leg_below_later}
 use Rattle.pair_run.proofs.OneStep.{nowhere_by}
 use Rattle.pair_run.proofs.Refusals.{counted_once}
@@ -94,12 +94,6 @@ called_by at (Clear mask) got p q h = record {
 -- a quiet step's call isn't refused
 loud_by : {Wire : Type 0} (at : ℕ) (act : Act) (p q : Way Wire) → IsRefused pass_calls at act p q → act ≡ Quiet → ⊥
 loud_by at act p q h is = subst (λ (a : Act). IsRefused pass_calls at a p q) is h
-
-late_by : {Wire : Type 0} (at : ℕ) (act : Act) (p q : Way Wire) → IsRefused pass_calls at act p q → IsLateBy at act p q
-late_by at Quiet p q h = absurd h
-late_by at (Read port) p q h = h
-late_by at (Write port byte) p q h = h
-late_by at (Clear mask) p q h = h
 
 -- there is room with few bytes buffered
 room_few : {Wire : Type 0} (p : Way Wire) (n at : ℕ) → at < (if nat_le n p.held then 2 ^ 64 - 1 else 0) → n ≤ p.held
@@ -241,7 +235,7 @@ module _ {State Wire : Type 0} (region : Region) (valid : State → Type 0) (mos
     went_by cap Refused y cap_is h =
         let x : Over State (Way Wire) = record y { ports = h.called } in
         let walk = walk_by h.gone.steps x h.gone.made in
-        let late = late_by (moves.stamp y.own) (moves.act y.own) h.called y.ports h.refused in
+        let late = refused_by pass_calls (moves.stamp y.own) (moves.act y.own) h.called y.ports h.refused in
         record {
           same = same_then p h.called y.ports walk.same late.same;
           ran = leg_waits p.side moves (window_of p.region) until (λ m. m ≡ y.own) h.called.half y.ports.half waited y.waits before walk.ran late.same.hears late.refused.mine;

@@ -2,6 +2,7 @@
 use crate::over::Over;
 use port_wire::Wire;
 use side_law::Ports;
+use snes_defs::Act;
 
 impl<'a, W: Wire> Ports for Over<'a, W> {
     ghost use Rattle.std.specs.Prelude.{◌≡◌, ◌^◌};
@@ -20,35 +21,32 @@ impl<'a, W: Wire> Ports for Over<'a, W> {
     ghost times = { λ o. record { before = 2 ^ 52; rise = least_of (W.region_of o.wire.now) } };
 
     #[inline(always)]
-    fn read(&mut self, at: u64, port: u8) -> Option<u8> {
-        match self.wire.read(self.pass, at, port) {
-            Ok(byte) => Some(byte),
-            Err(late) => {
-                self.late = late;
-                None
+    fn call(&mut self, at: u64, act: Act) -> Option<u8> {
+        match act {
+            Act::Quiet => Some(0),
+            Act::Read(port) => match self.wire.read(self.pass, at, port) {
+                Ok(byte) => Some(byte),
+                Err(late) => {
+                    self.late = late;
+                    None
+                }
+            },
+            Act::Write(port, byte) => {
+                match self.wire.write(self.pass, at, port, byte, at + self.least) {
+                    Ok(()) => Some(0),
+                    Err(late) => {
+                        self.late = late;
+                        None
+                    }
+                }
             }
-        }
-    }
-
-    #[inline(always)]
-    fn write(&mut self, at: u64, port: u8, byte: u8) -> bool {
-        match self.wire.write(self.pass, at, port, byte, at + self.least) {
-            Ok(()) => true,
-            Err(late) => {
-                self.late = late;
-                false
-            }
-        }
-    }
-
-    #[inline(always)]
-    fn clear(&mut self, at: u64, mask: u8) -> bool {
-        match self.wire.clear(self.pass, at, mask) {
-            Ok(()) => true,
-            Err(late) => {
-                self.late = late;
-                false
-            }
+            Act::Clear(mask) => match self.wire.clear(self.pass, at, mask) {
+                Ok(()) => Some(0),
+                Err(late) => {
+                    self.late = late;
+                    None
+                }
+            },
         }
     }
 

@@ -2,6 +2,7 @@
 use crate::over::OverWhole;
 use port_wire::Wire;
 use side_law::Ports;
+use snes_defs::Act;
 
 impl<'a, W: Wire> Ports for OverWhole<'a, W> {
     ghost use Rattle.std.specs.Prelude.{◌≡◌, ◌^◌};
@@ -21,30 +22,24 @@ impl<'a, W: Wire> Ports for OverWhole<'a, W> {
     ghost times = { λ o. record { before = 2 ^ 52; rise = least_of (W.region_of o.wire.now) } };
 
     #[inline(always)]
-    fn read(&mut self, at: u64, port: u8) -> Option<u8> {
-        match self.wire.read_whole(self.whole, self.side, at, port) {
-            Ok(byte) => Some(byte),
-            Err(_) => None,
-        }
-    }
-
-    #[inline(always)]
-    fn write(&mut self, at: u64, port: u8, byte: u8) -> bool {
-        let next = at + self.least;
-        match self
-            .wire
-            .write_whole(self.whole, self.side, at, port, byte, next)
-        {
-            Ok(()) => true,
-            Err(_) => false,
-        }
-    }
-
-    #[inline(always)]
-    fn clear(&mut self, at: u64, mask: u8) -> bool {
-        match self.wire.clear_whole(self.whole, self.side, at, mask) {
-            Ok(()) => true,
-            Err(_) => false,
+    fn call(&mut self, at: u64, act: Act) -> Option<u8> {
+        let (wire, side, next) = (self.wire, self.side, at + self.least);
+        match act {
+            Act::Quiet => Some(0),
+            Act::Read(port) => match wire.read_whole(self.whole, side, at, port) {
+                Ok(byte) => Some(byte),
+                Err(_) => None,
+            },
+            Act::Write(port, byte) => {
+                match wire.write_whole(self.whole, side, at, port, byte, next) {
+                    Ok(()) => Some(0),
+                    Err(_) => None,
+                }
+            }
+            Act::Clear(mask) => match wire.clear_whole(self.whole, side, at, mask) {
+                Ok(()) => Some(0),
+                Err(_) => None,
+            },
         }
     }
 

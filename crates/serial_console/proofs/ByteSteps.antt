@@ -12,12 +12,12 @@ use Rattle.clock_ratio.proofs.Numbers.{numbers}
 use Rattle.side_law.specs.declared.ports.Stop.{Stop}
 use Rattle.side_law.specs.declared.ports.Stop.TheVariants.{Until, Emitted, Refused}
 use Rattle.side_law.specs.Moves.{Moves, IsLawful}
-use Rattle.side_law.specs.Gone.{Over, IsAnswered, IsRefused, Goes, GoneBy, Gone, HasStopped, HasGone}
-use Rattle.side_law.proofs.Gone.{gone_on, goes_up, gone_up}
+use Rattle.side_law.specs.Gone.{Over, IsAnswered, Goes, GoneBy, Gone, HasStopped, HasGone}
+use Rattle.side_law.proofs.Gone.{refused_by, gone_on, goes_up, gone_up}
 use Rattle.side_law.specs.Serial.{got_of, incoming_after, outgoing_after}
 use Rattle.side_law.specs.Sides.{SideState, side_step, side_bytes}
 use Rattle.serial_console.specs.declared.bytes.Bytes.{Bytes}
-use Rattle.serial_console.specs.Bytes.{IsLate, byte_calls, room_for}
+use Rattle.serial_console.specs.Bytes.{byte_calls, room_for}
 use Rattle.serial_console.specs.Lead.{MayStep, SideSteps, HasLed}
 use Rattle.serial_console.proofs.SideRuns.{steps_on}
 
@@ -39,12 +39,6 @@ called_by at Quiet got p q h = record { got_is = h.0; after = h.1; may = inl ref
 called_by at (Read port) got p q h = record { got_is = h.got_is; after = h.after; may = inr h.early }
 called_by at (Write port byte) got p q h = record { got_is = h.1.got_is; after = h.1.after; may = inr h.1.early }
 called_by at (Clear mask) got p q h = record { got_is = h.1.got_is; after = h.1.after; may = inr h.1.early }
-
-late_by : (at : ℕ) (act : Act) (p q : Bytes) → IsRefused byte_calls at act p q → IsLate at p q
-late_by at Quiet p q h = absurd h
-late_by at (Read port) p q h = h
-late_by at (Write port byte) p q h = h
-late_by at (Clear mask) p q h = h
 
 module _ {State : Type 0} (region : Region) (valid : State → Type 0) (most : ℕ) (moves : Moves State) (lawful : IsLawful region valid most moves) (end : ℕ) where
   -- a machine with the bytes at its ports
@@ -178,7 +172,7 @@ module _ {State : Type 0} (region : Region) (valid : State → Type 0) (most : �
   stopped_gone cap Until x y h = h.gone
   stopped_gone cap (Emitted at) x y h = gone_on moves byte_calls end x h.last y h.gone h.goes
   stopped_gone cap Refused x y h =
-      let late = late_by (moves.stamp y.own) (moves.act y.own) h.called y.ports h.refused in
+      let late = refused_by byte_calls (moves.stamp y.own) (moves.act y.own) h.called y.ports h.refused in
       subst (λ (b : Bytes). Gone moves byte_calls end x (record y { ports = b })) late.same h.gone
 
   pub walked : (cap : ℕ) (stop : Stop) (x y : Over State Bytes) → valid x.own → HasStopped moves byte_calls end most cap stop x y → HasWalked x y
@@ -207,7 +201,7 @@ module _ {State : Type 0} (region : Region) (valid : State → Type 0) (most : �
       let step = goes_up region valid most moves lawful byte_calls end h.last y risen.is_valid h.goes in
       omega (arith, risen.forward, step.up, (numbers region).rises)
   gets_on cap Refused x y is_valid h early before room fits =
-      let late = late_by (moves.stamp y.own) (moves.act y.own) h.called y.ports h.refused in
+      let late = refused_by byte_calls (moves.stamp y.own) (moves.act y.own) h.called y.ports h.refused in
       let walk = walk_by h.gone.steps x (record y { ports = h.called }) is_valid h.gone.made in
       omega (arith, late.late, walk.first, early)
 

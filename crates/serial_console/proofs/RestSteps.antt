@@ -13,7 +13,7 @@ use Rattle.side_law.specs.declared.ports.Stop.TheVariants.{Until, Emitted, Refus
 use Rattle.side_law.specs.Moves.{Moves, IsLawful}
 use Rattle.side_law.specs.Gone.{Calls, Over, HasMoved, IsAnswered, IsRefused, Goes, GoneBy, HasStopped, HasGone}
 use Rattle.clock_ratio.proofs.Numbers.{numbers}
-use Rattle.side_law.proofs.Gone.{goes_up, gone_up}
+use Rattle.side_law.proofs.Gone.{refused_by, goes_up, gone_up}
 use Rattle.side_law.specs.Serial.{SerialState, got_of, incoming_after, outgoing_after, console_step}
 use Rattle.side_law.specs.Sides.{SideState}
 use Rattle.serial_console.specs.declared.behind.Rest.{Rest}
@@ -72,11 +72,24 @@ module _ {S : Type 0} (moves : Moves S) (most : ℕ) where
 
 -- ---- what a call did
 
-module _ {V S : Type 0} (moves : Moves S) (most : ℕ) (stands : V → S → Type 0) (waiting : V → List ℕ) (r r' : Rest V) (at : ℕ) (act : Act) (got : ℕ) (p : RestState S) (h : HasCome moves most stands waiting r at p) where
+module _ {S : Type 0} (moves : Moves S) (most cap : ℕ) where
+  answered_by : (at : ℕ) (act : Act) (got : ℕ) (w v : RestState S) → (act ≡ Quiet → ⊥) → IsByRest moves most at act got w v → IsAnswered (rest_calls moves most cap) at act got w v
+  answered_by at Quiet got w v other h = absurd (other refl)
+  answered_by at (Read port) got w v other h = h
+  answered_by at (Write port byte) got w v other h = (h.got_is, h)
+  answered_by at (Clear mask) got w v other h = (h.got_is, h)
+
+  late_by : (at : ℕ) (act : Act) (w v : RestState S) → (act ≡ Quiet → ⊥) → IsBehind moves most cap at w v → IsRefused (rest_calls moves most cap) at act w v
+  late_by at Quiet w v other h = absurd (other refl)
+  late_by at (Read port) w v other h = h
+  late_by at (Write port byte) w v other h = h
+  late_by at (Clear mask) w v other h = h
+
+module _ {V S : Type 0} (moves : Moves S) (most : ℕ) (stands : V → S → Type 0) (waiting : V → List ℕ) (r r' : Rest V) (at : ℕ) (act : Act) (got : ℕ) (p : RestState S) (h : HasCome moves most stands waiting r at p) (cap : ℕ) (other : act ≡ Quiet → ⊥) where
   -- it is made on the bytes
   pub rest_answered : (there : (m : S) → stands r.sound m → at ≤ moves.stamp m) → r'.sound ≡ r.sound → r'.end ≡ r.end → r'.bytes.last ≡ r.bytes.last → r'.last ≡ r.last
       → r'.bytes.incoming ≡ outgoing_after act r.bytes.incoming → r'.bytes.outgoing ≡ incoming_after act r.bytes.outgoing → got ≡ got_of act r.bytes.outgoing
-      → HasMoved (StandsBehind stands waiting r') (IsByRest moves most at act got p)
+      → HasMoved (StandsBehind stands waiting r') (IsAnswered (rest_calls moves most cap) at act got p)
   rest_answered there sound_is ends sound_last console_last incoming_is outgoing_is got_is =
       let mid = h.to in
       let now = h.now_stands in
@@ -91,16 +104,16 @@ module _ {V S : Type 0} (moves : Moves S) (most : ℕ) (stands : V → S → Typ
           sound_last = sound_last ∙ now.sound_last;
           console_last = console_last ∙ now.console_last;
         };
-        led = record { mid = mid; followed = h.followed; there = there mid.sound now.sound; got_is = got_is ∙ ap (got_of act) now.to_console; after = refl };
+        led = answered_by moves most cap at act got p _ other (record { mid = mid; followed = h.followed; there = there mid.sound now.sound; got_is = got_is ∙ ap (got_of act) now.to_console; after = refl });
       }
 
   -- or refused
-  pub rest_refused : (cap : ℕ) → ((m : S) → stands r.sound m → moves.stamp m < at) → (most ≤ cap → 0 < length (waiting r.sound))
-      → HasMoved (StandsBehind stands waiting r) (IsBehind moves most cap at p)
-  rest_refused cap late waits = record {
+  pub rest_refused : ((m : S) → stands r.sound m → moves.stamp m < at) → (most ≤ cap → 0 < length (waiting r.sound))
+      → HasMoved (StandsBehind stands waiting r) (IsRefused (rest_calls moves most cap) at act p)
+  rest_refused late waits = record {
     to = h.to;
     now_stands = h.now_stands;
-    led = record { followed = h.followed; late = late h.to.sound h.now_stands.sound; waits = λ fits. subst (λ w. 0 < length w) h.now_stands.audio (waits fits) };
+    led = late_by moves most cap at act p h.to other (record { followed = h.followed; late = late h.to.sound h.now_stands.sound; waits = λ fits. subst (λ w. 0 < length w) h.now_stands.audio (waits fits) });
   }
 
 -- the sound side follows
@@ -194,12 +207,6 @@ module _ {S : Type 0} (moves : Moves S) (most cap : ℕ) where
   called_by at (Write port byte) got w v h = record { mid = h.1.mid; follows = inr (h.1.followed, h.1.there); got_is = h.1.got_is; after = h.1.after }
   called_by at (Clear mask) got w v h = record { mid = h.1.mid; follows = inr (h.1.followed, h.1.there); got_is = h.1.got_is; after = h.1.after }
 
-  late_by : (at : ℕ) (act : Act) (w v : RestState S) → IsRefused (rest_calls moves most cap) at act w v → IsBehind moves most cap at w v
-  late_by at Quiet w v h = absurd h
-  late_by at (Read port) w v h = h
-  late_by at (Write port byte) w v h = h
-  late_by at (Clear mask) w v h = h
-
 module _ {C S : Type 0} (region : Region) (valid : C → Type 0) (most : ℕ) (cm : Moves C) (lawful : IsLawful region valid most cm) (sm : Moves S) (sound_most sound_cap end : ℕ) (from : SerialState C S)
     (video audio : List ℕ) where
   -- both machines with the bytes between them
@@ -290,7 +297,7 @@ module _ {C S : Type 0} (region : Region) (valid : C → Type 0) (most : ℕ) (c
       let risen = gone_up region valid most cm lawful calls end x h.last is_valid h.gone in
       step_lead h.last y risen.is_valid h.goes (walk_lead h.gone.steps x h.last is_valid h.gone.made over)
   stopped_lead cap Refused x y is_valid h over =
-      follow_lead y.own h.called y.ports (cm.stamp y.own) y.waits (late_by sm sound_most sound_cap (cm.stamp y.own) (cm.act y.own) h.called y.ports h.refused).followed (omega arith)
+      follow_lead y.own h.called y.ports (cm.stamp y.own) y.waits (refused_by calls (cm.stamp y.own) (cm.act y.own) h.called y.ports h.refused).followed (omega arith)
       (walk_lead h.gone.steps x (record y { ports = h.called }) is_valid h.gone.made over)
 
   -- ---- and by their numbers
@@ -378,7 +385,7 @@ module _ {C S : Type 0} (region : Region) (valid : C → Type 0) (most : ℕ) (c
       walk_on x h.last y risen.is_valid (walk_by h.gone.steps x h.last is_valid h.gone.made) h.goes
   walked cap Refused x y is_valid h =
       let walk = walk_by h.gone.steps x (record y { ports = h.called }) is_valid h.gone.made in
-      let late = late_by sm sound_most sound_cap (cm.stamp y.own) (cm.act y.own) h.called y.ports h.refused in
+      let late = refused_by calls (cm.stamp y.own) (cm.act y.own) h.called y.ports h.refused in
       record {
         grown = grown_then sm sound_most x.ports h.called y.ports walk.grown late.followed.grown;
         forward = walk.forward;
@@ -403,7 +410,7 @@ module _ {C S : Type 0} (region : Region) (valid : C → Type 0) (most : ℕ) (c
       h.ends
   stops cap (Emitted at) x y h none fits short early = absurd (omega (arith, h.some, none))
   stops cap Refused x y h none fits short early =
-      let late = late_by sm sound_most sound_cap (cm.stamp y.own) (cm.act y.own) h.called y.ports h.refused in
+      let late = refused_by calls (cm.stamp y.own) (cm.act y.own) h.called y.ports h.refused in
       record { behind = late.late; some = late.waits }
 
 -- ---- of values

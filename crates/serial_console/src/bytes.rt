@@ -3,8 +3,9 @@ ghost use Rattle.std.specs.Prelude.{◌≡◌, ◌+◌, ◌^◌, ◌<◌, ◌≤
 ghost use Rattle.serial_console.specs.Bytes.{room_for};
 ghost use Rattle.serial_console.specs.Lead.{HasLed};
 
-use crate::serial::cleared;
+use crate::serial::{exchange, got};
 use side_law::{Machine, Ports, Stop};
+use snes_defs::Act;
 
 /// With more bytes buffered than this, no step may emit.
 pub(crate) const HELD: usize = 512;
@@ -40,29 +41,13 @@ impl Ports for Bytes {
     ghost times = { λ b. record { before = 2 ^ 63; rise = 0 } };
 
     #[inline(always)]
-    fn read(&mut self, at: u64, port: u8) -> Option<u8> {
-        if at >= self.first {
+    fn call(&mut self, at: u64, act: Act) -> Option<u8> {
+        if at >= self.first && !matches!(act, Act::Quiet) {
             return None;
         }
-        Some(self.incoming[port as usize])
-    }
-
-    #[inline(always)]
-    fn write(&mut self, at: u64, port: u8, byte: u8) -> bool {
-        if at >= self.first {
-            return false;
-        }
-        self.outgoing[port as usize] = byte;
-        true
-    }
-
-    #[inline(always)]
-    fn clear(&mut self, at: u64, mask: u8) -> bool {
-        if at >= self.first {
-            return false;
-        }
-        self.incoming = cleared(mask, self.incoming);
-        true
+        let byte = got(act, &self.incoming);
+        exchange(act, &mut self.incoming, &mut self.outgoing);
+        Some(byte)
     }
 
     #[inline(always)]

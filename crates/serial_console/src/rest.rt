@@ -5,8 +5,9 @@ ghost use Rattle.serial_console.specs.Rest.{IsLedOver};
 ghost use Rattle.serial_console.specs.Followed.{HasLedOver};
 
 use crate::behind::Rest;
-use crate::serial::cleared;
+use crate::serial::{exchange, got};
 use side_law::{Machine, Ports};
+use snes_defs::Act;
 
 impl<S: Machine> Ports for Rest<S> {
     ghost use Rattle.serial_console.specs.Rest.{RestState, StandsBehind, rest_calls, limit_of};
@@ -22,7 +23,10 @@ impl<S: Machine> Ports for Rest<S> {
     ghost times = { λ r. record { before = limit_of r.end; rise = 0 } };
 
     #[inline(always)]
-    fn read(&mut self, at: u64, port: u8) -> Option<u8> {
+    fn call(&mut self, at: u64, act: Act) -> Option<u8> {
+        if matches!(act, Act::Quiet) {
+            return Some(0);
+        }
         'steps: while self.sound.stamp() < at {
             if self.sound.pending() > 0 || !self.sound.has_room() {
                 return None;
@@ -31,35 +35,9 @@ impl<S: Machine> Ports for Rest<S> {
             self.bytes.hold = 0;
             let _stop = self.sound.advance(self.end, &mut self.bytes);
         }
-        Some(self.bytes.outgoing[port as usize])
-    }
-
-    #[inline(always)]
-    fn write(&mut self, at: u64, port: u8, byte: u8) -> bool {
-        'steps: while self.sound.stamp() < at {
-            if self.sound.pending() > 0 || !self.sound.has_room() {
-                return false;
-            }
-            self.bytes.first = at;
-            self.bytes.hold = 0;
-            let _stop = self.sound.advance(self.end, &mut self.bytes);
-        }
-        self.bytes.incoming[port as usize] = byte;
-        true
-    }
-
-    #[inline(always)]
-    fn clear(&mut self, at: u64, mask: u8) -> bool {
-        'steps: while self.sound.stamp() < at {
-            if self.sound.pending() > 0 || !self.sound.has_room() {
-                return false;
-            }
-            self.bytes.first = at;
-            self.bytes.hold = 0;
-            let _stop = self.sound.advance(self.end, &mut self.bytes);
-        }
-        self.bytes.outgoing = cleared(mask, self.bytes.outgoing);
-        true
+        let byte = got(act, &self.bytes.outgoing);
+        exchange(act, &mut self.bytes.outgoing, &mut self.bytes.incoming);
+        Some(byte)
     }
 
     #[inline(always)]

@@ -49,7 +49,7 @@ fn kept(mask: u8, bit: u8, byte: u8) -> u8
 
 /// The four bytes with those of the mask zeroed.
 #[inline(always)]
-pub(crate) fn cleared(mask: u8, bytes: [u8; 4]) -> [u8; 4]
+fn cleared(mask: u8, bytes: [u8; 4]) -> [u8; 4]
     ensures { result ≡ cleared_from 0 mask bytes }
 {
     let [first, second, third, fourth] = bytes;
@@ -63,7 +63,7 @@ pub(crate) fn cleared(mask: u8, bytes: [u8; 4]) -> [u8; 4]
 
 /// The byte that a step gets at its incoming ports.
 #[inline(always)]
-fn got(act: Act, incoming: &[u8; 4]) -> u8
+pub(crate) fn got(act: Act, incoming: &[u8; 4]) -> u8
     requires { IsAtPorts act }
     ensures { result ≡ got_of act incoming.now }
 {
@@ -77,7 +77,7 @@ fn got(act: Act, incoming: &[u8; 4]) -> u8
 
 /// What a step does to the bytes: a write sets one that goes out, a clear zeroes some that came in.
 #[inline(always)]
-fn exchange(act: Act, incoming: &mut [u8; 4], outgoing: &mut [u8; 4])
+pub(crate) fn exchange(act: Act, incoming: &mut [u8; 4], outgoing: &mut [u8; 4])
     requires { IsAtPorts act }
     ensures incoming { incoming.new ≡ incoming_after act incoming.old }
     ensures outgoing { outgoing.new ≡ outgoing_after act outgoing.old }

@@ -17,6 +17,13 @@ taken_answered calls at (Read port) got p q h = refl
 taken_answered calls at (Write port byte) got p q h = sym h.0
 taken_answered calls at (Clear mask) got p q h = sym h.0
 
+-- the ports refuse what is refused
+pub refused_by : {Ports : Type 0} (calls : Calls Ports) (at : ℕ) (act : Act) (p q : Ports) → IsRefused calls at act p q → calls.refuses at act p q
+refused_by calls at Quiet p q h = absurd h
+refused_by calls at (Read port) p q h = h
+refused_by calls at (Write port byte) p q h = h
+refused_by calls at (Clear mask) p q h = h
+
 module _ {State Ports : Type 0} (moves : Moves State) (calls : Calls Ports) (until : ℕ) where
   -- no step
   pub gone_none : (x : Over State Ports) → Gone moves calls until x x

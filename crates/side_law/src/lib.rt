@@ -20,6 +20,6 @@ mod waiting;
 
 pub use beat::Beat;
 pub use machine::Machine;
-pub use ports::{Ports, Stop, call};
+pub use ports::{Ports, Stop};
 pub use tape::Tape;
 pub use waiting::copy_waiting;

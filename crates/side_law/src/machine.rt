@@ -6,7 +6,7 @@ ghost use Rattle.clock_ratio.specs.Stamp.{least_of, most_of};
 ghost use Rattle.side_law.specs.Moves.{Moves, IsLawful, IsAtPorts, taken};
 ghost use Rattle.side_law.specs.Gone.{HasGone};
 
-use crate::ports::{Ports, Stop, call};
+use crate::ports::{Ports, Stop};
 use snes_defs::{Act, Region};
 
 /// A machine that runs by steps, each at a stamp, and touches four ports that another machine shares.
@@ -138,7 +138,7 @@ pub trait Machine: Send {
             if at >= ports.room(waited) || !self.has_room() {
                 return Stop::Until;
             }
-            let Some(got) = call(ports, at, self.act()) else {
+            let Some(got) = ports.call(at, self.act()) else {
                 return Stop::Refused;
             };
             self.step(got);

@@ -29,8 +29,8 @@ pub returns-clause-made : goal.returns-clause-made
 returns-clause-made g c = λ is p now.
     let P = g.P.Ports in
     let n = c.in-Some.register in
-    let got = c.in-Some-read.got in
-    let led = c.in-Some-read.ensures.answered p now in
+    let got = c.in-Some-call.got in
+    let led = c.in-Some-call.ensures.answered p now in
     let place = c.in-Some.ensures.place c.args.bus.now.board in
     let port = sym c.if-not-is_port.ensures in
     record {
@@ -45,8 +45,8 @@ returns-clause-made g c = λ is p now.
 
 pub returns-clause-step : goal.returns-clause-step
 returns-clause-step g c = λ is. (
-  c.in-Some-read.got,
-  port_read_made c.args.cpu.now c.take_port.new.cpu c.args.bus.now c.take_port.new.bus c.args.addr c.in-Some.register c.in-Some-read.got
+  c.in-Some-call.got,
+  port_read_made c.args.cpu.now c.take_port.new.cpu c.args.bus.now c.take_port.new.bus c.args.addr c.in-Some.register c.in-Some-call.got
       (c.in-Some.ensures.place c.args.bus.now.board) (c.in-Some.ensures.lasts c.args.bus.now.io.fast) (sym c.if-not-is_port.ensures)
       c.take_port.ensures.nothing c.take_port.ensures.rest c.take_port.ensures.processor,
 )

@@ -1,4 +1,4 @@
-use Rattle.std.proofs.Common.{refl, sym, subst, arith, ◌%◌}
+use Rattle.std.proofs.Common.{sym, subst, arith, ◌%◌}
 use Rattle.snes_defs.specs.declared.ports.Act.{Act}
 use Rattle.snes_defs.specs.declared.ports.Act.TheVariants.{Write as PortWrite}
 use Rattle.side_law.specs.Gone.{IsAnswered}
@@ -12,7 +12,7 @@ returns-clause-made g c = λ is p now.
     let P = g.P.Ports in
     let n = c.in-Some.register in
     let v = c.args.v in
-    let led = c.if-not-write.ensures.answered refl p now in
+    let led = c.in-Some-call.ensures.answered p now in
     let place = c.in-Some.ensures.place c.args.bus.now.board in
     let port = sym c.if-not-is_port.ensures in
     record {
@@ -20,7 +20,7 @@ returns-clause-made g c = λ is p now.
       small = omega arith;
       ports = led.to;
       ports_stand = led.now_stands;
-      answered = subst (λ (a : Act). IsAnswered P.calls c.args.at a 0 p led.to) (port_write_act c.args.bus.now c.args.addr n v (PortWrite (n % 4) v) place (port_is_write n v port c.ranges.v.fits)) (refl, led.led);
+      answered = subst (λ (a : Act). IsAnswered P.calls c.args.at a 0 p led.to) (port_write_act c.args.bus.now c.args.addr n v (PortWrite (n % 4) v) place (port_is_write n v port c.ranges.v.fits)) (subst (λ g. IsAnswered P.calls c.args.at (PortWrite (n % 4) v) g p led.to) led.led.0 led.led);
       made = port_write_made c.args.cpu.now c.give_port.new.cpu c.args.bus.now c.give_port.new.bus c.args.addr n v 0 place (c.in-Some.ensures.lasts c.args.bus.now.io.fast) port
           c.give_port.ensures.nothing c.give_port.ensures.rest c.give_port.ensures.processor;
     }

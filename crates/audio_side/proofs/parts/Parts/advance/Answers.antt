@@ -65,7 +65,7 @@ returns-in_default-clause-gone g c = λ m p h stand.
     let acts = c.act.ensures.value ran.to ran.now_stands in
     let early : c.stamp-at.result < c.args.until = omega (arith, c.if-at-until.false) in
     stops_refused sound_moves P.calls c.args.until stood (P.stands c.run.new.ports) waited waits m p 4 4096
-    c.stamp-at.result c.act.result (P.stands c.call.new.ports) ran is acts early (c.in_default.ensures.refused refl ran.ports ran.ports_stand)
+    c.stamp-at.result c.act.result (P.stands c.call.new.self) ran is acts early (c.in_default.ensures.refused refl ran.ports ran.ports_stand)
 
 pub steps-preserved : goal.steps-preserved
 steps-preserved g c = record {
@@ -85,7 +85,7 @@ steps-preserved g c = record {
       let goes = goes_silently sound_moves P.calls c.args.until c.stamp-at.result c.act.result from c.in-Some.got called.to c.step.new.self.waiting.items is acts early
       (search rules) called.led (c.step.ensures.emits ran.to ran.now_stands)
       (omega (arith, c.if-waits-waited.false, c.len-waits.ensures.len, c.len-waited.ensures.len)) in
-      way_on sound_moves P.calls c.args.until stood (P.stands c.run.new.ports) waited waits m p (StandsAt (value_of c.step.new.self)) (P.stands c.call.new.ports)
+      way_on sound_moves P.calls c.args.until stood (P.stands c.run.new.ports) waited waits m p (StandsAt (value_of c.step.new.self)) (P.stands c.call.new.self)
       c.step.new.self.waiting.items ran (sound_next ran.to (taken (sound_act ran.to) c.in-Some.got)) called.to goes (c.step.ensures.next ran.to ran.now_stands) called.now_stands;
   forward = grind (arith, common_steps);
   in_order = grind (arith, common_steps);

@@ -26,7 +26,7 @@ returns-in_default-clause-gone g c = λ m p stands stand.
     let P = g.P.Ports in
     let way = c.steps.invariant.gone m p stands stand in
     stops_refused M.moves P.calls c.args.until (M.stands c.steps.self) (P.stands c.steps.ports) (M.waiting c.args.self.now) (M.waiting c.steps.self) m p M.MOST M.CAP
-    c.stamp-at.result c.act.result (P.stands c.call.new.ports) way (c.stamp-at.ensures.of_the_state way.to way.now_stands) (c.act.ensures.of_the_state way.to way.now_stands)
+    c.stamp-at.result c.act.result (P.stands c.call.new.self) way (c.stamp-at.ensures.of_the_state way.to way.now_stands) (c.act.ensures.of_the_state way.to way.now_stands)
     (omega (arith, c.steps-test.true, c.stamp.ensures.stamp, c.stamp-at.ensures.stamp)) (c.in_default.ensures.refused refl way.ports way.ports_stand)
 
 pub returns-then-waits-waited-clause-gone : goal.returns-then-waits-waited-clause-gone
@@ -62,7 +62,7 @@ steps-preserved g c = record {
       (omega (arith, c.steps-test.true, c.stamp.ensures.stamp, c.stamp-at.ensures.stamp)) (search rules) called.led (c.step.ensures.emits way.to way.now_stands)
       (omega (arith, c.if-waits-waited.false, c.pending-waited.ensures, c.pending-waits.ensures)) in
       way_on M.moves P.calls c.args.until (M.stands c.steps.self) (P.stands c.steps.ports) (M.waiting c.args.self.now) (M.waiting c.steps.self) m p
-      (M.stands c.step.new.self) (P.stands c.call.new.ports) (M.waiting c.step.new.self) way (M.moves.next way.to (taken (M.moves.act way.to) c.in-Some.got)) called.to
+      (M.stands c.step.new.self) (P.stands c.call.new.self) (M.waiting c.step.new.self) way (M.moves.next way.to (taken (M.moves.act way.to) c.in-Some.got)) called.to
       goes (c.step.ensures.next way.to way.now_stands) called.now_stands;
   forward = grind (arith, common_steps);
   fits = grind (arith, common_steps);

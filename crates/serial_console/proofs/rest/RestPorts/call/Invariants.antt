@@ -1,7 +1,7 @@
 use Rattle.std.proofs.Common.{◌≡◌, ◌-◌}
 use Rattle.serial_console.specs.Rest.{RestState, StandsBehind}
 use Rattle.serial_console.specs.Followed.{HasCome}
-use Rattle.serial_console.proofs.rest.RestPorts.read.Given as goal
+use Rattle.serial_console.proofs.rest.RestPorts.call.Given as goal
 
 abbrev pub invariant-steps : goal.invariant-steps
 invariant-steps g l =

@@ -1,11 +1,11 @@
 use Rattle.std.proofs.Common.{◌≡◌, ◌<◌, ◌≤◌, length, refl, sym, subst, arith}
+use Rattle.std.proofs.lemmas.Grind.{common_steps}
 use Rattle.std.proofs.Math.Bridge.{le_prop}
 use mathlib.Core.Logic.{∥∥₁_elim}
-use Rattle.snes_defs.specs.declared.ports.Act.TheVariants.{Clear}
 use Rattle.serial_console.proofs.RestSteps.{come_here, come_on, come_up, rest_answered, rest_refused}
 use Rattle.serial_console.specs.Rest.{limit_of}
-use Rattle.serial_console.proofs.rest.RestPorts.clear.Goals.{then-pending-gt0-via-then-pending-gt0, then-pending-gt0-via-else-pending-gt0+then-not-has_room}
-use Rattle.serial_console.proofs.rest.RestPorts.clear.Goals as goal
+use Rattle.serial_console.proofs.rest.RestPorts.call.Goals.{then-pending-gt0-via-then-pending-gt0, then-pending-gt0-via-else-pending-gt0+then-not-has_room}
+use Rattle.serial_console.proofs.rest.RestPorts.call.Goals as goal
 
 pub steps-init : goal.steps-init
 steps-init g c = record {
@@ -50,11 +50,14 @@ steps-smaller g c =
     omega (arith, h, is, law.stands_stamp new.self gone.to gone.now_stands))) in
     omega (arith, up, early)
 
+pub returns-then-matches-clause-answered : goal.returns-then-matches-clause-answered
+returns-then-matches-clause-answered g c = λ p behind. record { to = p; now_stands = behind; led = grind (arith, common_steps) }
+
 pub returns-then-pending-gt0-clause-refused : goal.returns-then-pending-gt0-clause-refused
 returns-then-pending-gt0-clause-refused g c = λ none p behind.
     let S = g.S.Machine in
     let law = g.met.S.Machine in
-    rest_refused S.moves S.MOST S.stands S.waiting c.steps.self c.steps.self c.args.at (Clear c.args.mask) 0 p (c.steps.invariant.came p behind) S.CAP
+    rest_refused S.moves S.MOST S.stands S.waiting c.steps.self c.steps.self c.args.at c.args.act 0 p (c.steps.invariant.came p behind) S.CAP (grind (arith, common_steps))
     (λ m now. omega (arith, c.steps-test.true, c.stamp.ensures.stamp, law.stands_stamp c.steps.self.sound m now))
     (elim c.then-pending-gt0.branch [
       | then-pending-gt0-via-then-pending-gt0 w ↦ λ fits. omega (arith, c.pending.ensures, w.if-pending-gt0.true)
@@ -62,8 +65,8 @@ returns-then-pending-gt0-clause-refused g c = λ none p behind.
     ])
 
 pub returns-clause-answered : goal.returns-clause-answered
-returns-clause-answered g c = λ done p behind.
+returns-clause-answered g c = λ p behind.
     let S = g.S.Machine in
     let law = g.met.S.Machine in
-    rest_answered S.moves S.MOST S.stands S.waiting c.steps.self _ c.args.at (Clear c.args.mask) _ p (c.steps.invariant.came p behind)
-    (λ m now. omega (arith, c.steps-test.false, c.stamp.ensures.stamp, law.stands_stamp c.steps.self.sound m now)) refl refl refl refl refl c.cleared-self.ensures refl
+    rest_answered S.moves S.MOST S.stands S.waiting c.steps.self _ c.args.at c.args.act _ p (c.steps.invariant.came p behind) S.CAP (grind (arith, common_steps))
+    (λ m now. omega (arith, c.steps-test.false, c.stamp.ensures.stamp, law.stands_stamp c.steps.self.sound m now)) refl refl refl refl c.exchange.ensures.outgoing c.exchange.ensures.incoming c.got-byte.ensures
