@@ -5,57 +5,45 @@ ghost use Rattle.cpu65816.specs.Instruction.{CpuState};
 ghost use Rattle.cpu65816.specs.Stands.{Stands};
 ghost use Rattle.console_bus.specs.Places.{place_at};
 ghost use Rattle.console_steps.specs.ConsoleState.{act_of, move_act, read_at, write_at};
+ghost use Rattle.console_steps.specs.Targets.{IsWithin, read_act, write_act};
 ghost use Rattle.console_machine.specs.Dues.{due_from};
 
-use cart_map::Place;
 use console_bus::Bus;
-use console_steps::{is_port, place_of};
+use console_steps::{Target, is_port, look_up};
 use cpu_tables::Access;
 use cpu65816::Cpu;
 use dma_hdma::Move;
 use snes_defs::Act;
 
-/// Returns what a read of a place does at the ports.
+/// Returns what a read does at the ports.
 #[inline(always)]
-fn read_act(place: Place) -> Act
-    ensures value { result ≡ read_at place }
+fn read_act(bus: &Bus, target: Target) -> Act
+    requires { IsWithin bus.now.board target }
+    ensures value { result ≡ read_act target }
     ensures at_ports { IsAtPorts result }
 {
-    match place {
-        Place::BBus(register) => {
-            if is_port(register) {
-                Act::Read(register % 4)
-            } else {
-                Act::Quiet
-            }
-        }
-        Place::Wram(_) => Act::Quiet,
-        Place::Rom(_) => Act::Quiet,
-        Place::Ram(_) => Act::Quiet,
-        Place::Cpu(_) => Act::Quiet,
-        Place::Open => Act::Quiet,
+    match target {
+        Target::Port(port) => Act::Read(port),
+        Target::Memory(_) => Act::Quiet,
+        Target::Register(_) => Act::Quiet,
+        Target::Chip(_) => Act::Quiet,
+        Target::Nothing => Act::Quiet,
     }
 }
 
-/// Returns what a write of a place does at the ports.
+/// Returns what a write does at the ports.
 #[inline(always)]
-fn write_act(place: Place, v: u8) -> Act
-    ensures value { result ≡ write_at place v }
+fn write_act(bus: &Bus, target: Target, v: u8) -> Act
+    requires { IsWithin bus.now.board target }
+    ensures value { result ≡ write_act target v }
     ensures at_ports { IsAtPorts result }
 {
-    match place {
-        Place::BBus(register) => {
-            if is_port(register) {
-                Act::Write(register % 4, v)
-            } else {
-                Act::Quiet
-            }
-        }
-        Place::Wram(_) => Act::Quiet,
-        Place::Rom(_) => Act::Quiet,
-        Place::Ram(_) => Act::Quiet,
-        Place::Cpu(_) => Act::Quiet,
-        Place::Open => Act::Quiet,
+    match target {
+        Target::Port(port) => Act::Write(port, v),
+        Target::Memory(_) => Act::Quiet,
+        Target::Register(_) => Act::Quiet,
+        Target::Chip(_) => Act::Quiet,
+        Target::Nothing => Act::Quiet,
     }
 }
 
@@ -68,27 +56,31 @@ fn transfer_act(bus: &Bus, due: Move) -> Act
         Move::ToB { from, port } => {
             // The byte is looked up only if it goes to one of the ports.
             if is_port(port) {
-                write_act(Place::BBus(port), bus.take(from))
+                Act::Write(port % 4, bus.take(from))
             } else {
                 Act::Quiet
             }
         }
-        Move::ToA { port, .. } => read_act(Place::BBus(port)),
+        Move::ToA { port, .. } => {
+            if is_port(port) {
+                Act::Read(port % 4)
+            } else {
+                Act::Quiet
+            }
+        }
         Move::Load { .. } => Act::Quiet,
     }
 }
 
-/// Returns what a read of an address does at the ports: nothing, if its page is memory.
+/// Returns what a read of an address does at the ports.
 #[inline(always)]
 fn read_act_at(bus: &Bus, addr: u32) -> Act
     requires { addr < 2 ^ 24 }
     ensures value { result ≡ read_at (place_at bus.now.board addr) }
     ensures at_ports { IsAtPorts result }
 {
-    match bus.memory_at(addr) {
-        Some(_access) => Act::Quiet,
-        None => read_act(place_of(bus, addr)),
-    }
+    let access = look_up(bus, addr);
+    read_act(bus, access.target)
 }
 
 /// Returns what a write of an address does at the ports.
@@ -98,10 +90,8 @@ fn write_act_at(bus: &Bus, addr: u32, v: u8) -> Act
     ensures value { result ≡ write_at (place_at bus.now.board addr) v }
     ensures at_ports { IsAtPorts result }
 {
-    match bus.memory_at(addr) {
-        Some(_access) => Act::Quiet,
-        None => write_act(place_of(bus, addr), v),
-    }
+    let access = look_up(bus, addr);
+    write_act(bus, access.target, v)
 }
 
 /// Returns what the step that is due does at the ports.

@@ -1,10 +1,11 @@
 // A whole step: its effect and its clocks, in general or by a fast path.
-ghost use Rattle.std.specs.Prelude.{◌≡◌, ◌+◌, ◌<◌, ◌≤◌, ◌++◌, None, false, IfSome, length};
-ghost use Rattle.cpu65816.specs.Instruction.{CpuState};
-ghost use Rattle.cpu65816.specs.Stands.{Stands, access_of};
+ghost use Rattle.std.specs.Prelude.{◌≡◌, ℕ, ◌+◌, ◌<◌, ◌≤◌, ◌^◌, ◌++◌, None, false, IfSome, length};
+ghost use Rattle.cpu_tables.specs.declared.access.Access.TheVariants.{Write};
+ghost use Rattle.cpu65816.specs.Instruction.{CpuState, moved_on};
+ghost use Rattle.cpu65816.specs.Stands.{Stands, access_of, gets_at};
 ghost use Rattle.console_steps.specs.ConsoleState.{ConsoleState, Accesses, access_clocks, due_of, due_clocks};
 ghost use Rattle.console_steps.specs.ConsoleState.{rest_after, processor_after, with_interrupt_levels, console_after};
-ghost use Rattle.console_steps.specs.ConsoleState.{bytes_after};
+ghost use Rattle.console_steps.specs.ConsoleState.{after_access, byte_of, bytes_after};
 ghost use Rattle.console_steps.specs.AtOnce.{IsMadeAtOnce};
 ghost use Rattle.console_steps.specs.Plain.{IsCalm};
 ghost use Rattle.console_steps.specs.Stands.{IsAt};
@@ -12,12 +13,11 @@ ghost use Rattle.cart_map.specs.Clocks.{clocks_of};
 ghost use Rattle.console_machine.specs.Dues.{due_from};
 ghost use Rattle.console_machine.specs.Silent.{IsStepMade};
 
-use cart_map::clocks;
 use circular_buffer::HeapCircularBuffer;
 use console_bus::Bus;
 use console_steps::{
-    MOVE_CLOCKS, REGISTER_CLOCKS, bus_register, give_interrupt_levels, is_calm, is_wired,
-    make_inner, make_move, make_read, make_reset, make_write, pass, try_move, try_plain,
+    MOVE_CLOCKS, give_interrupt_levels, is_calm, is_wired, look_up, make_inner, make_move,
+    make_read, make_reset, make_write, pass, try_move, try_plain,
 };
 use cpu_tables::Access;
 use cpu65816::Cpu;
@@ -28,19 +28,40 @@ const REFRESH_CLOCKS: u8 = 40;
 /// Master clocks of an internal cycle of the processor, and of a reset.
 const INNER_CLOCKS: u8 = 6;
 
-/// Returns how many master clocks an access at an address lasts.
+/// Makes the processor read a byte at an address, and returns how many clocks the access lasts.
 #[inline(always)]
 #[tactic(auto, using(crate::proofs::Few::few_clocks, crate::proofs::Few::least_clocks))]
-fn lasts(bus: &Bus, addr: u32) -> u8
-    requires { addr < 16777216 }
-    ensures clocks { result ≡ clocks_of addr bus.now.io.fast }
+fn read_at(cpu: &mut Cpu, bus: &mut Bus, addr: u32, got: u8) -> u8
+    requires read { gets_at (access_of cpu.old) addr }
+    requires addr { addr < 2 ^ 24 }
+    ensures rest { bus.new ≡ after_access bus.old (access_of cpu.old) got }
+    ensures processor { (s : CpuState) → Stands cpu.old s
+        → Stands cpu.new (with_interrupt_levels (moved_on s (byte_of bus.old (access_of cpu.old) got)) bus.new) }
+    ensures clocks { result ≡ clocks_of addr bus.old.io.fast }
     ensures least { 6 ≤ result }
     ensures few { result ≤ 40 }
 {
-    match bus_register(addr) {
-        Some(_register) => REGISTER_CLOCKS,
-        None => clocks(addr, bus.fast()),
-    }
+    let access = look_up(bus, addr);
+    make_read(cpu, bus, access, got);
+    access.clocks
+}
+
+/// Makes the processor write a byte at an address, and returns how many clocks the access lasts.
+#[inline(always)]
+#[tactic(auto, using(crate::proofs::Few::few_clocks, crate::proofs::Few::least_clocks))]
+fn write_at(cpu: &mut Cpu, bus: &mut Bus, addr: u32, v: u8) -> u8
+    requires write { access_of cpu.old ≡ Write addr v }
+    requires addr { addr < 2 ^ 24 }
+    ensures rest { (got : ℕ) → bus.new ≡ after_access bus.old (access_of cpu.old) got }
+    ensures processor { (s : CpuState) → Stands cpu.old s
+        → Stands cpu.new (with_interrupt_levels (moved_on s 0) bus.new) }
+    ensures clocks { result ≡ clocks_of addr bus.old.io.fast }
+    ensures least { 6 ≤ result }
+    ensures few { result ≤ 40 }
+{
+    let access = look_up(bus, addr);
+    make_write(cpu, bus, access, v);
+    access.clocks
 }
 
 /// Makes the processor's next access, and returns how many clocks it lasts.
@@ -55,21 +76,9 @@ fn make_access(cpu: &mut Cpu, bus: &mut Bus, got: u8) -> u8
     ensures few { result ≤ 40 }
 {
     match cpu.next() {
-        Access::Fetch(addr) => {
-            let clocks = lasts(bus, addr);
-            make_read(cpu, bus, addr, got);
-            clocks
-        }
-        Access::Read(addr) => {
-            let clocks = lasts(bus, addr);
-            make_read(cpu, bus, addr, got);
-            clocks
-        }
-        Access::Write(addr, v) => {
-            let clocks = lasts(bus, addr);
-            make_write(cpu, bus, addr, v);
-            clocks
-        }
+        Access::Fetch(addr) => read_at(cpu, bus, addr, got),
+        Access::Read(addr) => read_at(cpu, bus, addr, got),
+        Access::Write(addr, v) => write_at(cpu, bus, addr, v),
         Access::Inner => {
             make_inner(cpu, bus);
             INNER_CLOCKS

@@ -7,7 +7,7 @@ use Rattle.cart_map.specs.Place.{lies, is_system_bank}
 use Rattle.cart_map.specs.Clocks.{clocks_of}
 use Rattle.console_bus.specs.declared.cart_board.CartBoard.{CartBoard}
 use Rattle.console_bus.specs.BusState.{BusState}
-use Rattle.console_bus.specs.Places.{place_at, place_byte, place_read, a_side, taken_from}
+use Rattle.console_bus.specs.Places.{place_at, place_byte, a_side, taken_from}
 use Rattle.console_bus.specs.Memory.{index_of, IsMemoryAt}
 
 -- ---- registers of the B bus
@@ -47,18 +47,6 @@ index_at : (board : CartBoard) (fast : Bool) (addr at clocks : ℕ) → IsMemory
 index_at board fast addr at clocks m =
     let P : Place → Type 0 = λ p. index_of board p ≡ Some at in
     subst P (place_wraps board addr) m.place
-
-read_there : (r : BusState) (p : Place) (at got : ℕ) → index_of r.board p ≡ Some at → (slice_index r.memory at ≡ place_byte r p got) × (place_read r p ≡ r)
-read_there r (Wram i) at got h = (cc, refl)
-read_there r (Ram i) at got h = (cc, refl)
-read_there r (Rom i) at got h = (cc, refl)
-read_there r (BBus n) at got h = absurd (cc)
-read_there r (Chip n) at got h = absurd (cc)
-read_there r Open at got h = absurd (cc)
-
-pub memory_byte : (r : BusState) (addr at clocks got : ℕ) → IsMemoryAt r.board r.io.fast (addr % 16777216) at clocks
-    → (slice_index r.memory at ≡ place_byte r (place_at r.board addr) got) × (place_read r (place_at r.board addr) ≡ r)
-memory_byte r addr at clocks got m = read_there r (place_at r.board addr) at got (index_at r.board r.io.fast addr at clocks m)
 
 taken_there : (r : BusState) (p : Place) (at : ℕ) → index_of r.board p ≡ Some at → slice_index r.memory at ≡ place_byte r (a_side p) 0
 taken_there r (Wram i) at h = cc

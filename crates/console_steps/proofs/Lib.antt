@@ -10,3 +10,4 @@ pub mod Moves
 pub mod RegisterSteps
 pub mod RegisterPlaces
 pub mod PlainPlaces
+pub mod Targets

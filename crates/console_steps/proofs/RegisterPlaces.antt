@@ -17,19 +17,6 @@ use Rattle.console_steps.specs.Plain.{IsWired, IsCalm}
 use Rattle.console_steps.proofs.RegisterSteps.{register_write_made}
 use Rattle.console_steps.proofs.Wires.{given_again}
 
--- ---- by an address where it lies
-
-pub register_taken : (r : BusState) (addr n got : ℕ) → place_at r.board addr ≡ BBus n
-    → (register_byte r n got ≡ place_byte r (place_at r.board addr) got) × (register_read r n ≡ place_read r (place_at r.board addr))
-register_taken r addr n got place =
-    let P : Place → Type 0 = λ p. (register_byte r n got ≡ place_byte r p got) × (register_read r n ≡ place_read r p) in
-    subst P (sym place) (refl, refl)
-
-pub register_put : (r : BusState) (addr n v : ℕ) → place_at r.board addr ≡ BBus n → on_bus (register_written r n v) v ≡ after_write r (place_at r.board addr) v
-register_put r addr n v place =
-    let P : Place → Type 0 = λ p. on_bus (register_written r n v) v ≡ after_write r p v in
-    subst P (sym place) refl
-
 -- a write of a port leaves the bus as it is
 pub port_stays : (r : BusState) (n v : ℕ) → is_port n ≡ true → register_written r n v ≡ r
 unfolding register_written

@@ -5,3 +5,4 @@ pub mod Draws
 pub mod AtOnce
 pub mod Plain
 pub mod PlainPlaces
+pub mod Targets

@@ -1,15 +1,17 @@
 // The effect of a step: a read, a write, an internal cycle, a byte of a transfer, a reset.
-ghost use Rattle.std.specs.Prelude.{◌≡◌, ℕ, ◌<◌, ◌^◌, Option, Some, IsTrue, IsSome};
-ghost use Rattle.cpu_modes.specs.Plan.{gets_byte, is_write, is_inner};
+ghost use Rattle.std.specs.Prelude.{◌≡◌, ℕ, Some, IsTrue, IsSome};
+ghost use Rattle.cpu_modes.specs.Plan.{is_inner};
 ghost use Rattle.cpu65816.specs.Instruction.{CpuState, at_reset, moved_on};
 ghost use Rattle.cpu65816.specs.Stands.{Stands, access_of};
 ghost use Rattle.dma_hdma.specs.Channels.{due_of as transfer_of};
 ghost use Rattle.dma_hdma.specs.declared.moves.Move.{Move};
-ghost use Rattle.console_bus.specs.Places.{place_at, place_byte, register_written, taken_from, on_bus};
+ghost use Rattle.console_bus.specs.Places.{taken_from};
 ghost use Rattle.console_bus.specs.Happenings.{was_reset};
-ghost use Rattle.console_steps.specs.ConsoleState.{with_interrupt_levels, after_move, after_read, after_write};
+ghost use Rattle.console_steps.specs.ConsoleState.{with_interrupt_levels, after_access, byte_of, after_move};
+ghost use Rattle.console_steps.specs.Targets.{IsWithin, Reads, Writes, target_byte, target_read, target_written};
 
-use crate::registers::{bus_register, is_port};
+use crate::bus_access::{BusAccess, Target};
+use cart_map::Place;
 use console_bus::Bus;
 use cpu65816::Cpu;
 use dma_hdma::Move;
@@ -23,88 +25,61 @@ pub fn give_interrupt_levels(cpu: &mut Cpu, bus: &Bus)
     cpu.signal(nmi, irq);
 }
 
-/// Reads a byte at an address, and puts it on the data bus.
+/// Reads the byte that an access reaches. `got` is the byte that a port to the sound side gives.
 #[inline(always)]
-fn take_byte(bus: &mut Bus, addr: u32, got: u8) -> u8
-    ensures byte { result ≡ place_byte bus.old (place_at bus.old.board addr) got }
-    ensures rest { bus.new ≡ after_read bus.old (place_at bus.old.board addr) result }
+fn read_target(bus: &mut Bus, target: Target, got: u8) -> u8
+    requires { IsWithin bus.old.board target }
+    ensures byte { result ≡ target_byte bus.old target got }
+    ensures after { bus.new ≡ target_read bus.old target }
 {
-    // A register of the B bus first: most steps that the fast paths leave are at the ports.
-    if let Some(register) = bus_register(addr) {
-        let byte = bus.read_register(register, got);
-        bus.put(byte);
-        return byte;
+    match target {
+        Target::Memory(at) => bus.load(at),
+        Target::Port(_) => got,
+        Target::Register(register) => bus.read_register(register, got),
+        Target::Chip(register) => bus.read_chip(register),
+        Target::Nothing => bus.read_place(Place::Open, got),
     }
-    if let Some(access) = bus.memory_at(addr % 0x100_0000) {
-        let byte = bus.load(access.at);
-        bus.put(byte);
-        return byte;
+}
+
+/// Writes a byte to what an access reaches. A port keeps nothing on this side.
+#[inline(always)]
+fn write_target(bus: &mut Bus, target: Target, v: u8)
+    requires { IsWithin bus.old.board target }
+    ensures { bus.new ≡ target_written bus.old target v }
+{
+    match target {
+        Target::Memory(at) => bus.store(at, v),
+        Target::Port(_) => {}
+        Target::Register(register) => bus.write_register(register, v),
+        Target::Chip(register) => bus.write_chip(register, v),
+        Target::Nothing => {}
     }
-    let place = bus.place(addr);
-    let byte = bus.read_place(place, got);
+}
+
+/// Makes the processor read the byte that its access reaches, as an opcode or not.
+#[inline(always)]
+pub fn make_read(cpu: &mut Cpu, bus: &mut Bus, access: BusAccess, got: u8)
+    requires { Reads cpu.old bus.old access }
+    ensures rest { bus.new ≡ after_access bus.old (access_of cpu.old) got }
+    ensures processor { (s : CpuState) → Stands cpu.old s
+        → Stands cpu.new (with_interrupt_levels (moved_on s (byte_of bus.old (access_of cpu.old) got)) bus.new) }
+{
+    let byte = read_target(bus, access.target, got);
     bus.put(byte);
-    byte
-}
-
-/// Writes a byte to a register of the B bus, and puts it on the data bus. A port keeps nothing on this side.
-#[inline(always)]
-#[tactic(auto, using(crate::proofs::RegisterPlaces::port_stays))]
-fn put_register(bus: &mut Bus, register: u8, v: u8)
-    ensures { bus.new ≡ on_bus (register_written bus.old register v) v }
-{
-    if is_port(register) {
-        bus.put(v);
-        return;
-    }
-    bus.write_register(register, v);
-    bus.put(v);
-}
-
-/// Writes a byte at an address, wherever it is, and puts it on the data bus.
-#[inline(always)]
-fn put_elsewhere(bus: &mut Bus, addr: u32, v: u8)
-    ensures { bus.new ≡ after_write bus.old (place_at bus.old.board addr) v }
-{
-    let place = bus.place(addr);
-    bus.write_place(place, v);
-    bus.put(v);
-}
-
-/// Writes a byte at an address, and puts it on the data bus.
-#[inline(always)]
-fn put_byte(bus: &mut Bus, addr: u32, v: u8)
-    ensures { bus.new ≡ after_write bus.old (place_at bus.old.board addr) v }
-{
-    match bus_register(addr) {
-        Some(register) => put_register(bus, register, v),
-        None => put_elsewhere(bus, addr, v),
-    }
-}
-
-/// Makes the processor read a byte, as an opcode or not.
-#[inline(always)]
-pub fn make_read(cpu: &mut Cpu, bus: &mut Bus, addr: u32, got: u8)
-    requires { IsTrue (gets_byte (access_of cpu.old)) }
-    ensures rest { let place = place_at bus.old.board addr in
-        bus.new ≡ after_read bus.old place (place_byte bus.old place got) }
-    ensures processor { let place = place_at bus.old.board addr in
-        (s : CpuState) → Stands cpu.old s
-        → Stands cpu.new (with_interrupt_levels (moved_on s (place_byte bus.old place got)) bus.new) }
-{
-    let byte = take_byte(bus, addr, got);
     cpu.took(byte);
     give_interrupt_levels(cpu, bus);
 }
 
-/// Makes the processor write a byte.
+/// Makes the processor write a byte to what its access reaches.
 #[inline(always)]
-pub fn make_write(cpu: &mut Cpu, bus: &mut Bus, addr: u32, v: u8)
-    requires { IsTrue (is_write (access_of cpu.old)) }
-    ensures rest { bus.new ≡ after_write bus.old (place_at bus.old.board addr) v }
+pub fn make_write(cpu: &mut Cpu, bus: &mut Bus, access: BusAccess, v: u8)
+    requires { Writes cpu.old bus.old access v }
+    ensures rest { (got : ℕ) → bus.new ≡ after_access bus.old (access_of cpu.old) got }
     ensures processor { (s : CpuState) → Stands cpu.old s
         → Stands cpu.new (with_interrupt_levels (moved_on s 0) bus.new) }
 {
-    put_byte(bus, addr, v);
+    write_target(bus, access.target, v);
+    bus.put(v);
     cpu.wrote();
     give_interrupt_levels(cpu, bus);
 }

@@ -7,6 +7,7 @@
 //! that processor and bus are at. A caller puts the two together in the order of `due_of`.
 #![tactic(auto)]
 
+mod bus_access;
 mod drawing;
 mod effects;
 mod happening;
@@ -14,10 +15,12 @@ mod known;
 mod passing;
 mod plain;
 mod plain_places;
-mod registers;
 mod rows;
 mod transfers;
 
+pub use bus_access::{
+    BusAccess, REGISTER_CLOCKS, Target, bus_register, is_port, look_up, register_target,
+};
 pub use effects::{
     give_interrupt_levels, make_inner, make_move, make_read, make_reset, make_write,
 };
@@ -25,5 +28,4 @@ pub use known::{try_idle_at, try_read_at, try_write_at};
 pub use passing::pass;
 pub use plain::{is_calm, is_wired, try_look, try_plain};
 pub use plain_places::{is_plain_ahead, reach_plain_place};
-pub use registers::{REGISTER_CLOCKS, bus_register, is_port, place_of};
 pub use transfers::{MOVE_CLOCKS, try_move};

@@ -13,7 +13,7 @@ ghost use Rattle.console_bus.specs.Places.{register_written, on_bus};
 ghost use Rattle.console_steps.specs.AtOnce.{gone_on, passed_in, IsMadeAtOnce};
 ghost use Rattle.console_steps.specs.Plain.{IsWired, IsCalm, IsLook};
 
-use crate::registers::{REGISTER_CLOCKS, bus_register, is_port, store_register};
+use crate::bus_access::{REGISTER_CLOCKS, bus_register, is_port};
 use console_bus::Bus;
 use cpu_modes::Place;
 use cpu_tables::Access;
@@ -112,6 +112,16 @@ pub(crate) fn read_plainly(cpu: &mut Cpu, bus: &mut Bus, place: Place, addr: u32
     let access = bus.memory_within(addr)?;
     take_plainly(cpu, bus, place, access.at, access.clocks);
     Some(access.clocks as u8)
+}
+
+/// Writes a register of the B bus, and puts the byte on the data bus.
+#[inline(always)]
+fn store_register(bus: &mut Bus, register: u8, v: u8)
+    ensures after { bus.new ≡ on_bus (register_written bus.old register v) v }
+    ensures beam { bus.new.beam ≡ bus.old.beam }
+{
+    bus.write_register(register, v);
+    bus.put(v);
 }
 
 /// Lets the processor write a register of the B bus, and advances the beam.

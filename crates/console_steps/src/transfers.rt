@@ -9,8 +9,8 @@ ghost use Rattle.console_bus.specs.BusState.{BusState};
 ghost use Rattle.console_steps.specs.ConsoleState.{move_act, after_move, with_interrupt_levels};
 ghost use Rattle.console_steps.specs.AtOnce.{gone_on, passed_in, IsMovedAtOnce};
 
+use crate::bus_access::is_port;
 use crate::effects::{give_interrupt_levels, make_move};
-use crate::registers::is_port;
 use console_bus::Bus;
 use cpu65816::Cpu;
 use dma_hdma::Move;
