@@ -4,7 +4,7 @@ ghost use Rattle.std.specs.Prelude.{◌<◌, ◌≤◌};
 
 use crate::films::{self, Frames};
 use crate::regions::{MOST_FRAMES, name_of, region_of, samples_upto};
-use crate::sounds::Sounds;
+use crate::sounds::{Sounds, open_sounds};
 use anyhow::{Context, Result, bail, ensure};
 use clap::ArgMatches;
 use film_avi::{
@@ -161,33 +161,55 @@ fn check_sound<R: Files>(rt: &R, name: &str, region: Region, frames: u32) -> Res
     }
 }
 
-/// Obeys `look avi VIDEO AUDIO OUT`. If the number of frames can't be known before, as of a pipe, OUT has to be a
-/// file. Two heads in it are then written again at the end.
-pub fn write_avi<R: Files + Print + AllocGlobal>(rt: &R, words: &ArgMatches<'_>) -> Result<u8> {
-    let alloc = rt.alloc();
-    let video = words.get_str("VIDEO").unwrap_or("-");
-    let audio = words.get_str("AUDIO").unwrap_or("-");
-    let name = words.get_str("OUT").unwrap_or("-");
-    let region = region_of(rt, words, video, audio);
-    let known = known_frames(rt, video)?;
-    if let Some(frames) = known {
-        check_sound(rt, audio, region, frames)?;
+/// The names of the files of an AVI: the film, its sound, and the AVI itself.
+#[derive(Clone, Copy)]
+struct Names<'a> {
+    video: &'a str,
+    audio: &'a str,
+    out: &'a str,
+}
+
+impl<'a> Names<'a> {
+    /// The frames of the film, if its length is known. The sound has to have as many.
+    fn known<R: Files>(self, rt: &R, region: Region) -> Result<Option<u32>> {
+        let known = known_frames(rt, self.video)?;
+        if let Some(frames) = known {
+            check_sound(rt, self.audio, region, frames)?;
+        }
+        Ok(known)
     }
-    let frames = Frames::new(alloc, video, films::open(rt, video)?)?;
-    let sounds = Sounds::new(alloc, audio, films::open(rt, audio)?, region)?;
-    let chunks = Chunks {
-        frames,
-        ahead: VecDeque::new(alloc),
-        ended: false,
-    };
-    let out = BufWriter::new(alloc, films::create(rt, name, &[video, audio])?)?;
-    let mut making = Making {
-        chunks,
-        sounds,
-        out,
-    };
+
+    /// Opens the film and its sound, and creates the AVI.
+    fn open<R: Files + AllocGlobal>(
+        self,
+        rt: &R,
+        region: Region,
+    ) -> Result<Making<'a, R::File, R::File>> {
+        let chunks = Chunks {
+            frames: films::open_film(rt, self.video)?,
+            ahead: VecDeque::new(rt.alloc()),
+            ended: false,
+        };
+        let sounds = open_sounds(rt, self.audio, region)?;
+        let out = films::create_buffered(rt, self.out, &[self.video, self.audio])?;
+        Ok(Making {
+            chunks,
+            sounds,
+            out,
+        })
+    }
+}
+
+/// Writes an AVI whose number of frames is known before or is not.
+fn write_whole<F: Read + Drop, W: Write + Seek + Drop>(
+    alloc: Global,
+    making: &mut Making<'_, F, W>,
+    region: Region,
+    known: Option<u32>,
+    name: &str,
+) -> Result<()> {
     let told = known.unwrap_or(MOST_FRAMES).min(MOST_FRAMES);
-    let frames = write_parts(alloc, &mut making, region, told)?;
+    let frames = write_parts(alloc, making, region, told)?;
     if known != Some(frames) && frames <= MOST_FRAMES {
         write_heads(alloc, &mut making.out, Layout::new(region, frames)).context(format_args!(
             "cannot go back in {name}"
@@ -196,6 +218,19 @@ pub fn write_avi<R: Files + Print + AllocGlobal>(rt: &R, words: &ArgMatches<'_>)
     making
         .out
         .flush()
-        .context(format_args!("cannot write {name}"))?;
-    Ok(0)
+        .context(format_args!("cannot write {name}"))
+}
+
+/// Obeys `look avi VIDEO AUDIO OUT`. If the number of frames can't be known before, as of a pipe, OUT has to be a
+/// file. Two heads in it are then written again at the end.
+pub fn write_avi<R: Files + Print + AllocGlobal>(rt: &R, words: &ArgMatches<'_>) -> Result<()> {
+    let names = Names {
+        video: films::name_in(words, "VIDEO"),
+        audio: films::name_in(words, "AUDIO"),
+        out: films::name_in(words, "OUT"),
+    };
+    let region = region_of(rt, words, names.video, names.audio);
+    let known = names.known(rt, region)?;
+    let mut making = names.open(rt, region)?;
+    write_whole(rt.alloc(), &mut making, region, known, names.out)
 }

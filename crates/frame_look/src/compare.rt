@@ -3,9 +3,9 @@
 ghost use Rattle.std.specs.Prelude.{◌≡◌, length};
 
 use crate::films::{self, Frames};
+use crate::found::Found;
 use anyhow::Result;
 use clap::ArgMatches;
-use companion_words::NO;
 use film_formats::{Colour, FRAME_BYTES, ROW_BYTES, first_apart, marked_png};
 use std::fmt;
 use std::io::Read;
@@ -37,14 +37,18 @@ struct Place {
     second: u16,
 }
 
-/// What the comparison of two films found.
-#[derive(Drop)]
-struct Found {
-    both: u64,
-    only_first: u64,
-    only_second: u64,
-    differing: u64,
-    place: Option<Place>,
+impl fmt::Display for Place {
+    fn fmt<W: fmt::Write>(&self, f: &mut fmt::Formatter<W>) -> fmt::Result {
+        write!(
+            f,
+            "frame {}, row {}, dot {}: {} and {}",
+            self.frame,
+            self.row,
+            self.dot,
+            Dot(self.first),
+            Dot(self.second)
+        )
+    }
 }
 
 /// The first place in which two frames of this number differ.
@@ -75,34 +79,41 @@ fn count_rest<F: Read + Drop>(frames: &mut Frames<'_, F>) -> Result<u64> {
     Ok(count)
 }
 
-/// Compares two films, frame by frame. Writes a picture of the first frame that differs, if one is wanted, to a file
-/// that is none of the inputs.
+/// A picture of where two frames differ: its name, if it is wanted, and those of the inputs, of which it may be none.
+#[derive(Clone, Copy)]
+pub struct Marked<'a> {
+    pub out: Option<&'a str>,
+    pub inputs: [&'a str; 2],
+}
+
+impl Marked<'_> {
+    /// Writes the picture of these frames, if it is wanted.
+    pub fn write<R: Files + AllocGlobal>(self, rt: &R, first: &[u8], second: &[u8]) -> Result<()>
+        requires first { length first.now ≡ FRAME_BYTES }
+        requires second { length second.now ≡ FRAME_BYTES }
+    {
+        if let Some(out) = self.out {
+            let file = marked_png(rt.alloc(), first, second)?;
+            films::write(rt, out, self.inputs.as_slice(), file.as_slice())?;
+        }
+        Ok(())
+    }
+}
+
+/// Compares two films, frame by frame. Writes a picture of the first frame that differs, if one is wanted.
 fn compare_films<R: Files + AllocGlobal>(
     rt: &R,
     a: &mut Frames<'_, R::File>,
     b: &mut Frames<'_, R::File>,
-    png: Option<(&str, &[&str])>,
-) -> Result<Found> {
-    let mut found = Found {
-        both: 0,
-        only_first: 0,
-        only_second: 0,
-        differing: 0,
-        place: None,
-    };
+    marked: Marked<'_>,
+) -> Result<Found<Place>> {
+    let mut found = Found::new();
     for frame in 0..u64::MAX {
         match (a.next()?, b.next()?) {
             (true, true) => {
-                found.both = frame.saturating_add(1);
-                if let Some(place) = place_in(frame, a.frame(), b.frame()) {
-                    found.differing = found.differing.saturating_add(1);
-                    if found.place.is_none() {
-                        found.place = Some(place);
-                        if let Some((out, inputs)) = png {
-                            let file = marked_png(rt.alloc(), a.frame(), b.frame())?;
-                            films::write(rt, out, inputs, file.as_slice())?;
-                        }
-                    }
+                let place = place_in(frame, a.frame(), b.frame());
+                if found.count(place) {
+                    marked.write(rt, a.frame(), b.frame())?;
                 }
             }
             (true, false) => {
@@ -119,37 +130,12 @@ fn compare_films<R: Files + AllocGlobal>(
     Ok(found)
 }
 
-/// Prints what was found, and returns the status.
-fn tell<R: Print>(rt: &R, found: &Found) -> Result<u8> {
-    let Found {
-        both,
-        only_first,
-        only_second,
-        differing,
-        place,
-    } = found;
-    if *differing == 0 && *only_first == 0 && *only_second == 0 {
-        println!(rt; "alike: {both} frames")?;
-        return Ok(0);
-    }
-    println!(rt; "different: {differing} of {both} frames")?;
-    if let Some(place) = place {
-        println!(rt;
-            "first: frame {}, row {}, dot {}: {} and {}",
-            place.frame,
-            place.row,
-            place.dot,
-            Dot(place.first),
-            Dot(place.second)
-        )?;
-    }
-    if *only_first > 0 {
-        println!(rt; "the first film has {only_first} frames more")?;
-    }
-    if *only_second > 0 {
-        println!(rt; "the second film has {only_second} frames more")?;
-    }
-    Ok(NO)
+/// Opens the two films that are the inputs of a picture, and compares them.
+fn compare<R: Files + AllocGlobal>(rt: &R, marked: Marked<'_>) -> Result<Found<Place>> {
+    let [first, second] = marked.inputs;
+    let mut a = films::open_film(rt, first)?;
+    let mut b = films::open_film(rt, second)?;
+    compare_films(rt, &mut a, &mut b, marked)
 }
 
 /// Obeys `look diff A B`.
@@ -157,8 +143,8 @@ pub fn say_difference<R: Files + Print + AllocGlobal>(
     rt: &R,
     words: &ArgMatches<'_>,
 ) -> Result<u8> {
-    let first = words.get_str("A").unwrap_or("-");
-    let second = words.get_str("B").unwrap_or("-");
+    let first = films::name_in(words, "A");
+    let second = films::name_in(words, "B");
     if words.get_flag("state") {
         let lines = words.get_one::<u64>("lines").unwrap_or(20);
         return crate::state_apart::say_difference(rt, first, second, lines);
@@ -166,13 +152,13 @@ pub fn say_difference<R: Files + Print + AllocGlobal>(
     if words.get_flag("audio") {
         return crate::samples::say_difference(rt, first, second);
     }
+    let marked = Marked {
+        out: words.get_str("png"),
+        inputs: [first, second],
+    };
     if let Some(frame) = words.get_one::<u64>("frame") {
-        return crate::golden::say_difference(rt, first, frame, second, words.get_str("png"));
+        return crate::golden::say_difference(rt, frame, marked);
     }
-    let inputs = [first, second];
-    let png = words.get_str("png").map(|out| (out, inputs.as_slice()));
-    let mut a = Frames::new(rt.alloc(), first, films::open(rt, first)?)?;
-    let mut b = Frames::new(rt.alloc(), second, films::open(rt, second)?)?;
-    let found = compare_films(rt, &mut a, &mut b, png)?;
-    tell(rt, &found)
+    let found = compare(rt, marked)?;
+    found.tell(rt, "film", "frames")
 }

@@ -1,12 +1,13 @@
 //! Some frames of a film alone, or their samples, for `look cut`.
 
-use crate::films;
+use crate::films::{self, Frames};
 use crate::regions::{name_of, region_of_sound, samples_upto};
-use crate::sounds::Sounds;
-use anyhow::{Context, Result, ensure};
+use crate::sounds::open_sounds;
+use anyhow::{Result, ensure};
 use clap::ArgMatches;
 use film_formats::SAMPLE_BYTES;
-use std::io::{BufWriter, Write};
+use snes_defs::Region;
+use std::io::{Read, Write};
 use std::rt::Files;
 
 /// The frames that are wanted: `count` of them from `from` on.
@@ -23,7 +24,21 @@ impl Span {
     }
 }
 
-/// Writes the frames of a film.
+/// Writes the frames of a film that was opened before the first of them.
+fn write_frames<F: Read + Drop, W: Write>(
+    frames: &mut Frames<'_, F>,
+    span: Span,
+    file: &mut W,
+    out: &str,
+) -> Result<()> {
+    for number in span.from..span.upto() {
+        frames.reach(number)?;
+        films::write_to(file, out, frames.frame())?;
+    }
+    Ok(())
+}
+
+/// Cuts the frames of a film.
 fn cut_video<R: Files + AllocGlobal>(rt: &R, name: &str, span: Span, out: &str) -> Result<()> {
     if let Some(frames) = films::frames_of_file(rt, name) {
         ensure!(
@@ -34,23 +49,11 @@ fn cut_video<R: Files + AllocGlobal>(rt: &R, name: &str, span: Span, out: &str) 
     }
     let mut frames = films::open_before(rt, name, span.from)?;
     let mut file = films::create(rt, out, &[name])?;
-    for number in span.from..span.upto() {
-        frames.reach(number)?;
-        file.write_all(frames.frame())
-            .context(format_args!("cannot write {out}"))?;
-    }
-    Ok(())
+    write_frames(&mut frames, span, &mut file, out)
 }
 
-/// Writes the samples of a film's frames.
-fn cut_audio<R: Files + AllocGlobal>(
-    rt: &R,
-    words: &ArgMatches<'_>,
-    name: &str,
-    span: Span,
-    out: &str,
-) -> Result<()> {
-    let region = region_of_sound(rt, words, name)?;
+/// Checks that a sound has the samples of these frames, if its length is known.
+fn check_sound<R: Files>(rt: &R, name: &str, region: Region, span: Span) -> Result<()> {
     let last = u32::try_from(span.upto()).unwrap_or(u32::MAX);
     let wanted = samples_upto(region, last)?;
     if let Some(bytes) = films::length(rt, name) {
@@ -60,30 +63,36 @@ fn cut_audio<R: Files + AllocGlobal>(
             name_of(region)
         );
     }
-    let mut sounds = Sounds::new(rt.alloc(), name, films::open(rt, name)?, region)?;
-    for _ in 0..span.from {
-        sounds.next()?;
-    }
-    let mut file = BufWriter::new(rt.alloc(), films::create(rt, out, &[name])?)?;
-    for _ in 0..span.count {
-        file.write_all(sounds.next()?)
-            .context(format_args!("cannot write {out}"))?;
-    }
-    file.flush().context(format_args!("cannot write {out}"))
+    Ok(())
+}
+
+/// Cuts the samples of a film's frames.
+fn cut_audio<R: Files + AllocGlobal>(
+    rt: &R,
+    words: &ArgMatches<'_>,
+    name: &str,
+    span: Span,
+    out: &str,
+) -> Result<()> {
+    let region = region_of_sound(rt, words, name)?;
+    check_sound(rt, name, region, span)?;
+    let mut sounds = open_sounds(rt, name, region)?;
+    sounds.skip(span.from)?;
+    let mut file = films::create_buffered(rt, out, &[name])?;
+    sounds.copy_frames(span.count, &mut file, out)
 }
 
 /// Obeys `look cut FILM FROM COUNT OUT`.
-pub fn write_cut<R: Files + Print + AllocGlobal>(rt: &R, words: &ArgMatches<'_>) -> Result<u8> {
-    let name = words.get_str("FILM").unwrap_or("-");
-    let out = words.get_str("OUT").unwrap_or("-");
+pub fn write_cut<R: Files + Print + AllocGlobal>(rt: &R, words: &ArgMatches<'_>) -> Result<()> {
+    let name = films::name_in(words, "FILM");
+    let out = films::name_in(words, "OUT");
     let span = Span {
         from: words.get_one::<u64>("FROM").unwrap_or(0),
         count: words.get_one::<u64>("COUNT").unwrap_or(0),
     };
     if words.get_flag("audio") {
-        cut_audio(rt, words, name, span, out)?;
+        cut_audio(rt, words, name, span, out)
     } else {
-        cut_video(rt, name, span, out)?;
+        cut_video(rt, name, span, out)
     }
-    Ok(0)
 }

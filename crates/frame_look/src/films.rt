@@ -1,31 +1,55 @@
 //! Films as they are read: frame by frame, with the number of each.
 
-ghost use Rattle.std.specs.Prelude.{◌≡◌, length, vec_len};
+ghost use Rattle.std.specs.Prelude.{◌≡◌, ◌<◌, length, vec_len};
 
 use anyhow::{Context, Result, bail, ensure};
+use clap::ArgMatches;
 use film_formats::{FRAME_BYTES, Piece, read_piece};
 use std::alloc::{AllocError, Global};
 use std::fs::{self, Metadata, OpenFile, OpenOptions};
-use std::io::{Read, Seek, SeekFrom, Write};
+use std::io::{BufWriter, Read, Seek, SeekFrom, Write};
 use std::os::unix::fs::MetadataExt;
 use std::rt::Files;
 
+/// The name of a file in the command line; `-` if it is left out.
+pub fn name_in<'a>(words: &'a ArgMatches<'_>, word: &str) -> &'a str {
+    match words.get_str(word) {
+        Some(name) => name,
+        None => "-",
+    }
+}
+
+/// The path of a name that is read; `-` is standard input.
+fn input_path(name: &str) -> &str {
+    if name == "-" { "/dev/stdin" } else { name }
+}
+
 /// Opens the file of a name; `-` is standard input.
 pub fn open<R: Files>(rt: &R, name: &str) -> Result<R::File> {
-    let path = if name == "-" { "/dev/stdin" } else { name };
-    fs::open(rt, path).context(format_args!("cannot read {name}"))
+    fs::open(rt, input_path(name)).context(format_args!("cannot read {name}"))
 }
 
 /// Reads the whole file of a name.
 pub fn read<R: Files + AllocGlobal>(rt: &R, name: &str) -> Result<Vec<u8>> {
-    let path = if name == "-" { "/dev/stdin" } else { name };
-    fs::read(rt, path).context(format_args!("cannot read {name}"))
+    fs::read(rt, input_path(name)).context(format_args!("cannot read {name}"))
+}
+
+/// Reads the first bytes of the file of a name into some room, and returns how many there are: all the file has, or all
+/// that there is room for.
+pub fn read_into<R: Files>(rt: &R, name: &str, room: &mut [u8]) -> Result<usize>
+    requires { 0 < length room.old }
+{
+    let mut file = open(rt, name)?;
+    match read_piece(&mut file, room).context(format_args!("cannot read {name}"))? {
+        Piece::Whole => Ok(room.len()),
+        Piece::End => Ok(0),
+        Piece::Cut(count) => Ok(count),
+    }
 }
 
 /// Whether a name that is read leads to this regular file, by its device and its number there.
 fn is_same<R: Files>(rt: &R, input: &str, file: &Metadata) -> bool {
-    let path = if input == "-" { "/dev/stdin" } else { input };
-    match fs::metadata(rt, path) {
+    match fs::metadata(rt, input_path(input)) {
         Ok(about) => about.is_file()
             && file.is_file()
             && about.ino() != 0
@@ -60,17 +84,30 @@ pub fn create<R: Files>(rt: &R, name: &str, inputs: &[&str]) -> Result<R::File> 
     Ok(file)
 }
 
-/// Writes a whole file of a name, which may be no input.
-pub fn write<R: Files>(rt: &R, name: &str, inputs: &[&str], bytes: &[u8]) -> Result<()> {
-    let mut file = create(rt, name, inputs)?;
+/// Creates a file of a name, which may be no input, to be written in small parts.
+pub fn create_buffered<R: Files + AllocGlobal>(
+    rt: &R,
+    name: &str,
+    inputs: &[&str],
+) -> Result<BufWriter<R::File>> {
+    Ok(BufWriter::new(rt.alloc(), create(rt, name, inputs)?)?)
+}
+
+/// Writes bytes to the file of a name.
+pub fn write_to<W: Write>(file: &mut W, name: &str, bytes: &[u8]) -> Result<()> {
     file.write_all(bytes)
         .context(format_args!("cannot write {name}"))
 }
 
+/// Writes a whole file of a name, which may be no input.
+pub fn write<R: Files>(rt: &R, name: &str, inputs: &[&str], bytes: &[u8]) -> Result<()> {
+    let mut file = create(rt, name, inputs)?;
+    write_to(&mut file, name, bytes)
+}
+
 /// The length of a regular file, or none for anything else, such as a pipe.
 pub fn length<R: Files>(rt: &R, name: &str) -> Option<u64> {
-    let path = if name == "-" { "/dev/stdin" } else { name };
-    match fs::metadata(rt, path) {
+    match fs::metadata(rt, input_path(name)) {
         Ok(about) if about.is_file() => Some(about.len()),
         _ => None,
     }
@@ -150,12 +187,35 @@ impl<'a, F: Read + Drop> Frames<'a, F> {
         Ok(())
     }
 
+    /// Begins before the frame of this number. In a regular file of `whole` frames the frames before it are not read; of
+    /// a pipe they are.
+    fn begin_before(&mut self, wanted: u64, whole: Option<u64>) -> Result<()>
+    where
+        F: Seek,
+    {
+        let Some(whole) = whole else {
+            return self.read_up_to(wanted, wanted);
+        };
+        let skipped = wanted.min(whole);
+        let place = skipped.saturating_mul(FRAME_BYTES as u64);
+        self.file
+            .seek(SeekFrom::Start(place))
+            .context(format_args!("cannot read {}", self.name))?;
+        self.read = skipped;
+        Ok(())
+    }
+
     /// The frame that was read last.
     pub fn frame(&self) -> &[u8]
         ensures { length result.now ≡ 244736 }
     {
         self.bytes.as_slice()
     }
+}
+
+/// Opens a film, of which no frame is read yet.
+pub fn open_film<'a, R: Files + AllocGlobal>(rt: &R, name: &'a str) -> Result<Frames<'a, R::File>> {
+    Ok(Frames::new(rt.alloc(), name, open(rt, name)?)?)
 }
 
 /// The whole frames of a regular file, which may still grow; nothing of a pipe.
@@ -170,18 +230,8 @@ pub fn open_before<'a, R: Files + AllocGlobal>(
     name: &'a str,
     wanted: u64,
 ) -> Result<Frames<'a, R::File>> {
-    let mut file = open(rt, name)?;
-    let Some(whole) = frames_of_file(rt, name) else {
-        let mut frames = Frames::new(rt.alloc(), name, file)?;
-        frames.read_up_to(wanted, wanted)?;
-        return Ok(frames);
-    };
-    let skipped = wanted.min(whole);
-    let place = skipped.saturating_mul(FRAME_BYTES as u64);
-    file.seek(SeekFrom::Start(place))
-        .context(format_args!("cannot read {name}"))?;
-    let mut frames = Frames::new(rt.alloc(), name, file)?;
-    frames.read = skipped;
+    let mut frames = open_film(rt, name)?;
+    frames.begin_before(wanted, frames_of_file(rt, name))?;
     Ok(frames)
 }
 

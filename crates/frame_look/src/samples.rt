@@ -1,10 +1,11 @@
 //! The comparison of two sounds, in `look diff --audio`.
 
 use crate::films;
+use crate::found::Found;
 use anyhow::{Context, Result, bail};
-use companion_words::NO;
 use film_formats::{Piece, SAMPLE_BYTES, read_piece};
 use std::alloc::Global;
+use std::fmt;
 use std::io::{BufReader, Read};
 use std::rt::Files;
 
@@ -70,35 +71,43 @@ impl<'a, F: Read + Drop> Samples<'a, F> {
     }
 }
 
-/// What the comparison of two sounds found.
-#[derive(Drop)]
-struct Found {
-    both: u64,
-    only_first: u64,
-    only_second: u64,
-    differing: u64,
-    place: Option<(u64, Sample, Sample)>,
+/// The first sample in which two sounds differ.
+#[derive(Clone, Copy)]
+struct Place {
+    number: u64,
+    first: Sample,
+    second: Sample,
+}
+
+impl fmt::Display for Place {
+    fn fmt<W: fmt::Write>(&self, f: &mut fmt::Formatter<W>) -> fmt::Result {
+        write!(
+            f,
+            "sample {}: {} {} and {} {}",
+            self.number, self.first.left, self.first.right, self.second.left, self.second.right
+        )
+    }
+}
+
+/// The place of two samples of this number, if they differ.
+fn place_of(number: u64, first: Sample, second: Sample) -> Option<Place> {
+    if first == second {
+        return None;
+    }
+    Some(Place {
+        number,
+        first,
+        second,
+    })
 }
 
 /// Compares two sounds, sample by sample.
-fn compare<F: Read + Drop>(a: &mut Samples<'_, F>, b: &mut Samples<'_, F>) -> Result<Found> {
-    let mut found = Found {
-        both: 0,
-        only_first: 0,
-        only_second: 0,
-        differing: 0,
-        place: None,
-    };
+fn compare<F: Read + Drop>(a: &mut Samples<'_, F>, b: &mut Samples<'_, F>) -> Result<Found<Place>> {
+    let mut found = Found::new();
     for number in 0..u64::MAX {
         match (a.next()?, b.next()?) {
             (Some(first), Some(second)) => {
-                found.both = number.saturating_add(1);
-                if first != second {
-                    found.differing = found.differing.saturating_add(1);
-                    if found.place.is_none() {
-                        found.place = Some((number, first, second));
-                    }
-                }
+                let _is_the_first = found.count(place_of(number, first, second));
             }
             (Some(_), None) => {
                 found.only_first = a.count_rest()?.saturating_add(1);
@@ -114,37 +123,23 @@ fn compare<F: Read + Drop>(a: &mut Samples<'_, F>, b: &mut Samples<'_, F>) -> Re
     Ok(found)
 }
 
+/// Opens two sounds, and compares them.
+fn compare_files<R: Files + AllocGlobal>(
+    rt: &R,
+    first: &str,
+    second: &str,
+) -> Result<Found<Place>> {
+    let mut a = Samples::new(rt.alloc(), first, films::open(rt, first)?)?;
+    let mut b = Samples::new(rt.alloc(), second, films::open(rt, second)?)?;
+    compare(&mut a, &mut b)
+}
+
 /// Obeys `look diff --audio A B`.
 pub fn say_difference<R: Files + Print + AllocGlobal>(
     rt: &R,
     first: &str,
     second: &str,
 ) -> Result<u8> {
-    let mut a = Samples::new(rt.alloc(), first, films::open(rt, first)?)?;
-    let mut b = Samples::new(rt.alloc(), second, films::open(rt, second)?)?;
-    let Found {
-        both,
-        only_first,
-        only_second,
-        differing,
-        place,
-    } = compare(&mut a, &mut b)?;
-    if differing == 0 && only_first == 0 && only_second == 0 {
-        println!(rt; "alike: {both} samples")?;
-        return Ok(0);
-    }
-    println!(rt; "different: {differing} of {both} samples")?;
-    if let Some((number, first, second)) = place {
-        println!(rt;
-            "first: sample {number}: {} {} and {} {}",
-            first.left, first.right, second.left, second.right
-        )?;
-    }
-    if only_first > 0 {
-        println!(rt; "the first sound has {only_first} samples more")?;
-    }
-    if only_second > 0 {
-        println!(rt; "the second sound has {only_second} samples more")?;
-    }
-    Ok(NO)
+    let found = compare_files(rt, first, second)?;
+    found.tell(rt, "sound", "samples")
 }

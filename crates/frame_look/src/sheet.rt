@@ -3,7 +3,7 @@
 ghost use Rattle.std.specs.Prelude.{◌≡◌, ◌+◌, ◌*◌, ◌/◌, ◌<◌, ◌≤◌, length, vec_len};
 
 use crate::films::{self, Frames};
-use anyhow::{Result, bail};
+use anyhow::{Result, bail, ensure};
 use clap::ArgMatches;
 use film_formats::{ROW_BYTES, SMALL_WIDTH, png_file, push_small_row};
 use std::alloc::{AllocError, Global};
@@ -163,18 +163,26 @@ fn fill<F: Read + Drop>(
     Ok(())
 }
 
+/// Makes the sheet of a film.
+fn read_sheet<R: Files + AllocGlobal>(
+    rt: &R,
+    name: &str,
+    every: u64,
+    sheet: &mut Sheet,
+) -> Result<()> {
+    let mut frames = films::open_film(rt, name)?;
+    fill(rt.alloc(), &mut frames, every, sheet)?;
+    ensure!(sheet.pictures > 0, "{name} has no frames");
+    Ok(())
+}
+
 /// Obeys `look sheet VIDEO OUT --every FRAMES`.
-pub fn write_sheet<R: Files + Print + AllocGlobal>(rt: &R, words: &ArgMatches<'_>) -> Result<u8> {
-    let name = words.get_str("VIDEO").unwrap_or("-");
-    let out = words.get_str("OUT").unwrap_or("-");
+pub fn write_sheet<R: Files + Print + AllocGlobal>(rt: &R, words: &ArgMatches<'_>) -> Result<()> {
+    let name = films::name_in(words, "VIDEO");
+    let out = films::name_in(words, "OUT");
     let every = words.get_one::<u32>("every").unwrap_or(60);
-    let mut frames = Frames::new(rt.alloc(), name, films::open(rt, name)?)?;
     let mut sheet = Sheet::new(rt.alloc());
-    fill(rt.alloc(), &mut frames, every as u64, &mut sheet)?;
-    if sheet.pictures == 0 {
-        bail!("{name} has no frames");
-    }
+    read_sheet(rt, name, every as u64, &mut sheet)?;
     let file = sheet.png(rt.alloc())?;
-    films::write(rt, out, &[name], file.as_slice())?;
-    Ok(0)
+    films::write(rt, out, &[name], file.as_slice())
 }

@@ -58,6 +58,27 @@ impl<'a, F: Read + Drop> Sounds<'a, F> {
         Ok(self.bytes.as_slice())
     }
 
+    /// Writes the samples of the next `count` frames, and all that the buffer of the file `out` holds.
+    pub fn copy_frames<W: Write + Drop>(
+        &mut self,
+        count: u64,
+        to: &mut BufWriter<W>,
+        out: &str,
+    ) -> Result<()> {
+        for _ in 0..count {
+            films::write_to(to, out, self.next()?)?;
+        }
+        to.flush().context(format_args!("cannot write {out}"))
+    }
+
+    /// Goes on behind the next `count` frames.
+    pub fn skip(&mut self, count: u64) -> Result<()> {
+        for _ in 0..count {
+            self.next()?;
+        }
+        Ok(())
+    }
+
     /// Fails if anything is left after the last frame.
     pub fn end(&mut self) -> Result<()> {
         let mut byte = [0u8; 1];
@@ -73,6 +94,15 @@ impl<'a, F: Read + Drop> Sounds<'a, F> {
             ),
         }
     }
+}
+
+/// Opens the sound of a film, of which no frame is read yet.
+pub fn open_sounds<'a, R: Files + AllocGlobal>(
+    rt: &R,
+    name: &'a str,
+    region: Region,
+) -> Result<Sounds<'a, R::File>> {
+    Sounds::new(rt.alloc(), name, films::open(rt, name)?, region)
 }
 
 /// How many bytes are copied in one piece.
@@ -125,29 +155,48 @@ fn header_of(alloc: Global, name: &str, bytes: u64) -> Result<Vec<u8>> {
     }
 }
 
+/// A sound that becomes a WAV: the names of both files, and the length of the sound's, if it is known before.
+#[derive(Clone, Copy)]
+struct Making<'a> {
+    name: &'a str,
+    out: &'a str,
+    known: Option<u64>,
+}
+
+impl Making<'_> {
+    /// Writes the samples behind a header, and the header again if it has another length.
+    fn write<F: Read, W: Write + Seek + Drop>(
+        self,
+        alloc: Global,
+        header: &[u8],
+        from: &mut F,
+        to: &mut BufWriter<W>,
+    ) -> Result<()> {
+        let Making { name, out, known } = self;
+        films::write_to(to, out, header)?;
+        let copied = copy_samples(alloc, name, from, to).context(format_args!(
+            "cannot write {out}"
+        ))?;
+        if known != Some(copied) {
+            let header = header_of(alloc, name, copied)?;
+            to.seek(SeekFrom::Start(0))
+                .context(format_args!("cannot go back in {out}"))?;
+            films::write_to(to, out, header.as_slice())?;
+        }
+        to.flush().context(format_args!("cannot write {out}"))
+    }
+}
+
 /// Obeys `look wav AUDIO OUT`. The header has the length. If that isn't known before, as of a pipe, OUT has to be a
 /// file, whose header is written again at the end.
-pub fn write_wav<R: Files + Print + AllocGlobal>(rt: &R, words: &ArgMatches<'_>) -> Result<u8> {
+pub fn write_wav<R: Files + Print + AllocGlobal>(rt: &R, words: &ArgMatches<'_>) -> Result<()> {
     let alloc = rt.alloc();
-    let name = words.get_str("AUDIO").unwrap_or("-");
-    let out = words.get_str("OUT").unwrap_or("-");
+    let name = films::name_in(words, "AUDIO");
+    let out = films::name_in(words, "OUT");
     let mut from = films::open(rt, name)?;
     let known = films::length(rt, name);
     let header = header_of(alloc, name, known.unwrap_or(0))?;
-    let file = films::create(rt, out, &[name])?;
-    let mut to = BufWriter::new(alloc, file)?;
-    to.write_all(header.as_slice())
-        .context(format_args!("cannot write {out}"))?;
-    let copied = copy_samples(alloc, name, &mut from, &mut to).context(format_args!(
-        "cannot write {out}"
-    ))?;
-    if known != Some(copied) {
-        let header = header_of(alloc, name, copied)?;
-        to.seek(SeekFrom::Start(0))
-            .context(format_args!("cannot go back in {out}"))?;
-        to.write_all(header.as_slice())
-            .context(format_args!("cannot write {out}"))?;
-    }
-    to.flush().context(format_args!("cannot write {out}"))?;
-    Ok(0)
+    let mut to = films::create_buffered(rt, out, &[name])?;
+    let making = Making { name, out, known };
+    making.write(alloc, header.as_slice(), &mut from, &mut to)
 }

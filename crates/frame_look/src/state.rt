@@ -1,9 +1,8 @@
 //! A state that `snes dump` wrote: its parts, and how it is read and shown (`docs/use/STATE.md`).
 
 use crate::films;
-use anyhow::{Context, Result, bail};
+use anyhow::{Result, bail};
 use clap::ArgMatches;
-use film_formats::{Piece, read_piece};
 use std::fmt;
 use std::rt::Files;
 
@@ -123,28 +122,27 @@ impl State {
     /// Reads the state of a file.
     pub fn read<R: Files + AllocGlobal>(rt: &R, name: &str) -> Result<State> {
         let mut bytes = vec![in rt.alloc(); 0u8; MOST]?;
-        let mut file = films::open(rt, name)?;
-        let count = match read_piece(&mut file, bytes.as_mut_slice()).context(format_args!(
-            "cannot read {name}"
-        ))? {
-            Piece::Whole => MOST,
-            Piece::End => 0,
-            Piece::Cut(count) => count,
-        };
+        let count = films::read_into(rt, name, bytes.as_mut_slice())?;
         let mut state = State { bytes, ram: 0 };
-        if !state.has_text() {
+        state.ram = state.number(0x10, 4) as usize;
+        state.check(name, count)?;
+        Ok(state)
+    }
+
+    /// Checks the header of a file that has `count` bytes.
+    fn check(&self, name: &str, count: usize) -> Result<()> {
+        if !self.has_text() {
             bail!("{name} is not a state: it does not begin with SNESDUMP");
         }
-        let version = state.number(0x08, 1);
+        let version = self.number(0x08, 1);
         if version != VERSION {
             bail!("{name} has the format {version}, and this program reads the format {VERSION}");
         }
-        state.ram = state.number(0x10, 4) as usize;
-        let size = FIXED.saturating_add(state.ram);
+        let size = FIXED.saturating_add(self.ram);
         if count != size {
             bail!("{name} has {count} bytes, and its header says {size}");
         }
-        Ok(state)
+        Ok(())
     }
 
     /// Whether it begins with its text.
@@ -348,24 +346,33 @@ fn memory_of(state: &State, name: &str) -> Result<Memory> {
     bail!("there is no memory {name}: dsp, cgram, oam, wram, vram, aram and sram are some")
 }
 
-/// `look state FILE`.
-pub fn say_state<R: Files + Print + AllocGlobal>(rt: &R, words: &ArgMatches<'_>) -> Result<u8> {
-    let state = State::read(rt, words.get_str("FILE").unwrap_or("-"))?;
-    if let Some(name) = words.get_str("memory") {
-        let memory = memory_of(&state, name)?;
-        let from = number_of(words, "from", 0)?;
-        let count = number_of(words, "count", memory.size)?;
-        if from >= memory.size {
-            bail!("{name} has {} bytes, and none at {from}", memory.size);
-        }
-        say_lines(rt, &state, memory, from, count, true)?;
-        return Ok(0);
+/// Prints the bytes of one memory that are asked for.
+fn say_memory<R: Print>(rt: &R, state: &State, words: &ArgMatches<'_>, name: &str) -> Result<()> {
+    let memory = memory_of(state, name)?;
+    let from = number_of(words, "from", 0)?;
+    let count = number_of(words, "count", memory.size)?;
+    if from >= memory.size {
+        bail!("{name} has {} bytes, and none at {from}", memory.size);
     }
-    say_registers(rt, &state)?;
+    say_lines(rt, state, memory, from, count, true)
+}
+
+/// Prints the registers, and the lines of each memory that are not blank.
+fn say_whole<R: Print>(rt: &R, state: &State) -> Result<()> {
+    say_registers(rt, state)?;
     for number in 0..State::memories() {
         if let Some(memory) = state.memory(number) {
-            say_lines(rt, &state, memory, 0, memory.size, false)?;
+            say_lines(rt, state, memory, 0, memory.size, false)?;
         }
     }
-    Ok(0)
+    Ok(())
+}
+
+/// `look state FILE`.
+pub fn say_state<R: Files + Print + AllocGlobal>(rt: &R, words: &ArgMatches<'_>) -> Result<()> {
+    let state = State::read(rt, films::name_in(words, "FILE"))?;
+    match words.get_str("memory") {
+        Some(name) => say_memory(rt, &state, words, name),
+        None => say_whole(rt, &state),
+    }
 }

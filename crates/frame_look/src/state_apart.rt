@@ -66,6 +66,27 @@ fn compare_memory<R: Print>(
     Ok(())
 }
 
+/// Prints the first `lines` differences of two states, and how many there are; returns the status.
+fn compare<R: Print>(rt: &R, a: &State, b: &State, lines: u64) -> Result<u8> {
+    let mut found = Found {
+        differing: 0,
+        lines,
+    };
+    compare_fields(rt, a, b, &mut found)?;
+    for number in 0..State::memories() {
+        if let (Some(memory), Some(other)) = (a.memory(number), b.memory(number)) {
+            let size = memory.size.min(other.size);
+            compare_memory(rt, a, b, &memory, size, &mut found)?;
+        }
+    }
+    if found.differing == 0 {
+        println!(rt; "alike")?;
+        return Ok(0);
+    }
+    println!(rt; "different: {} registers and bytes", found.differing)?;
+    Ok(NO)
+}
+
 /// `look diff --state A B`: the first `lines` differences, and how many there are.
 pub fn say_difference<R: Files + Print + AllocGlobal>(
     rt: &R,
@@ -75,21 +96,5 @@ pub fn say_difference<R: Files + Print + AllocGlobal>(
 ) -> Result<u8> {
     let a = State::read(rt, first)?;
     let b = State::read(rt, second)?;
-    let mut found = Found {
-        differing: 0,
-        lines,
-    };
-    compare_fields(rt, &a, &b, &mut found)?;
-    for number in 0..State::memories() {
-        if let (Some(memory), Some(other)) = (a.memory(number), b.memory(number)) {
-            let size = memory.size.min(other.size);
-            compare_memory(rt, &a, &b, &memory, size, &mut found)?;
-        }
-    }
-    if found.differing == 0 {
-        println!(rt; "alike")?;
-        return Ok(0);
-    }
-    println!(rt; "different: {} registers and bytes", found.differing)?;
-    Ok(NO)
+    compare(rt, &a, &b, lines)
 }

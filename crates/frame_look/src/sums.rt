@@ -2,11 +2,10 @@
 
 use crate::films::{self, Frames};
 use crate::regions::{MOST_FRAMES, region_of};
-use crate::sounds::Sounds;
+use crate::sounds::{Sounds, open_sounds};
 use anyhow::{Result, bail};
 use clap::ArgMatches;
 use sha2::{Digest, Sha256};
-use std::alloc::Global;
 use std::collections::VecDeque;
 use std::io::{BufWriter, Read, Write};
 use std::rt::Files;
@@ -34,20 +33,21 @@ impl fmt::Display for Sum {
 struct Pictures<'a, F: Read + Drop> {
     frames: Frames<'a, F>,
     all: Sha256,
-    ahead: VecDeque<[u8; 32]>,
+    ahead: VecDeque<Sum>,
     ended: bool,
 }
 
 impl<F: Read + Drop> Pictures<'_, F> {
     /// The sum of the next picture, or nothing after the last one.
-    fn next(&mut self) -> Result<Option<[u8; 32]>> {
+    fn next(&mut self) -> Result<Option<Sum>> {
         for _ in self.ahead.len()..AHEAD {
             if self.ended {
                 break;
             }
             if self.frames.next()? {
                 self.all.update(self.frames.frame());
-                self.ahead.push_back(Sha256::digest(self.frames.frame()))?;
+                self.ahead
+                    .push_back(Sum(Sha256::digest(self.frames.frame())))?;
             } else {
                 self.ended = true;
             }
@@ -65,21 +65,22 @@ struct Heard<'a, F: Read + Drop> {
 
 impl<F: Read + Drop> Heard<'_, F> {
     /// The sum of the next frame's samples.
-    fn next(&mut self) -> Result<Option<[u8; 32]>> {
+    fn next(&mut self) -> Result<Option<Sum>> {
         let Some(sounds) = &mut self.sounds else {
             return Ok(None);
         };
         let bytes = sounds.next()?;
         self.all.update(bytes);
-        Ok(Some(Sha256::digest(bytes)))
+        Ok(Some(Sum(Sha256::digest(bytes))))
     }
 
-    /// Fails if anything is left after the last frame.
-    fn end(&mut self) -> Result<()> {
-        match &mut self.sounds {
-            Some(sounds) => sounds.end(),
-            None => Ok(()),
-        }
+    /// The sum of all samples. Fails if anything is left after the last frame.
+    fn end(&mut self) -> Result<Option<Sum>> {
+        let Some(sounds) = &mut self.sounds else {
+            return Ok(None);
+        };
+        sounds.end()?;
+        Ok(Some(Sum(self.all.finalize_reset())))
     }
 }
 
@@ -148,66 +149,75 @@ fn write_all<W: Write>(
     }
 }
 
-/// Writes the sums of a film.
-fn write_sums<F: Read + Drop, W: Write>(
-    mut pictures: Pictures<'_, F>,
-    mut heard: Heard<'_, F>,
+/// Writes the lines of the frames, as many as a run may have, and returns how many there are.
+fn write_frames<F: Read + Drop, W: Write>(
+    pictures: &mut Pictures<'_, F>,
+    heard: &mut Heard<'_, F>,
     out: &mut W,
     form: Form,
-) -> Result<()> {
-    let with_sound = heard.sounds.is_some();
-    write_head(out, form, with_sound)?;
+) -> Result<u32> {
     let mut frames = 0u32;
     for frame in 0..MOST_FRAMES {
         let Some(picture) = pictures.next()? else {
             break;
         };
-        let sound = heard.next()?.map(|sum| Sum(sum));
-        write_frame(out, form, frame, Sum(picture), sound)?;
+        let sound = heard.next()?;
+        write_frame(out, form, frame, picture, sound)?;
         frames = frame + 1;
     }
+    Ok(frames)
+}
+
+/// Writes the sums of a film.
+fn write_sums<F: Read + Drop, W: Write>(
+    pictures: &mut Pictures<'_, F>,
+    heard: &mut Heard<'_, F>,
+    out: &mut W,
+    form: Form,
+) -> Result<()> {
+    write_head(out, form, heard.sounds.is_some())?;
+    let frames = write_frames(pictures, heard, out, form)?;
     if pictures.next()?.is_some() {
         bail!("more than {MOST_FRAMES} frames: a run has no more");
     }
-    heard.end()?;
-    let sound = if with_sound {
-        Some(Sum(heard.all.finalize()))
-    } else {
-        None
-    };
-    write_all(out, form, frames, Sum(pictures.all.finalize()), sound)?;
+    let sound = heard.end()?;
+    let picture = Sum(pictures.all.finalize_reset());
+    write_all(out, form, frames, picture, sound)?;
     out.flush()?;
     Ok(())
 }
 
+/// Opens the sound that is named, if one is.
+fn sounds_in<'a, R: Files + AllocGlobal>(
+    rt: &R,
+    words: &'a ArgMatches<'_>,
+    video: &str,
+) -> Result<Option<Sounds<'a, R::File>>> {
+    let Some(audio) = words.get_str("AUDIO") else {
+        return Ok(None);
+    };
+    let region = region_of(rt, words, video, audio);
+    Ok(Some(open_sounds(rt, audio, region)?))
+}
+
 /// Obeys `look sums VIDEO [AUDIO]`.
-pub fn say_sums<R: Files + Print + AllocGlobal>(rt: &R, words: &ArgMatches<'_>) -> Result<u8> {
-    let alloc = rt.alloc();
-    let video = words.get_str("VIDEO").unwrap_or("-");
-    let frames = Frames::new(alloc, video, films::open(rt, video)?)?;
-    let pictures = Pictures {
-        frames,
-        all: Sha256::new(),
-        ahead: VecDeque::new(alloc),
-        ended: false,
-    };
-    let sounds = match words.get_str("AUDIO") {
-        Some(audio) => {
-            let region = region_of(rt, words, video, audio);
-            Some(Sounds::new(alloc, audio, films::open(rt, audio)?, region)?)
-        }
-        None => None,
-    };
-    let heard = Heard {
-        sounds,
-        all: Sha256::new(),
-    };
+pub fn say_sums<R: Files + Print + AllocGlobal>(rt: &R, words: &ArgMatches<'_>) -> Result<()> {
+    let video = films::name_in(words, "VIDEO");
     let form = if words.get_flag("json") {
         Form::Json
     } else {
         Form::Csv
     };
-    let mut out = BufWriter::new(alloc, io::writer(rt))?;
-    write_sums(pictures, heard, &mut out, form)?;
-    Ok(0)
+    let mut pictures = Pictures {
+        frames: films::open_film(rt, video)?,
+        all: Sha256::new(),
+        ahead: VecDeque::new(rt.alloc()),
+        ended: false,
+    };
+    let mut heard = Heard {
+        sounds: sounds_in(rt, words, video)?,
+        all: Sha256::new(),
+    };
+    let mut out = BufWriter::new(rt.alloc(), io::writer(rt))?;
+    write_sums(&mut pictures, &mut heard, &mut out, form)
 }

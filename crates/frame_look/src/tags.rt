@@ -1,9 +1,8 @@
 //! The tags of a sound file, for `look tags`.
 
 use crate::films;
-use anyhow::{Context, Result, bail};
+use anyhow::{Result, bail};
 use clap::ArgMatches;
-use film_formats::{Piece, read_piece};
 use sound_tags::NotSoundFile;
 use std::alloc::Global;
 use std::io::{self, Write};
@@ -16,14 +15,7 @@ const ROOM: usize = 1_048_577;
 /// Reads the first bytes of a file: all of them, if it is not too long for a sound file.
 fn first_bytes<R: Files + AllocGlobal>(rt: &R, name: &str) -> Result<Vec<u8>> {
     let mut bytes = vec![in rt.alloc(); 0u8; ROOM]?;
-    let mut file = films::open(rt, name)?;
-    let count = match read_piece(&mut file, bytes.as_mut_slice()).context(format_args!(
-        "cannot read {name}"
-    ))? {
-        Piece::Whole => ROOM,
-        Piece::End => 0,
-        Piece::Cut(count) => count,
-    };
+    let count = films::read_into(rt, name, bytes.as_mut_slice())?;
     bytes.truncate(count);
     Ok(bytes)
 }
@@ -47,10 +39,10 @@ fn lines(alloc: Global, name: &str, file: &[u8]) -> Result<Vec<u8>> {
 }
 
 /// Obeys `look tags FILE`.
-pub fn say_tags<R: Files + Print + AllocGlobal>(rt: &R, words: &ArgMatches<'_>) -> Result<u8> {
-    let name = words.get_str("FILE").unwrap_or("-");
+pub fn say_tags<R: Files + Print + AllocGlobal>(rt: &R, words: &ArgMatches<'_>) -> Result<()> {
+    let name = films::name_in(words, "FILE");
     let file = first_bytes(rt, name)?;
     let text = lines(rt.alloc(), name, file.as_slice())?;
     io::writer(rt).write_all(text.as_slice())?;
-    Ok(0)
+    Ok(())
 }
