@@ -38,22 +38,6 @@ given_again cpu cpu' bus s byte wired h now =
     same_levels (moved_on s byte) (nmi_level bus.io) (irq_level bus.io) (kept.0 ∙ sym h.nmi_level ∙ wired.nmi) (kept.1 ∙ sym h.irq_level ∙ wired.irq) in
     subst (λ (x : CpuState). Stands cpu' x) (sym same) now
 
--- levels that are given again, where all that they come from has stayed
-pub levels_again : (cpu : Cpu) (bus bus' : BusState) (s : CpuState) → IsWired cpu bus → bus'.io ≡ bus.io → Stands cpu s → Stands cpu (with_interrupt_levels s bus')
-levels_again cpu bus bus' s wired io h =
-    let same : with_interrupt_levels s bus' ≡ s =
-    same_levels s (nmi_level bus'.io) (irq_level bus'.io) (sym h.nmi_level ∙ wired.nmi ∙ ap nmi_level (sym io)) (sym h.irq_level ∙ wired.irq ∙ ap irq_level (sym io)) in
-    subst (λ (x : CpuState). Stands cpu x) (sym same) h
-
--- after an access the processor has the levels that it had
-pub wired_on : (cpu cpu' : Cpu) (bus bus' : BusState) (s : CpuState) (byte : ℕ) → IsWired cpu bus → bus'.io ≡ bus.io → Stands cpu s → Stands cpu' (moved_on s byte) → IsWired cpu' bus'
-wired_on cpu cpu' bus bus' s byte wired io h now =
-    let kept = moved_levels (end_of s.kept s.irq_level (left_of s)) byte s in
-    record {
-      nmi = now.nmi_level ∙ kept.0 ∙ sym h.nmi_level ∙ wired.nmi ∙ ap nmi_level (sym io);
-      irq = now.irq_level ∙ kept.1 ∙ sym h.irq_level ∙ wired.irq ∙ ap irq_level (sym io);
-    }
-
 -- after an access that was made at once the processor has the levels of then
 pub wired_then : (cpu cpu' : Cpu) (bus bus' : BusState) (a : Access) (clocks : ℕ) (s : CpuState) → IsMadeAtOnce cpu cpu' bus bus' a clocks → Stands cpu s → IsWired cpu' bus'
 wired_then cpu cpu' bus bus' a clocks s made h =

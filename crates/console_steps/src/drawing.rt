@@ -1,20 +1,15 @@
 // The drawing of a row.
 ghost use Rattle.std.specs.Prelude.{◌≡◌, ◌+◌, ◌≤◌, ◌++◌, length};
 ghost use Rattle.beam.specs.declared.events.Event.TheVariants as events;
-ghost use Rattle.cpu65816.specs.Instruction.{CpuState};
-ghost use Rattle.cpu65816.specs.Stands.{Stands};
 ghost use Rattle.console_bus.specs.Happenings.{happened, row_bytes};
-ghost use Rattle.console_steps.specs.ConsoleState.{with_interrupt_levels};
 
-use crate::effects::give_interrupt_levels;
 use crate::rows::emit_row;
 use circular_buffer::HeapCircularBuffer;
 use console_bus::Bus;
-use cpu65816::Cpu;
 
 /// Draws the row above the beam's line, and appends it to the buffered bytes.
 #[inline(never)]
-fn draw_row(bus: &mut Bus, waiting: &mut HeapCircularBuffer<u8>)
+pub fn draw_row(bus: &mut Bus, waiting: &mut HeapCircularBuffer<u8>)
     requires first { 1 ≤ bus.old.beam.v }
     requires last { bus.old.beam.v ≤ 239 }
     requires room { length waiting.old.items + 1024 ≤ waiting.old.capacity }
@@ -25,18 +20,4 @@ fn draw_row(bus: &mut Bus, waiting: &mut HeapCircularBuffer<u8>)
     let mut dots = [0u16; 512];
     bus.draw_dots(&mut dots);
     emit_row(waiting, &dots);
-}
-
-/// Draws the row above the beam's line, appends it to the buffered bytes, and gives the processor its levels again.
-pub fn make_row(cpu: &mut Cpu, bus: &mut Bus, waiting: &mut HeapCircularBuffer<u8>)
-    requires first { 1 ≤ bus.old.beam.v }
-    requires last { bus.old.beam.v ≤ 239 }
-    requires room { length waiting.old.items + 1024 ≤ waiting.old.capacity }
-    ensures rest { bus.new ≡ happened bus.old events.Draw }
-    ensures row { waiting.new.items ≡ waiting.old.items ++ row_bytes bus.old }
-    ensures capacity { waiting.new.capacity ≡ waiting.old.capacity }
-    ensures processor { (s : CpuState) → Stands cpu.old s → Stands cpu.new (with_interrupt_levels s bus.new) }
-{
-    draw_row(bus, waiting);
-    give_interrupt_levels(cpu, bus);
 }

@@ -9,7 +9,8 @@ ghost use Rattle.console_steps.specs.Draws.{room_for};
 ghost use Rattle.console_steps.specs.Parts.{first_of, last_of};
 ghost use Rattle.console_steps.specs.Stands.{IsAt};
 
-use crate::drawing::make_row;
+use crate::drawing::draw_row;
+use crate::effects::give_interrupt_levels;
 use crate::happening::happen;
 use beam::{Event, Happens};
 use circular_buffer::HeapCircularBuffer;
@@ -30,7 +31,7 @@ fn pass_event(cpu: &mut Cpu, bus: &mut Bus, comes: bool, event: Event)
     }
 }
 
-/// Passes a row that is drawn or not.
+/// Passes a row that is drawn or not. After a row it gives the processor its levels again.
 #[inline(always)]
 fn pass_row(cpu: &mut Cpu, bus: &mut Bus, waiting: &mut HeapCircularBuffer<u8>, comes: bool)
     requires first { IsTrue comes → 1 ≤ bus.old.beam.v }
@@ -45,7 +46,8 @@ fn pass_row(cpu: &mut Cpu, bus: &mut Bus, waiting: &mut HeapCircularBuffer<u8>, 
     ensures beam { bus.new.beam ≡ bus.old.beam }
 {
     if comes {
-        make_row(cpu, bus, waiting);
+        draw_row(bus, waiting);
+        give_interrupt_levels(cpu, bus);
     }
 }
 
@@ -72,24 +74,6 @@ fn pass_last(cpu: &mut Cpu, bus: &mut Bus, happens: Happens)
     pass_event(cpu, bus, happens.timer, Event::Timer);
 }
 
-/// Passes the events at the beam's place, in their order.
-fn pass_place(cpu: &mut Cpu, bus: &mut Bus, waiting: &mut HeapCircularBuffer<u8>, happens: Happens)
-    requires first { IsTrue happens.draw → 1 ≤ bus.old.beam.v }
-    requires last { IsTrue happens.draw → bus.old.beam.v ≤ 239 }
-    requires room { IsTrue happens.draw → length waiting.old.items + 1024 ≤ waiting.old.capacity }
-    ensures at { (w : ConsoleState) → IsAt cpu.old bus.old w
-        → IsAt cpu.new bus.new (after_events w (events_of happens)) }
-    ensures bytes { (w : ConsoleState) → IsAt cpu.old bus.old w
-        → waiting.new.items ≡ waiting.old.items ++ bytes_of_events w (events_of happens) }
-    ensures size { length waiting.new.items ≡ length waiting.old.items + (if happens.draw then 1024 else 0) }
-    ensures capacity { waiting.new.capacity ≡ waiting.old.capacity }
-    ensures beam { bus.new.beam ≡ bus.old.beam }
-{
-    pass_first(cpu, bus, happens);
-    pass_row(cpu, bus, waiting, happens.draw);
-    pass_last(cpu, bus, happens);
-}
-
 /// Lets that many clocks pass, event by event of the beam.
 #[inline(never)]
 fn pass_places(cpu: &mut Cpu, bus: &mut Bus, waiting: &mut HeapCircularBuffer<u8>, clocks: u16)
@@ -108,7 +92,9 @@ fn pass_places(cpu: &mut Cpu, bus: &mut Bus, waiting: &mut HeapCircularBuffer<u8
         return;
     }
     let happens = bus.reach();
-    pass_place(cpu, bus, waiting, happens);
+    pass_first(cpu, bus, happens);
+    pass_row(cpu, bus, waiting, happens.draw);
+    pass_last(cpu, bus, happens);
     pass_places(cpu, bus, waiting, clocks - left);
 }
 
