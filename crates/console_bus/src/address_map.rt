@@ -99,6 +99,7 @@ impl AddressMap {
         ensures stretch { IfSome result
             (λ access. IsStretch self.now.board self.now.fast addr access.at access.clocks) }
         ensures within { IfSome result (λ access. access.clocks < limit) }
+        ensures below { IfSome result (λ access. access.at < 2 ^ 33) }
     {
         let page = self.pages[(self.first + addr / PAGE) as usize];
         access(page, addr, limit)
@@ -122,7 +123,9 @@ impl AddressMap {
     #[inline(always)]
     pub(crate) fn stretch_at(&self, addr: u32) -> Option<MemoryAccess>
         requires { addr < 2 ^ 24 }
-        ensures { IfSome result (λ access. IsStretch self.now.board self.now.fast addr access.at access.clocks) }
+        ensures stretch { IfSome result
+            (λ access. IsStretch self.now.board self.now.fast addr access.at access.clocks) }
+        ensures below { IfSome result (λ access. access.at < 2 ^ 33) }
     {
         self.stretch_within(addr, NO_MEMORY)
     }
@@ -145,6 +148,7 @@ fn access(page: Page, addr: u32, limit: u16) -> Option<MemoryAccess>
     ensures stretch { (board : CartBoard) (fast : Bool) → IsPageOf board fast (addr / 8192) page
         → IfSome result (λ access. IsStretch board fast addr access.at access.clocks) }
     ensures within { IfSome result (λ access. access.clocks < limit) }
+    ensures below { IfSome result (λ access. access.at < 2 ^ 33) }
 {
     let clocks = page.clocks;
     if clocks >= limit {

@@ -119,7 +119,9 @@ impl Bus {
     #[inline(always)]
     pub fn stretch_at(&self, addr: u32) -> Option<MemoryAccess>
         requires { addr < 2 ^ 24 }
-        ensures { IfSome result (λ access. IsStretch self.now.board self.now.io.fast addr access.at access.clocks) }
+        ensures stretch { IfSome result
+            (λ access. IsStretch self.now.board self.now.io.fast addr access.at access.clocks) }
+        ensures below { IfSome result (λ access. access.at < 2 ^ 33) }
     {
         self.map.stretch_at(addr)
     }

@@ -1,0 +1,10 @@
+pub mod Beams
+pub mod Passes
+pub mod Looks
+pub mod Fetches
+pub mod Reaching
+pub mod DataReads
+pub mod Writes
+pub mod Cycles
+pub mod Pushes
+pub mod Wholes

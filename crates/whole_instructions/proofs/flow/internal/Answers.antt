@@ -1,0 +1,10 @@
+use Rattle.std.proofs.Common.{refl, arith}
+use Rattle.whole_instructions.proofs.Cycles.{internal_made}
+use Rattle.whole_instructions.proofs.flow.internal.Goals as goal
+
+pub returns-clause-made : goal.returns-clause-made
+returns-clause-made c = λ _.
+    let left = c.clocks_left.ensures.clocks in
+    let fits = c.if-clocks-clocks_left.false in
+    rw (c.finish_internal.ensures, c.pass.ensures.registers, c.pass.ensures.told, c.opcode-opcode.ensures)
+    (internal_made c.args.bus.now c.args.regs.now c.args.at c.args.clocks _ c.args.row.op c.args.row.mode c.requires.code c.requires.row c.requires.uses refl (omega (arith, left, fits)))

@@ -1,0 +1,38 @@
+// Whole instructions one after another.
+ghost use Rattle.std.specs.Prelude.{◌≡◌, false};
+ghost use Rattle.whole_instructions.specs.Runs.{GoesWhole, IsRun};
+
+use crate::instruction::instruction;
+use console_bus::Bus;
+use cpu_tables::Regs;
+use cpu65816::Cpu;
+
+/// More instructions than a line has room for.
+const MOST_INSTRUCTIONS: u16 = 256;
+
+/// Makes instructions one after another, as long as each can be made whole.
+#[inline(always)]
+fn run(regs: &mut Regs, bus: &mut Bus)
+    ensures { IsRun regs.old regs.new bus.old bus.new }
+{
+    'instructions: for _ in 0..MOST_INSTRUCTIONS {
+        if !instruction(regs, bus) {
+            return;
+        }
+    }
+}
+
+/// Makes whole instructions, if an instruction has ended and the interrupt lines bring no interrupt. Each lies in the
+/// memory with all that it accesses, and ends before the beam's next place. Otherwise nothing changes.
+#[tactic(auto, using(crate::proofs::Wholes::goes_whole, crate::proofs::Wholes::goes_nowhere))]
+#[inline(always)]
+pub fn make_whole(cpu: &mut Cpu, bus: &mut Bus)
+    ensures { GoesWhole cpu.old cpu.new bus.old bus.new }
+{
+    let Some(first) = cpu.rested() else {
+        return;
+    };
+    let mut micro = first;
+    run(&mut micro.here, bus);
+    cpu.go_on_from(micro, true);
+}

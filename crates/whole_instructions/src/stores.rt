@@ -1,0 +1,167 @@
+// Instructions that write data.
+ghost use Rattle.std.specs.Prelude.{◌≡◌, ◌<◌, ◌≤◌, IsTrue, true, false};
+ghost use Rattle.cpu_tables.specs.declared.mode.Mode.{Mode};
+ghost use Rattle.cpu_modes.specs.Addresses.{is_wide, second};
+ghost use Rattle.cpu_modes.specs.Uses.{use_of};
+ghost use Rattle.cpu_modes.specs.declared.place.Direction.{Direction};
+ghost use Rattle.cpu_modes.specs.declared.place.Reach.{Reach};
+ghost use Rattle.cpu_modes.specs.declared.uses.Use.{Use};
+ghost use Rattle.cpu_modes.specs.declared.uses.Width.{Width};
+ghost use Rattle.console_bus.specs.Memory.{IsMemoryAt};
+ghost use Rattle.whole_instructions.specs.Fetching.{HasCode, IsRowAt, IsMade, Reaches};
+
+use crate::code::{Code, high_access, high_byte, low_access, low_byte, pass, passed, write};
+use crate::operations::Store;
+use crate::ways::{
+    Absolute, AbsoluteX, AbsoluteY, Direct, DirectX, DirectY, Long, LongX, Reached, StackRelative,
+    Way,
+};
+use console_bus::{Bus, MemoryAccess};
+use cpu_alu::operand_written;
+use cpu_modes::{Direction, Reach, Traffic, Width, is_wide};
+use cpu_tables::{Mode, Regs, Row};
+
+/// Writes data of 8 bits. Returns false if it doesn't fit; then nothing has changed.
+#[tactic(auto, using(crate::proofs::Writes::narrow_store))]
+#[inline(always)]
+fn write_byte(
+    regs: &mut Regs,
+    bus: &mut Bus,
+    code: Code,
+    row: Row,
+    reach: Reach,
+    width: Width,
+    reached: Reached,
+    low: MemoryAccess,
+) -> bool
+    requires code { HasCode bus.old regs.old code.at code.clocks }
+    requires row { IsRowAt bus.old code.at row.op row.mode }
+    requires writes { use_of row.op ≡ Use.Store width }
+    requires narrow { is_wide width regs.old ≡ false }
+    requires reaches { Reaches row.mode reach bus.old regs.old code.at
+        (record { direction = Direction.Store; wide = false }) reached.operands reached.clocks reached.at }
+    requires few { (reached.clocks ≤ 1000) × (reached.operands ≤ 3) × (low.clocks < 256) }
+    requires low { IsMemoryAt bus.old.board bus.old.io.fast reached.at low.at low.clocks }
+    ensures made { IsTrue result → IsMade regs.old regs.new bus.old bus.new }
+    ensures stays { result ≡ false → (regs.new ≡ regs.old) × (bus.new ≡ bus.old) }
+{
+    let _reach = reach;
+    let _width = width;
+    let all = code.clocks + reached.clocks + low.clocks;
+    if all >= bus.clocks_left() {
+        return false;
+    }
+    let v = low_byte(operand_written(row, passed(regs, reached.operands + 1), 0));
+    write(bus, low.at, v);
+    pass(regs, bus, reached.operands + 1, v, all);
+    true
+}
+
+/// Writes data of 16 bits. Returns false if it doesn't fit; then nothing has changed.
+#[tactic(auto, using(crate::proofs::Writes::wide_store))]
+#[inline(always)]
+fn write_word(
+    regs: &mut Regs,
+    bus: &mut Bus,
+    code: Code,
+    row: Row,
+    reach: Reach,
+    width: Width,
+    reached: Reached,
+    low: MemoryAccess,
+    high: MemoryAccess,
+) -> bool
+    requires code { HasCode bus.old regs.old code.at code.clocks }
+    requires row { IsRowAt bus.old code.at row.op row.mode }
+    requires writes { use_of row.op ≡ Use.Store width }
+    requires wide { is_wide width regs.old ≡ true }
+    requires reaches { Reaches row.mode reach bus.old regs.old code.at
+        (record { direction = Direction.Store; wide = true }) reached.operands reached.clocks reached.at }
+    requires few { (reached.clocks ≤ 1000) × (reached.operands ≤ 3) × (low.clocks < 256) }
+    requires low { IsMemoryAt bus.old.board bus.old.io.fast reached.at low.at low.clocks }
+    requires high { IsMemoryAt bus.old.board bus.old.io.fast (second reach reached.at) high.at low.clocks }
+    ensures made { IsTrue result → IsMade regs.old regs.new bus.old bus.new }
+    ensures stays { result ≡ false → (regs.new ≡ regs.old) × (bus.new ≡ bus.old) }
+{
+    let _reach = reach;
+    let _width = width;
+    let all = code.clocks + reached.clocks + 2 * low.clocks;
+    if all >= bus.clocks_left() {
+        return false;
+    }
+    let word = operand_written(row, passed(regs, reached.operands + 1), 0);
+    let v = high_byte(word);
+    write(bus, low.at, low_byte(word));
+    write(bus, high.at, v);
+    pass(regs, bus, reached.operands + 1, v, all);
+    true
+}
+
+/// Makes an instruction that writes data of a mode. Returns false if it can't be made whole; then nothing has changed.
+#[inline(never)]
+fn store<W: Way, L: Store>(regs: &mut Regs, bus: &mut Bus, at: usize, clocks: u16) -> bool
+    requires code { HasCode bus.old regs.old at clocks }
+    requires row { IsRowAt bus.old at L.OP W.MODE }
+    ensures made { IsTrue result → IsMade regs.old regs.new bus.old bus.new }
+    ensures stays { result ≡ false → (regs.new ≡ regs.old) × (bus.new ≡ bus.old) }
+{
+    let code = Code { at, clocks };
+    let row = Row {
+        op: L::OP,
+        mode: W::MODE,
+    };
+    let wide = is_wide(L::WIDTH, regs);
+    let data = Traffic {
+        direction: Direction::Store,
+        wide,
+    };
+    let reached = W::reach(regs, bus, code, data);
+    let Some(low) = low_access(bus, reached.at) else {
+        return false;
+    };
+    if !wide {
+        return write_byte(regs, bus, code, row, W::SECOND, L::WIDTH, reached, low);
+    }
+    let Some(high) = high_access(bus, W::SECOND, reached.at, low) else {
+        return false;
+    };
+    write_word(
+        regs,
+        bus,
+        code,
+        row,
+        W::SECOND,
+        L::WIDTH,
+        reached,
+        low,
+        high,
+    )
+}
+
+/// Makes an instruction that writes data, by its mode. Returns false if it can't be made whole; then nothing has changed.
+#[inline(never)]
+pub(crate) fn store_by<L: Store>(
+    regs: &mut Regs,
+    bus: &mut Bus,
+    at: usize,
+    clocks: u16,
+    mode: Mode,
+) -> bool
+    requires code { HasCode bus.old regs.old at clocks }
+    requires row { IsRowAt bus.old at L.OP mode }
+    ensures made { IsTrue result → IsMade regs.old regs.new bus.old bus.new }
+    ensures stays { result ≡ false → (regs.new ≡ regs.old) × (bus.new ≡ bus.old) }
+{
+    match mode {
+        Mode::Direct => store::<Direct, L>(regs, bus, at, clocks),
+        Mode::DirectX => store::<DirectX, L>(regs, bus, at, clocks),
+        Mode::DirectY => store::<DirectY, L>(regs, bus, at, clocks),
+        Mode::Absolute => store::<Absolute, L>(regs, bus, at, clocks),
+        Mode::AbsoluteX => store::<AbsoluteX, L>(regs, bus, at, clocks),
+        Mode::AbsoluteY => store::<AbsoluteY, L>(regs, bus, at, clocks),
+        Mode::Long => store::<Long, L>(regs, bus, at, clocks),
+        Mode::LongX => store::<LongX, L>(regs, bus, at, clocks),
+        Mode::StackRelative => store::<StackRelative, L>(regs, bus, at, clocks),
+        _ => false,
+    }
+}
