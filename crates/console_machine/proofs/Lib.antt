@@ -9,3 +9,4 @@ pub mod PortAccesses
 pub mod Ports
 pub mod Rounds
 pub mod Runs
+pub mod Wholes

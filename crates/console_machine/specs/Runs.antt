@@ -10,13 +10,12 @@ use Rattle.console_steps.specs.ConsoleState.{ConsoleState, access_clocks, act_of
 use Rattle.console_steps.specs.ConsoleState.{overscan_of}
 use Rattle.console_steps.specs.Stands.{IsAt}
 use Rattle.console_steps.specs.Plain.{IsCalm, IsLook}
+use Rattle.whole_instructions.specs.Passes.{QuietSteps}
 use Rattle.console_machine.specs.SideLaws.{IsAfter}
 
 -- so many quiet steps lead from a console state to another, and emit nothing
 abbrev pub SilentWorlds : ℕ → ConsoleState → ConsoleState → Type 0
-SilentWorlds zero w to = w ≡ to
-SilentWorlds (suc n) w to = (act_of w.rest (due_of w) ≡ Quiet) × (bytes_after w (due_of w) 0 ≡ [])
-    × SilentWorlds n (console_after w (due_of w) 0) to
+SilentWorlds n w to = QuietSteps n w to
 
 -- such steps lead from a console state to one at which processor and bus are, and last so many clocks
 pub record HasRun (cpu : Cpu) (bus : BusState) (w : ConsoleState) (clocks : ℕ) : Type 0 where

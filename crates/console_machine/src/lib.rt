@@ -11,7 +11,6 @@
 
 mod acts;
 mod advance;
-mod instructions;
 mod many_steps;
 mod parts;
 mod patience;

@@ -15,13 +15,12 @@ ghost use Rattle.console_machine.specs.Follows.{Follows};
 ghost use Rattle.console_machine.specs.Runs.{HasRun, IsRounds};
 ghost use Rattle.console_machine.specs.Rounds.{GoesOver, refresh_clocks};
 
-use crate::instructions::instruction;
 use crate::patience::Patience;
 use cart_map::Place as BusPlace;
 use console_bus::Bus;
 use console_steps::{is_calm, is_plain_ahead, is_wired, reach_plain_place, try_look, try_plain};
-use cpu_modes::Place;
 use cpu65816::Cpu;
+use whole_instructions::make_whole;
 
 /// More accesses than a line has room for.
 const MOST_ACCESSES: u16 = 256;
@@ -59,14 +58,21 @@ fn make_one(cpu: &mut Cpu, bus: &mut Bus) -> bool
     }
 }
 
-/// Makes the accesses of an instruction that begins, else one access. Returns whether another may follow.
+/// Makes whole instructions, as many as can be made.
+#[tactic(auto, using(crate::proofs::Wholes::whole_follows))]
+#[inline(always)]
+fn make_instructions(cpu: &mut Cpu, bus: &mut Bus)
+    ensures { Follows cpu.old cpu.new bus.old bus.new }
+{
+    make_whole(cpu, bus);
+}
+
+/// Makes whole instructions, and then one access. Returns whether another may follow.
 #[inline(always)]
 fn make_some(cpu: &mut Cpu, bus: &mut Bus) -> bool
     ensures { Follows cpu.old cpu.new bus.old bus.new }
 {
-    if let Place::Ended = cpu.place() {
-        return instruction(cpu, bus);
-    }
+    make_instructions(cpu, bus);
     make_one(cpu, bus)
 }
 

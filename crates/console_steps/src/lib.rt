@@ -11,7 +11,6 @@ mod bus_access;
 mod drawing;
 mod effects;
 mod happening;
-mod known;
 mod passing;
 mod plain;
 mod plain_places;
@@ -24,7 +23,6 @@ pub use bus_access::{
 pub use effects::{
     give_interrupt_levels, make_inner, make_move, make_read, make_reset, make_write,
 };
-pub use known::{try_idle_at, try_read_at, try_write_at};
 pub use passing::pass;
 pub use plain::{is_calm, is_wired, try_look, try_plain};
 pub use plain_places::{is_plain_ahead, reach_plain_place};

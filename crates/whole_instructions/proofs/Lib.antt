@@ -8,3 +8,5 @@ pub mod Writes
 pub mod Cycles
 pub mod Pushes
 pub mod Wholes
+pub mod Orders
+pub mod Befores

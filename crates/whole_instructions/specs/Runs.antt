@@ -1,7 +1,9 @@
 -- Whole instructions one after another, told of the processor of the code.
-use Rattle.std.specs.Prelude.{◌≡◌, ℕ, ◌+◌, ◌-◌, ◌≤◌}
+use Rattle.std.specs.Prelude.{◌≡◌, false, ℕ, ◌+◌, ◌-◌, ◌≤◌}
 use Rattle.cpu_tables.specs.declared.regs.Regs.{Regs}
 use Rattle.cpu_modes.specs.Plan.{ends}
+use Rattle.cpu_modes.specs.Remaining.{remaining, Keeps}
+use Rattle.cpu_modes.specs.declared.micro.Micro.{Micro}
 use Rattle.cpu65816.specs.declared.processor.Cpu.{Cpu}
 use Rattle.beam.specs.Places.{clocks_left}
 use Rattle.console_bus.specs.BusState.{BusState}
@@ -17,6 +19,12 @@ pub record EndsAfter (begun r r' : Regs) (bus bus' : BusState) : Type 0 where
 
 abbrev pub IsRun : Regs → Regs → BusState → BusState → Type 0
 IsRun r r' bus bus' = (begun : Regs) → EndsAfter begun r r' bus bus'
+
+-- the accesses of an instruction before its data have been made: what is left of it is what this micro-state leaves
+pub record StandsBefore (r : Regs) (micro : Micro) (bus bus' : BusState) : Type 0 where
+  pub passes : (begun : Regs) → Passes begun r (ends r) (remaining micro) bus bus'
+  pub start : micro.start ≡ r
+  pub keeps : Keeps false micro
 
 -- from a console state quiet steps lead, in so many clocks, to one at which processor and bus are
 pub record ComesTo (cpu : Cpu) (bus : BusState) (w : ConsoleState) (clocks : ℕ) : Type 0 where

@@ -1,5 +1,5 @@
 // The bytes of an instruction in the memory, and the bus once it is told of an instruction.
-ghost use Rattle.std.specs.Prelude.{◌≡◌, ◌+◌, ◌/◌, ◌%◌, ◌<◌, ◌^◌, IfSome, slice_index};
+ghost use Rattle.std.specs.Prelude.{◌≡◌, ◌+◌, ◌/◌, ◌%◌, ◌<◌, ◌≤◌, ◌^◌, IfSome, slice_index};
 ghost use Rattle.beam.specs.Places.{clocks_left};
 ghost use Rattle.console_bus.specs.Memory.{IsMemoryAt, IsStretch, stored};
 ghost use Rattle.console_bus.specs.Places.{on_bus};
@@ -80,6 +80,18 @@ impl Code {
     {
         let _regs = regs;
         bus.load(self.at + 3)
+    }
+
+    /// Returns a byte after the opcode by its number, 0 for the opcode itself.
+    #[tactic(auto, using(crate::proofs::Fetches::inside))]
+    #[inline(always)]
+    pub(crate) fn operand(self, regs: &Regs, bus: &Bus, number: u16) -> u8
+        requires code { HasCode bus.now regs.now self.at self.clocks }
+        requires number { number ≤ 3 }
+        ensures { result ≡ slice_index bus.now.memory (self.at + number) }
+    {
+        let _regs = regs;
+        bus.load(self.at + number as usize)
     }
 
     /// Returns the word of the two bytes after the opcode.

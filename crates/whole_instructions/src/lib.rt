@@ -18,6 +18,7 @@ mod loads;
 mod operations;
 mod runs;
 mod stack;
+mod standing;
 mod stores;
 mod ways;
 

@@ -3,6 +3,7 @@ ghost use Rattle.std.specs.Prelude.{◌≡◌, false};
 ghost use Rattle.whole_instructions.specs.Runs.{GoesWhole, IsRun};
 
 use crate::instruction::instruction;
+use crate::standing::stand_before;
 use console_bus::Bus;
 use cpu_tables::Regs;
 use cpu65816::Cpu;
@@ -23,8 +24,9 @@ fn run(regs: &mut Regs, bus: &mut Bus)
 }
 
 /// Makes whole instructions, if an instruction has ended and the interrupt lines bring no interrupt. Each lies in the
-/// memory with all that it accesses, and ends before the beam's next place. Otherwise nothing changes.
-#[tactic(auto, using(crate::proofs::Wholes::goes_whole, crate::proofs::Wholes::goes_nowhere))]
+/// memory with all that it accesses, and ends before the beam's next place. If the data of the one after them is no
+/// memory, it makes the accesses before that. Otherwise nothing changes.
+#[tactic(auto, using(crate::proofs::Wholes::goes_nowhere))]
 #[inline(always)]
 pub fn make_whole(cpu: &mut Cpu, bus: &mut Bus)
     ensures { GoesWhole cpu.old cpu.new bus.old bus.new }
@@ -34,5 +36,9 @@ pub fn make_whole(cpu: &mut Cpu, bus: &mut Bus)
     };
     let mut micro = first;
     run(&mut micro.here, bus);
+    if stand_before(&mut micro, bus) {
+        cpu.go_on_from(micro, false);
+        return;
+    }
     cpu.go_on_from(micro, true);
 }

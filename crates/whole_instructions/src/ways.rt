@@ -55,7 +55,11 @@ fn index_clocks(traffic: Traffic, regs: &Regs, at: u32, index: u16) -> u16
     requires { at < 2 ^ 24 }
     ensures { result ≡ (if has_index_cycle traffic regs.now at index then 6 else 0) }
 {
-    if has_index_cycle(traffic, regs, at, index) { 6 } else { 0 }
+    if has_index_cycle(traffic, regs, at, index) {
+        6
+    } else {
+        0
+    }
 }
 
 /// `d`
