@@ -10,3 +10,4 @@ pub mod Pushes
 pub mod Wholes
 pub mod Orders
 pub mod Befores
+pub mod RegisterWrites

@@ -12,6 +12,10 @@ use console_bus::Bus;
 use cpu_modes::{Direction, Micro, Traffic, Use, is_wide, use_of};
 use cpu_tables::{Mode, Row, row};
 
+/// With fewer clocks than these before the beam's next place, the processor isn't put before its data: mostly the accesses
+/// before that don't fit.
+const FEW_CLOCKS: u16 = 32;
+
 /// Makes all accesses of an instruction before its data, if they fit and the data is no memory. Otherwise nothing
 /// changes.
 #[inline(always)]
@@ -70,6 +74,9 @@ pub(crate) fn stand_before(micro: &mut Micro, bus: &mut Bus) -> bool
     ensures before { IsTrue result → StandsBefore micro.old.here micro.new bus.old bus.new }
     ensures stays { result ≡ false → (micro.new.here ≡ micro.old.here) × (bus.new ≡ bus.old) }
 {
+    if bus.clocks_left() < FEW_CLOCKS {
+        return false;
+    }
     let Some(code) = Code::of(&micro.here, bus) else {
         return false;
     };

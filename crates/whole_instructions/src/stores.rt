@@ -7,7 +7,10 @@ ghost use Rattle.cpu_modes.specs.declared.place.Direction.{Direction};
 ghost use Rattle.cpu_modes.specs.declared.place.Reach.{Reach};
 ghost use Rattle.cpu_modes.specs.declared.uses.Use.{Use};
 ghost use Rattle.cpu_modes.specs.declared.uses.Width.{Width};
+ghost use Rattle.beam.specs.Places.{clocks_left};
 ghost use Rattle.console_bus.specs.Memory.{IsMemoryAt};
+ghost use Rattle.console_bus.specs.Places.{register_written, on_bus};
+ghost use Rattle.console_steps.specs.AtOnce.{gone_on};
 ghost use Rattle.whole_instructions.specs.Fetching.{HasCode, IsRowAt, IsMade, Reaches};
 
 use crate::code::{Code, high_access, high_byte, low_access, low_byte, pass, passed, write};
@@ -17,6 +20,7 @@ use crate::ways::{
     Way,
 };
 use console_bus::{Bus, MemoryAccess};
+use console_steps::{REGISTER_CLOCKS, bus_register, is_port};
 use cpu_alu::operand_written;
 use cpu_modes::{Direction, Reach, Traffic, Width, is_wide};
 use cpu_tables::{Mode, Regs, Row};
@@ -97,6 +101,58 @@ fn write_word(
     true
 }
 
+/// Writes a register of the B bus, and puts the byte on the data bus.
+#[inline(always)]
+fn put_register(bus: &mut Bus, register: u8, v: u8)
+    requires { 6 < clocks_left bus.old.beam }
+    ensures { bus.new ≡ gone_on (on_bus (register_written bus.old register v) v) 6 }
+{
+    bus.write_register(register, v);
+    bus.put(v);
+    bus.go_on(REGISTER_CLOCKS as u16);
+}
+
+/// Writes data of 8 bits to a register of the B bus other than a port. Returns false if it goes elsewhere or doesn't fit;
+/// then nothing has changed.
+#[inline(always)]
+fn write_register(
+    regs: &mut Regs,
+    bus: &mut Bus,
+    code: Code,
+    row: Row,
+    reach: Reach,
+    width: Width,
+    reached: Reached,
+) -> bool
+    requires code { HasCode bus.old regs.old code.at code.clocks }
+    requires row { IsRowAt bus.old code.at row.op row.mode }
+    requires writes { use_of row.op ≡ Use.Store width }
+    requires narrow { is_wide width regs.old ≡ false }
+    requires reaches { Reaches row.mode reach bus.old regs.old code.at
+        (record { direction = Direction.Store; wide = false }) reached.operands reached.clocks reached.at }
+    requires few { (reached.clocks ≤ 1000) × (reached.operands ≤ 3) }
+    ensures made { IsTrue result → IsMade regs.old regs.new bus.old bus.new }
+    ensures stays { result ≡ false → (regs.new ≡ regs.old) × (bus.new ≡ bus.old) }
+{
+    let _reach = reach;
+    let _width = width;
+    let Some(register) = bus_register(reached.at) else {
+        return false;
+    };
+    if is_port(register) {
+        return false;
+    }
+    let all = code.clocks + reached.clocks;
+    if all + REGISTER_CLOCKS as u16 >= bus.clocks_left() {
+        return false;
+    }
+    let last = code.operand(regs, bus, reached.operands);
+    pass(regs, bus, reached.operands + 1, last, all);
+    let v = low_byte(operand_written(row, *regs, 0));
+    put_register(bus, register, v);
+    true
+}
+
 /// Makes an instruction that writes data of a mode. Returns false if it can't be made whole; then nothing has changed.
 #[inline(never)]
 fn store<W: Way, L: Store>(regs: &mut Regs, bus: &mut Bus, at: usize, clocks: u16) -> bool
@@ -117,7 +173,7 @@ fn store<W: Way, L: Store>(regs: &mut Regs, bus: &mut Bus, at: usize, clocks: u1
     };
     let reached = W::reach(regs, bus, code, data);
     let Some(low) = low_access(bus, reached.at) else {
-        return false;
+        return !wide && write_register(regs, bus, code, row, W::SECOND, L::WIDTH, reached);
     };
     if !wide {
         return write_byte(regs, bus, code, row, W::SECOND, L::WIDTH, reached, low);

@@ -4,13 +4,13 @@ use Rattle.whole_instructions.specs.Fetching.{Reaches}
 use Rattle.whole_instructions.proofs.stores.store.Goals as goal
 
 pub write_byte-requires-clause-writes : goal.write_byte-requires-clause-writes
-write_byte-requires-clause-writes g c = rw (c.OP.ensures, c.WIDTH-then-not-wide.ensures) g.L.Store.writes
+write_byte-requires-clause-writes g c = rw (c.OP.ensures, c.WIDTH-then-not-wide-2.ensures) g.L.Store.writes
 
 pub write_byte-requires-clause-reaches : goal.write_byte-requires-clause-reaches
 write_byte-requires-clause-reaches g c =
     let Of : Bool → Type 0 = λ b. Reaches g.W.Way.MODE g.W.Way.SECOND c.args.bus.now c.args.regs.now c.args.at (record { direction = Direction.Store; wide = b })
     c.reach-reached.result.operands c.reach-reached.result.clocks c.reach-reached.result.at in
-    rw c.MODE.ensures (subst Of c.if-not-wide.true c.reach-reached.ensures.reaches)
+    rw c.MODE.ensures (subst Of c.if-not-wide-2.true c.reach-reached.ensures.reaches)
 
 pub write_word-requires-clause-writes : goal.write_word-requires-clause-writes
 write_word-requires-clause-writes g c = rw (c.OP.ensures, c.WIDTH-2.ensures) g.L.Store.writes
@@ -19,4 +19,13 @@ pub write_word-requires-clause-reaches : goal.write_word-requires-clause-reaches
 write_word-requires-clause-reaches g c =
     let Of : Bool → Type 0 = λ b. Reaches g.W.Way.MODE g.W.Way.SECOND c.args.bus.now c.args.regs.now c.args.at (record { direction = Direction.Store; wide = b })
     c.reach-reached.result.operands c.reach-reached.result.clocks c.reach-reached.result.at in
-    rw (c.MODE.ensures, c.SECOND-3.ensures) (subst Of c.if-not-wide.false c.reach-reached.ensures.reaches)
+    rw (c.MODE.ensures, c.SECOND-3.ensures) (subst Of c.if-not-wide-2.false c.reach-reached.ensures.reaches)
+
+pub write_register-requires-clause-writes : goal.write_register-requires-clause-writes
+write_register-requires-clause-writes g c = rw (c.OP.ensures, c.WIDTH-then-not-wide.ensures) g.L.Store.writes
+
+pub write_register-requires-clause-reaches : goal.write_register-requires-clause-reaches
+write_register-requires-clause-reaches g c =
+    let Of : Bool → Type 0 = λ b. Reaches g.W.Way.MODE g.W.Way.SECOND c.args.bus.now c.args.regs.now c.args.at (record { direction = Direction.Store; wide = b })
+    c.reach-reached.result.operands c.reach-reached.result.clocks c.reach-reached.result.at in
+    rw c.MODE.ensures (subst Of c.if-not-wide.true c.reach-reached.ensures.reaches)
