@@ -59,7 +59,6 @@ fn make_one(cpu: &mut Cpu, bus: &mut Bus) -> bool
 }
 
 /// Makes whole instructions, as many as can be made.
-#[tactic(auto, using(crate::proofs::Wholes::whole_follows))]
 #[inline(always)]
 fn make_instructions(cpu: &mut Cpu, bus: &mut Bus)
     ensures { Follows cpu.old cpu.new bus.old bus.new }
