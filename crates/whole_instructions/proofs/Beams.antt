@@ -1,5 +1,5 @@
 -- The beam that goes on before its next place.
-use Rattle.std.proofs.Common.{◌≡◌, ℕ, zero, suc, ◌+◌, ◌-◌, ◌<◌, ◌≤◌, Bool, [], refl, sym, ap, subst, ◌∙◌, arith}
+use Rattle.std.proofs.Common.{◌≡◌, ℕ, zero, suc, ◌+◌, ◌-◌, ◌<◌, Bool, [], refl, sym, ap, ◌∙◌, arith}
 use Rattle.beam.specs.Events.{BeamValue, beam_after, beam_next, passed}
 use Rattle.beam.specs.Places.{clocks_left, next_place}
 use Rattle.beam.proofs.Quiet.{further, nearer, quiet_passed}

@@ -1,5 +1,5 @@
 -- Data that is read, and what ends an instruction.
-use Rattle.std.proofs.Common.{◌≡◌, ℕ, ◌+◌, ◌*◌, ◌%◌, ◌<◌, ◌≤◌, Bool, true, false, slice_index, refl, sym, ap, subst, ◌∙◌, arith}
+use Rattle.std.proofs.Common.{◌≡◌, ℕ, ◌+◌, ◌*◌, ◌<◌, Bool, true, false, slice_index, refl, sym, subst, arith}
 use Rattle.cpu_tables.specs.declared.mode.Mode.{Mode}
 use Rattle.cpu_tables.specs.declared.mode.Mode.TheVariants.{Immediate}
 use Rattle.cpu_tables.specs.declared.opcode.Row.{Row}
@@ -7,12 +7,11 @@ use Rattle.cpu_tables.specs.declared.operation.Op.{Op}
 use Rattle.cpu_tables.specs.declared.regs.Regs.{Regs}
 use Rattle.cpu_alu.specs.Results.{registers_after}
 use Rattle.cpu_modes.specs.Addresses.{join, second, is_wide}
-use Rattle.cpu_modes.specs.Orders.{by_mode, data_of, data_at, done, immediate, immediate_high, load_high, order, order_by}
-use Rattle.cpu_modes.specs.Plan.{Plan, ends, idles}
+use Rattle.cpu_modes.specs.Orders.{by_mode, done, immediate_high, load_high, order}
+use Rattle.cpu_modes.specs.Plan.{Plan, ends}
 use Rattle.cpu_modes.specs.Uses.{use_of}
 use Rattle.cpu_modes.specs.declared.place.Direction.{Direction}
 use Rattle.cpu_modes.specs.declared.place.Reach.{Reach}
-use Rattle.cpu_modes.specs.declared.place.Traffic.{Traffic}
 use Rattle.cpu_modes.specs.declared.uses.Use.{Use}
 use Rattle.cpu_modes.specs.declared.uses.Width.{Width}
 use Rattle.beam.specs.Places.{clocks_left}
@@ -24,7 +23,7 @@ use Rattle.whole_instructions.specs.Passes.{Passes}
 use Rattle.whole_instructions.specs.Looks.{Makes, Looks}
 use Rattle.whole_instructions.specs.Fetching.{HasCode, IsOpcodeOf, IsRowAt, IsMade, Reaches, past}
 use Rattle.whole_instructions.proofs.Looks.{looks_read, looks_then, makes_then, makes_told}
-use Rattle.whole_instructions.proofs.Fetches.{looks_code, looks_idle_if, looks_opcode}
+use Rattle.whole_instructions.proofs.Fetches.{looks_code, looks_opcode}
 use Rattle.whole_instructions.proofs.Reaching.{byte, word}
 
 -- an instruction from its opcode on, as far as a plan

@@ -1,17 +1,16 @@
 -- Fetches of an instruction's bytes.
-use Rattle.std.proofs.Common.{◌≡◌, ℕ, ◌+◌, ◌*◌, ◌/◌, ◌%◌, ◌<◌, ◌≤◌, ◌^◌, Bool, true, false, Option, Some, slice_index, if◌then◌else◌, refl, sym, ap, subst, ◌∙◌, arith}
-use Rattle.cpu_tables.specs.Opcodes.{row_of}
+use Rattle.std.proofs.Common.{◌≡◌, ℕ, ◌+◌, ◌*◌, ◌%◌, ◌<◌, ◌≤◌, ◌^◌, Bool, true, false, Option, slice_index, if◌then◌else◌, sym, ap, subst, ◌∙◌, arith}
 use Rattle.cpu_tables.specs.declared.opcode.Row.{Row}
 use Rattle.cpu_tables.specs.declared.regs.Regs.{Regs}
 use Rattle.cpu_modes.specs.Addresses.{code, fetched, second}
 use Rattle.cpu_modes.specs.declared.place.Reach.{Reach}
 use Rattle.cpu_modes.specs.Orders.{fetch, idles_if, order, order_of_opcode}
-use Rattle.cpu_modes.specs.Plan.{Plan, fetches, ends}
+use Rattle.cpu_modes.specs.Plan.{Plan, ends}
 use Rattle.console_bus.specs.BusState.{BusState}
 use Rattle.console_bus.specs.Memory.{IsMemoryAt, IsStretch}
 use Rattle.whole_instructions.specs.Looks.{Looks}
 use Rattle.whole_instructions.specs.Fetching.{HasCode, IsOpcodeOf, IsRowAt, past}
-use Rattle.whole_instructions.proofs.Looks.{looks_none, looks_fetch, looks_idle, looks_begin, looks_then}
+use Rattle.whole_instructions.proofs.Looks.{looks_none, looks_fetch, looks_idle, looks_begin}
 
 -- one more byte of the program
 past_one : (r : Regs) (k : ℕ) → fetched (past r k) ≡ past r (k + 1)

@@ -1,5 +1,5 @@
 -- The orders of operations with data, by their addressing mode.
-use Rattle.std.proofs.Common.{◌≡◌, Bool, refl, ◌∙◌, sym}
+use Rattle.std.proofs.Common.{◌≡◌, Bool, refl}
 use Rattle.cpu_tables.specs.declared.opcode.Row.{Row}
 use Rattle.cpu_tables.specs.declared.regs.Regs.{Regs}
 use Rattle.cpu_modes.specs.Addresses.{is_wide}

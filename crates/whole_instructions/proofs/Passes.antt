@@ -1,5 +1,5 @@
 -- One access, and accesses after others.
-use Rattle.std.proofs.Common.{◌≡◌, ℕ, zero, suc, ◌+◌, ◌-◌, ◌<◌, ◌≤◌, Bool, true, false, not, ◌&&◌, ◌||◌, Option, Some, None, [], refl, sym, ap, subst, ◌∙◌, arith, add-zero}
+use Rattle.std.proofs.Common.{◌≡◌, ℕ, zero, suc, ◌+◌, ◌-◌, ◌<◌, Bool, true, false, not, ◌&&◌, ◌||◌, Option, Some, None, [], refl, sym, ap, subst, ◌∙◌, arith, add-zero}
 use Rattle.snes_defs.specs.declared.ports.Act.TheVariants.{Quiet}
 use Rattle.cpu_tables.specs.declared.access.Access.{Access}
 use Rattle.cpu_tables.specs.declared.regs.Regs.{Regs}
@@ -7,7 +7,6 @@ use Rattle.cpu_modes.specs.Plan.{Plan, after, finished, first_access}
 use Rattle.cpu65816.specs.Instruction.{CpuState, left_of, ahead, ahead_by, end_of, registers_by, moved_by, moved_on, next_of}
 use Rattle.cpu65816.proofs.Moves.{left_by-append}
 use Rattle.io_math.specs.Registers.{nmi_level, irq_level}
-use Rattle.dma_hdma.specs.Channels.{due_of as transfer_of}
 use Rattle.beam.specs.Places.{clocks_left}
 use Rattle.console_bus.specs.BusState.{BusState}
 use Rattle.console_steps.specs.ConsoleState.{ConsoleState, Due, Accesses, access_act, access_clocks, act_of, after_access, after_clocks, byte_of, bytes_after, bytes_in, console_after, due_of, effect}

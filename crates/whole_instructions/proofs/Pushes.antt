@@ -1,20 +1,18 @@
 -- Instructions that push or pull.
-use Rattle.std.proofs.Common.{◌≡◌, ℕ, ◌+◌, ◌*◌, ◌/◌, ◌%◌, ◌<◌, ◌≤◌, ◌==◌, ◌&&◌, Bool, true, false, not, slice_index, if◌then◌else◌, refl, sym, ap, subst, ◌∙◌, arith}
+use Rattle.std.proofs.Common.{◌≡◌, ℕ, ◌+◌, ◌*◌, ◌/◌, ◌%◌, ◌<◌, Bool, true, false, slice_index, refl, sym, subst, arith}
 use Rattle.cpu_tables.specs.declared.mode.Mode.{Mode}
-use Rattle.cpu_tables.specs.declared.mode.Mode.TheVariants.{Absolute, Accumulator}
+use Rattle.cpu_tables.specs.declared.mode.Mode.TheVariants.{Absolute}
 use Rattle.cpu_tables.specs.declared.opcode.Row.{Row}
 use Rattle.cpu_tables.specs.declared.operation.Op.{Op}
-use Rattle.cpu_tables.specs.declared.operation.Op.TheVariants.{Jmp, Jsr, Rts}
+use Rattle.cpu_tables.specs.declared.operation.Op.TheVariants.{Jsr, Rts}
 use Rattle.cpu_tables.specs.declared.regs.Regs.{Regs}
-use Rattle.cpu_alu.specs.Flow.{taken, relative}
 use Rattle.cpu_alu.specs.Results.{registers_after, operand_written}
-use Rattle.cpu_modes.specs.Addresses.{join, second, is_wide, stack, pulled, pushed}
-use Rattle.cpu_modes.specs.Orders.{no_data, push_order, push_word, return_counter, by_mode, data_of, data_at, done, order, order_by, store_high, change_high, changed, write_low, written_of, pull_high, pull_data, push_low, branch_cycles, leaves_page, last_fetched, return_high, after_return, idles_if}
-use Rattle.cpu_modes.specs.Plan.{Plan, ends, idles, reads, writes}
+use Rattle.cpu_modes.specs.Addresses.{join, is_wide, stack, pulled, pushed}
+use Rattle.cpu_modes.specs.Orders.{no_data, push_order, push_word, return_counter, done, order, written_of, pull_high, pull_data, push_low, last_fetched, return_high, after_return}
+use Rattle.cpu_modes.specs.Plan.{Plan, idles, writes}
 use Rattle.cpu_modes.specs.Uses.{use_of}
 use Rattle.cpu_modes.specs.declared.place.Direction.{Direction}
 use Rattle.cpu_modes.specs.declared.place.OperandKind.{OperandKind}
-use Rattle.cpu_modes.specs.declared.place.Reach.{Reach}
 use Rattle.cpu_modes.specs.declared.place.ReturnKind.{ReturnKind}
 use Rattle.cpu_modes.specs.declared.place.Traffic.{Traffic}
 use Rattle.cpu_modes.specs.declared.uses.Use.{Use}
@@ -24,11 +22,9 @@ use Rattle.console_bus.specs.BusState.{BusState}
 use Rattle.console_bus.specs.Memory.{IsMemoryAt, stored}
 use Rattle.console_bus.specs.Places.{on_bus}
 use Rattle.console_steps.specs.AtOnce.{gone_on}
-use Rattle.whole_instructions.specs.Passes.{Passes}
 use Rattle.whole_instructions.specs.Looks.{Makes, Looks}
-use Rattle.whole_instructions.specs.Fetching.{HasCode, IsOpcodeOf, IsRowAt, IsMade, Reaches, past}
-use Rattle.whole_instructions.proofs.Looks.{Keeps, stored_keeps, looks_none, looks_idle, looks_read, looks_then, makes_then, makes_write}
-use Rattle.whole_instructions.proofs.Fetches.{looks_code, looks_idle_if}
+use Rattle.whole_instructions.specs.Fetching.{HasCode, IsRowAt, IsMade, past}
+use Rattle.whole_instructions.proofs.Looks.{stored_keeps, looks_idle, looks_read, looks_then, makes_then, makes_write}
 use Rattle.whole_instructions.proofs.Reaching.{byte, word, operand_at}
 use Rattle.whole_instructions.proofs.DataReads.{begins, looks_made, wide_past}
 use Rattle.whole_instructions.proofs.Writes.{makes_twice, twice_picture, twice_beam}

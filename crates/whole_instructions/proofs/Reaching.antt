@@ -1,5 +1,5 @@
 -- What each addressing mode does before its data.
-use Rattle.std.proofs.Common.{◌≡◌, ℕ, ◌+◌, ◌*◌, ◌%◌, ◌==◌, ◌<◌, Bool, not, slice_index, if◌then◌else◌, refl, subst, arith}
+use Rattle.std.proofs.Common.{◌≡◌, ℕ, ◌+◌, ◌*◌, ◌%◌, ◌==◌, not, slice_index, if◌then◌else◌, refl, subst, arith}
 use Rattle.cpu_tables.specs.declared.mode.Mode.TheVariants.{Direct, DirectX, DirectY, Absolute, AbsoluteX, AbsoluteY, Long, LongX, StackRelative}
 use Rattle.cpu_tables.specs.declared.opcode.Row.{Row}
 use Rattle.cpu_tables.specs.declared.regs.Regs.{Regs}
@@ -14,7 +14,7 @@ use Rattle.cpu_modes.specs.declared.place.Traffic.{Traffic}
 use Rattle.console_bus.specs.BusState.{BusState}
 use Rattle.whole_instructions.specs.Looks.{Looks}
 use Rattle.whole_instructions.specs.Fetching.{HasCode, Reaches, past}
-use Rattle.whole_instructions.proofs.Looks.{looks_none, looks_idle, looks_then}
+use Rattle.whole_instructions.proofs.Looks.{looks_idle, looks_then}
 use Rattle.whole_instructions.proofs.Fetches.{looks_code, looks_idle_if}
 
 abbrev pub byte : BusState → ℕ → ℕ → ℕ

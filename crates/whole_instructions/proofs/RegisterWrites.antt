@@ -1,8 +1,6 @@
 -- A byte that is written to a register of the B bus other than a port.
-use Rattle.std.proofs.Common.{◌≡◌, ℕ, ◌+◌, ◌-◌, ◌*◌, ◌/◌, ◌%◌, ◌==◌, ◌<◌, Bool, true, false, nat_lt, [], slice_index, slice_set, if◌then◌else◌, refl, sym, ap, subst, ◌∙◌, arith}
-use Rattle.snes_defs.specs.declared.ports.Act.{Act}
-use Rattle.snes_defs.specs.declared.ports.Act.TheVariants.{Quiet, Write as PortWrite}
-use Rattle.cart_map.specs.declared.places.Place.{Place}
+use Rattle.std.proofs.Common.{◌≡◌, ℕ, ◌+◌, ◌%◌, ◌==◌, ◌<◌, Bool, true, false, nat_lt, [], slice_index, if◌then◌else◌, refl, sym, ap, subst, ◌∙◌, arith}
+use Rattle.snes_defs.specs.declared.ports.Act.TheVariants.{Quiet}
 use Rattle.cart_map.specs.declared.places.Place.TheVariants.{BBus}
 use Rattle.cart_map.specs.Clocks.{clocks_of}
 use Rattle.cpu_tables.specs.declared.access.Access.TheVariants.{Write}
@@ -12,7 +10,6 @@ use Rattle.cpu_tables.specs.declared.operation.Op.{Op}
 use Rattle.cpu_tables.specs.declared.regs.Regs.{Regs}
 use Rattle.cpu_alu.specs.Results.{operand_written}
 use Rattle.cpu_modes.specs.Addresses.{is_wide}
-use Rattle.cpu_modes.specs.Orders.{data_at, by_mode, order}
 use Rattle.cpu_modes.specs.Plan.{Plan, ends, writes}
 use Rattle.cpu_modes.specs.Uses.{use_of}
 use Rattle.cpu_modes.specs.declared.place.Direction.{Direction}

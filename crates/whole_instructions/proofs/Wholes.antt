@@ -1,5 +1,5 @@
 -- Runs of whole instructions: none, one more, and what they are to the processor of the code.
-use Rattle.std.proofs.Common.{◌≡◌, ℕ, ◌-◌, ◌≤◌, Bool, true, false, Option, Some, None, IsTrue, IfSome, refl, sym, ap, subst, ◌∙◌, arith, add-zero}
+use Rattle.std.proofs.Common.{◌≡◌, ℕ, ◌-◌, false, Some, refl, sym, ap, subst, ◌∙◌, arith, add-zero}
 use Rattle.cpu_tables.specs.declared.regs.Regs.{Regs}
 use Rattle.cpu_modes.specs.Plan.{Plan, fetches, reads, writes, idles, waits, stops, ends, finished}
 use Rattle.cpu_modes.specs.Remaining.{remaining}
@@ -7,15 +7,12 @@ use Rattle.cpu_modes.specs.declared.micro.Micro.{Micro}
 use Rattle.cpu65816.specs.Instruction.{CpuState, left_of}
 use Rattle.cpu65816.specs.Stands.{Stands}
 use Rattle.cpu65816.specs.declared.processor.Cpu.{Cpu}
-use Rattle.io_math.specs.Registers.{nmi_level, irq_level}
+use Rattle.io_math.specs.Registers.{nmi_level}
 use Rattle.beam.specs.Places.{clocks_left}
 use Rattle.console_bus.specs.BusState.{BusState}
-use Rattle.console_steps.specs.ConsoleState.{ConsoleState}
-use Rattle.console_steps.specs.Stands.{IsAt}
-use Rattle.console_steps.specs.Plain.{IsWired, IsCalm}
-use Rattle.whole_instructions.specs.Passes.{QuietSteps, HasLeft, Passes}
+use Rattle.whole_instructions.specs.Passes.{HasLeft, Passes}
 use Rattle.whole_instructions.specs.Fetching.{IsMade}
-use Rattle.whole_instructions.specs.Runs.{EndsAfter, IsRun, StandsBefore, ComesTo, GoesWhole}
+use Rattle.whole_instructions.specs.Runs.{IsRun, StandsBefore, ComesTo, GoesWhole}
 use Rattle.whole_instructions.proofs.Passes.{passes_none, passes_then}
 
 pub no_run : (r : Regs) (bus : BusState) → IsRun r r bus bus

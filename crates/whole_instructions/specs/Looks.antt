@@ -14,8 +14,8 @@ seen bus last b = record bus { last = last; beam = b }
 abbrev pub beam_on : BusState → BeamValue → ℕ → BeamValue
 beam_on bus b clocks = beam_after bus.picture.registers.settings.overscan b clocks
 
--- Accesses of so many clocks lead from one plan to another, wherever the beam stands, as long as it comes to no place in
--- them. `last` and `last'` are the bytes last on the bus before and after them.
+-- Accesses of so many clocks lead from one plan to another, wherever the beam stands, as long as it comes to no place
+-- in them. `last` and `last'` are the bytes last on the bus before and after them.
 abbrev pub Makes : BusState → Regs → Plan → ℕ → BusState → Regs → Plan → ℕ → ℕ → Type 0
 Makes bus start plan last bus' start' plan' last' clocks = (b : BeamValue) → clocks < clocks_left b
     → Passes start start' plan plan' (seen bus last b) (seen bus' last' (beam_on bus b clocks))

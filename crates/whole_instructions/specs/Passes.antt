@@ -1,6 +1,6 @@
--- Accesses of the processor that follow one another in an instruction, told without a processor of the code: by what the
--- instruction has still to do, and what that becomes.
-use Rattle.std.specs.Prelude.{◌≡◌, ℕ, zero, suc, ◌+◌, ◌-◌, ◌<◌, ◌≤◌, Bool, false, []}
+-- Accesses of the processor that follow one another in an instruction, told without a processor of the code. They are
+-- told by what the instruction has still to do, and by what that becomes.
+use Rattle.std.specs.Prelude.{◌≡◌, ℕ, zero, suc, ◌+◌, ◌-◌, ◌≤◌, false, []}
 use Rattle.snes_defs.specs.declared.ports.Act.TheVariants.{Quiet}
 use Rattle.cpu_tables.specs.declared.regs.Regs.{Regs}
 use Rattle.cpu_modes.specs.Plan.{Plan}

@@ -156,7 +156,8 @@ fn change<W: Way, L: Change>(regs: &mut Regs, bus: &mut Bus, at: usize, clocks: 
     change_word(regs, bus, code, row, W::SECOND, reached, low, high)
 }
 
-/// Makes an instruction that changes data, by its mode. Returns false if it can't be made whole; then nothing has changed.
+/// Makes an instruction that changes data, by its mode. Returns false if it can't be made whole; then nothing has
+/// changed.
 #[inline(never)]
 pub(crate) fn change_by<L: Change>(
     regs: &mut Regs,

@@ -54,8 +54,8 @@ pub(crate) fn status(regs: &mut Regs, bus: &mut Bus, at: usize, clocks: u16, row
     true
 }
 
-/// Returns the clocks of a branch's internal cycles: one if it is taken, and one more in emulation mode if it leaves the
-/// page. The program counter is past the branch.
+/// Returns the clocks of a branch's internal cycles. A taken branch has one, and one more in emulation mode if it
+/// leaves the page. The program counter is past the branch.
 #[inline(always)]
 fn branch_clocks(op: Op, regs: &Regs, offset: u8) -> u16
     ensures { result ≡ (if taken op regs.now.p then (if leaves_page regs.now offset then 12 else 6) else 0) }

@@ -1,13 +1,14 @@
 //! Whole instructions of the 65C816 in one call.
 //!
-//! The crate builds on `console_steps`, whose accesses are made one by one. An instruction is made whole if all its
-//! accesses are of memory or internal cycles, and end before the beam's next place. What that means is
-//! `specs/Passes.antt`: the console's steps from one state of the bus to the other, told by what the instruction has
-//! still to do. Accesses that only look are made ahead of the bus (`specs/Looks.antt`), so an instruction that turns out
-//! not to fit has changed nothing.
+//! The crate builds on `console_steps`, where accesses are made one by one. An instruction is made whole if all its
+//! accesses are of memory or internal cycles, and end before the beam's next place. A byte may also be written to a
+//! register of the B bus other than a port. `specs/Passes.antt` says what that means: the console's steps from one
+//! state of the bus to the other, told by what the instruction has still to do. The fetches and reads of an instruction
+//! change nothing but the byte last on the bus, and the beam (`specs/Looks.antt`). So an instruction that turns out not
+//! to fit has changed nothing.
 //!
-//! An addressing mode is a `Way`, an operation a `Load`, a `Store`, a `Change` and so on. Each shape of an instruction is
-//! one generic function, and `instruction` finds the shape by the opcode.
+//! An addressing mode is a `Way`; an operation with data is a `Load`, a `Store` or a `Change`. Each shape of an
+//! instruction is one function, generic over both, and `instruction` finds the shape by the opcode.
 #![tactic(auto)]
 
 mod changes;

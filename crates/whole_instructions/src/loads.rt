@@ -169,7 +169,8 @@ fn immediate<L: Load>(regs: &mut Regs, bus: &mut Bus, at: usize, clocks: u16) ->
     true
 }
 
-/// Makes an instruction that reads data, by its mode. Returns false if it can't be made whole; then nothing has changed.
+/// Makes an instruction that reads data, by its mode. Returns false if it can't be made whole; then nothing has
+/// changed.
 #[inline(never)]
 pub(crate) fn load_by<L: Load>(
     regs: &mut Regs,

@@ -23,9 +23,9 @@ fn run(regs: &mut Regs, bus: &mut Bus)
     }
 }
 
-/// Makes whole instructions, if an instruction has ended and the interrupt lines bring no interrupt. Each lies in the
-/// memory with all that it accesses, and ends before the beam's next place. If the data of the one after them is no
-/// memory, it makes the accesses before that. Otherwise nothing changes.
+/// Makes whole instructions, if an instruction has ended and the interrupt lines bring no interrupt. Each ends before
+/// the beam's next place, and accesses the memory alone, or writes a byte to a register of the B bus. If the data of
+/// the one after them is no memory, it makes the accesses before that. Otherwise nothing changes.
 #[tactic(auto, using(crate::proofs::Wholes::goes_nowhere))]
 #[inline(always)]
 pub fn make_whole(cpu: &mut Cpu, bus: &mut Bus)

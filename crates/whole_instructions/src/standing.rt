@@ -12,8 +12,8 @@ use console_bus::Bus;
 use cpu_modes::{Direction, Micro, Traffic, Use, is_wide, use_of};
 use cpu_tables::{Mode, Row, row};
 
-/// With fewer clocks than these before the beam's next place, the processor isn't put before its data: mostly the accesses
-/// before that don't fit.
+/// With fewer clocks than these before the beam's next place, the processor isn't put before its data. Mostly the
+/// accesses before that don't fit then.
 const FEW_CLOCKS: u16 = 32;
 
 /// Makes all accesses of an instruction before its data, if they fit and the data is no memory. Otherwise nothing
@@ -68,7 +68,7 @@ fn before_by(micro: &mut Micro, bus: &mut Bus, code: Code, row: Row, traffic: Tr
 
 /// Puts the processor before the data of the instruction that begins here, if that is no memory: it makes all accesses
 /// before the data. Otherwise nothing changes.
-#[tactic(auto, using(crate::proofs::Orders::load_order, crate::proofs::Orders::store_order, crate::proofs::Orders::change_order))]
+#[tactic(auto, using(crate::proofs::Orders::load_order, crate::proofs::Orders::store_order, crate::proofs::Orders::change_order,))]
 #[inline(never)]
 pub(crate) fn stand_before(micro: &mut Micro, bus: &mut Bus) -> bool
     ensures before { IsTrue result → StandsBefore micro.old.here micro.new bus.old bus.new }

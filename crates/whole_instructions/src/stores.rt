@@ -112,8 +112,8 @@ fn put_register(bus: &mut Bus, register: u8, v: u8)
     bus.go_on(REGISTER_CLOCKS as u16);
 }
 
-/// Writes data of 8 bits to a register of the B bus other than a port. Returns false if it goes elsewhere or doesn't fit;
-/// then nothing has changed.
+/// Writes data of 8 bits to a register of the B bus other than a port. Returns false if it goes elsewhere or doesn't
+/// fit; then nothing has changed.
 #[inline(always)]
 fn write_register(
     regs: &mut Regs,
@@ -194,7 +194,8 @@ fn store<W: Way, L: Store>(regs: &mut Regs, bus: &mut Bus, at: usize, clocks: u1
     )
 }
 
-/// Makes an instruction that writes data, by its mode. Returns false if it can't be made whole; then nothing has changed.
+/// Makes an instruction that writes data, by its mode. Returns false if it can't be made whole; then nothing has
+/// changed.
 #[inline(never)]
 pub(crate) fn store_by<L: Store>(
     regs: &mut Regs,

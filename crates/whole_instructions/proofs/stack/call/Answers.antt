@@ -2,7 +2,7 @@ use Rattle.std.proofs.Common.{ℕ, refl, ap, subst, ◌∙◌, arith}
 use Rattle.cpu_tables.specs.declared.mode.Mode.{Mode}
 use Rattle.cpu_tables.specs.declared.operation.Op.TheVariants.{Jsr}
 use Rattle.cpu_tables.specs.declared.regs.Regs.{Regs}
-use Rattle.cpu_modes.specs.Addresses.{stack, pushed}
+use Rattle.cpu_modes.specs.Addresses.{stack}
 use Rattle.console_bus.specs.Memory.{IsMemoryAt}
 use Rattle.whole_instructions.specs.Fetching.{IsRowAt}
 use Rattle.whole_instructions.proofs.Pushes.{call_made}
