@@ -1,7 +1,7 @@
 use crate::marks::Marks;
 use job_player::{Carrier, Console, play_by_turns};
 use port_wire::Gate;
-use run_drive::Player;
+use run_drive::TurnPlayer;
 use snes_defs::Job;
 use std::thread::Threads;
 
@@ -16,8 +16,8 @@ pub fn play_on_two<R: AllocGlobal + Threads>(
     if job.frames > 36_000 {
         return None;
     }
-    let Ok(player) = Console::ready(rt.alloc(), job) else {
+    let Ok(turning) = Console::ready_turns(rt.alloc(), job) else {
         return None;
     };
-    play_by_turns(player, rt, carrier, &gate, marks).ok()
+    play_by_turns(turning, rt, carrier, &gate, marks).ok()
 }

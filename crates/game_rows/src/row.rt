@@ -8,7 +8,7 @@ use free_game::{SIZE, game_cartridge};
 use input_files::read_script;
 use job_player::Console;
 use port_wire::OpenGate;
-use run_drive::Player;
+use run_drive::{Player, TurnPlayer};
 use snes_defs::Job;
 use std::alloc::Global;
 use std::io;
@@ -57,14 +57,21 @@ fn film_of<R: AllocGlobal + Threads>(rt: &R, job: &Job, by: By, wanted: Vec<bool
     if job.frames > 36_000 {
         return None;
     }
-    let mut film = Film::new(rt.alloc(), wanted).ok()?;
-    let Ok(player) = Console::ready(rt.alloc(), job) else {
-        return None;
-    };
+    let alloc = rt.alloc();
+    let mut film = Film::new(alloc, wanted).ok()?;
     match by {
-        By::Serial => player.play_serial(&mut film).ok()?,
-        By::Run => player.play_turns(rt, &OpenGate, &mut film).ok()?,
-        By::Lockless => player.play_words(rt, &OpenGate, &mut film).ok()?,
+        By::Serial => {
+            let player = Console::ready(alloc, job).ok()?;
+            player.play_serial(&mut film).ok()?
+        }
+        By::Run => {
+            let turning = Console::ready_turns(alloc, job).ok()?;
+            Console::play_turns(turning, rt, &OpenGate, &mut film).ok()?
+        }
+        By::Lockless => {
+            let turning = Console::ready_turns(alloc, job).ok()?;
+            Console::play_words(turning, rt, &OpenGate, &mut film).ok()?
+        }
     }
     Some(film)
 }

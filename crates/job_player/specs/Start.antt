@@ -1,5 +1,5 @@
 -- What a run of a job emits, and that a console stands at its start.
-use Rattle.std.specs.Prelude.{◌≡◌, ℕ, ◌≤◌, List, []}
+use Rattle.std.specs.Prelude.{◌≡◌, ℕ, ◌≤◌, List, [], vec_len}
 use Rattle.snes_defs.specs.declared.cart.Job.{Job}
 use Rattle.clock_ratio.specs.Stamp.{end_stamp_of}
 use Rattle.side_law.specs.Serial.{serial_of}
@@ -13,6 +13,7 @@ use Rattle.console_machine.specs.Side.{ConsoleValue}
 use Rattle.console_machine.specs.Side as console_side
 use Rattle.audio_side.specs.Sound.{AudioValue, SoundState, sound_start, sound_moves}
 use Rattle.audio_side.specs.Sound as sound_side
+use Rattle.job_player.specs.declared.turning.Turning.{Turning}
 
 -- the console side before its first step: the job's cartridge and script, in the job's region
 abbrev pub console_of : Job → ConsoleState
@@ -50,3 +51,7 @@ pub record IsReady (c : ConsoleValue) (s : AudioValue) (ports : PortsKnown) (bot
   pub both_are : both ≡ new_whole ports
   pub words_region_is : of_words.region ≡ job.region
   pub words_are : word_both ≡ words.new_whole of_words
+
+-- the console and the ports of two workers are ready
+abbrev pub CanTurn : Turning → Job → Type 0
+CanTurn t job = IsReady t.start.console t.start.sound t.ports t.whole t.words t.word_whole t.start.end (vec_len t.start.buffer) job

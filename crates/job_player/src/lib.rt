@@ -12,8 +12,10 @@ mod nowhere;
 mod onward;
 mod planned;
 mod sounding;
+mod turning;
 
-pub use console::{Carrier, Console, play_by_turns};
+pub use console::Console;
 pub use left::Leaving;
 pub use planned::Planned;
 pub use sounding::{SoundTaker, Sounding};
+pub use turning::{Carrier, Turning, play_by_turns};

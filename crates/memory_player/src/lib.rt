@@ -8,11 +8,9 @@
 
 mod filling;
 mod inputs;
-mod player;
 mod playing;
 mod slices;
 
 pub use inputs::{End, Inputs, Why, job_in};
-pub use player::SerialPlayer;
 pub use playing::play;
 pub use slices::Counts;

@@ -6,8 +6,8 @@ ghost use Rattle.memory_player.specs.Played.{FilledWhole, EndsFill, PlayedInto, 
 
 use crate::filling::Filling;
 use crate::inputs::{End, Inputs, job_in};
-use crate::player::SerialPlayer;
 use crate::slices::{Counts, Slices};
+use run_drive::Player;
 use snes_defs::MOST_FRAMES;
 use std::alloc::Global;
 
@@ -18,7 +18,7 @@ use std::alloc::Global;
 /// output of the job, followed by what they held there before. At `TooShort` they hold a prefix of it, and that slice
 /// is shorter than its output. At every other end they are unchanged.
 #[tactic(auto, using(crate::proofs::Fronts::ends))]
-pub fn play<P: SerialPlayer>(
+pub fn play<P: Player>(
     alloc: Global,
     inputs: Inputs<'_>,
     frames: u32,
@@ -40,7 +40,7 @@ pub fn play<P: SerialPlayer>(
 
 /// Plays a job, and fills the slices with what it emits. The run fills copies, which are copied to the slices at its
 /// end. If a sink kept a slice itself, nothing would say that it is still the caller's.
-fn fill_from<P: SerialPlayer>(
+fn fill_from<P: Player>(
     alloc: Global,
     player: P,
     video: &mut [u8],
@@ -68,7 +68,7 @@ fn fill_from<P: SerialPlayer>(
 
 /// Plays a job into the copies of the slices.
 #[tactic(auto, using(crate::proofs::Fronts::fills))]
-fn run_into<P: SerialPlayer>(player: P, slices: &mut Slices) -> Result<Counts, End>
+fn run_into<P: Player>(player: P, slices: &mut Slices) -> Result<Counts, End>
     requires at_start { (job : Job) × P.plays player job }
     requires no_video { slices.old.video.count ≡ 0 }
     requires no_sound { slices.old.sound.count ≡ 0 }

@@ -1,15 +1,13 @@
 -- Two machines that have reached the end stamp stand where the serial run ends, and neither is ahead of it.
 use Rattle.std.proofs.Common.{◌≡◌, ℕ, zero, suc, ◌≤◌, List, ap, sym, ◌∙◌, subst, arith}
-use Rattle.snes_defs.specs.declared.ports.Side.{Side}
 use Rattle.side_law.specs.Moves.{Moves}
 use Rattle.side_law.specs.Serial.{SerialState, serial_of}
 use Rattle.side_law.specs.SerialRun.{IsPast, RunsFor, after_turns}
 use Rattle.serial_console.specs.Joined.{Joined}
 use Rattle.serial_console.specs.Serial.{IsAt}
-use Rattle.serial_console.specs.Lead.{QuietSteps, IsLead}
+use Rattle.serial_console.specs.Lead.{QuietSteps, IsLead, IsLed}
 use Rattle.serial_console.proofs.Lead.{IsSettled, console_next, sound_next, settled}
 use Rattle.run_drive.specs.Ended.{HasEnded}
-use Rattle.run_drive.proofs.Running.{IsRunning}
 
 -- no quiet step begins at the end
 none_ahead : {State : Type 0} (moves : Moves State) (end n : ℕ) (m k : State) (bytes : List ℕ) → QuietSteps moves end n m k bytes → end ≤ moves.stamp m → m ≡ k
@@ -53,21 +51,21 @@ module _ {C S : Type 0} (cm : Moves C) (sm : Moves S) (end : ℕ) (from : Serial
           over h (none_ahead cm end h.console.steps h.turned.console at.console h.early_video h.console.quiet (omega (arith, is, lt, past.sound))) same
 
 module _ {C S CState SState : Type 0} (console_moves : Moves CState) (sound_moves : Moves SState) (console_stands : C → CState → Type 0) (sound_stands : S → SState → Type 0)
-    (console_waiting : C → List ℕ) (sound_waiting : S → List ℕ) (end : ℕ) (c : CState) (s : SState) where
+    (end : ℕ) (c : CState) (s : SState) where
   -- a run that has come to its end
   pub run_has_ended : (console_stamp : C → ℕ) (sound_stamp : S → ℕ)
       → ((x : C) (m : CState) → console_stands x m → console_moves.stamp m ≡ console_stamp x)
       → ((x : S) (m : SState) → sound_stands x m → sound_moves.stamp m ≡ sound_stamp x)
-      → (serial : Joined C S) (holds : Side → List ℕ → Type 0) → IsRunning console_moves sound_moves console_stands sound_stands console_waiting sound_waiting end c s serial holds
+      → (serial : Joined C S) (video audio : List ℕ) → IsLed console_moves sound_moves console_stands sound_stands end (serial_of c s) serial video audio
       → (end ≤ console_stamp serial.console) → (end ≤ sound_stamp serial.sound)
       → HasEnded console_moves sound_moves console_stands sound_stands c s end serial
-  run_has_ended console_stamp sound_stamp console_law sound_law serial holds r console sound =
-      let at = r.led.at in
-      let is = console_law serial.console at.console r.led.stands.console in
-      let other = sound_law serial.sound at.sound r.led.stands.sound in
-      let ends = lead_ends console_moves sound_moves end (serial_of c s) at _ _ r.led.lead (record { console = omega (arith, is, console); sound = omega (arith, other, sound) }) in
+  run_has_ended console_stamp sound_stamp console_law sound_law serial video audio led console sound =
+      let at = led.at in
+      let is = console_law serial.console at.console led.stands.console in
+      let other = sound_law serial.sound at.sound led.stands.sound in
+      let ends = lead_ends console_moves sound_moves end (serial_of c s) at _ _ led.lead (record { console = omega (arith, is, console); sound = omega (arith, other, sound) }) in
       record {
         turns = ends.turns;
         runs = ends.runs;
-        stands = subst (IsAt console_stands sound_stands serial) (sym ends.ends) r.led.stands;
+        stands = subst (IsAt console_stands sound_stands serial) (sym ends.ends) led.stands;
       }

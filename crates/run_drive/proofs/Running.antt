@@ -8,11 +8,8 @@ use Rattle.side_law.specs.Moves.{Moves}
 use Rattle.side_law.specs.Serial.{serial_of}
 use Rattle.side_law.specs.SerialRun.{IsOutput}
 use Rattle.serial_console.specs.Joined.{Joined}
-use Rattle.serial_console.specs.Serial.{IsAt}
 use Rattle.serial_console.specs.Lead.{IsLead, IsLed}
-use Rattle.serial_console.proofs.Lead.{lead_none}
 use Rattle.serial_console.proofs.LeadBegins.{lead_begins}
-use Rattle.serial_console.proofs.Led.{led_whole}
 use Rattle.run_drive.specs.Run.{Adds, AddsSome, TookRun, TookFirst}
 
 -- a beginning of a list is its first numbers
@@ -32,9 +29,9 @@ first_held Holds had more rest b count e h =
     subst Holds (sym (first_of (had ++ take count more) (drop count more ++ rest) b (some_begins had more rest b count e))) h
 
 -- no number waits
-length-zero : (a : List ℕ) → length a ≡ 0 → a ≡ []
-length-zero [] none = refl
-length-zero (x ∷ a) none = absurd (omega (arith, none))
+pub nothing_waits : (a : List ℕ) → length a ≡ 0 → a ≡ []
+nothing_waits [] none = refl
+nothing_waits (x ∷ a) none = absurd (omega (arith, none))
 
 -- nothing more of a side whose bytes stay
 none_more : (Holds : List ℕ → Type 0) (had : List ℕ) → Holds had → Holds (had ++ [])
@@ -62,22 +59,6 @@ module _ {C S CState SState : Type 0} (console_moves : Moves CState) (sound_move
     pub led : IsLed console_moves sound_moves console_stands sound_stands end (serial_of c s) serial (video ++ console_waiting serial.console) (audio ++ sound_waiting serial.sound)
     pub video_taken : holds Console video
     pub audio_taken : holds Sound audio
-
-  pub run_starts : (serial : Joined C S) (holds : Side → List ℕ → Type 0) → IsAt console_stands sound_stands serial (serial_of c s)
-      → console_waiting serial.console ≡ [] → sound_waiting serial.sound ≡ []
-      → holds Console [] → holds Sound [] → IsRunning serial holds
-  run_starts serial holds stands no_video no_audio video audio = record {
-    video = [];
-    audio = [];
-    led = record {
-      at = serial_of c s;
-      stands = stands;
-      lead = subst (λ v. IsLead console_moves sound_moves end (serial_of c s) (serial_of c s) v (sound_waiting serial.sound)) (sym no_video)
-          (subst (λ a. IsLead console_moves sound_moves end (serial_of c s) (serial_of c s) [] a) (sym no_audio) (lead_none console_moves sound_moves end (serial_of c s)));
-    };
-    video_taken = video;
-    audio_taken = audio;
-  }
 
   -- both sides have gone on, and nothing of it was taken yet
   pub run_leads : (before between after : Joined C S) (holds : Side → List ℕ → Type 0) → IsRunning before holds
@@ -176,23 +157,3 @@ module _ {C S CState SState : Type 0} (console_moves : Moves CState) (sound_move
     sound_failed lent is_lent other some output =
         let now = subst (λ x. AddsSome (holds Sound) (later Sound) (sound_waiting x)) is_lent some r.audio r.audio_taken in
         run_stops 0 now.0 (none_more (later Console) r.video (other r.video r.video_taken)) now.1 output
-
-  -- a run that has come to its end
-  pub run_is_whole : (console_stamp : C → ℕ) (sound_stamp : S → ℕ)
-      → ((x : C) (m : CState) → console_stands x m → console_moves.stamp m ≡ console_stamp x)
-      → ((x : S) (m : SState) → sound_stands x m → sound_moves.stamp m ≡ sound_stamp x)
-      → (serial : Joined C S) (holds : Side → List ℕ → Type 0) → IsRunning serial holds
-      → (end ≤ console_stamp serial.console) × (end ≤ sound_stamp serial.sound) × (length (console_waiting serial.console) ≡ 0) × (length (sound_waiting serial.sound) ≡ 0)
-      → TookRun console_moves sound_moves c s end holds
-  run_is_whole console_stamp sound_stamp console_law sound_law serial holds r (console, sound, no_video, no_audio) =
-      let all_video = ap (λ v. r.video ++ v) (length-zero (console_waiting serial.console) no_video) ∙ append-nil r.video in
-      let all_audio = ap (λ a. r.audio ++ a) (length-zero (sound_waiting serial.sound) no_audio) ∙ append-nil r.audio in
-      record {
-        video = r.video;
-        audio = r.audio;
-        output = subst (λ v. IsOutput console_moves sound_moves (serial_of c s) end v r.audio) all_video
-            (subst (λ a. IsOutput console_moves sound_moves (serial_of c s) end (r.video ++ console_waiting serial.console) a) all_audio
-            (led_whole console_moves sound_moves console_stands sound_stands console_stamp sound_stamp console_law sound_law end (serial_of c s) serial _ _ r.led console sound));
-        video_taken = r.video_taken;
-        audio_taken = r.audio_taken;
-      }

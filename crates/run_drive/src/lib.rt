@@ -9,16 +9,20 @@
 // rules.
 #![tactic(auto)]
 
+mod driving;
 mod player;
 mod pours;
 mod serial_run;
 mod shelf_sink;
 mod sink;
 mod state_player;
+mod turn_player;
 
+pub use driving::drive;
 pub use player::Player;
 pub use pours::pour;
 pub use serial_run::{run_serial, run_to_end};
 pub use shelf_sink::out_of;
 pub use sink::Sink;
 pub use state_player::StatePlayer;
+pub use turn_player::TurnPlayer;

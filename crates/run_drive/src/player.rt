@@ -5,10 +5,9 @@ ghost use Rattle.run_drive.specs.Played.{IsPlayable, PlayedWhole, PlayedFirst};
 use crate::sink::Sink;
 use snes_defs::{Job, NoMemory, Side};
 use std::alloc::Global;
-use std::thread::Threads;
-use worker_gate::Gate;
 
-/// A player of a job: two machines at their start, and all the memory that their run needs.
+/// A player of a job by the serial console: two machines at their start, and all the memory that their run needs. It has
+/// nothing that two workers need.
 ///
 /// The top of the program is proved for every player. That of the console says what it emits: the output of the
 /// serial console for that job.
@@ -27,36 +26,6 @@ pub trait Player: Drop {
 
     /// Runs the job by the serial console.
     fn play_serial<K: Sink>(self, sink: &mut K) -> Result<(), Side>
-        requires at_start { (job : Job) × plays self job }
-        requires no_video { K.holds sink.old Side.Console [] }
-        requires no_sound { K.holds sink.old Side.Sound [] }
-        ensures whole { OnOk result ((job : Job) → plays self job → PlayedWhole (emits job) (K.holds sink.new)) }
-        ensures first { (job : Job) → plays self job → PlayedFirst (emits job) (K.holds sink.new) }
-        ensures failed { IfErr result (K.failed sink.old sink.new) }
-        ensures only { K.only_takes sink.old sink.new };
-
-    /// Runs the job by two workers, each of which reports to the gate as it starts a turn.
-    fn play_turns<R: Threads, K: Sink>(
-        self,
-        rt: &R,
-        gate: &dyn Gate,
-        sink: &mut K,
-    ) -> Result<(), Side>
-        requires at_start { (job : Job) × plays self job }
-        requires no_video { K.holds sink.old Side.Console [] }
-        requires no_sound { K.holds sink.old Side.Sound [] }
-        ensures whole { OnOk result ((job : Job) → plays self job → PlayedWhole (emits job) (K.holds sink.new)) }
-        ensures first { (job : Job) → plays self job → PlayedFirst (emits job) (K.holds sink.new) }
-        ensures failed { IfErr result (K.failed sink.old sink.new) }
-        ensures only { K.only_takes sink.old sink.new };
-
-    /// Runs the job by two workers whose ports are words without a lock.
-    fn play_words<R: Threads, K: Sink>(
-        self,
-        rt: &R,
-        gate: &dyn Gate,
-        sink: &mut K,
-    ) -> Result<(), Side>
         requires at_start { (job : Job) × plays self job }
         requires no_video { K.holds sink.old Side.Console [] }
         requires no_sound { K.holds sink.old Side.Sound [] }

@@ -2,7 +2,7 @@ ghost use Rattle.std.specs.Prelude.{◌≡◌, ◌^◌, ◌≤◌, [], length, O
 ghost use Rattle.run_drive.specs.Run.{TookRun, TookFirst};
 ghost use Rattle.run_drive.specs.Ended.{HasEnded};
 
-use crate::pours::pour;
+use crate::driving::drive;
 use crate::sink::Sink;
 use serial_console::Serial;
 use side_law::Machine;
@@ -11,9 +11,8 @@ use snes_defs::Side;
 /// Runs two machines of one region until both stamps are at least `end`, passes the sink what they emit, and returns the
 /// two as they are where that run ends.
 ///
-/// The sink gets what the serial console of the two emits, the bytes of one step at a time. Each side runs on while its
-/// steps are quiet; what it emitted ahead of the other stays pending. Err names the side of which the sink failed to
-/// take some.
+/// The sink gets what the serial console of the two emits, the bytes of one step at a time. Err names the side of which
+/// the sink failed to take some.
 pub fn run_to_end<C: Machine + Drop, S: Machine + Drop, K: Sink>(
     console: C,
     sound: S,
@@ -41,24 +40,10 @@ pub fn run_to_end<C: Machine + Drop, S: Machine + Drop, K: Sink>(
     ensures only { K.only_takes sink.old sink.new }
 {
     let mut serial = Serial::new(console, sound);
-    let mut video_at = 0;
-    let mut audio_at = 0;
-    while !serial.is_over(end) {
-        let (row_at, sample_at) = serial.console_leads(end, video_at, audio_at);
-        video_at = row_at;
-        audio_at = serial.sound_leads(end, sample_at);
-        // Of two pending bytes, the one that a serial console emits first; the console wins ties.
-        if video_at <= audio_at {
-            let Ok(()) = pour(serial.console(), Side::Console, buffer, sink) else {
-                return Err(Side::Console);
-            };
-        } else {
-            let Ok(()) = pour(serial.sound(), Side::Sound, buffer, sink) else {
-                return Err(Side::Sound);
-            };
-        }
+    match drive(&mut serial, end, buffer, sink) {
+        Ok(()) => Ok(serial),
+        Err(side) => Err(side),
     }
-    Ok(serial)
 }
 
 /// Runs two machines of one region until both stamps are at least `end`, as `run_to_end`, and drops them then.

@@ -11,7 +11,6 @@ pub mod Slots
 pub mod Going
 pub mod Pressing
 pub mod Starting
-pub mod Drives
 pub mod Over
 pub mod Stepping
 pub mod Rooms

@@ -23,7 +23,7 @@ use Rattle.snapshot.specs.Positions.{IsRested, IsGoing, IsBeyond}
 use Rattle.side_law.specs.SerialRun.{IsOutput}
 use Rattle.run_drive.specs.Run.{TookFirst}
 use Rattle.snapshot.specs.Path.{console_of_path, sound_of_path}
-use Rattle.snapshot.specs.Driven.{Since, TookOn, by_side}
+use Rattle.run_drive.specs.Driven.{Since, TookOn, by_side}
 use Rattle.snapshot.specs.Handed.{Gave, GaveSome}
 use Rattle.snapshot.proofs.Arrives.{lead_arrives}
 

@@ -56,8 +56,3 @@ first_done job spans s old new sound sound_new script starts roomy sounds sound_
       rise = tt;
       in_order = no_frames 36001;
     }
-
--- no number waits
-pub nothing_waits : (a : List ℕ) → length a ≡ 0 → a ≡ []
-nothing_waits [] none = refl
-nothing_waits (x ∷ a) none = absurd (omega (arith, none))

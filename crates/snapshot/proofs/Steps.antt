@@ -22,7 +22,7 @@ use Rattle.snapshot.specs.declared.rewind.Rewind.{Rewind}
 use Rattle.snapshot.specs.Path.{PathEmits, start_of, end_of_path}
 use Rattle.snapshot.specs.Positions.{IsRested, IsBeyond, StandsIn}
 use Rattle.snapshot.specs.PathLaws.{cancel, path_emits}
-use Rattle.snapshot.specs.Driven.{by_side}
+use Rattle.run_drive.specs.Driven.{by_side}
 use Rattle.snapshot.specs.Handed.{Gave, GaveSome}
 use Rattle.snapshot.specs.Stepped.{StepsNone, StepsOn, StepsByGoes, stepped_of}
 use Rattle.console_machine.specs.Playing.{console_played}

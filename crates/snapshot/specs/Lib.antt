@@ -1,6 +1,5 @@
 pub mod Path
 pub mod Positions
 pub mod Stepped
-pub mod Driven
 pub mod Handed
 pub mod PathLaws

@@ -11,7 +11,7 @@ use Rattle.audio_side.specs.Sound.{IsSound, sound_moves}
 use Rattle.audio_side.specs.SoundLaws.{sound_is_lawful}
 use Rattle.snapshot.specs.Path.{PathEmits, console_of_path, sound_of_path, start_of, end_of_path}
 use Rattle.snapshot.specs.Positions.{IsBeyond}
-use Rattle.snapshot.specs.Driven.{Ends}
+use Rattle.run_drive.specs.Driven.{Ends}
 
 -- lists that begin alike and are equal go on alike
 pub cancel : (f g p : List ℕ) → f ++ g ≡ f ++ p → g ≡ p

@@ -11,7 +11,6 @@
 //! `Rewind::new` allocate.
 #![tactic(auto)]
 
-mod driving;
 mod memory;
 mod rewind;
 mod room_law;

@@ -17,15 +17,14 @@ ghost use Rattle.audio_side.specs.Clock.{stamp_now};
 ghost use Rattle.audio_side.specs.Playing.{audio_pressed, sound_pressed};
 ghost use Rattle.plan_drive.specs.Paths.{empty_path, path_script};
 ghost use Rattle.run_drive.specs.Run.{TookFirst};
-ghost use Rattle.snapshot.specs.Driven.{Since, TookOn, Ends};
+ghost use Rattle.run_drive.specs.Driven.{Since, TookOn, Ends};
 ghost use Rattle.snapshot.specs.Positions.{CanCopy, IsDone, copy_of};
 ghost use Rattle.snapshot.specs.Stepped.{counted, rise_from, rise_of};
 
-use crate::driving::drive;
 use audio_side::AudioSide;
 use clock_ratio::{FRAME_STAMPS, PAL_FRAME_STAMPS, end_stamp_in};
 use console_machine::ConsoleSide;
-use run_drive::Sink;
+use run_drive::{Sink, drive};
 use serial_console::Serial;
 use side_law::Machine;
 use snes_defs::{Job, MOST_FRAMES, NoMemory, Region, Side, Span};

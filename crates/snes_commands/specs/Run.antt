@@ -9,6 +9,8 @@ use Rattle.run_io.specs.declared.options.Count.TheVariants.{Frames}
 use Rattle.run_io.specs.Form.{FormValue, Order}
 use Rattle.snes_commands.specs.Job.{ShowsJob, run_line}
 use Rattle.snes_commands.specs.Command.{Command, never}
+use Rattle.snes_commands.specs.declared.run.Machines.{Machines}
+use Rattle.snes_commands.specs.declared.run.Machines.TheVariants as machines
 
 -- the words: inputs, frames and outputs
 abbrev pub run_form : FormValue
@@ -30,3 +32,9 @@ pub record MakesRun (emits : Job → List ℕ → List ℕ → Type 0) (order : 
 
 abbrev pub run : (Job → List ℕ → List ℕ → Type 0) → Command
 run emits = record { form = run_form; Makes = MakesRun emits; differs = never }
+
+-- the machines of any way are ready for the job: those of one worker, or those of two
+abbrev pub AreReady : {P T : Type 0} → (P → Job → Type 0) → (T → Job → Type 0) → Machines P T → Job → Type 0
+AreReady plays turns (machines.Serial player) job = plays player job
+AreReady plays turns (machines.Turns turning) job = turns turning job
+AreReady plays turns (machines.Words turning) job = turns turning job

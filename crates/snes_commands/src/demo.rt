@@ -6,7 +6,7 @@ use crate::sums::Sums;
 use clock_ratio::{end_stamp, samples_before};
 use demo_files::{demo_boot_rom, demo_table, image};
 use port_wire::Gate;
-use run_drive::Player;
+use run_drive::TurnPlayer;
 use run_io::{Asked, Count, Form, Line, demo_line};
 use shelf::{Out, Shelf};
 use snes_defs::{Bytes, Cart, Job, MapKind, NoMemory, Region, Spans};
@@ -20,7 +20,7 @@ pub struct Demo<P> {
     player: PhantomData<P>,
 }
 
-impl<P: Player> Demo<P> {
+impl<P: TurnPlayer> Demo<P> {
     pub fn new() -> Demo<P> {
         Demo {
             player: PhantomData,
@@ -49,7 +49,7 @@ fn demo_job(alloc: Global, number: u32, frames: u32) -> Result<Job, NoMemory>
     })
 }
 
-impl<P: Player> Performs for Demo<P> {
+impl<P: TurnPlayer> Performs for Demo<P> {
     ghost use Rattle.std.specs.Prelude.{refl};
     ghost use Rattle.snes_defs.specs.declared.cart.Job.{Job};
     ghost use Rattle.run_drive.specs.Played.{IsPlayable};
@@ -57,11 +57,11 @@ impl<P: Player> Performs for Demo<P> {
 
     type Inputs = ();
 
-    type Ready = P;
+    type Ready = P::Turning;
 
     ghost command = { demo P.emits };
 
-    ghost is_ready = { λ order told ready. (job : Job) × IsDemoJob order.number order.count job × P.plays ready job × IsPlayable (P.emits job) };
+    ghost is_ready = { λ order told ready. (job : Job) × IsDemoJob order.number order.count job × P.turns ready job × IsPlayable (P.emits job) };
 
     fn form() -> Form {
         Form {
@@ -78,10 +78,10 @@ impl<P: Player> Performs for Demo<P> {
         false
     }
 
-    fn ready(&self, alloc: Global, asked: &Asked<'_>, _inputs: ()) -> Result<P, NoMemory> {
+    fn ready(&self, alloc: Global, asked: &Asked<'_>, _inputs: ()) -> Result<P::Turning, NoMemory> {
         let job = demo_job(alloc, asked.number, asked.count)?;
-        let player = P::ready(alloc, &job)?;
-        Ok(player)
+        let turning = P::ready_turns(alloc, &job)?;
+        Ok(turning)
     }
 
     /// Puts nothing: the line has the sums of what the run emits.
@@ -90,11 +90,11 @@ impl<P: Player> Performs for Demo<P> {
         rt: &R,
         gate: &dyn Gate,
         asked: &Asked<'_>,
-        ready: P,
+        ready: P::Turning,
         _shelf: &mut H,
     ) -> Result<Line, Out> {
         let mut sums = Sums::new();
-        match ready.play_turns(rt, gate, &mut sums) {
+        match P::play_turns(ready, rt, gate, &mut sums) {
             Ok(()) => {
                 let samples = samples_before(end_stamp(asked.count));
                 Ok(demo_line(asked.count, samples, sums.video, sums.audio))

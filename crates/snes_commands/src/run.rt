@@ -1,19 +1,19 @@
-ghost use Rattle.std.specs.Prelude.{◌≡◌, List, [], OnOk, IfErr};
+ghost use Rattle.std.specs.Prelude.{◌≡◌, ◌≤◌, List, [], OnOk, IfOk, IfErr};
 ghost use Rattle.snes_defs.specs.declared.cart.Job.{Job};
 ghost use Rattle.shelf.specs.Told.{Holds, HasRisen};
 ghost use Rattle.run_drive.specs.Outputs.{OnlyFills, output_of};
-ghost use Rattle.run_drive.specs.Played.{PlayedWhole, PlayedFirst};
+ghost use Rattle.run_drive.specs.Played.{IsPlayable, PlayedWhole, PlayedFirst};
 ghost use Rattle.run_io.specs.Form.{form_by};
-ghost use Rattle.snes_commands.specs.Run.{run_form};
+ghost use Rattle.snes_commands.specs.Run.{AreReady, run_form};
 
 use crate::command::Performs;
 use crate::job::{JobFiles, job_of, line_of_run};
 use crate::loads::Loads;
 use port_wire::Gate;
-use run_drive::{Player, out_of};
+use run_drive::{TurnPlayer, out_of};
 use run_io::{Asked, Count, Form, Line};
 use shelf::{Input, Out, Shelf};
-use snes_defs::{NoMemory, Side};
+use snes_defs::{Job, NoMemory, Side};
 use std::alloc::Global;
 use std::marker::PhantomData;
 use std::thread::Threads;
@@ -36,10 +36,19 @@ pub struct Run<P> {
     player: PhantomData<P>,
 }
 
-/// A player at the start of a job, and the line of its run.
+/// The machines of a run at the start of its job, by its way: those that two workers step have what carries their
+/// entries too.
 #[derive(Drop)]
-pub struct ReadyRun<P> {
-    player: P,
+pub enum Machines<P, T> {
+    Serial(P),
+    Turns(T),
+    Words(T),
+}
+
+/// The machines at the start of a job, and the line of its run.
+#[derive(Drop)]
+pub struct ReadyRun<P, T> {
+    machines: Machines<P, T>,
     line: Line,
 }
 
@@ -47,7 +56,7 @@ static INPUTS: [Input; 4] = [Input::Cart, Input::Boot, Input::Table, Input::Scri
 
 static OUTPUTS: [Out; 2] = [Out::Video, Out::Sound];
 
-impl<P: Player> Run<P> {
+impl<P: TurnPlayer> Run<P> {
     /// Returns the command that steps its machines in this way.
     pub fn by(way: Way) -> Run<P> {
         Run {
@@ -57,43 +66,62 @@ impl<P: Player> Run<P> {
     }
 }
 
-/// Plays a job in the given way.
-fn play_by<P: Player, R: Threads, H: Shelf>(
-    rt: &R,
-    gate: &dyn Gate,
-    player: P,
+/// Makes the machines of a job, with what they need to be stepped in the given way.
+fn machines_by<P: TurnPlayer>(
+    alloc: Global,
     way: Way,
-    shelf: &mut H,
-) -> Result<(), Side>
-    requires at_start { (job : Job) × P.plays player job }
-    requires video_created { Holds ((H.shown shelf.old).written Out.Video) [] }
-    requires sound_created { Holds ((H.shown shelf.old).written Out.Sound) [] }
-    ensures whole { OnOk result ((job : Job) → P.plays player job → PlayedWhole (P.emits job) (λ side bytes. Holds ((H.shown shelf.new).written (output_of side)) bytes)) }
-    ensures first { (job : Job) → P.plays player job → PlayedFirst (P.emits job) (λ side bytes. Holds ((H.shown shelf.new).written (output_of side)) bytes) }
-    ensures failed { IfErr result (λ side. HasRisen ((H.shown shelf.old).write_faults (output_of side)) ((H.shown shelf.new).write_faults (output_of side))) }
-    ensures only { OnlyFills (H.shown shelf.old) (H.shown shelf.new) }
+    job: &Job,
+) -> Result<Machines<P, P::Turning>, NoMemory>
+    requires { job.now.frames ≤ 36000 }
+    ensures starts { IfOk result (λ machines. AreReady P.plays P.turns machines job.now) }
+    ensures ends { OnOk result (IsPlayable (P.emits job.now)) }
 {
     match way {
-        Way::Serial => player.play_serial(shelf),
-        Way::Turns => player.play_turns(rt, gate, shelf),
-        Way::Words => player.play_words(rt, gate, shelf),
+        Way::Serial => Ok(Machines::Serial(P::ready(alloc, job)?)),
+        Way::Turns => Ok(Machines::Turns(P::ready_turns(alloc, job)?)),
+        Way::Words => Ok(Machines::Words(P::ready_turns(alloc, job)?)),
     }
 }
 
-impl<P: Player> Performs for Run<P> {
+/// Plays a job by its machines.
+fn play_by<P: TurnPlayer, R: Threads, H: Shelf>(
+    rt: &R,
+    gate: &dyn Gate,
+    machines: Machines<P, P::Turning>,
+    shelf: &mut H,
+) -> Result<(), Side>
+    requires at_start { (job : Job) × AreReady P.plays P.turns machines job }
+    requires video_created { Holds ((H.shown shelf.old).written Out.Video) [] }
+    requires sound_created { Holds ((H.shown shelf.old).written Out.Sound) [] }
+    ensures whole { OnOk result ((job : Job) → AreReady P.plays P.turns machines job
+        → PlayedWhole (P.emits job) (λ side bytes. Holds ((H.shown shelf.new).written (output_of side)) bytes)) }
+    ensures first { (job : Job) → AreReady P.plays P.turns machines job
+        → PlayedFirst (P.emits job) (λ side bytes. Holds ((H.shown shelf.new).written (output_of side)) bytes) }
+    ensures failed { IfErr result (λ side. HasRisen ((H.shown shelf.old).write_faults (output_of side))
+        ((H.shown shelf.new).write_faults (output_of side))) }
+    ensures only { OnlyFills (H.shown shelf.old) (H.shown shelf.new) }
+{
+    match machines {
+        Machines::Serial(player) => player.play_serial(shelf),
+        Machines::Turns(turning) => P::play_turns(turning, rt, gate, shelf),
+        Machines::Words(turning) => P::play_words(turning, rt, gate, shelf),
+    }
+}
+
+impl<P: TurnPlayer> Performs for Run<P> {
     ghost use Rattle.std.specs.Prelude.{◌≡◌, refl};
     ghost use Rattle.snes_defs.specs.declared.cart.Job.{Job};
     ghost use Rattle.run_drive.specs.Played.{IsPlayable};
     ghost use Rattle.snes_commands.specs.Job.{ShowsJob, run_line};
-    ghost use Rattle.snes_commands.specs.Run.{run};
+    ghost use Rattle.snes_commands.specs.Run.{run, AreReady};
 
     type Inputs = JobFiles;
 
-    type Ready = ReadyRun<P>;
+    type Ready = ReadyRun<P, P::Turning>;
 
     ghost command = { run P.emits };
 
-    ghost is_ready = { λ order told ready. (job : Job) × ShowsJob told order.count job × P.plays ready.player job × IsPlayable (P.emits job) × (ready.line ≡ run_line job) };
+    ghost is_ready = { λ order told ready. (job : Job) × ShowsJob told order.count job × AreReady P.plays P.turns ready.machines job × IsPlayable (P.emits job) × (ready.line ≡ run_line job) };
 
     fn form() -> Form {
         Form {
@@ -115,11 +143,11 @@ impl<P: Player> Performs for Run<P> {
         alloc: Global,
         asked: &Asked<'_>,
         inputs: <JobFiles as Loads>::Value,
-    ) -> Result<ReadyRun<P>, NoMemory> {
+    ) -> Result<ReadyRun<P, P::Turning>, NoMemory> {
         let job = job_of(inputs, asked.count);
-        let player = P::ready(alloc, &job)?;
+        let machines = machines_by::<P>(alloc, self.way, &job)?;
         let line = line_of_run(&job);
-        Ok(ReadyRun { player, line })
+        Ok(ReadyRun { machines, line })
     }
 
     fn fill<R: Threads, H: Shelf>(
@@ -127,11 +155,11 @@ impl<P: Player> Performs for Run<P> {
         rt: &R,
         gate: &dyn Gate,
         _asked: &Asked<'_>,
-        ready: ReadyRun<P>,
+        ready: ReadyRun<P, P::Turning>,
         shelf: &mut H,
     ) -> Result<Line, Out> {
-        let ReadyRun { player, line } = ready;
-        match play_by(rt, gate, player, self.way, shelf) {
+        let ReadyRun { machines, line } = ready;
+        match play_by::<P, R, H>(rt, gate, machines, shelf) {
             Ok(()) => Ok(line),
             Err(side) => Err(out_of(side)),
         }

@@ -1,6 +1,5 @@
 -- No end is told as the status of a job that was done.
 use Rattle.std.proofs.Common.{◌≢◌, ℕ, List, sym, ◌∙◌, arith}
-use Rattle.job_player.proofs.Ends.{ends_early}
 use Rattle.memory_player.specs.declared.inputs.End.{End}
 use Rattle.memory_player.specs.declared.inputs.End.TheVariants.{Frames, Refused, NoMemory, TooShort}
 use Rattle.snes_library.specs.declared.answer.SnesAnswer.{SnesAnswer}
@@ -20,8 +19,6 @@ not_done (TooShort side) e = omega arith
 
 pub never_done : (end : End) (status : ℕ) (answer : SnesAnswer) → IsToldAs end status answer → status ≢ 0
 never_done end status answer told e = not_done end (sym told.status_is ∙ e)
-
-pub ruleset ends = (ends_early)
 
 -- why no frame was played, told as a fault of the console that is held
 pub frame_ends : (old : SnesConsole) (pad1 pad2 : ℕ) (video_old sound_old video_new sound_new : List ℕ) (end : FrameEnd)

@@ -14,15 +14,14 @@ ghost use Rattle.memory_player.specs.Played.{PlayedInto, EndsShort};
 ghost use Rattle.snes_library.specs.Answer.{IsToldAs};
 
 mod answer;
-mod console;
 mod fault;
 mod holding;
 
 pub use answer::SnesAnswer;
 use answer::told;
-use console::SerialConsole;
 pub use fault::Fault;
 pub use holding::{snes_back, snes_begin, snes_end, snes_frame, snes_keep, snes_reset};
+use job_player::Console;
 use memory_player::{Inputs, play};
 use std::alloc::Global;
 
@@ -56,7 +55,7 @@ pub extern "C" fn snes_play(
         table,
         script,
     };
-    match play::<SerialConsole>(alloc, inputs, frames, video, sound) {
+    match play::<Console>(alloc, inputs, frames, video, sound) {
         Ok(counts) => {
             answer.cause = 0;
             answer.place = 0;

@@ -3,7 +3,7 @@ ghost use Rattle.snes_program.specs.Commands.{asked_by, asked};
 
 use plan_drive::PlanPlayer;
 use port_wire::Gate;
-use run_drive::StatePlayer;
+use run_drive::{StatePlayer, TurnPlayer};
 use run_io::{Argv, Word};
 use shelf::Shelf;
 use snes_commands::{
@@ -14,13 +14,12 @@ use std::thread::Threads;
 
 /// Calls the command of this name. THE COMMANDS are listed here, and in `asked_by`.
 #[tactic(auto, unfolding(crate::specs::Commands::asked_by))]
-fn call_named<P: PlanPlayer + StatePlayer, Z: StatePlayer, R: AllocGlobal + Threads, H: Shelf>(
-    rt: &R,
-    gate: &dyn Gate,
-    name: &str,
-    words: &[Word],
-    shelf: &mut H,
-) -> Status
+fn call_named<
+    P: PlanPlayer + TurnPlayer + StatePlayer,
+    Z: StatePlayer,
+    R: AllocGlobal + Threads,
+    H: Shelf,
+>(rt: &R, gate: &dyn Gate, name: &str, words: &[Word], shelf: &mut H) -> Status
     ensures { EndsWish (asked_by P.emits P.leaves Z.leaves name.now words.now) (H.shown shelf.old) (H.shown shelf.new) result }
 {
     if name == "run" {
@@ -71,7 +70,7 @@ fn call_named<P: PlanPlayer + StatePlayer, Z: StatePlayer, R: AllocGlobal + Thre
 /// Performs the command that the arguments ask for, prints how it ended, and returns the status.
 #[tactic(auto, using(snes_commands::proofs::Ending::reads))]
 pub(crate) fn performed<
-    P: PlanPlayer + StatePlayer,
+    P: PlanPlayer + TurnPlayer + StatePlayer,
     Z: StatePlayer,
     R: AllocGlobal + Threads,
     H: Shelf,

@@ -3,7 +3,7 @@ ghost use Rattle.snes_commands.specs.Wish.{IsNothing};
 ghost use Rattle.snes_program.specs.Commands.{asked_by, asked};
 
 use plan_drive::PlanPlayer;
-use run_drive::StatePlayer;
+use run_drive::{StatePlayer, TurnPlayer};
 use run_io::{Argv, Fault, Mistake, Word};
 use snes_commands::{
     Check, Demo, Dump, Help, Make, Play, Rewind, Run, SoundFile, SumsRun, Version, explain_form,
@@ -11,7 +11,7 @@ use snes_commands::{
 
 /// Returns the mistake in the arguments after this name, if there is one. The commands are listed as in `call_named`.
 #[tactic(auto, unfolding(crate::specs::Commands::asked_by))]
-fn explain_named<'a, P: PlanPlayer + StatePlayer, Z: StatePlayer>(
+fn explain_named<'a, P: PlanPlayer + TurnPlayer + StatePlayer, Z: StatePlayer>(
     name: &'a str,
     words: &'a [Word],
 ) -> Option<Mistake<'a>>
@@ -63,7 +63,9 @@ fn explain_named<'a, P: PlanPlayer + StatePlayer, Z: StatePlayer>(
 }
 
 /// Returns the mistake in a command line: there is one if and only if `snes` returns `Usage`.
-pub fn explain<P: PlanPlayer + StatePlayer, Z: StatePlayer>(words: &Argv) -> Option<Mistake<'_>>
+pub fn explain<P: PlanPlayer + TurnPlayer + StatePlayer, Z: StatePlayer>(
+    words: &Argv,
+) -> Option<Mistake<'_>>
     ensures { MatchOption result (¬ IsNothing (asked P.emits P.leaves Z.leaves words.now)) (λ mistake. IsNothing (asked P.emits P.leaves Z.leaves words.now)) }
 {
     match words.all().split_first() {

@@ -16,7 +16,7 @@ ghost use Rattle.snes_program.specs.Snes.{OrNoMemory, IsEarly, IsLate, IsOver, I
 use crate::call::performed;
 use plan_drive::PlanPlayer;
 use port_wire::Gate;
-use run_drive::StatePlayer;
+use run_drive::{StatePlayer, TurnPlayer};
 use run_io::Argv;
 use shelf::Shelf;
 use snes_commands::Status;
@@ -32,12 +32,12 @@ use std::thread::Threads;
 /// Each clause is about what the shelf tells. For a shelf that tells nothing, it is about the arguments and the counts
 /// alone. `NoMemory` is the one failure that no argument, input or count causes. No clause is about the gate, which
 /// each of two workers passes as it starts a turn.
-pub fn snes<P: PlanPlayer + StatePlayer, Z: StatePlayer, R: AllocGlobal + Threads, H: Shelf>(
-    rt: &R,
-    words: &Argv,
-    shelf: &mut H,
-    gate: &dyn Gate,
-) -> Status
+pub fn snes<
+    P: PlanPlayer + TurnPlayer + StatePlayer,
+    Z: StatePlayer,
+    R: AllocGlobal + Threads,
+    H: Shelf,
+>(rt: &R, words: &Argv, shelf: &mut H, gate: &dyn Gate) -> Status
     // The headline: once a command is over, its inputs are accepted, and its outputs are whole under their names.
     ensures headline { IfAsks (asked P.emits P.leaves Z.leaves words.now) (λ command order. IsOver result → IsAnswered command order (H.shown shelf.old) (H.shown shelf.new) result) }
 

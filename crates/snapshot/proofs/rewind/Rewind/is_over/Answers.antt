@@ -1,6 +1,6 @@
 use Rattle.std.proofs.Common.{length, ap}
 use Rattle.snapshot.proofs.Over.{arrived}
-use Rattle.snapshot.proofs.Starting.{nothing_waits}
+use Rattle.run_drive.proofs.Running.{nothing_waits}
 use Rattle.snapshot.proofs.rewind.Rewind.is_over.Goals as goal
 
 pub returns : goal.returns

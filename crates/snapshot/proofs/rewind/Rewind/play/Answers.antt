@@ -6,7 +6,7 @@ use Rattle.plan_drive.specs.Joins.{Joins}
 use Rattle.plan_drive.proofs.Counting.{next_step}
 use Rattle.snapshot.specs.Path.{PathEmits}
 use Rattle.snapshot.specs.Positions.{slot_count}
-use Rattle.snapshot.specs.Driven.{by_side}
+use Rattle.run_drive.specs.Driven.{by_side}
 use Rattle.snapshot.proofs.Steps.{Reached, reached_first, reached_go, reached_part, reached_keep, reached_back, reached_reset, reached_whole, reached_rested, reached_stepped, whole_is_first, names_below}
 use Rattle.snapshot.proofs.rewind.Rewind.play.Goals.{in-Go+in-Ok, in-Keep, in-Back, in-Reset}
 use Rattle.snapshot.proofs.rewind.Rewind.play.Goals as goal

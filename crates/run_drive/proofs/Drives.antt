@@ -6,11 +6,13 @@ use Rattle.snes_defs.specs.declared.ports.Side.TheVariants.{Console, Sound}
 use Rattle.side_law.specs.Moves.{Moves}
 use Rattle.side_law.specs.Serial.{serial_of}
 use Rattle.serial_console.specs.Joined.{Joined}
+use Rattle.serial_console.specs.Serial.{IsAt}
 use Rattle.serial_console.specs.Lead.{IsLed}
-use Rattle.run_drive.specs.Run.{Adds, AddsSome}
-use Rattle.run_drive.proofs.Running.{IsRunning}
-use Rattle.snapshot.specs.Driven.{Since, TookOn}
-use Rattle.snapshot.proofs.Starting.{nothing_waits}
+use Rattle.serial_console.proofs.Lead.{lead_none}
+use Rattle.serial_console.proofs.Led.{led_whole}
+use Rattle.run_drive.specs.Run.{Adds, AddsSome, TookRun, TookFirst}
+use Rattle.run_drive.proofs.Running.{IsRunning, nothing_waits}
+use Rattle.run_drive.specs.Driven.{Since, TookOn}
 
 module _ (now later : Side → List ℕ → Type 0) (base first : Side → List ℕ) (side : Side) where
   pub since_adds : (bytes : List ℕ) → Adds (now side) (later side) bytes → Adds (Since now base first side) (Since later base first side) bytes
@@ -73,3 +75,44 @@ module _ {C S CState SState : Type 0} (console_moves : Moves CState) (sound_move
         video_taken = r.video_taken;
         audio_taken = r.audio_taken;
       }
+
+-- nothing was taken or emitted before
+abbrev pub no_bytes : Side → List ℕ
+no_bytes side = []
+
+since_none : (now : Side → List ℕ → Type 0) (side : Side) (bytes : List ℕ) → Since now no_bytes no_bytes side bytes → now side bytes
+since_none now side bytes (more, is, h) = subst (now side) is h
+
+module _ {C S CState SState : Type 0} (console_moves : Moves CState) (sound_moves : Moves SState) (console_stands : C → CState → Type 0) (sound_stands : S → SState → Type 0)
+    (end : ℕ) (c : CState) (s : SState) where
+  -- two machines at the start of a run
+  pub led_starts : (serial : Joined C S) → IsAt console_stands sound_stands serial (serial_of c s) → IsLed console_moves sound_moves console_stands sound_stands end (serial_of c s) serial [] []
+  led_starts serial stands = record { at = serial_of c s; stands = stands; lead = lead_none console_moves sound_moves end (serial_of c s) }
+
+  -- a run from the start that has come to its end
+  pub took_whole : (console_stamp : C → ℕ) (sound_stamp : S → ℕ)
+      → ((x : C) (m : CState) → console_stands x m → console_moves.stamp m ≡ console_stamp x)
+      → ((x : S) (m : SState) → sound_stands x m → sound_moves.stamp m ≡ sound_stamp x)
+      → (serial : Joined C S) (now : Side → List ℕ → Type 0)
+      → TookOn console_moves sound_moves console_stands sound_stands c s end serial (Since now no_bytes no_bytes)
+      → end ≤ console_stamp serial.console → end ≤ sound_stamp serial.sound
+      → TookRun console_moves sound_moves c s end now
+  took_whole console_stamp sound_stamp console_law sound_law serial now t console sound = record {
+    video = t.video;
+    audio = t.audio;
+    output = led_whole console_moves sound_moves console_stands sound_stands console_stamp sound_stamp console_law sound_law end (serial_of c s) serial _ _ t.led console sound;
+    video_taken = since_none now Console t.video t.video_taken;
+    audio_taken = since_none now Sound t.audio t.audio_taken;
+  }
+
+  -- the first bytes of a run from the start
+  pub took_first : (now : Side → List ℕ → Type 0) → TookFirst console_moves sound_moves c s end (Since now no_bytes no_bytes) → TookFirst console_moves sound_moves c s end now
+  took_first now t = record {
+    video = t.video;
+    audio = t.audio;
+    output = t.output;
+    video_count = t.video_count;
+    video_taken = since_none now Console (take t.video_count t.video) t.video_taken;
+    audio_count = t.audio_count;
+    audio_taken = since_none now Sound (take t.audio_count t.audio) t.audio_taken;
+  }

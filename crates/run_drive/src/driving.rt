@@ -1,20 +1,23 @@
-// The serial run of two machines from where they are to an end, in the form of the serial loop.
+// The serial run of two machines from where they are to an end: the one loop of every serial run.
 ghost use Rattle.std.specs.Prelude.{◌≡◌, ◌^◌, ◌≤◌, ℕ, List, [], length, OnOk, OnErr, IfErr};
 ghost use Rattle.snes_defs.specs.declared.ports.Side.{Side};
 ghost use Rattle.side_law.specs.Serial.{serial_of};
 ghost use Rattle.serial_console.specs.Serial.{console_of, sound_of};
 ghost use Rattle.serial_console.specs.Lead.{IsLed};
-ghost use Rattle.snapshot.specs.Driven.{Since, TookOn, Ends};
+ghost use Rattle.run_drive.specs.Driven.{Since, TookOn, Ends};
 ghost use Rattle.run_drive.specs.Run.{TookFirst};
 
-use run_drive::{Sink, pour};
+use crate::pours::pour;
+use crate::sink::Sink;
 use serial_console::Serial;
 use side_law::Machine;
 use snes_defs::Side;
 
-/// Steps two machines until both stamps are at least `end`, and passes the sink what they emit. The sink gets the
-/// bytes of one step at a time, in the order in which the serial console emits them. Err names the side of which the
-/// sink failed to take some.
+/// Runs two machines until both stamps are at least `end`, and passes the sink what they emit.
+///
+/// The sink gets the bytes of one step at a time, in the order in which the serial console emits them. Each side runs on
+/// while its steps are quiet; what it emitted ahead of the other stays pending. Err names the side of which the sink
+/// failed to take some.
 pub fn drive<C: Machine, S: Machine, K: Sink>(
     serial: &mut Serial<C, S>,
     end: u64,
@@ -28,11 +31,14 @@ pub fn drive<C: Machine, S: Machine, K: Sink>(
     requires sound_fits { S.MOST ≤ length buffer.old }
     requires console_empty { C.waiting (console_of serial.old) ≡ [] }
     requires sound_empty { S.waiting (sound_of serial.old) ≡ [] }
-    ensures whole { OnOk result ((c : C.State) (s : S.State) (base first : Side → List ℕ) → IsLed C.moves S.moves C.stands S.stands end (serial_of c s) serial.old (first Side.Console) (first Side.Sound)
+    ensures whole { OnOk result ((c : C.State) (s : S.State) (base first : Side → List ℕ)
+        → IsLed C.moves S.moves C.stands S.stands end (serial_of c s) serial.old (first Side.Console) (first Side.Sound)
         → K.holds sink.old Side.Console (base Side.Console) → K.holds sink.old Side.Sound (base Side.Sound)
         → TookOn C.moves S.moves C.stands S.stands c s end serial.new (Since (K.holds sink.new) base first)) }
-    ensures part { OnErr result ((c : C.State) (s : S.State) (base first : Side → List ℕ) → IsLed C.moves S.moves C.stands S.stands end (serial_of c s) serial.old (first Side.Console) (first Side.Sound)
-        → K.holds sink.old Side.Console (base Side.Console) → K.holds sink.old Side.Sound (base Side.Sound) → Ends C.moves S.moves c s end
+    ensures part { OnErr result ((c : C.State) (s : S.State) (base first : Side → List ℕ)
+        → IsLed C.moves S.moves C.stands S.stands end (serial_of c s) serial.old (first Side.Console) (first Side.Sound)
+        → K.holds sink.old Side.Console (base Side.Console) → K.holds sink.old Side.Sound (base Side.Sound)
+        → Ends C.moves S.moves c s end
         → TookFirst C.moves S.moves c s end (Since (K.holds sink.new) base first)) }
     ensures console_past { OnOk result (end ≤ C.stamp_of (console_of serial.new)) }
     ensures sound_past { OnOk result (end ≤ S.stamp_of (sound_of serial.new)) }

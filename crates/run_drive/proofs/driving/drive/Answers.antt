@@ -3,9 +3,9 @@ use Rattle.std.proofs.lemmas.Grind.{common_steps}
 use Rattle.snes_defs.specs.declared.ports.Side.TheVariants.{Console, Sound}
 use Rattle.side_law.specs.Serial.{serial_of}
 use Rattle.run_drive.proofs.Running.{run_leads, console_taken, console_failed, sound_taken, sound_failed}
-use Rattle.snapshot.specs.Driven.{Since}
-use Rattle.snapshot.proofs.Drives.{since_adds, since_some, since_other, drive_starts, drive_is_whole}
-use Rattle.snapshot.proofs.driving.drive.Goals as goal
+use Rattle.run_drive.specs.Driven.{Since}
+use Rattle.run_drive.proofs.Drives.{since_adds, since_some, since_other, drive_starts, drive_is_whole}
+use Rattle.run_drive.proofs.driving.drive.Goals as goal
 
 pub loop-serial-init : goal.loop-serial-init
 loop-serial-init g c = record {

@@ -5,8 +5,8 @@ use Rattle.side_law.specs.Serial.{serial_of}
 use Rattle.serial_console.specs.Serial.{console_of, sound_of}
 use Rattle.serial_console.specs.Lead.{IsLed}
 use Rattle.run_drive.proofs.Running.{IsRunning}
-use Rattle.snapshot.specs.Driven.{Since}
-use Rattle.snapshot.proofs.driving.drive.Given as goal
+use Rattle.run_drive.specs.Driven.{Since}
+use Rattle.run_drive.proofs.driving.drive.Given as goal
 
 abbrev pub invariant-loop-serial : goal.invariant-loop-serial
 invariant-loop-serial g l =
