@@ -1,5 +1,5 @@
 -- A sound machine that plays by itself: its four incoming ports hold bytes, and nobody is at the other side of them.
-use Rattle.std.specs.Prelude.{◌≡◌, ℕ, zero, suc, ◌+◌, ◌*◌, ◌-◌, ◌%◌, List, [], ◌∷◌, ◌++◌, length, slice_index}
+use Rattle.std.specs.Prelude.{◌≡◌, ◌≤◌, ℕ, zero, suc, ◌+◌, ◌*◌, ◌-◌, ◌%◌, List, [], ◌∷◌, ◌++◌, length, slice_index}
 use Rattle.side_law.specs.Serial.{got_of, incoming_after}
 use Rattle.audio_side.specs.FromParts.{sound_from}
 use Rattle.audio_side.specs.Sound.{SoundState, sound_moves}
@@ -41,6 +41,11 @@ pub record AreFirstPairs (w : Playing) (pairs : ℕ) (bytes : List ℕ) : Type 0
 -- how many steps the next sample takes: it comes with the last of each 32 cycles
 abbrev pub to_sample : Playing → ℕ
 to_sample w = 32 - w.sound.clock.cycle % 32
+
+-- so many steps, no more than the next sample takes, and the stamp before which they begin
+pub record IsNear (w : Playing) (end n : ℕ) : Type 0 where
+  pub end_is : end ≡ 118125 * (w.sound.clock.cycle + n)
+  pub few : n ≤ to_sample w
 
 -- and how many so many samples take
 unfoldable pub steps_of : Playing → ℕ → ℕ

@@ -9,6 +9,10 @@ pub record PlayerValue : Type 0 where
   pub side : AudioValue
   pub ports : List ℕ
 
+-- a sound side and the bytes at its incoming ports
+abbrev pub at : AudioValue → List ℕ → PlayerValue
+at side ports = record { side = side; ports = ports }
+
 -- the player plays, and stands there
 pub record IsPlaying (p : PlayerValue) (w : Playing) : Type 0 where
   pub sound : StandsAt p.side w.sound

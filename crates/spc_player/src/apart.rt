@@ -8,7 +8,7 @@ ghost use Rattle.spc_player.specs.Apart.{stem_sample};
 ghost use Rattle.spc_player.specs.Play.{Playing, after_steps, step_emits, stepped, to_sample};
 ghost use Rattle.spc_player.specs.Player.{IsPlaying, stamp_of, waiting_of};
 
-use crate::player::Player;
+use crate::player::{Player, run_before};
 use clock_ratio::SOUND_RATE;
 use side_law::Machine;
 use snes_defs::Act;
@@ -69,7 +69,7 @@ fn last_step(stamp: u64) -> u64
 }
 
 impl Player {
-    /// Takes one step as `turn` does. If it makes a sample, returns the four bytes that it would emit for a stem.
+    /// Takes one step. If it makes a sample, returns the four bytes that it would emit for a stem.
     #[tactic(auto, using(serial_console::proofs::Taken::taken_got))]
     fn turn_apart(&mut self, stem: u16) -> [u8; 4]
         requires room { length (waiting_of self.old) + 4 ≤ 4096 }
@@ -95,9 +95,7 @@ impl Player {
         ensures late { stamp_of self.new ≤ stamp_of self.old + 3661875 }
     {
         let last = last_step(self.side.stamp());
-        while self.side.stamp() < last {
-            self.turn();
-        }
+        self.ports = run_before(&mut self.side, self.ports, last);
     }
 
     /// Drops the pending bytes of one sample.

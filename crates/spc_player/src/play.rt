@@ -10,8 +10,8 @@ use shelf::Failed;
 use side_law::Machine;
 use snes_defs::Side;
 
-/// How many bytes may be pending before they are passed on: a thousand samples.
-const MANY: usize = 4000;
+/// How many bytes may be pending before they are passed on: 128 samples.
+const MANY: usize = 512;
 
 impl Player {
     /// Plays `samples` samples, and passes the sink exactly these pairs (stereo samples), as the sound side's bytes.

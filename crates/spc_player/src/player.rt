@@ -1,11 +1,13 @@
 ghost use Rattle.std.specs.Prelude.{◌≡◌, ◌+◌, ◌*◌, ◌/◌, ◌^◌, ◌<◌, ◌≤◌, ◌++◌, ℕ, [], IfOk, length, min, take, drop};
-ghost use Rattle.spc_player.specs.Play.{Playing, after_steps, output, play_start, step_emits, stepped, to_sample};
-ghost use Rattle.spc_player.specs.Player.{IsPlaying, stamp_of, waiting_of};
+ghost use Rattle.snes_defs.specs.declared.region.Region.TheVariants.{Ntsc};
+ghost use Rattle.audio_side.specs.Clock.{stamp_now};
+ghost use Rattle.spc_player.specs.Play.{Playing, IsNear, after_steps, output, play_start, to_sample};
+ghost use Rattle.spc_player.specs.Player.{IsPlaying, at, stamp_of, waiting_of};
 
 use crate::image::SpcImage;
 use audio_side::AudioSide;
 use clock_ratio::SOUND_RATE;
-use serial_console::step;
+use serial_console::{Bytes, lead_by};
 use side_law::Machine;
 use snes_defs::{NoMemory, Table};
 use std::alloc::Global;
@@ -45,6 +47,36 @@ fn after_sample(stamp: u64) -> u64
     (stamp / SAMPLE_STAMPS + 1) * SAMPLE_STAMPS
 }
 
+/// Runs a sound side's steps before a stamp against the bytes at its incoming ports, and returns those bytes as they are
+/// then. The stamp is no later than the next sample.
+#[inline(always)]
+pub(crate) fn run_before(side: &mut AudioSide, ports: [u8; 4], end: u64) -> [u8; 4]
+    requires ntsc { side.old.clock.region ≡ Ntsc }
+    requires room { length side.old.waiting ≤ 512 }
+    requires early { end ≤ 2 ^ 62 }
+    requires near { (w : Playing) → IsPlaying (at side.old ports) w → (n : ℕ) × IsNear w end n }
+    ensures next { (w : Playing) (n : ℕ) → IsPlaying (at side.old ports) w → IsNear w end n
+        → IsPlaying (at side.new result) (after_steps w n) }
+    ensures emits { (w : Playing) (n : ℕ) → IsPlaying (at side.old ports) w → IsNear w end n
+        → side.new.waiting ≡ side.old.waiting ++ output w n }
+    ensures stamp { stamp_now side.new.clock ≡ end }
+    ensures few { length side.new.waiting ≤ length side.old.waiting + 4 }
+    ensures ntsc { side.new.clock.region ≡ Ntsc }
+{
+    let _begun = side.stamp();
+    let mut bytes = Bytes {
+        incoming: ports,
+        outgoing: [0; 4],
+        first: u64::MAX,
+        hold: u64::MAX,
+        last: 0,
+    };
+    'steps: while side.stamp() < end {
+        let _stop = lead_by(side, &mut bytes, end);
+    }
+    bytes.incoming
+}
+
 impl Player {
     /// The player of a sound file at its start, with an interpolation table.
     ///
@@ -62,35 +94,19 @@ impl Player {
         })
     }
 
-    /// Takes one step.
-    #[inline(always)]
-    pub fn turn(&mut self)
-        requires room { length (waiting_of self.old) + 4 ≤ 4096 }
-        requires early { stamp_of self.old ≤ 2 ^ 62 }
-        ensures next { (w : Playing) → IsPlaying self.old w → IsPlaying self.new (stepped w) }
-        ensures emits { (w : Playing) → IsPlaying self.old w → waiting_of self.new ≡ waiting_of self.old ++ step_emits w }
-        ensures rises { stamp_of self.old < stamp_of self.new }
-        ensures rises_at_most { stamp_of self.new ≤ stamp_of self.old + 225280 }
-        ensures emits_at_most { length (waiting_of self.new) ≤ length (waiting_of self.old) + 4 }
-    {
-        let mut unheard = [0; 4];
-        step(&mut self.side, &mut self.ports, &mut unheard);
-    }
-
     /// Takes all steps up to the next sample, and that one, which emits its four bytes.
     #[inline(never)]
-    pub fn to_next_sample(&mut self)
-        requires room { length (waiting_of self.old) + 4 ≤ 4096 }
+    pub(crate) fn to_next_sample(&mut self)
+        requires room { length (waiting_of self.old) ≤ 512 }
         requires early { stamp_of self.old ≤ 2 ^ 61 }
         ensures next { (w : Playing) → IsPlaying self.old w → IsPlaying self.new (after_steps w (to_sample w)) }
-        ensures emits { (w : Playing) → IsPlaying self.old w → waiting_of self.new ≡ waiting_of self.old ++ output w (to_sample w) }
+        ensures emits { (w : Playing) → IsPlaying self.old w
+            → waiting_of self.new ≡ waiting_of self.old ++ output w (to_sample w) }
         ensures emits_at_most { length (waiting_of self.new) ≤ length (waiting_of self.old) + 4 }
         ensures late { stamp_of self.new ≤ stamp_of self.old + 3780000 }
     {
         let end = after_sample(self.side.stamp());
-        while self.side.stamp() < end {
-            self.turn();
-        }
+        self.ports = run_before(&mut self.side, self.ports, end);
     }
 
     /// Moves out the first of the pending bytes, as many as are pending or fit, and returns how many.

@@ -1,4 +1,4 @@
-use Rattle.std.proofs.Common.{sym, arith, take, length}
+use Rattle.std.proofs.Common.{arith}
 use Rattle.std.proofs.lemmas.List.{length-take}
 use Rattle.spc_player.proofs.image.refusal.Goals as goal
 

@@ -1,44 +1,30 @@
-use Rattle.std.proofs.Common.{◌≡◌, ◌∙◌, ◌<◌, ◌≤◌, ap, sym, arith}
+use Rattle.std.proofs.Common.{◌≡◌, ◌∙◌, ◌≤◌, ◌++◌, ℕ, List, [], length, ap, arith}
+use mathlib.Core.Logic.{∥∥₁_elim}
+use Rattle.std.proofs.Math.Bridge.{le_prop}
 use Rattle.std.proofs.lemmas.List.{nil_from_length}
-use Rattle.snes_defs.specs.declared.region.Region.TheVariants.{Ntsc}
-use Rattle.spc_player.specs.Player.{PlayerValue, stamp_of}
-use Rattle.spc_player.proofs.StemSteps.{before_arrives, before_emits_none, before_goes_on, before_late}
-use Rattle.spc_player.proofs.Steps.{bound_by_place, cycle_of, start_is}
+use Rattle.spc_player.specs.Play.{output}
+use Rattle.spc_player.specs.Player.{at, waiting_of}
+use Rattle.spc_player.proofs.StemSteps.{before, last_is_near}
+use Rattle.spc_player.proofs.Steps.{cycle_of, silent, stands_at, start_is}
 use Rattle.spc_player.proofs.player.Player.to_last_step.Goals as goal
 
-pub loop-self-preserved : goal.loop-self-preserved
-loop-self-preserved c =
-    let view = c.self.view_is in
-    let ntsc : c.args.self.now.side.clock.region ≡ Ntsc = ap (λ (p : PlayerValue). p.side.clock.region) (sym view) ∙ c.self.invariant in
-    let began : c.stamp.result ≡ stamp_of c.args.self.now = c.stamp.ensures.stamp ∙ ap stamp_of view in
-    let stands : c.stamp-in-loop-self.result ≡ stamp_of c.loop-self.self = c.stamp-in-loop-self.ensures.stamp ∙ ap stamp_of c.self-in-loop-self.view_is in
-    let before : stamp_of c.loop-self.self < c.last_step-last.result = omega (arith, stands, c.loop-self-test.true) in
-    record {
-      way = λ w h. before_goes_on c.args.self.now c.loop-self.self w c.last_step-last.result ntsc h (c.loop-self.invariant.way w h) (c.last_step-last.ensures.whole (cycle_of w) (start_is c.stamp.result c.args.self.now w ntsc h began))
-          c.turn.new.self before c.turn.ensures.next;
-      empty = nil_from_length _ (omega (
-        arith,
-        bound_by_place c.self.inside.side c.args.self.now _ 0 (ap (λ (p : PlayerValue). p.side) view) c.stamp.ensures.stands
-            (λ w h. before_emits_none c.args.self.now c.loop-self.self w c.last_step-last.result ntsc h (c.loop-self.invariant.way w h) (c.last_step-last.ensures.whole (cycle_of w) (start_is c.stamp.result c.args.self.now w ntsc h began))
-            c.turn.new.self before c.loop-self.invariant.empty c.turn.ensures.emits),
-      ));
-    }
+pub run_before-self-inside-requires-clause-near : goal.run_before-self-inside-requires-clause-near
+run_before-self-inside-requires-clause-near c = λ w h. (
+  before w,
+  last_is_near w c.last_step-last.result
+      (c.last_step-last.ensures.whole (cycle_of w) (start_is c.stamp.result (at c.self.inside.side c.self.inside.ports) w c.self.invariant h c.stamp.ensures.stamp)),
+)
 
-pub returns-clause-next : goal.returns-clause-next
-returns-clause-next c =
-    let view = c.self.view_is in
-    let ntsc : c.args.self.now.side.clock.region ≡ Ntsc = ap (λ (p : PlayerValue). p.side.clock.region) (sym view) ∙ c.self.invariant in
-    let began : c.stamp.result ≡ stamp_of c.args.self.now = c.stamp.ensures.stamp ∙ ap stamp_of view in
-    let stands : c.stamp-in-loop-self.result ≡ stamp_of c.loop-self.self = c.stamp-in-loop-self.ensures.stamp ∙ ap stamp_of c.self-in-loop-self.view_is in
-    let past : c.last_step-last.result ≤ stamp_of c.loop-self.self = omega (arith, stands, c.loop-self-test.false) in
-    λ w h. before_arrives c.args.self.now c.loop-self.self w c.last_step-last.result ntsc h (c.loop-self.invariant.way w h) (c.last_step-last.ensures.whole (cycle_of w) (start_is c.stamp.result c.args.self.now w ntsc h began)) past
-
-pub returns-clause-late : goal.returns-clause-late
-returns-clause-late c =
-    let view = c.self.view_is in
-    let ntsc : c.args.self.now.side.clock.region ≡ Ntsc = ap (λ (p : PlayerValue). p.side.clock.region) (sym view) ∙ c.self.invariant in
-    let began : c.stamp.result ≡ stamp_of c.args.self.now = c.stamp.ensures.stamp ∙ ap stamp_of view in
-    let stands : c.stamp-in-loop-self.result ≡ stamp_of c.loop-self.self = c.stamp-in-loop-self.ensures.stamp ∙ ap stamp_of c.self-in-loop-self.view_is in
-    let past : c.last_step-last.result ≤ stamp_of c.loop-self.self = omega (arith, stands, c.loop-self-test.false) in
-    bound_by_place c.self.inside.side c.args.self.now _ _ (ap (λ (p : PlayerValue). p.side) view) c.stamp.ensures.stands
-    (λ w h. before_late c.args.self.now c.loop-self.self w c.last_step-last.result ntsc h (c.loop-self.invariant.way w h) (c.last_step-last.ensures.whole (cycle_of w) (start_is c.stamp.result c.args.self.now w ntsc h began)) past)
+pub returns-clause-none : goal.returns-clause-none
+returns-clause-none c =
+    let side = c.self.inside.side in
+    let ports = c.self.inside.ports in
+    let after = c.run_before-self-inside.new.side.waiting in
+    let none : length after ≤ 0 = ∥∥₁_elim c.stamp.ensures.stands le_prop
+    (λ q. let s = stands_at side ports q.0 q.1 in
+    let near = last_is_near s.0 c.last_step-last.result
+    (c.last_step-last.ensures.whole (cycle_of s.0) (start_is c.stamp.result (at side ports) s.0 c.self.invariant s.1 c.stamp.ensures.stamp)) in
+    let is : after ≡ [] = c.run_before-self-inside.ensures.emits s.0 (before s.0) s.1 near
+    ∙ ap (λ (l : List ℕ). l ++ output s.0 (before s.0)) (ap waiting_of c.self.view_is ∙ c.requires.empty) ∙ silent s.0 (before s.0) (omega arith) in
+    omega (arith, ap (length {A = ℕ}) is)) in
+    nil_from_length _ (omega (arith, none))
