@@ -71,7 +71,8 @@ for edit in edits:
             if old == new:
                 complain(edit, "changes nothing")
             at = texts[name].index(old)
-            if is_statement(texts[name][: at + len(old)]):
+            # A body by one worker that hands on another value says so in a private ghost member.
+            if is_statement(texts[name][: at + len(old)]) and parts[1] != "one_worker":
                 complain(edit, f"changes a statement and no code: {old}")
             texts[name] = texts[name].replace(old, new)
             old = None

@@ -7,6 +7,7 @@ use Rattle.whole_instructions.specs.Passes.{QuietSteps}
 use Rattle.whole_instructions.specs.Runs.{GoesWhole}
 use Rattle.console_machine.specs.SideLaws.{step_keeps}
 use Rattle.console_machine.specs.Follows.{Follows}
+use Rattle.console_machine.proofs.Follows.{follows_then}
 
 -- a console state of the same region, with the beam on a line
 record IsOnLine (w to : ConsoleState) : Type 0 where
@@ -34,3 +35,7 @@ whole_follows cpu cpu' bus bus' g = record {
         wired = t.wired;
       });
 }
+
+-- whole instructions, and accesses after them
+pub whole_then : (a b c : Cpu) (x y z : BusState) → GoesWhole a b x y → Follows b c y z → Follows a c x z
+whole_then a b c x y z g f = follows_then a b c x y z (whole_follows a b x y g) f

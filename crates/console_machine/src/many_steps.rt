@@ -58,31 +58,15 @@ fn make_one(cpu: &mut Cpu, bus: &mut Bus) -> bool
     }
 }
 
-/// Makes whole instructions, as many as can be made.
-#[inline(always)]
-fn make_instructions(cpu: &mut Cpu, bus: &mut Bus)
-    ensures { Follows cpu.old cpu.new bus.old bus.new }
-{
-    make_whole(cpu, bus);
-}
-
-/// Makes whole instructions, and then one access. Returns whether another may follow.
-#[inline(always)]
-fn make_some(cpu: &mut Cpu, bus: &mut Bus) -> bool
-    ensures { Follows cpu.old cpu.new bus.old bus.new }
-{
-    make_instructions(cpu, bus);
-    make_one(cpu, bus)
-}
-
-/// Makes the processor's accesses one after another, as long as `try_plain` makes them: nothing else happens in their
-/// clocks. Out of line: with two copies of its loop the processor's transitions would not be inlined into it.
+/// Makes whole instructions, and access by access what isn't made whole, as long as `try_plain` makes it: nothing else
+/// happens in these clocks.
 #[inline(never)]
 pub(crate) fn make_all(cpu: &mut Cpu, bus: &mut Bus)
     ensures { Follows cpu.old cpu.new bus.old bus.new }
 {
     'steps: for _ in 0..MOST_ACCESSES {
-        if !make_some(cpu, bus) {
+        make_whole(cpu, bus);
+        if !make_one(cpu, bus) {
             return;
         }
     }
