@@ -61,15 +61,21 @@ fn film_of<R: AllocGlobal + Threads>(rt: &R, job: &Job, by: By, wanted: Vec<bool
     let mut film = Film::new(alloc, wanted).ok()?;
     match by {
         By::Serial => {
-            let player = Console::ready(alloc, job).ok()?;
+            let Ok(player) = Console::ready(alloc, job) else {
+                return None;
+            };
             player.play_serial(&mut film).ok()?
         }
         By::Run => {
-            let turning = Console::ready_turns(alloc, job).ok()?;
+            let Ok(turning) = Console::ready_turns(alloc, job) else {
+                return None;
+            };
             Console::play_turns(turning, rt, &OpenGate, &mut film).ok()?
         }
         By::Lockless => {
-            let turning = Console::ready_turns(alloc, job).ok()?;
+            let Ok(turning) = Console::ready_turns(alloc, job) else {
+                return None;
+            };
             Console::play_words(turning, rt, &OpenGate, &mut film).ok()?
         }
     }
