@@ -4,7 +4,7 @@
   game_rows.py CORE CRATE [--table FILE --boot FILE --snes PROGRAM [--write]]
 
 CRATE is crates/game_rows, whose data/hello.txt, rows.txt and pads.txt are followed and whose stdout is compared, but for the
-lines of the sound. The game's image is examples/game/game.sfc, built before (tools/build_examples.sh). With --snes the
+lines of the sound and those behind the title IDIOMS (idioms.py). The game's image is examples/game/game.sfc, built before (tools/build_examples.sh). With --snes the
 sound's lines come from that program, which has ./snes' command line; and --write writes stdout. The status is 1 if a line
 differs.
 """
@@ -20,6 +20,8 @@ import peer
 
 HERE = os.path.dirname(os.path.abspath(__file__))
 GAME = os.path.join(HERE, "../../examples/game/game.sfc")
+# The title of the rows that idioms.py writes.
+IDIOMS = "the cartridges of examples/profiles in both profiles"
 
 
 def hashed(data):
@@ -116,11 +118,13 @@ def main():
     words = parser.parse_args()
     with tempfile.TemporaryDirectory() as folder:
         lines = follow(words, folder)
-    if words.write and words.snes:
-        with open(os.path.join(words.crate, "stdout"), "w", encoding="ascii") as file:
-            file.write("".join(line + "\n" for line in lines))
     with open(os.path.join(words.crate, "stdout"), encoding="ascii") as file:
         stands = file.read().splitlines()
+    at = stands.index(IDIOMS) if IDIOMS in stands else len(stands)
+    stands, rest = stands[:at], stands[at:]
+    if words.write and words.snes:
+        with open(os.path.join(words.crate, "stdout"), "w", encoding="ascii") as file:
+            file.write("".join(line + "\n" for line in lines) + "".join(line + "\n" for line in rest))
     status = 0
     for number in range(max(len(lines), len(stands))):
         line, stand = ((text[number] if number < len(text) else "nothing") for text in (lines, stands))

@@ -7,8 +7,8 @@ FOLDER has what ./scene --idioms writes. PROGRAM has ./snes' command line. For e
 many of the 114,688 half-pixels of the 224 rows differ: between the core, both profiles of the program, and the pictures
 that idiom_pictures.py draws by the rules of each profile. Then come the lengths of the sounds of oneshot.sfc.
 
-With --write the rows of crates/idiom_rows are written: for the second profile with the sums of the core's frames, for
-the first with those of the drawn pictures. It needs numpy. The status is 1 if one of these differs: the core's frame or that of the
+With --write the rows of crates/game_rows/data/idioms.txt are written, and what they print: for the second profile with
+the sums of the core's frames, for the first with those of the drawn pictures. It needs numpy. The status is 1 if one of these differs: the core's frame or that of the
 second profile from the drawn one, the first profile's from its drawn one.
 """
 import argparse
@@ -22,6 +22,7 @@ import numpy
 
 import idiom_pictures
 import peer
+from game_rows import IDIOMS
 
 HERE = os.path.dirname(os.path.abspath(__file__))
 # The frames of each cartridge that are compared: those in which its result is shown.
@@ -30,10 +31,11 @@ FRAMES = {
     "field": (60, 61), "vram": (20,), "keyon": (40,), "keyoff": (50,), "oneshot": (70,), "latch": (20,),
 }
 ROWS = 224
-ROWS_HEAD = """# The SHA-256 of frames of the cartridges of examples/profiles, written by tools/compare/idioms.py.
+ROWS_HEAD = f"""# The SHA-256 of frames of the cartridges of examples/profiles, written by tools/compare/idioms.py.
 #
 # The pictures of the second profile are those of another emulator (bsnes-mercury, its accuracy core). Those of the
 # first are drawn by the rules, from the font and the table of objects (tools/compare/idiom_pictures.py).
+row {IDIOMS}
 """
 SOUNDS = """
 # The sounds of oneshot, in samples. Two or three tries come first; their lengths are not worked out by hand. Then a
@@ -89,8 +91,8 @@ class Runs:
 
 
 def rows_of(sums):
-    """The rows of crates/idiom_rows: their lines, and what the program has to print."""
-    lines, told = [ROWS_HEAD], []
+    """The rows of crates/game_rows: their lines, and what the program has to print."""
+    lines, told = [ROWS_HEAD], [f"{IDIOMS}\n"]
     for profile, part in (("second", "the core's pictures"), ("first", "the drawn pictures")):
         lines.append(f"\n# The {profile} profile: {part}.\n")
         for name, number, total in sums[profile]:
@@ -133,9 +135,14 @@ def main():
     for who, heard in sounds:
         print(f"oneshot {who}:", " ".join(f"{length} samples at {begin}" for begin, length in heard))
     if words.write:
-        for end, text in zip(("data/rows.txt", "stdout"), rows_of(sums)):
-            with open(os.path.join(words.write, end), "w", encoding="ascii") as file:
-                file.write(text)
+        rows, told = rows_of(sums)
+        with open(os.path.join(words.write, "data/idioms.txt"), "w", encoding="ascii") as file:
+            file.write(rows)
+        with open(os.path.join(words.write, "stdout"), "r+", encoding="ascii") as file:
+            stands = file.read().split(f"{IDIOMS}\n")[0]
+            file.seek(0)
+            file.truncate()
+            file.write(stands + told)
     sys.exit(status)
 
 

@@ -30,7 +30,7 @@ take_rows() {
       ;;
     game_rows)
       words=("$rows/data/pads.txt") untitled='^frame [0-9]\|^sound of \|^the first frame \|^no frame '
-      sed -n "/^the game's first /,\$p" "$rows/stdout" >"$work/wanted"
+      sed -n "/^the cartridges of examples/q; /^the game's first /,\$p" "$rows/stdout" >"$work/wanted"
       ;;
   esac
 }

@@ -1,7 +1,13 @@
-//! Follows a line of a file of rows.
+//! Plays the cartridges of `examples/profiles` in both profiles, and compares what is shown and heard with rows.
+//!
+//! A row prints `as in the row`, or what came. A sound is a stretch of samples from one that is not zero to another, in
+//! which fewer than 64 zeros follow one another. Most sums are those of another emulator's pictures; `data/idioms.txt`
+//! says which.
 
-use crate::film::Film;
+mod film;
+
 use cart_map::accept;
+use film::Film;
 use free_files::{free_boot_rom, interpolation_table};
 use idiom_carts::{IDIOMS, Idiom, cartridge, first_script, name, second_script};
 use input_files::read_script;
@@ -122,6 +128,11 @@ fn hear<R: Print + AllocGlobal>(
         Some(other) => println!(rt; "{line}: one more sound, of {other} samples"),
         None => println!(rt; "{stem}, {profile} profile, {sound} sounds: as in the row"),
     })
+}
+
+/// Returns whether a line is one of these rows.
+pub fn is_idiom(line: &str) -> bool {
+    line.starts_with("frame ") || line.starts_with("sounds ")
 }
 
 /// Follows a line.
