@@ -36,7 +36,7 @@ if [ "${1-}" = --write ]; then
   "$top/tools/write_game.py" "${images[@]}" || exit 2
 fi
 if "$top/tools/write_game.py" "${images[@]}" --compare; then
-  echo "the crates free_game, speed_carts, idiom_carts and game_rows have these bytes"
+  echo "the crates free_game, speed_carts, idiom_carts and console_vectors have these bytes"
 else
   status=1
 fi

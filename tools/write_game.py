@@ -6,8 +6,8 @@
 EXAMPLES is the folder with the built images, CRATES is the folder crates. The bytes of the game become statics in
 free_game/src/bytes.rt, those of the cartridges of examples/speed statics in speed_carts/src/bytes.rt: those from the first one up to
 the last that is not zero, in parts of 1,024, and the 64 bytes of header and vectors. So do those of examples/profiles, in idiom_carts/src/bytes.rt, where
-what all of them have from F800 on stands once. Those of hello become lines of game_rows/data/hello.txt, 32 bytes in each, without
-lines of zeros. With --compare nothing is written, and the status is 1 if a file is not what it should be.
+what all of them have from F800 on stands once. Those of hello become lines of console_vectors/data/hello.txt, 32 bytes in each,
+without lines of zeros. With --compare nothing is written, and the status is 1 if a file is not what it should be.
 """
 import sys
 
@@ -78,7 +78,7 @@ def main():
         "/free_game/src/bytes.rt": game_of(image_of("game/game")),
         "/speed_carts/src/bytes.rt": speed_of({name: image_of(f"speed/{name}") for name in ("sieve", "mode7", "tune")}),
         "/idiom_carts/src/bytes.rt": idioms_of({name: image_of(f"profiles/{name}") for name in IDIOMS}),
-        "/game_rows/data/hello.txt": patches_of(image_of("hello/hello")),
+        "/console_vectors/data/hello.txt": patches_of(image_of("hello/hello")),
     }
     status = 0
     for end, text in texts.items():

@@ -1,12 +1,12 @@
 #!/usr/bin/env python3
-"""Follows the rows of the crate game_rows in another emulator, a libretro core, and compares the pictures.
+"""Follows rows of the crate console_vectors in another emulator, a libretro core, and compares the pictures.
 
   game_rows.py CORE CRATE [--table FILE --boot FILE --snes PROGRAM [--write]]
 
-CRATE is crates/game_rows, whose data/hello.txt, rows.txt and pads.txt are followed and whose stdout is compared, but for the
-lines of the sound and those behind the title IDIOMS (idioms.py). The game's image is examples/game/game.sfc, built before (tools/build_examples.sh). With --snes the
-sound's lines come from that program, which has ./snes' command line; and --write writes stdout. The status is 1 if a line
-differs.
+CRATE is crates/console_vectors, whose data/hello.txt, games.txt and pads.txt are followed. Their lines of its stdout are
+compared, but for those of the sound. The game's image is examples/game/game.sfc, built before (tools/build_examples.sh).
+With --snes the sound's lines come from that program, which has ./snes' command line; and --write writes the lines into
+stdout. The status is 1 if a line differs.
 """
 import argparse
 import os
@@ -22,6 +22,14 @@ HERE = os.path.dirname(os.path.abspath(__file__))
 GAME = os.path.join(HERE, "../../examples/game/game.sfc")
 # The title of the rows that idioms.py writes.
 IDIOMS = "the cartridges of examples/profiles in both profiles"
+
+
+def parts_of(lines):
+    """The lines of stdout that come of the rows here, of those of idioms.py, and of jobs."""
+    kinds = [line.rstrip("\n") == IDIOMS or " profile, " in line for line in lines]
+    begin = kinds.index(True)
+    end = len(kinds) - kinds[::-1].index(True)
+    return lines[:begin], lines[begin:end], lines[end:]
 
 
 def hashed(data):
@@ -75,7 +83,7 @@ def follow(words, folder):
             known[key] = films.film(cart, script, frames)
         return known[key]
 
-    for name in ("hello.txt", "rows.txt", "pads.txt"):
+    for name in ("hello.txt", "games.txt", "pads.txt"):
         with open(os.path.join(words.crate, "data", name), encoding="ascii") as lines:
             for line in lines.read().splitlines():
                 fields = line.split()
@@ -109,7 +117,7 @@ def follow(words, folder):
 
 
 def main():
-    parser = argparse.ArgumentParser(description="follows the rows of game_rows in a libretro core")
+    parser = argparse.ArgumentParser(description="follows rows of console_vectors in a libretro core")
     parser.add_argument("core")
     parser.add_argument("crate")
     for name in ("table", "boot", "snes"):
@@ -119,12 +127,11 @@ def main():
     with tempfile.TemporaryDirectory() as folder:
         lines = follow(words, folder)
     with open(os.path.join(words.crate, "stdout"), encoding="ascii") as file:
-        stands = file.read().splitlines()
-    at = stands.index(IDIOMS) if IDIOMS in stands else len(stands)
-    stands, rest = stands[:at], stands[at:]
+        stands, *others = parts_of(file.read().splitlines())
     if words.write and words.snes:
         with open(os.path.join(words.crate, "stdout"), "w", encoding="ascii") as file:
-            file.write("".join(line + "\n" for line in lines) + "".join(line + "\n" for line in rest))
+            file.write("".join(line + "\n" for part in (lines, *others) for line in part))
+        stands = lines
     status = 0
     for number in range(max(len(lines), len(stands))):
         line, stand = ((text[number] if number < len(text) else "nothing") for text in (lines, stands))

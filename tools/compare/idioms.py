@@ -7,7 +7,7 @@ FOLDER has what ./scene --idioms writes. PROGRAM has ./snes' command line. For e
 many of the 114,688 half-pixels of the 224 rows differ: between the core, both profiles of the program, and the pictures
 that idiom_pictures.py draws by the rules of each profile. Then come the lengths of the sounds of oneshot.sfc.
 
-With --write the rows of crates/game_rows/data/idioms.txt are written, and what they print: for the second profile with
+With --write the rows of crates/console_vectors/data/idioms.txt are written, and what they print: for the second profile with
 the sums of the core's frames, for the first with those of the drawn pictures. It needs numpy. The status is 1 if one of these differs: the core's frame or that of the
 second profile from the drawn one, the first profile's from its drawn one.
 """
@@ -22,7 +22,7 @@ import numpy
 
 import idiom_pictures
 import peer
-from game_rows import IDIOMS
+from game_rows import IDIOMS, parts_of
 
 HERE = os.path.dirname(os.path.abspath(__file__))
 # The frames of each cartridge that are compared: those in which its result is shown.
@@ -91,7 +91,7 @@ class Runs:
 
 
 def rows_of(sums):
-    """The rows of crates/game_rows: their lines, and what the program has to print."""
+    """The rows of crates/console_vectors: their lines, and what the program has to print."""
     lines, told = [ROWS_HEAD], [f"{IDIOMS}\n"]
     for profile, part in (("second", "the core's pictures"), ("first", "the drawn pictures")):
         lines.append(f"\n# The {profile} profile: {part}.\n")
@@ -139,10 +139,10 @@ def main():
         with open(os.path.join(words.write, "data/idioms.txt"), "w", encoding="ascii") as file:
             file.write(rows)
         with open(os.path.join(words.write, "stdout"), "r+", encoding="ascii") as file:
-            stands = file.read().split(f"{IDIOMS}\n")[0]
+            games, _, jobs = parts_of(file.read().splitlines(keepends=True))
             file.seek(0)
             file.truncate()
-            file.write(stands + told)
+            file.write("".join(games) + told + "".join(jobs))
     sys.exit(status)
 
 

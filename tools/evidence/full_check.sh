@@ -208,15 +208,15 @@ soak() {
 rows() {
   local fault crate below
   local -A rest
-  for crate in console_rows sound_rows game_rows; do
+  for crate in console_rows sound_rows console_vectors; do
     rest[$crate]=$(sum_of "$(sources_of $crate)" "$(committed crates/$crate)" "$(committed tools/evidence/try_row_faults.sh)")
   done
-  item none "$(sum_of "${rest[console_rows]}" "${rest[sound_rows]}" "${rest[game_rows]}")" "$top/tools/evidence/try_row_faults.sh" none
+  item none "$(sum_of "${rest[console_rows]}" "${rest[sound_rows]}" "${rest[console_vectors]}")" "$top/tools/evidence/try_row_faults.sh" none
   for fault in "$top"/tools/evidence/row_faults/*.edit; do
     below=${rest[console_rows]}
     ! grep -q '^file: crates/free_files/' "$fault" || below=${rest[sound_rows]}
     fault=$(basename "$fault" .edit)
-    [[ $fault != pads_* ]] || below=${rest[game_rows]}
+    [[ $fault != pads_* ]] || below=${rest[console_vectors]}
     item "$fault" "$(sum_of "$below" "$(committed "tools/evidence/row_faults/$fault.edit")")" "$top/tools/evidence/try_row_faults.sh" "$fault"
   done
 }

@@ -2,7 +2,7 @@
 # Plants each fault of tools/evidence/row_faults/*.edit in the code, one at a time, and runs rows, which have to tell it: their output has to
 # differ from that in the `stdout` of their crate. With no fault planted it has to be that. A fault of crates/free_files and one
 # whose name begins with `voices_` are met by the rows of crates/sound_rows, one whose name begins with `pads_` by the rows of
-# both pads of crates/game_rows, any other by those of crates/console_rows.
+# both pads of crates/console_vectors, any other by those of crates/console_rows.
 #
 # Nothing is proved here: `rt try` runs a program as it stands, so that a fault is met by the rows alone and not by a contract.
 # A fault of the free boot ROM changes its definition with its bytes, so it would be proved too.
@@ -28,8 +28,8 @@ take_rows() {
       words=() untitled='^  \|^cycle \|^sample '
       cp "$rows/stdout" "$work/wanted"
       ;;
-    game_rows)
-      words=("$rows/data/pads.txt") untitled='^frame [0-9]\|^sound of \|^the first frame \|^no frame '
+    console_vectors)
+      words=(games "$rows/data/pads.txt") untitled='^frame [0-9]\|^sound of \|^the first frame \|^no frame '
       sed -n "/^the cartridges of examples/q; /^the game's first /,\$p" "$rows/stdout" >"$work/wanted"
       ;;
   esac
@@ -38,7 +38,7 @@ take_rows() {
 # The crate whose rows have to tell a fault.
 rows_of() {
   case $1 in
-    pads_*) echo game_rows ;;
+    pads_*) echo console_vectors ;;
     voices_*) echo sound_rows ;;
     *) if grep -q '^file: crates/free_files/' "$top/tools/evidence/row_faults/$1.edit"; then echo sound_rows; else echo console_rows; fi ;;
   esac
@@ -110,7 +110,7 @@ if [ $# -gt 0 ]; then faults=("$@"); else mapfile -t faults < <(echo none; ls "$
 for fault in "${faults[@]}"; do
   git checkout -q -- crates
   if [ "$fault" = none ]; then
-    { as_they_stand console_rows && as_they_stand sound_rows && as_they_stand game_rows; } || bad=$((bad + 1))
+    { as_they_stand console_rows && as_they_stand sound_rows && as_they_stand console_vectors; } || bad=$((bad + 1))
   else
     tried=$((tried + 1))
     told "$fault" || bad=$((bad + 1))

@@ -1,5 +1,6 @@
 //! Runs the jobs of the given files, such as `data/console.txt`, on the whole console and the whole sound side. Each
-//! frame of the picture and of the sound is compared.
+//! frame of the picture and of the sound is compared. The files behind the word `games` are rows of free cartridges
+//! (`games`), until the word `jobs`.
 //!
 //! Each job is run by the serial console's loop, and by turns of two workers over either wire. The jobs are external
 //! test vectors: two other programs agreed on them. The program uses `console_machine`, `audio_side` and `run_drive`,
@@ -27,6 +28,7 @@
 #![tactic(auto)]
 
 mod case;
+mod games;
 mod marks;
 mod play;
 mod record;
@@ -35,6 +37,10 @@ mod tally;
 mod turns;
 
 use case::Case;
+use games::Row;
+use port_wire::Gate;
+use std::rt::Files;
+use std::thread::Threads;
 use std::{env, fs, io};
 use tally::{Tally, Workers, compare};
 use turn_watch::Watch;
@@ -52,33 +58,97 @@ fn show_workers<R: Print + Eprint>(rt: &R, how: &str, workers: &Workers) -> io::
     )
 }
 
-fn main(rt: HostRuntime) -> io::Result<()> {
-    let mut tally = Tally::new();
-    let watch = Watch::new(&rt);
-    for name in env::args(&rt)?.skip(1) {
-        let text = fs::read_to_string(&rt, name.as_str())?;
-        let mut case = Case::new(rt.alloc());
-        for line in text.lines() {
-            if line.is_empty() || line.starts_with("#") {
-                continue;
-            }
-            if line.starts_with("job ") {
-                case = Case::new(rt.alloc());
-            } else if line == "end" {
-                compare(&rt, &watch, &watch, &case, &mut tally)?;
-            } else if case.line(rt.alloc(), line).is_none() {
-                println!(rt; "no line of a job: {line}")?;
-            }
-        }
-    }
+/// Prints how many jobs there were, and how many of them differ.
+fn show_tally<R: Print + Eprint>(rt: &R, tally: &Tally) -> io::Result<()> {
     println!(rt;
         "{} jobs: {} differ, {} differ by turns, {} without a lock",
         tally.jobs, tally.different, tally.different_by_turns, tally.different_without_lock
     )?;
-    show_workers(&rt, "by turns", &tally.locked)?;
-    show_workers(&rt, "without a lock", &tally.lockless)?;
+    show_workers(rt, "by turns", &tally.locked)?;
+    show_workers(rt, "without a lock", &tally.lockless)?;
     println!(rt;
         "{} hashes of first steps: {} differ",
         tally.beginnings, tally.beginnings_different
     )
+}
+
+/// Follows the lines of jobs, each of which is read into `case`.
+fn follow_lines<R: Files + Print + AllocGlobal + Threads>(
+    rt: &R,
+    watch: &Watch<'_, R>,
+    gate: &dyn Gate,
+    case: &mut Case,
+    tally: &mut Tally,
+    text: &str,
+) -> io::Result<()> {
+    for line in text.lines() {
+        if line.is_empty() || line.starts_with("#") {
+            continue;
+        }
+        if line.starts_with("job ") {
+            *case = Case::new(rt.alloc());
+        } else if line == "end" {
+            compare(rt, watch, gate, case, tally)?;
+        } else if case.line(rt.alloc(), line).is_none() {
+            println!(rt; "no line of a job: {line}")?;
+        }
+    }
+    Ok(())
+}
+
+/// Runs the jobs of a file.
+fn run_jobs<R: Files + Print + AllocGlobal + Threads>(
+    rt: &R,
+    watch: &Watch<'_, R>,
+    gate: &dyn Gate,
+    tally: &mut Tally,
+    name: &str,
+) -> io::Result<()> {
+    let text = fs::read_to_string(rt, name)?;
+    let mut case = Case::new(rt.alloc());
+    follow_lines(rt, watch, gate, &mut case, tally, text.as_str())
+}
+
+/// Follows the given files: rows behind the word `games`, and jobs at first and behind the word `jobs`.
+fn follow_words<R: Files + Print + AllocGlobal + Threads>(
+    rt: &R,
+    watch: &Watch<'_, R>,
+    gate: &dyn Gate,
+    row: &mut Row,
+    tally: &mut Tally,
+    words: &[String],
+) -> io::Result<()> {
+    let mut is_game = false;
+    for word in words {
+        match word.as_str() {
+            "games" => is_game = true,
+            "jobs" => is_game = false,
+            name if is_game => games::follow(rt, row, name)?,
+            name => run_jobs(rt, watch, gate, tally, name)?,
+        }
+    }
+    Ok(())
+}
+
+/// Follows the given files, and prints the results of the jobs, if there are any.
+fn obey<R: Files + Print + Eprint + AllocGlobal + Threads>(
+    rt: &R,
+    watch: &Watch<'_, R>,
+    gate: &dyn Gate,
+    row: &mut Row,
+    words: &[String],
+) -> io::Result<()> {
+    let mut tally = Tally::new();
+    follow_words(rt, watch, gate, row, &mut tally, words)?;
+    if tally.jobs == 0 {
+        return Ok(());
+    }
+    show_tally(rt, &tally)
+}
+
+fn main(rt: HostRuntime) -> io::Result<()> {
+    let words: Vec<String> = env::args(&rt)?.skip(1).collect(rt.alloc())?;
+    let watch = Watch::new(&rt);
+    let mut row = Row::new(rt.alloc());
+    obey(&rt, &watch, &watch, &mut row, words.as_slice())
 }

@@ -1,5 +1,5 @@
 // The cartridges that show the rules of the two profiles, `examples/profiles`. `./scene --idioms` writes them, and the rows of
-// `game_rows` play them.
+// `console_vectors` play them.
 //
 // `tools/write_game.py` writes their bytes from what ca65 and ld65 make of the sources. A test pins the SHA-256 of each.
 #![tactic(auto)]

@@ -4,7 +4,7 @@
 //! The pictures' hashes in `stdout` come from another emulator (`tools/compare/game_rows.py`). So a wrong pad, a pad a
 //! frame late and exchanged pads are detected.
 //!
-//! The program follows the lines of the given files, such as `data/rows.txt`, `data/pads.txt` and `data/idioms.txt`:
+//! The program follows the lines of the given files, such as `data/games.txt`, `data/pads.txt` and `data/idioms.txt`:
 //!
 //! - `row TITLE` begins a row, whose script is empty, and prints its title.
 //! - `put OFFSET BYTES` puts bytes into the cartridge `hello`, which is 32 KiB of zeros at first; both in hexadecimal.
@@ -19,19 +19,18 @@
 //! - `sounds NAME PROFILE FRAMES LENGTH ..` plays FRAMES frames, and compares the lengths of the sounds, in samples.
 //!
 //! Boot ROM and table are the free ones. A hash is 64-bit FNV-1a, of the 244,736 bytes of a frame and of all samples.
-#![tactic(auto)]
 
 mod film;
 mod idioms;
 mod row;
 
-use row::Row;
+pub use row::Row;
 use std::rt::Files;
 use std::thread::Threads;
-use std::{env, fs, io};
+use std::{fs, io};
 
 /// Follows the lines of a file.
-fn follow<R: Files + Print + AllocGlobal + Threads>(
+pub fn follow<R: Files + Print + AllocGlobal + Threads>(
     rt: &R,
     row: &mut Row,
     name: &str,
@@ -46,14 +45,6 @@ fn follow<R: Files + Print + AllocGlobal + Threads>(
         } else {
             row.follow(rt, line)?;
         }
-    }
-    Ok(())
-}
-
-fn main(rt: HostRuntime) -> io::Result<()> {
-    let mut row = Row::new(rt.alloc());
-    for name in env::args(&rt)?.skip(1) {
-        follow(&rt, &mut row, name.as_str())?;
     }
     Ok(())
 }

@@ -1,6 +1,6 @@
 //! Follows the lines of a file of rows.
 
-use crate::film::Film;
+use crate::games::film::Film;
 use cart_map::accept;
 use case_text::{hexadecimal, put};
 use free_files::{free_boot_rom, interpolation_table};
