@@ -54,22 +54,33 @@ fn follow<R: Files + Print + AllocGlobal>(rt: &R, row: &mut Row, name: &str) -> 
     Ok(())
 }
 
-/// Does what the program's arguments ask for, unless they are those of a job.
+/// Does what each of these words asks for.
 fn follow_words<R: Files + Print + Eprint + AllocGlobal + Threads + Sync>(
+    rt: &R,
+    watch: &Watch<'_, R>,
+    gate: &dyn Gate,
+    row: &mut Row,
+    words: &[String],
+) -> io::Result<()> {
+    for word in words {
+        match word.as_str() {
+            "workers" => workers::show_all(rt, watch, gate)?,
+            "plans" => plans::show_all(rt)?,
+            name => follow(rt, row, name)?,
+        }
+    }
+    Ok(())
+}
+
+/// Does what the program's arguments ask for, unless they are those of a job.
+fn follow_all<R: Files + Print + Eprint + AllocGlobal + Threads + Sync>(
     rt: &R,
     watch: &Watch<'_, R>,
     gate: &dyn Gate,
     words: &[String],
 ) -> io::Result<()> {
     let mut row = Row::new(rt.alloc());
-    for word in words {
-        match word.as_str() {
-            "workers" => workers::show_all(rt, watch, gate)?,
-            "plans" => plans::show_all(rt)?,
-            name => follow(rt, &mut row, name)?,
-        }
-    }
-    Ok(())
+    follow_words(rt, watch, gate, &mut row, words)
 }
 
 /// Does what the program's arguments ask for. The watch is the gate too.
@@ -82,7 +93,7 @@ fn obey<R: Files + Print + Eprint + AllocGlobal + Threads + Sync>(
     match words.split_first() {
         Some((first, job)) if first.as_str() == "job" => job::run_watched(rt, watch, gate, job),
         _ => {
-            follow_words(rt, watch, gate, words)?;
+            follow_all(rt, watch, gate, words)?;
             Ok(ExitCode::SUCCESS)
         }
     }

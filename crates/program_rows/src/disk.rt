@@ -111,11 +111,11 @@ pub fn disk<R: AllocGlobal + Threads + Print + Files>(
     rows: &Rows,
     words: &str,
 ) -> io::Result<()> {
-    let Some(row) = performed(rt, rows, words, None) else {
+    let Some(argv) = words_of(rt.alloc(), words) else {
         return println!(rt; "  no memory, or no row");
     };
-    match words_of(rt.alloc(), words) {
-        Some(argv) => answer_between(rt, rows, words, &argv, &row),
+    match performed(rt, rows, words, None) {
+        Some(row) => answer_between(rt, rows, words, &argv, &row),
         None => println!(rt; "  no memory, or no row"),
     }
 }
