@@ -224,40 +224,121 @@ fn tell_job<R: Print>(
     Ok(told)
 }
 
+/// What a run is traced with: it is read, and lent to those that trace.
+#[derive(Clone, Copy)]
+struct Given<'a> {
+    job: &'a Job,
+    /// What is asked for of coverage.
+    asked: Option<Asked<'a>>,
+    /// The lines of source, for a record of them.
+    source: Option<&'a SourceLines>,
+}
+
+/// Traces the machines of a job, notes what the run does to ROM, and writes the file of coverage, if one is asked for.
+fn trace_pair<R: Files + Print + AllocGlobal>(
+    rt: &R,
+    given: Given<'_>,
+    wanted: &Wanted,
+    labels: &Labels,
+    pair: &mut Pair,
+    coverage: &mut Coverage,
+) -> Result<Told> {
+    let alloc = rt.alloc();
+    let told = tell_job(rt, alloc, given.job, pair, wanted, labels, coverage)?;
+    if let Some(asked) = given.asked {
+        let rom = given.job.cart.rom.get();
+        write_file(rt, alloc, asked, coverage, rom, given.source)?;
+    }
+    Ok(told)
+}
+
+/// Traces the machines of a job, and returns the status.
+fn trace_settled<R: Files + Print + Eprint + AllocGlobal>(
+    rt: &R,
+    given: Given<'_>,
+    wanted: &Wanted,
+    labels: &Labels,
+    pair: &mut Pair,
+) -> Result<u8> {
+    let count = if wanted.notes {
+        given.job.cart.rom.get().len()
+    } else {
+        0
+    };
+    let mut coverage = Coverage::new(rt.alloc(), count)?;
+    let told = trace_pair(rt, given, wanted, labels, pair, &mut coverage)?;
+    // A failed write of the message changes no status.
+    let _ = tell_ends(rt, pair);
+    Ok(if told.is_hit { DONE } else { NO })
+}
+
+/// Traces a job, and returns the status.
+fn trace_job<R: Files + Print + Eprint + AllocGlobal>(
+    rt: &R,
+    given: Given<'_>,
+    wanted: &mut Wanted,
+    labels: &mut Labels,
+) -> Result<u8> {
+    let Ok(mut pair) = Pair::new(rt.alloc(), given.job) else {
+        bail!("no memory");
+    };
+    pair.settle(rt.alloc(), labels, wanted)?;
+    trace_settled(rt, given, wanted, labels, &mut pair)
+}
+
+/// Traces the job of the arguments with these labels, and returns the status.
+fn trace_labelled<R: Files + Print + Eprint + AllocGlobal>(
+    rt: &R,
+    words: &ArgMatches<'_>,
+    stamps: Option<(u64, u64)>,
+    given: Given<'_>,
+    labels: &mut Labels,
+) -> Result<u8> {
+    let region = given.job.region;
+    let range = range_of(region, stamps, words)?;
+    let mut wanted = wanted_in(rt, words, range, region, labels, given.asked.is_some())?;
+    trace_job(rt, given, &mut wanted, labels)
+}
+
+/// Traces the job of the arguments by this text of a symbol file, and returns the status.
+fn trace_by<R: Files + Print + Eprint + AllocGlobal>(
+    rt: &R,
+    words: &ArgMatches<'_>,
+    stamps: Option<(u64, u64)>,
+    asked: Option<Asked<'_>>,
+    text: Option<&str>,
+) -> Result<u8> {
+    let alloc = rt.alloc();
+    let mut labels = labels_of(alloc, words, text)?;
+    let source = source_of(alloc, asked, text)?;
+    let job = job_in(rt, alloc, words)?;
+    let given = Given {
+        job: &job,
+        asked,
+        source: source.as_ref(),
+    };
+    trace_labelled(rt, words, stamps, given, &mut labels)
+}
+
+/// Returns what is asked for of coverage, if anything is.
+fn asked_in<'a>(words: &'a ArgMatches<'_>) -> Result<Option<Asked<'a>>> {
+    match words.get_str("coverage") {
+        Some(name) => Ok(Some(asked_of(name)?)),
+        None => Ok(None),
+    }
+}
+
 /// Traces the job that the arguments name, and returns the status.
 fn write_job<R: Files + Print + Eprint + AllocGlobal>(
     rt: &R,
     words: &ArgMatches<'_>,
 ) -> Result<u8> {
-    let alloc = rt.alloc();
     let stamps = stamps_of(words)?;
-    let asked = match words.get_str("coverage") {
-        Some(name) => Some(asked_of(name)?),
-        None => None,
-    };
-    let text = symbol_text(rt, words)?;
-    let text = match &text {
-        Some(text) => Some(text.as_str()),
-        None => None,
-    };
-    let mut labels = labels_of(alloc, words, text)?;
-    let source = source_of(alloc, asked, text)?;
-    let job = job_in(rt, alloc, words)?;
-    let range = range_of(job.region, stamps, words)?;
-    let mut wanted = wanted_in(rt, words, range, job.region, &labels, asked.is_some())?;
-    let Ok(mut pair) = Pair::new(alloc, &job) else {
-        bail!("no memory");
-    };
-    pair.settle(alloc, &mut labels, &mut wanted)?;
-    let rom = job.cart.rom.get();
-    let mut coverage = Coverage::new(alloc, if wanted.notes { rom.len() } else { 0 })?;
-    let told = tell_job(rt, alloc, &job, &mut pair, &wanted, &labels, &mut coverage)?;
-    if let Some(asked) = asked {
-        write_file(rt, alloc, asked, &coverage, rom, source.as_ref())?;
+    let asked = asked_in(words)?;
+    match symbol_text(rt, words)? {
+        Some(text) => trace_by(rt, words, stamps, asked, Some(text.as_str())),
+        None => trace_by(rt, words, stamps, asked, None),
     }
-    // A failed write of the message changes no status.
-    let _ = tell_ends(rt, &pair);
-    Ok(if told.is_hit { DONE } else { NO })
 }
 
 /// This program, as a companion of `snes`.

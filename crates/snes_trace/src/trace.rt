@@ -179,7 +179,40 @@ pub fn is_closed(written: io::Result<()>, fault: &'static str) -> Result<bool> {
     }
 }
 
-/// Takes the steps up to the end of what is wanted, writes those that are wanted, and notes what they do to ROM.
+/// Takes the steps up to the end of what is wanted, writes those that are wanted, each as a line in the buffer, and notes
+/// what they do to ROM.
+fn tell_steps<W: Write>(
+    telling: &mut Telling<'_>,
+    pair: &mut Pair,
+    labels: &Labels,
+    coverage: &mut Coverage,
+    line: &mut Vec<u8>,
+    out: &mut W,
+) -> Result<()> {
+    let wanted = telling.wanted;
+    for _ in 0..u64::MAX {
+        if telling.ends(pair) {
+            break;
+        }
+        let Some(step) = pair.next() else {
+            bail!("the machines cannot go on");
+        };
+        if telling.tells(&step) {
+            let written = write_step(out, line, pair, labels, &step, wanted.is_csv);
+            telling.is_closed = is_closed(written, FAULT)?;
+            telling.told.lines = telling.told.lines.saturating_add(1);
+        }
+        if wanted.notes && telling.is_in_time(&step) {
+            note(coverage, &step);
+        }
+        if telling.ends_with(pair, &step) {
+            break;
+        }
+    }
+    Ok(())
+}
+
+/// Writes the steps up to the end of what is wanted, behind a head if they are CSV, and notes what they do to ROM.
 pub fn write_trace<W: Write>(
     alloc: Global,
     pair: &mut Pair,
@@ -193,25 +226,7 @@ pub fn write_trace<W: Write>(
     if wanted.is_csv && wanted.tells_steps {
         telling.is_closed = is_closed(write_head(out, labels), FAULT)?;
     }
-    for _ in 0..u64::MAX {
-        if telling.ends(pair) {
-            break;
-        }
-        let Some(step) = pair.next() else {
-            bail!("the machines cannot go on");
-        };
-        if telling.tells(&step) {
-            let written = write_step(out, &mut line, pair, labels, &step, wanted.is_csv);
-            telling.is_closed = is_closed(written, FAULT)?;
-            telling.told.lines = telling.told.lines.saturating_add(1);
-        }
-        if wanted.notes && telling.is_in_time(&step) {
-            note(coverage, &step);
-        }
-        if telling.ends_with(pair, &step) {
-            break;
-        }
-    }
+    tell_steps(&mut telling, pair, labels, coverage, &mut line, out)?;
     let is_cut = is_closed(out.flush(), FAULT)? || telling.is_closed;
     let Told { lines, is_hit } = telling.told;
     Ok(Told {
