@@ -4,13 +4,10 @@ ghost use Rattle.beam.specs.Events.{BeamValue, lines_of, fires, next_v, next_h, 
 ghost use Rattle.beam.specs.Places.{table_place, timer_place, next_place, clocks_left};
 
 use crate::events::Happens;
-use snes_defs::{IrqTime, Region, Spot};
+use snes_defs::{BLANK_CLOCK, IrqTime, LINE_CLOCKS, Region, Spot};
 use std::marker::Model;
 
 mod copy;
-
-/// The number of master clocks in a line.
-const LINE: u16 = 1364;
 
 /// The beam. It is `left` master clocks before the next place of its line at which something may happen.
 #[derive(Drop)]
@@ -147,7 +144,7 @@ fn place_of(region: Region, v: u16, place: u16) -> (u16, u16)
     ensures line_within { result.0 < lines_of region }
     ensures clock_within { result.1 < 1364 }
 {
-    if place < LINE {
+    if place < LINE_CLOCKS {
         return (v, place);
     }
     let lines = match region {
@@ -188,7 +185,7 @@ fn happens(timer: IrqTime, overscan: bool, blank: bool, v: u16, h: u16) -> Happe
         blank: h == 0 && ((v == 225 && !overscan) || (v == 240 && !blank)),
         hdma_frame: h == 24 && v == 0,
         refresh: h == 536,
-        draw: h == 1096 && 1 <= v && v <= 239,
+        draw: h == BLANK_CLOCK && 1 <= v && v <= 239,
         hdma_line: h == 1104 && !blank,
         timer: fires(timer, v, h),
     }
@@ -207,12 +204,12 @@ fn table_place(blank: bool, v: u16, h: u16) -> u16
         24
     } else if h < 536 {
         536
-    } else if h < 1096 && 1 <= v && v <= 239 {
-        1096
+    } else if h < BLANK_CLOCK && 1 <= v && v <= 239 {
+        BLANK_CLOCK
     } else if h < 1104 && !blank {
         1104
     } else {
-        LINE
+        LINE_CLOCKS
     }
 }
 
@@ -226,7 +223,7 @@ fn timer_place(timer: IrqTime, v: u16) -> u16
     if (timer.kind == 1 || (timer.kind == 3 && v == timer.v)) && timer.h <= 340 {
         4 * timer.h
     } else {
-        LINE
+        LINE_CLOCKS
     }
 }
 

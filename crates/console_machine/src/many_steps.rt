@@ -20,6 +20,7 @@ use cart_map::Place as BusPlace;
 use console_bus::Bus;
 use console_steps::{is_calm, is_plain_ahead, is_wired, reach_plain_place, try_look, try_plain};
 use cpu65816::Cpu;
+use snes_defs::LINE_CLOCKS;
 use whole_instructions::make_whole;
 
 /// More accesses than a line has room for.
@@ -33,9 +34,6 @@ const MOST_OF_ROUND: u16 = 32;
 
 /// With fewer clocks than these to the next beam event, no idle loop is searched for.
 const FEW_CLOCKS: u16 = 128;
-
-/// The master clocks of a line, and of the longest run of steps that is made in one call.
-pub(crate) const LINE: u16 = 1364;
 
 /// How many places at most a round goes past.
 const MOST_PLACES: u8 = 4;
@@ -222,11 +220,11 @@ fn go_beyond(bus: &mut Bus, round: u16, before: u16) -> u16
         if bus.clocks_left() > round {
             return gone;
         }
-        if before + gone + round + REFRESH_CLOCKS > LINE {
+        if before + gone + round + REFRESH_CLOCKS > LINE_CLOCKS {
             return gone;
         }
         gone += go_over(bus, round);
-        if before + gone + bus.clocks_left() > LINE {
+        if before + gone + bus.clocks_left() > LINE_CLOCKS {
             return gone;
         }
         gone += go_rounds(bus, round);

@@ -9,14 +9,14 @@ ghost use Rattle.console_machine.specs.Side.{IsSome, StandsAt};
 ghost use Rattle.console_machine.specs.Silent.{IsSilent, IsSilentStep};
 
 use crate::acts::due_act;
-use crate::many_steps::{LINE, look_for_rounds};
+use crate::many_steps::look_for_rounds;
 use crate::patience::Patience;
 use crate::step::{make_step, try_make};
 use circular_buffer::HeapCircularBuffer;
 use clock_ratio::{CONSOLE_RATE, PAL_CONSOLE_RATE};
 use console_bus::Bus;
 use cpu65816::Cpu;
-use snes_defs::{Act, Region};
+use snes_defs::{Act, LINE_CLOCKS, Region};
 
 /// The parts of a console side: processor, bus, region, stamp and emitted bytes.
 #[derive(Drop)]
@@ -168,7 +168,11 @@ impl Parts {
         if self.bus.is_busy() {
             return;
         }
-        if until < self.stamp.saturating_add(line_stamps(self.region, LINE)) {
+        if until
+            < self
+                .stamp
+                .saturating_add(line_stamps(self.region, LINE_CLOCKS))
+        {
             return;
         }
         let clocks = look_for_rounds(&mut self.cpu, &mut self.bus, &mut self.patience);

@@ -52,7 +52,7 @@ pub fn is_port(register: u8) -> bool
 
 /// Returns what an access of a register of the B bus reaches: one of the ports, or the register.
 #[inline(always)]
-pub fn register_target(register: u8) -> Target
+fn register_target(register: u8) -> Target
     ensures target { (board : CartBoard) → result ≡ target_at board (BBus register) }
     ensures within { (board : CartBoard) → IsWithin board result }
 {

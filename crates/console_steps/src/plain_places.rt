@@ -5,12 +5,10 @@ ghost use Rattle.beam.specs.Places.{clocks_left};
 ghost use Rattle.console_steps.specs.PlainPlaces.{IsPlainAhead, IsPlainlyThere};
 
 use console_bus::Bus;
+use snes_defs::LINE_CLOCKS;
 
 /// The line clock at which a refresh is due.
 const REFRESH_PLACE: u16 = 536;
-
-/// The line clock at which the next line begins.
-const LINE_END: u16 = 1364;
 
 /// The last line whose end brings nothing but the next line, with overscan or without.
 const LAST_PLAIN_LINE: u16 = 223;
@@ -24,7 +22,7 @@ pub fn is_plain_ahead(bus: &Bus) -> bool
         return false;
     }
     let place = bus.place_ahead();
-    place == REFRESH_PLACE || (place == LINE_END && bus.scanline() <= LAST_PLAIN_LINE)
+    place == REFRESH_PLACE || (place == LINE_CLOCKS && bus.scanline() <= LAST_PLAIN_LINE)
 }
 
 /// Advances the beam to a place at which nothing happens but a refresh or the next line. Returns whether a refresh is

@@ -2,7 +2,6 @@
 -- next, and what it is once an instruction is in hand.
 use Rattle.std.specs.Prelude.{◌≡◌, ℕ, Bool, false, Option, Some, None}
 use Rattle.cpu_tables.specs.declared.access.Access.{Access}
-use Rattle.cpu_tables.specs.declared.access.Access.TheVariants.{Fetch, Read, Write, Inner}
 use Rattle.cpu_tables.specs.declared.regs.Regs.{Regs}
 use Rattle.cpu_modes.specs.Plan.{Plan, finished, first_access}
 use Rattle.cpu_modes.specs.Remaining.{remaining}
@@ -25,13 +24,6 @@ ahead_of cpu = ahead cpu.kept cpu.irq_level (remaining cpu.micro)
 -- its next access
 abbrev pub access_of : Cpu → Access
 access_of cpu = first_access (ahead_of cpu)
-
--- an access that gets a byte, at an address
-abbrev pub gets_at : Access → ℕ → Type 0
-gets_at (Fetch addr) at = addr ≡ at
-gets_at (Read addr) at = addr ≡ at
-gets_at (Write addr byte) at = ⊥
-gets_at Inner at = ⊥
 
 -- the registers at the start of the instruction that an access belongs to
 abbrev pub start_of : Cpu → Regs

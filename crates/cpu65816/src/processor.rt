@@ -25,8 +25,7 @@ impl Cpu {
     ghost use Rattle.cpu_modes.specs.Remaining.{Keeps};
     ghost use Rattle.cpu65816.specs.Instruction.{CpuState, at_reset, between_instructions, chosen, kept_after, left_of, moved_on, next_of, plan_of, registers_of, row_of_signal, signalled};
     ghost use Rattle.cpu_tables.specs.declared.operation.Op.TheVariants.{Reset};
-    ghost use Rattle.cpu_tables.specs.declared.access.Access.TheVariants.{Inner, Write};
-    ghost use Rattle.cpu65816.specs.Stands.{Stands, TakesUp, access_of, gets_at};
+    ghost use Rattle.cpu65816.specs.Stands.{Stands, TakesUp, access_of};
 
     /// Returns a processor after a reset.
     pub fn new() -> Cpu
@@ -89,51 +88,6 @@ impl Cpu {
         ensures standing { (s : CpuState) → Stands self.now s → result ≡ next_of s }
     {
         self.micro.access
-    }
-
-    /// Returns the address that the next access reads, if it is a fetch or a read. The access isn't copied as one
-    /// value. It was written in parts, and a processor stalls if it reads as one what it has just written in parts.
-    #[inline(always)]
-    pub fn reads_at(&self) -> Option<u32>
-        ensures gets { IfSome result (λ at. gets_at (access_of self.now) at) }
-        ensures none { result ≡ None → gets_byte (access_of self.now) ≡ false }
-        ensures within { IfSome result (λ at. at < 2 ^ 24) }
-    {
-        match self.micro.access {
-            Access::Fetch(at) => Some(at),
-            Access::Read(at) => Some(at),
-            Access::Write(_, _) => None,
-            Access::Inner => None,
-        }
-    }
-
-    /// Returns the address and the byte of the next access, if it is a write.
-    #[inline(always)]
-    pub fn writes_at(&self) -> Option<(u32, u8)>
-        ensures writes { IfSome result (λ to. access_of self.now ≡ Write to.0 to.1) }
-        ensures none { result ≡ None → is_write (access_of self.now) ≡ false }
-        ensures within { IfSome result (λ to. to.0 < 2 ^ 24) }
-    {
-        match self.micro.access {
-            Access::Fetch(_) => None,
-            Access::Read(_) => None,
-            Access::Write(at, byte) => Some((at, byte)),
-            Access::Inner => None,
-        }
-    }
-
-    /// Whether the next access is an internal cycle.
-    #[inline(always)]
-    pub fn is_idle(&self) -> bool
-        ensures exact { result ≡ is_inner (access_of self.now) }
-        ensures inner { IsTrue result → access_of self.now ≡ Inner }
-    {
-        match self.micro.access {
-            Access::Fetch(_) => false,
-            Access::Read(_) => false,
-            Access::Write(_, _) => false,
-            Access::Inner => true,
-        }
     }
 
     /// Whether an instruction that waits for an interrupt has one, disabled or not.

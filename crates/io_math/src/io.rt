@@ -6,7 +6,7 @@ ghost use Rattle.io_math.specs.Registers.{byte_read, after_read, is_reading, wor
 ghost use Rattle.io_math.specs.Registers.{blanked, framed, timed, nmi_level, irq_level};
 
 use crate::registers::{Arithmetic, Interrupts, IoRegisters, Pad};
-use snes_defs::{IrqTime, Spot};
+use snes_defs::{BLANK_CLOCK, IrqTime, LINE_CLOCKS, Spot};
 use std::marker::Model;
 
 mod copy;
@@ -257,7 +257,7 @@ fn read_register(r: &mut IoRegisters, addr: u16, bus: u8, beam: Spot) -> u8
         // 4212 HVBJOY
         0x4212 => {
             bit_if(beam.blank, 128)
-                + bit_if(beam.h < 4 || 1096 <= beam.h, 64)
+                + bit_if(beam.h < 4 || BLANK_CLOCK <= beam.h, 64)
                 + bus / 2 % 32 * 2
                 + bit_if(is_reading(r, beam), 1)
         }
@@ -291,7 +291,7 @@ fn is_reading(r: &IoRegisters, beam: Spot) -> bool
 {
     r.reading != 0
         && r.reading <= beam.v
-        && (beam.v - r.reading) as u32 * 1364 + (beam.h as u32) < 4224
+        && (beam.v - r.reading) as u32 * LINE_CLOCKS as u32 + (beam.h as u32) < 4224
 }
 
 /// Returns the word of a pad that 4218-9 or 421A-B gives.

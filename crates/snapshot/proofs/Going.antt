@@ -1,26 +1,20 @@
 -- A path that goes on by a span, and steps on the way.
-use Rattle.std.proofs.Common.{◌≡◌, ℕ, ◌+◌, ◌*◌, ◌<◌, ◌≤◌, List, [], ◌∷◌, ◌++◌, length, length-append, refl, ap, sym, ◌∙◌, subst, append_assoc, ⊎_elim, arith}
-use Rattle.std.proofs.lemmas.Bool.{cases_lt}
+use Rattle.std.proofs.Common.{◌≡◌, ℕ, ◌+◌, ◌*◌, ◌<◌, ◌≤◌, List, [], ◌∷◌, ◌++◌, length, length-append, refl, ap, sym, ◌∙◌, subst, arith}
 use Rattle.std.proofs.lemmas.List.{append-nil}
 use Rattle.snes_defs.specs.declared.cart.Job.{Job}
 use Rattle.snes_defs.specs.declared.script.Span.{Span}
 use Rattle.snes_defs.specs.Script.{RiseWithin, frames_of}
 use Rattle.clock_ratio.specs.Stamp.{frame_of, end_stamp_of}
 use Rattle.side_law.specs.Moves.{Moves}
-use Rattle.side_law.specs.Serial.{SerialState, got_of, console_step, sound_step, turn, console_emits, sound_emits}
-use Rattle.side_law.specs.SerialRun.{IsPast, IsUnderway}
-use Rattle.side_law.proofs.SerialKeeps.{TurnOf, by_console, by_sound, turn_of, turn_console, turn_sound}
+use Rattle.side_law.specs.Serial.{SerialState}
+use Rattle.side_law.specs.SerialRun.{IsUnderway}
 use Rattle.side_law.proofs.SerialRuns.{run_is_over}
-use Rattle.serial_console.specs.Serial.{IsAt}
 use Rattle.serial_console.specs.Lead.{IsLead}
-use Rattle.serial_console.proofs.Lead.{lead_console_turn, lead_sound_turn, console_gives, sound_gives}
 use Rattle.console_steps.specs.ConsoleState.{ConsoleState, console_moves}
 use Rattle.console_machine.specs.Side.{ConsoleValue}
 use Rattle.console_machine.specs.Side as console_side
 use Rattle.console_machine.specs.Playing.{console_played}
-use Rattle.audio_side.specs.Sound.{AudioValue, SoundState, sound_moves}
-use Rattle.audio_side.specs.Sound as sound_side
-use Rattle.snapshot.specs.declared.run.Run.{Run}
+use Rattle.audio_side.specs.Sound.{sound_moves}
 use Rattle.snapshot.specs.declared.rewind.Rewind.{Rewind}
 use Rattle.plan_drive.specs.Paths.{Path, Paths, gone}
 use Rattle.snapshot.specs.Path.{start_of, end_of_path}
@@ -83,70 +77,5 @@ begun job n paths r span x room few stands waits h =
       reset_room = d.reset_room;
       rise = subst (λ m. RiseWithin 1 m paths.path.resets) (sym more) (rise_wider 1 (frames_of paths.path.spans) span.count paths.path.resets d.rise);
       in_order = d.in_order;
-      slots = h.slots;
-    }
-
--- ---- a turn
-
-pub not_past_early : (end : ℕ) (w : SerialState ConsoleState SoundState) → ¬ IsPast console_moves sound_moves end w
-    → (console_moves.stamp w.console ≤ sound_moves.stamp w.sound → console_moves.stamp w.console < end) × (sound_moves.stamp w.sound < console_moves.stamp w.console → sound_moves.stamp w.sound < end)
-not_past_early end w short = (
-  λ le. ⊎_elim (λ lt. lt) (λ ge. absurd (short (record { console = ge; sound = omega (arith, ge, le) }))) (cases_lt (console_moves.stamp w.console) end),
-  λ lt. ⊎_elim (λ l. l) (λ ge. absurd (short (record { console = omega (arith, ge, lt); sound = ge }))) (cases_lt (sound_moves.stamp w.sound) end),
-)
-
-lead_turn : (end : ℕ) (from at : SerialState ConsoleState SoundState) (video audio : List ℕ) → IsLead console_moves sound_moves end from at video audio → ¬ IsPast console_moves sound_moves end at
-    → IsLead console_moves sound_moves end from (turn console_moves sound_moves at) (video ++ console_emits console_moves sound_moves at) (audio ++ sound_emits console_moves sound_moves at)
-lead_turn end from at video audio lead short = go (turn_of console_moves sound_moves at)
-  where
-    go : TurnOf console_moves sound_moves at → IsLead console_moves sound_moves end from (turn console_moves sound_moves at) (video ++ console_emits console_moves sound_moves at) (audio ++ sound_emits console_moves sound_moves at)
-    go (by_console le e) =
-        let gives = console_gives console_moves sound_moves end from at e in
-        let early = (not_past_early end at short).0 le in
-        subst (λ w. IsLead console_moves sound_moves end from w (video ++ console_emits console_moves sound_moves at) (audio ++ sound_emits console_moves sound_moves at)) (sym (turn_console console_moves sound_moves at e))
-        (subst (λ v. IsLead console_moves sound_moves end from (console_step console_moves sound_moves at) (video ++ v) (audio ++ sound_emits console_moves sound_moves at)) (sym gives.0)
-        (subst (λ a. IsLead console_moves sound_moves end from (console_step console_moves sound_moves at) (video ++ console_moves.bytes at.console (got_of (console_moves.act at.console) at.to_console)) a) (sym (append-nil audio) ∙ ap (λ a. audio ++ a) (sym gives.1))
-        (lead_console_turn console_moves sound_moves end from at video audio lead le early)))
-    go (by_sound lt e) =
-        let gives = sound_gives console_moves sound_moves end from at e in
-        let early = (not_past_early end at short).1 lt in
-        subst (λ w. IsLead console_moves sound_moves end from w (video ++ console_emits console_moves sound_moves at) (audio ++ sound_emits console_moves sound_moves at)) (sym (turn_sound console_moves sound_moves at e))
-        (subst (λ a. IsLead console_moves sound_moves end from (sound_step console_moves sound_moves at) (video ++ console_emits console_moves sound_moves at) (audio ++ a)) (sym gives.1)
-        (subst (λ v. IsLead console_moves sound_moves end from (sound_step console_moves sound_moves at) v (audio ++ sound_moves.bytes at.sound (got_of (sound_moves.act at.sound) at.to_sound))) (sym (append-nil video) ∙ ap (λ v. video ++ v) (sym gives.0))
-        (lead_sound_turn console_moves sound_moves end from at video audio lead lt early)))
-
-pub turned : (job : Job) (n : ℕ) (paths : Paths) (before : Path) (video audio : List ℕ) (r : Rewind) (after : Run)
-    → ((w : SerialState ConsoleState SoundState) → IsAt console_side.StandsAt sound_side.StandsAt r.run.serial w → ¬ IsPast console_moves sound_moves r.run.end w)
-    → ((w : SerialState ConsoleState SoundState) → IsAt console_side.StandsAt sound_side.StandsAt r.run.serial w → IsAt console_side.StandsAt sound_side.StandsAt after.serial (turn console_moves sound_moves w))
-    → ((w : SerialState ConsoleState SoundState) → IsAt console_side.StandsAt sound_side.StandsAt r.run.serial w → after.serial.console.waiting ≡ r.run.serial.console.waiting ++ console_emits console_moves sound_moves w)
-    → ((w : SerialState ConsoleState SoundState) → IsAt console_side.StandsAt sound_side.StandsAt r.run.serial w → after.serial.sound.waiting ≡ r.run.serial.sound.waiting ++ sound_emits console_moves sound_moves w)
-    → after.end ≡ r.run.end
-    → IsGoing job n paths before video audio r
-    → IsGoing job n paths before video audio (record { run = after; slots = r.slots })
-turned job n paths before video audio r after short turns console_out sound_out same h =
-    let at = h.led.at in
-    let here = h.led.stands in
-    let not_past = subst (λ e. ¬ IsPast console_moves sound_moves e at) h.end_is (short at here) in
-    let v = h.first_video ++ video in
-    let a = h.first_audio ++ audio in
-    record {
-      first_video = h.first_video;
-      first_audio = h.first_audio;
-      first = h.first;
-      led = record {
-        at = turn console_moves sound_moves at;
-        stands = turns at here;
-        lead = subst (λ x. IsLead console_moves sound_moves (end_of_path job.region paths.path) (start_of job n paths.path) (turn console_moves sound_moves at) x (a ++ after.serial.sound.waiting))
-            (append_assoc v r.run.serial.console.waiting _ ∙ ap (λ x. v ++ x) (sym (console_out at here)))
-            (subst (λ x. IsLead console_moves sound_moves (end_of_path job.region paths.path) (start_of job n paths.path) (turn console_moves sound_moves at) ((v ++ r.run.serial.console.waiting) ++ console_emits console_moves sound_moves at) x)
-            (append_assoc a r.run.serial.sound.waiting _ ∙ ap (λ x. a ++ x) (sym (sound_out at here)))
-            (lead_turn (end_of_path job.region paths.path) (start_of job n paths.path) at (v ++ r.run.serial.console.waiting) (a ++ r.run.serial.sound.waiting) h.led.lead not_past));
-      };
-      end_is = same ∙ h.end_is;
-      few = h.few;
-      room = h.room;
-      reset_room = h.reset_room;
-      rise = h.rise;
-      in_order = h.in_order;
       slots = h.slots;
     }

@@ -1,17 +1,16 @@
 -- Bytes that are handed out on the way, and the end of a path.
-use Rattle.std.proofs.Common.{◌≡◌, ℕ, ◌≤◌, List, [], ◌++◌, take, drop, ap, sym, ◌∙◌, subst, append_assoc, arith}
-use Rattle.std.proofs.lemmas.List.{append-nil, take-append-drop}
+use Rattle.std.proofs.Common.{◌≡◌, ℕ, ◌≤◌, List, [], ◌++◌, ap, sym, ◌∙◌, subst, arith}
+use Rattle.std.proofs.lemmas.List.{append-nil}
 use Rattle.snes_defs.specs.declared.cart.Job.{Job}
 use Rattle.snes_defs.specs.declared.ports.Side.{Side}
 use Rattle.snes_defs.specs.declared.ports.Side.TheVariants.{Console, Sound}
 use Rattle.side_law.specs.SerialRun.{IsPast}
 use Rattle.side_law.proofs.SerialRuns.{run_is_over}
 use Rattle.serial_console.specs.Lead.{IsLead, IsLed}
-use Rattle.console_steps.specs.ConsoleState.{ConsoleState, console_moves}
-use Rattle.console_machine.specs.Side.{ConsoleValue}
+use Rattle.console_steps.specs.ConsoleState.{console_moves}
 use Rattle.console_machine.specs.Side as console_side
 use Rattle.console_machine.specs.AfterStep.{stamp_stands as console_stamp}
-use Rattle.audio_side.specs.Sound.{AudioValue, SoundState, sound_moves}
+use Rattle.audio_side.specs.Sound.{sound_moves}
 use Rattle.audio_side.specs.Clock.{stamp_now}
 use Rattle.audio_side.specs.Sound as sound_side
 use Rattle.audio_side.specs.SoundLaws.{stamp_stands as sound_stamp}
@@ -51,59 +50,6 @@ arrived job n paths before video audio r console sound no_video no_audio h =
       },
       record { first_video = h.first_video; first_audio = h.first_audio; first = h.first; whole = run_is_over console_moves sound_moves from end at v a under past },
     )
-
--- the first bytes that wait were handed out
-handed : (f v w : List ℕ) (k : ℕ) → (f ++ v) ++ w ≡ (f ++ (v ++ take k w)) ++ drop k w
-handed f v w k =
-    ap (λ x. (f ++ v) ++ x) (sym (take-append-drop {A = ℕ} k w)) ∙ sym (append_assoc (f ++ v) (take k w) (drop k w)) ∙ ap (λ x. x ++ drop k w) (append_assoc f v (take k w))
-
-pub video_handed : (job : Job) (n : ℕ) (paths : Paths) (before : Path) (video audio : List ℕ) (r : Rewind) (x : ConsoleValue) (k : ℕ)
-    → ((w : ConsoleState) → console_side.StandsAt r.run.serial.console w → console_side.StandsAt x w) → x.waiting ≡ drop k r.run.serial.console.waiting
-    → IsGoing job n paths before video audio r
-    → IsGoing job n paths before (video ++ take k r.run.serial.console.waiting) audio
-    (record { run = record { serial = record { console = x; sound = r.run.serial.sound; to_sound = r.run.serial.to_sound; to_console = r.run.serial.to_console }; end = r.run.end; stepped = r.run.stepped }; slots = r.slots })
-video_handed job n paths before video audio r x k same left h = record {
-  first_video = h.first_video;
-  first_audio = h.first_audio;
-  first = h.first;
-  led = record {
-    at = h.led.at;
-    stands = record { console = same h.led.at.console h.led.stands.console; sound = h.led.stands.sound; to_sound = h.led.stands.to_sound; to_console = h.led.stands.to_console };
-    lead = subst (λ v. IsLead console_moves sound_moves (end_of_path job.region paths.path) (start_of job n paths.path) h.led.at v ((h.first_audio ++ audio) ++ r.run.serial.sound.waiting))
-        (handed h.first_video video r.run.serial.console.waiting k ∙ ap (λ w. (h.first_video ++ (video ++ take k r.run.serial.console.waiting)) ++ w) (sym left)) h.led.lead;
-  };
-  end_is = h.end_is;
-  few = h.few;
-  room = h.room;
-  reset_room = h.reset_room;
-  rise = h.rise;
-  in_order = h.in_order;
-  slots = h.slots;
-}
-
-pub audio_handed : (job : Job) (n : ℕ) (paths : Paths) (before : Path) (video audio : List ℕ) (r : Rewind) (x : AudioValue) (k : ℕ)
-    → ((m : SoundState) → sound_side.StandsAt r.run.serial.sound m → sound_side.StandsAt x m) → x.waiting ≡ drop k r.run.serial.sound.waiting
-    → IsGoing job n paths before video audio r
-    → IsGoing job n paths before video (audio ++ take k r.run.serial.sound.waiting)
-    (record { run = record { serial = record { console = r.run.serial.console; sound = x; to_sound = r.run.serial.to_sound; to_console = r.run.serial.to_console }; end = r.run.end; stepped = r.run.stepped }; slots = r.slots })
-audio_handed job n paths before video audio r x k same left h = record {
-  first_video = h.first_video;
-  first_audio = h.first_audio;
-  first = h.first;
-  led = record {
-    at = h.led.at;
-    stands = record { console = h.led.stands.console; sound = same h.led.at.sound h.led.stands.sound; to_sound = h.led.stands.to_sound; to_console = h.led.stands.to_console };
-    lead = subst (λ a. IsLead console_moves sound_moves (end_of_path job.region paths.path) (start_of job n paths.path) h.led.at ((h.first_video ++ video) ++ r.run.serial.console.waiting) a)
-        (handed h.first_audio audio r.run.serial.sound.waiting k ∙ ap (λ w. (h.first_audio ++ (audio ++ take k r.run.serial.sound.waiting)) ++ w) (sym left)) h.led.lead;
-  };
-  end_is = h.end_is;
-  few = h.few;
-  room = h.room;
-  reset_room = h.reset_room;
-  rise = h.rise;
-  in_order = h.in_order;
-  slots = h.slots;
-}
 
 -- ---- a whole span
 

@@ -5,14 +5,13 @@ use Rattle.snes_defs.specs.Script.{RiseWithin, frames_of}
 use Rattle.side_law.specs.Serial.{SerialState}
 use Rattle.side_law.specs.SerialRun.{IsPast, IsUnderway}
 use Rattle.snes_defs.specs.declared.ports.Side.{Side}
-use Rattle.audio_side.specs.Clock.{reset_frames, stamp_now}
-use Rattle.serial_console.specs.Serial.{IsAt, earlier_side}
+use Rattle.audio_side.specs.Clock.{reset_frames}
+use Rattle.serial_console.specs.Serial.{IsAt}
 use Rattle.serial_console.specs.Lead.{IsLed}
 use Rattle.console_steps.specs.ConsoleState.{ConsoleState, console_moves}
-use Rattle.console_machine.specs.Side.{ConsoleValue}
 use Rattle.console_machine.specs.Side as console_side
 use Rattle.console_machine.specs.Playing.{value_with_room}
-use Rattle.audio_side.specs.Sound.{AudioValue, SoundState, sound_moves}
+use Rattle.audio_side.specs.Sound.{SoundState, sound_moves}
 use Rattle.audio_side.specs.Sound as sound_side
 use Rattle.audio_side.specs.Playing.{audio_with_room}
 use Rattle.snapshot.specs.declared.run.Run.{Run}
@@ -60,16 +59,9 @@ copy_of r n sound_room stepped = record {
   stepped = stepped;
 }
 
--- the serial machine that a rewinder is, and whether both of its sides have come to the end of the path
+-- the serial machine that a rewinder is
 abbrev pub StandsIn : Rewind → SerialState ConsoleState SoundState → Type 0
 StandsIn r w = IsAt console_side.StandsAt sound_side.StandsAt r.run.serial w
-
-abbrev pub HasEnded : Rewind → Type 0
-HasEnded r = (r.run.end ≤ r.run.serial.console.stamp) × (r.run.end ≤ stamp_now r.run.serial.sound.clock)
-
--- the side that makes the next step
-abbrev pub next_side : Rewind → Side
-next_side r = earlier_side r.run.serial.console.stamp (stamp_now r.run.serial.sound.clock)
 
 -- THE SLOTS hold the machines of their paths, each at its end
 abbrev pub HoldsPath : Job → ℕ → Path → Run → Type 0

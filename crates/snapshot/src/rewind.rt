@@ -1,17 +1,17 @@
-ghost use Rattle.std.specs.Prelude.{◌≡◌, ◌+◌, ◌<◌, ◌≤◌, ◌↔◌, ℕ, false, List, [], length, max, OnOk, IfOk, IfSome, IsSome, IsNone, IsTrue};
+ghost use Rattle.std.specs.Prelude.{◌≡◌, ◌+◌, ◌<◌, ◌≤◌, ◌↔◌, ℕ, false, [], length, max, OnOk, IfOk, IsTrue};
 ghost use Rattle.snes_defs.specs.declared.cart.Job.{Job};
 ghost use Rattle.snes_defs.specs.Script.{frames_of};
 ghost use Rattle.input_files.specs.declared.plan.PlanStep.TheVariants.{Reset};
 ghost use Rattle.plan_drive.specs.Paths.{Path, Paths, empty_path, no_paths, gone, reset_there, MayPress, kept, back, after_step, room_of, slots_of, path_script};
-ghost use Rattle.side_law.specs.Serial.{SerialState, turn};
-ghost use Rattle.console_steps.specs.ConsoleState.{ConsoleState, console_moves};
+ghost use Rattle.side_law.specs.Serial.{SerialState};
+ghost use Rattle.console_steps.specs.ConsoleState.{ConsoleState};
 ghost use Rattle.console_machine.specs.Playing.{console_played};
-ghost use Rattle.audio_side.specs.Sound.{SoundState, sound_moves};
+ghost use Rattle.audio_side.specs.Sound.{SoundState};
 ghost use Rattle.run_drive.specs.Played.{IsPlayable};
 ghost use Rattle.plan_drive.specs.Joins.{Joins};
 ghost use Rattle.snapshot.specs.Path.{PathEmits};
-ghost use Rattle.snapshot.specs.Positions.{IsRested, IsGoing, StandsIn, HasEnded, next_side, slot_count, video_waiting, audio_waiting};
-ghost use Rattle.snapshot.specs.Stepped.{stepped_of, StepsNone, StepsOn};
+ghost use Rattle.snapshot.specs.Positions.{IsRested, IsGoing, StandsIn, slot_count, video_waiting, audio_waiting};
+ghost use Rattle.snapshot.specs.Stepped.{stepped_of, StepsNone};
 
 use crate::memory::{count_room, count_slots, first_runs};
 use crate::run::{Run, copy_run, first_run};
@@ -144,28 +144,6 @@ impl Rewind {
     {
         let frame = self.run.frames();
         self.run.press(frame);
-    }
-
-    /// Takes one step of the earlier side, and returns that side; the console wins ties. Returns none if and only if
-    /// both stamps have reached the end of the path.
-    pub fn turn(&mut self) -> Option<Side>
-        requires going { (job : Job) × (n : ℕ) × (paths : Paths) × (before : Path) × (video : List ℕ) × (audio : List ℕ) × IsGoing job n paths before video audio self.old }
-        requires console_room { length (video_waiting self.old) + 1024 ≤ 65536 }
-        requires sound_room { length (audio_waiting self.old) + 4 ≤ 4096 }
-        ensures going { (job : Job) (n : ℕ) (paths : Paths) (before : Path) (video audio : List ℕ) → IsGoing job n paths before video audio self.old → IsGoing job n paths before video audio self.new }
-        ensures ended { IsNone result ↔ HasEnded self.old }
-        ensures stays { IsNone result → self.new ≡ self.old }
-        ensures side { IfSome result (λ side. side ≡ next_side self.old) }
-        ensures step { IsSome result → (w : SerialState ConsoleState SoundState) → StandsIn self.old w → StandsIn self.new (turn console_moves sound_moves w) }
-        ensures few_video { length (video_waiting self.new) ≤ length (video_waiting self.old) + 1024 }
-        ensures few_audio { length (audio_waiting self.new) ≤ length (audio_waiting self.old) + 4 }
-        ensures slots { slot_count self.new ≡ slot_count self.old }
-        ensures steps { IsSome result → StepsOn self.old self.new }
-    {
-        if self.run.finished() {
-            return None;
-        }
-        Some(self.run.turn())
     }
 
     /// Stores the path and its machines in a slot. Nothing is allocated.

@@ -1,12 +1,10 @@
 // The machines of a path: how they are stepped and copied. Nothing else steps or copies them, so the count of a run
 // shows how far its machines were stepped.
-ghost use Rattle.std.specs.Prelude.{◌≡◌, ◌+◌, ◌*◌, ◌^◌, ◌<◌, ◌≤◌, ◌++◌, ◌↔◌, ℕ, List, [], ◌∷◌, length, max, min, take, drop, IsTrue, IfOk, IfErr, OnOk, OnErr};
+ghost use Rattle.std.specs.Prelude.{◌≡◌, ◌+◌, ◌*◌, ◌^◌, ◌<◌, ◌≤◌, ◌++◌, ℕ, List, [], ◌∷◌, length, max, min, IfOk, IfErr, OnOk, OnErr};
 ghost use Rattle.snes_defs.specs.declared.ports.Side.{Side};
 ghost use Rattle.snes_defs.specs.Script.{RiseWithin, frames_of, is_reset};
 ghost use Rattle.clock_ratio.specs.Stamp.{frame_of, end_stamp_of};
-ghost use Rattle.side_law.specs.Serial.{SerialState, serial_of, turn, console_emits, sound_emits};
-ghost use Rattle.side_law.specs.SerialRun.{IsPast};
-ghost use Rattle.serial_console.specs.Serial.{IsAt, earlier_side};
+ghost use Rattle.side_law.specs.Serial.{serial_of};
 ghost use Rattle.serial_console.specs.Lead.{IsLed};
 ghost use Rattle.console_steps.specs.ConsoleState.{ConsoleState, console_moves};
 ghost use Rattle.console_machine.specs.Side as console_side;
@@ -167,63 +165,6 @@ impl Run {
     {
         let (console, _) = self.serial.machines();
         count_frames(console.region(), self.end)
-    }
-
-    /// Whether both stamps have reached the end of the path.
-    pub fn finished(&self) -> bool
-        ensures stamps { IsTrue result ↔ ((self.now.end ≤ self.now.serial.console.stamp) × (self.now.end ≤ stamp_now self.now.serial.sound.clock)) }
-        ensures past { (w : SerialState ConsoleState SoundState) → IsAt console_side.StandsAt sound_side.StandsAt self.now.serial w → IsTrue result ↔ IsPast console_moves sound_moves self.now.end w }
-    {
-        self.serial.finished(self.end)
-    }
-
-    /// Whether both stamps have reached the end of the path and no byte is pending.
-    pub fn is_over(&self) -> bool
-        ensures { IsTrue result ↔ ((self.now.end ≤ self.now.serial.console.stamp) × (self.now.end ≤ stamp_now self.now.serial.sound.clock) × (length self.now.serial.console.waiting ≡ 0) × (length self.now.serial.sound.waiting ≡ 0)) }
-    {
-        self.serial.is_over(self.end)
-    }
-
-    /// Takes one step of the earlier side, and returns that side; the console wins ties.
-    pub fn turn(&mut self) -> Side
-        requires console_room { length self.old.serial.console.waiting + 1024 ≤ 65536 }
-        requires sound_room { length self.old.serial.sound.waiting + 4 ≤ 4096 }
-        requires early { min self.old.serial.console.stamp (stamp_now self.old.serial.sound.clock) ≤ 2 ^ 62 }
-        ensures side { result ≡ earlier_side self.old.serial.console.stamp (stamp_now self.old.serial.sound.clock) }
-        ensures turns { (w : SerialState ConsoleState SoundState) → IsAt console_side.StandsAt sound_side.StandsAt self.old.serial w → IsAt console_side.StandsAt sound_side.StandsAt self.new.serial (turn console_moves sound_moves w) }
-        ensures console_emits { (w : SerialState ConsoleState SoundState) → IsAt console_side.StandsAt sound_side.StandsAt self.old.serial w → self.new.serial.console.waiting ≡ self.old.serial.console.waiting ++ console_emits console_moves sound_moves w }
-        ensures sound_emits { (w : SerialState ConsoleState SoundState) → IsAt console_side.StandsAt sound_side.StandsAt self.old.serial w → self.new.serial.sound.waiting ≡ self.old.serial.sound.waiting ++ sound_emits console_moves sound_moves w }
-        ensures few_video { length self.new.serial.console.waiting ≤ length self.old.serial.console.waiting + 1024 }
-        ensures few_audio { length self.new.serial.sound.waiting ≤ length self.old.serial.sound.waiting + 4 }
-        ensures end { self.new.end ≡ self.old.end }
-        ensures stepped { self.new.stepped ≡ counted self.old.stepped (rise_of self.old self.new) }
-    {
-        let (console, sound) = self.stamps();
-        let side = self.serial.turn();
-        self.count_from(console, sound);
-        side
-    }
-
-    /// Moves out the first of the console's pending bytes, as many as are pending or fit, and returns how many.
-    pub fn drain_video(&mut self, into: &mut [u8]) -> usize
-        ensures count { result ≡ min (length self.old.serial.console.waiting) (length into.old) }
-        ensures moved { into.new ≡ take result self.old.serial.console.waiting ++ drop result into.old }
-        ensures left { self.new.serial.console.waiting ≡ drop result self.old.serial.console.waiting }
-        ensures stands { (w : ConsoleState) → console_side.StandsAt self.old.serial.console w → console_side.StandsAt self.new.serial.console w }
-        ensures rest { self.new ≡ record self.old { serial = record self.old.serial { console = self.new.serial.console } } }
-    {
-        self.serial.console().drain(into)
-    }
-
-    /// Moves out the first of the sound side's pending bytes, as many as are pending or fit, and returns how many.
-    pub fn drain_audio(&mut self, into: &mut [u8]) -> usize
-        ensures count { result ≡ min (length self.old.serial.sound.waiting) (length into.old) }
-        ensures moved { into.new ≡ take result self.old.serial.sound.waiting ++ drop result into.old }
-        ensures left { self.new.serial.sound.waiting ≡ drop result self.old.serial.sound.waiting }
-        ensures stands { (m : SoundState) → sound_side.StandsAt self.old.serial.sound m → sound_side.StandsAt self.new.serial.sound m }
-        ensures rest { self.new ≡ record self.old { serial = record self.old.serial { sound = self.new.serial.sound } } }
-    {
-        self.serial.sound().drain(into)
     }
 
     /// Takes all steps to the end of the path, and passes the sink what they emit (`drive`).

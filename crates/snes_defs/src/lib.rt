@@ -26,6 +26,12 @@ pub use table::Table;
 #[derive(Clone, Copy, Debug, PartialEq, Eq)]
 pub struct NoMemory;
 
+/// The master clocks of a scanline.
+pub const LINE_CLOCKS: u16 = 1364;
+
+/// The line clock at which horizontal blank begins. There the row of the line is drawn.
+pub const BLANK_CLOCK: u16 = 1096;
+
 /// How far one side may run ahead of the other's published clock, in stamps: 16 scanlines.
 pub const WINDOW: u64 = 122_912_768;
 

@@ -6,10 +6,7 @@ ghost use Rattle.clock_ratio.specs.Stamp.{rate_of};
 ghost use Rattle.snes_trace.specs.Position.{clocks_before, frame_at, line_at, line_clock_at};
 
 use clock_ratio::{CONSOLE_RATE, PAL_CONSOLE_RATE};
-use snes_defs::Region;
-
-/// The master clocks of a line.
-const LINE: u64 = 1364;
+use snes_defs::{LINE_CLOCKS, Region};
 
 /// The lines of a frame.
 const LINES: u64 = 262;
@@ -45,17 +42,17 @@ pub fn position_at(region: Region, stamp: u64) -> Position
     ensures clock { result.clock ≡ line_clock_at region stamp }
 {
     let passed = clocks(region, stamp);
-    let lines = passed / LINE;
+    let lines = passed / LINE_CLOCKS as u64;
     match region {
         Region::Ntsc => Position {
             frame: lines / LINES,
             line: lines % LINES,
-            clock: passed % LINE,
+            clock: passed % LINE_CLOCKS as u64,
         },
         Region::Pal => Position {
             frame: lines / PAL_LINES,
             line: lines % PAL_LINES,
-            clock: passed % LINE,
+            clock: passed % LINE_CLOCKS as u64,
         },
     }
 }

@@ -7,6 +7,7 @@ ghost use Rattle.std.specs.Prelude.{◌+◌, ◌≤◌, length};
 
 use cpu_tables::Access;
 use cpu65816::Cpu;
+use snes_defs::LINE_CLOCKS;
 use std::alloc::Global;
 use std::io;
 
@@ -133,7 +134,7 @@ impl Machine {
     /// Counts an event; the next one is a line later.
     fn pass(&mut self) {
         self.events = self.events.wrapping_add(1);
-        self.next_event = self.next_event.wrapping_add(1364 * 5632);
+        self.next_event = self.next_event.wrapping_add(LINE_CLOCKS as u64 * 5632);
     }
 
     /// Takes one step. The stamp rises before the processor advances, so that nothing lives across that.
@@ -207,7 +208,7 @@ pub fn cpu_steps<R: AllocGlobal + Print>(rt: &R, steps: u64, sums: bool) -> io::
     let mut machine = Machine {
         cpu: Cpu::new(),
         bus,
-        next_event: 1364 * 5632,
+        next_event: LINE_CLOCKS as u64 * 5632,
         events: 0,
     };
     machine.run(steps);

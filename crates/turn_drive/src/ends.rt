@@ -1,10 +1,7 @@
 ghost use Rattle.std.specs.Prelude.{◌≡◌, ◌^◌, ◌<◌, ◌≤◌, min};
 
 use clock_ratio::stamp_in;
-use snes_defs::{Region, Side};
-
-/// Master clocks of a line.
-const LINE: u64 = 1364;
+use snes_defs::{LINE_CLOCKS, Region, Side};
 
 /// The number of lines after which the console's room is full: it holds 64 rows, and a leg needs room for two.
 const ROWS: u64 = 62;
@@ -64,7 +61,11 @@ impl Ends {
         } else {
             frame_lines(self.region)
         };
-        let rise = stamp_in(self.region, Side::Console, LINE * (line - self.line));
+        let rise = stamp_in(
+            self.region,
+            Side::Console,
+            LINE_CLOCKS as u64 * (line - self.line),
+        );
         self.line = if line <= THIRD { line } else { 0 };
         self.near = if self.end - self.near <= rise {
             self.end

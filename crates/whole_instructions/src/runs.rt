@@ -11,7 +11,7 @@ use cpu65816::Cpu;
 /// More instructions than a line has room for.
 const MOST_INSTRUCTIONS: u16 = 256;
 
-/// Makes instructions one after another, as long as each can be made whole.
+/// Makes instructions one after another, until one can't be made whole. No clause says how many.
 #[inline(always)]
 fn run(regs: &mut Regs, bus: &mut Bus)
     ensures { IsRun regs.old regs.new bus.old bus.new }
@@ -25,7 +25,8 @@ fn run(regs: &mut Regs, bus: &mut Bus)
 
 /// Makes whole instructions, if an instruction has ended and the interrupt lines bring no interrupt. Each ends before
 /// the beam's next place, and accesses the memory alone, or writes a byte to a register of the B bus. If the data of
-/// the one after them is no memory, it makes the accesses before that. Otherwise nothing changes.
+/// the one after them is no memory, it makes the accesses before that. The clause says that the console's own steps lead
+/// to where this leaves it. No clause says how many instructions are made.
 #[tactic(auto, using(crate::proofs::Wholes::goes_nowhere))]
 #[inline(always)]
 pub fn make_whole(cpu: &mut Cpu, bus: &mut Bus)

@@ -9,8 +9,8 @@ returns-then-round-gt-LONGEST_ROUND-clause-goes c = λ cpu byte round last. goes
 pub places-init : goal.places-init
 places-init c = (let few = c.requires.few in record { few = omega (arith, few); goes = λ cpu byte round last. goes_none cpu c.args.bus.now; last = refl })
 
-pub returns-then-before-gone-gt-LINE-2-clause-goes : goal.returns-then-before-gone-gt-LINE-2-clause-goes
-returns-then-before-gone-gt-LINE-2-clause-goes c = λ cpu byte round last.
+pub returns-then-before-gone-gt-LINE_CLOCKS-2-clause-goes : goal.returns-then-before-gone-gt-LINE_CLOCKS-2-clause-goes
+returns-then-before-gone-gt-LINE_CLOCKS-2-clause-goes c = λ cpu byte round last.
     let was = c.places.invariant in
     let over = c.go_over-gone in
     goes_then_known cpu cpu cpu c.args.bus.now c.places.bus over.new.bus c.places.gone over.result _ (was.goes cpu byte round last)
@@ -23,7 +23,7 @@ places-preserved c =
     let more = c.go_rounds-gone in
     let left = more.ensures.left in
     let has = c.clocks_left-in-places.ensures.clocks in
-    let fits = c.if-before-gone-gt-LINE-2.false in
+    let fits = c.if-before-gone-gt-LINE_CLOCKS-2.false in
     record {
       few = omega (arith, left, has, fits);
       goes = λ cpu byte round last. (
