@@ -2,7 +2,8 @@
 ghost use Rattle.std.specs.Prelude.{◌≡◌, ℕ, ◌+◌, ◌<◌, ◌≤◌, ◌^◌, ◌++◌, None, false, IfSome, length};
 ghost use Rattle.cpu_tables.specs.declared.access.Access.TheVariants.{Write};
 ghost use Rattle.cpu65816.specs.Instruction.{CpuState, moved_on};
-ghost use Rattle.cpu65816.specs.Stands.{Stands, access_of, gets_at};
+ghost use Rattle.cpu65816.specs.Stands.{Stands, access_of};
+ghost use Rattle.console_steps.specs.Targets.{gets_at};
 ghost use Rattle.console_steps.specs.ConsoleState.{ConsoleState, Accesses, access_clocks, due_of, due_clocks};
 ghost use Rattle.console_steps.specs.ConsoleState.{rest_after, processor_after, with_interrupt_levels, console_after};
 ghost use Rattle.console_steps.specs.ConsoleState.{after_access, byte_of, bytes_after};

@@ -10,11 +10,12 @@ use Rattle.cpu_tables.specs.declared.access.Access.TheVariants.{Fetch, Read, Wri
 use Rattle.cpu_modes.specs.Plan.{gets_byte}
 use Rattle.cpu65816.specs.declared.processor.Cpu.{Cpu}
 use Rattle.cpu65816.specs.Instruction.{CpuState, moved_on}
-use Rattle.cpu65816.specs.Stands.{Stands, gets_at}
+use Rattle.cpu65816.specs.Stands.{Stands}
 use Rattle.console_bus.specs.BusState.{BusState}
 use Rattle.console_bus.specs.Places.{place_at, place_byte, place_read, place_written}
 use Rattle.console_bus.specs.Memory.{index_of, stored, IsMemoryAt}
 use Rattle.console_steps.specs.ConsoleState.{read_at, write_at, after_access, byte_of, with_interrupt_levels}
+use Rattle.console_steps.specs.Targets.{gets_at}
 use Rattle.console_steps.specs.AtOnce.{gone_on, passed_in, IsMadeAtOnce}
 
 -- a read of the byte at this index

@@ -7,7 +7,6 @@ use Rattle.cart_map.specs.Place.{IsInside}
 use Rattle.cart_map.specs.Clocks.{clocks_of}
 use Rattle.cpu_tables.specs.declared.access.Access.{Access}
 use Rattle.cpu_tables.specs.declared.access.Access.TheVariants.{Fetch, Read, Write, Inner}
-use Rattle.cpu65816.specs.Stands.{gets_at}
 use Rattle.console_bus.specs.declared.cart_board.CartBoard.{CartBoard}
 use Rattle.console_bus.specs.BusState.{BusState}
 use Rattle.console_bus.specs.Places.{place_at, place_byte, place_read, place_written, is_port, register_byte, register_read, register_written, on_bus}
@@ -15,7 +14,7 @@ use Rattle.console_bus.specs.Memory.{index_of}
 use Rattle.console_steps.specs.declared.bus_access.Target.{Target}
 use Rattle.console_steps.specs.declared.bus_access.Target.TheVariants.{Memory, Port, Register}
 use Rattle.console_steps.specs.ConsoleState.{read_at, write_at, access_act, access_clocks, after_access, byte_of}
-use Rattle.console_steps.specs.Targets.{target_at, target_byte, target_read, target_written, read_act, write_act}
+use Rattle.console_steps.specs.Targets.{gets_at, target_at, target_byte, target_read, target_written, read_act, write_act}
 use Rattle.console_steps.proofs.RegisterPlaces.{port_stays}
 
 -- ---- a byte of the memory

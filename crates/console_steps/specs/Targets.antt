@@ -6,9 +6,10 @@ use Rattle.cart_map.specs.declared.places.Place.{Place}
 use Rattle.cart_map.specs.declared.places.Place.TheVariants.{Wram, Rom, Ram, BBus, Cpu as Own, Open}
 use Rattle.cart_map.specs.Clocks.{clocks_of}
 use Rattle.cart_map.specs.Place.{IsInside}
-use Rattle.cpu_tables.specs.declared.access.Access.TheVariants.{Write}
+use Rattle.cpu_tables.specs.declared.access.Access.{Access}
+use Rattle.cpu_tables.specs.declared.access.Access.TheVariants.{Fetch, Read, Write, Inner}
 use Rattle.cpu65816.specs.declared.processor.Cpu.{Cpu}
-use Rattle.cpu65816.specs.Stands.{access_of, gets_at}
+use Rattle.cpu65816.specs.Stands.{access_of}
 use Rattle.console_bus.specs.declared.cart_board.CartBoard.{CartBoard}
 use Rattle.console_bus.specs.BusState.{BusState}
 use Rattle.console_bus.specs.Memory.{stored}
@@ -40,6 +41,13 @@ pub record Reaches (r : BusState) (addr : ℕ) (access : BusAccess) : Type 0 whe
   pub lies : IsInside r.board.rom r.board.ram (place_at r.board addr)
   pub within : IsWithin r.board access.target
   pub clocks : access.clocks ≡ clocks_of addr r.io.fast
+
+-- an access that gets a byte, at an address
+abbrev pub gets_at : Access → ℕ → Type 0
+gets_at (Fetch addr) at = addr ≡ at
+gets_at (Read addr) at = addr ≡ at
+gets_at (Write addr byte) at = ⊥
+gets_at Inner at = ⊥
 
 -- the processor's next access is a fetch or a read that reaches this
 pub record Reads (cpu : Cpu) (r : BusState) (access : BusAccess) : Type 0 where
