@@ -16,7 +16,7 @@ import sys
 import tempfile
 
 PARTS = [
-    ("65C816 and its accesses", r"console_machine|console_steps::plain|cpu_|cpu65816"),
+    ("65C816 and its accesses", r"console_machine|console_steps::plain|whole_instructions|cpu_|cpu65816"),
     ("rows of the picture", r"ppu_|scanline_ops|color_window|tile_cache|console_steps::drawing"),
     ("sound side", r"audio_side|spc|sdsp"),
     ("transfers, registers, the beam", r"console_steps|dma_hdma|beam|console_bus|io_math|cart_map"),
