@@ -100,9 +100,10 @@ fn colour_type_of(alloc: Global, colours: u16) -> Result<Option<u8>, AllocError>
 
 #[test]
 fn a_png_has_a_palette_of_at_most_256_colours(rt: HostRuntime) -> Result<(), Fail> {
-    assert_eq!(rt; colour_type_of(rt.alloc(), 1)?, Some(3));
-    assert_eq!(rt; colour_type_of(rt.alloc(), 256)?, Some(3));
-    assert_eq!(rt; colour_type_of(rt.alloc(), 257)?, Some(2));
+    let one = colour_type_of(rt.alloc(), 1)?;
+    let most = colour_type_of(rt.alloc(), 256)?;
+    let more = colour_type_of(rt.alloc(), 257)?;
+    assert_eq!(rt; [one, most, more], [Some(3), Some(3), Some(2)]);
     Ok(())
 }
 
@@ -113,14 +114,16 @@ fn a_wav_of_no_samples_has_44_bytes(rt: HostRuntime) -> Result<(), Fail> {
     Ok(())
 }
 
+/// Returns the red, green and blue of a dot.
+fn widened(dot: u16) -> [u8; 3] {
+    let colour = Colour::of_dot(dot);
+    [colour.red, colour.green, colour.blue]
+}
+
 #[test]
 fn colours_are_widened_by_their_top_bits(rt: HostRuntime) {
-    let white = Colour::of_dot(0x7fff);
-    assert!(rt; (white.red, white.green, white.blue) == (255, 255, 255));
-    let red = Colour::of_dot(0x001f);
-    assert!(rt; (red.red, red.green, red.blue) == (255, 0, 0));
-    let mixed = Colour::of_dot(0x4195);
-    assert!(rt; (mixed.red, mixed.green, mixed.blue) == (173, 99, 132));
+    let found = [widened(0x7fff), widened(0x001f), widened(0x4195)];
+    assert_eq!(rt; found, [[255, 255, 255], [255, 0, 0], [173, 99, 132]]);
 }
 
 #[test]
@@ -136,19 +139,28 @@ fn a_cut_piece_is_told(rt: HostRuntime) {
 
 #[test]
 fn the_first_difference_is_found(rt: HostRuntime) {
-    assert_eq!(rt; first_apart(&[1, 2, 3], &[1, 2, 3]), None);
-    assert_eq!(rt; first_apart(&[1, 2, 3], &[1, 7, 9]), Some(1));
-    assert_eq!(rt; first_apart(&[], &[]), None);
+    let found = [
+        first_apart(&[1, 2, 3], &[1, 2, 3]),
+        first_apart(&[1, 2, 3], &[1, 7, 9]),
+        first_apart(&[], &[]),
+    ];
+    assert_eq!(rt; found, [None, Some(1), None]);
 }
 
 #[test]
 fn an_avi_has_parts_of_1800_frames(rt: HostRuntime) -> Result<(), Fail> {
-    assert_eq!(rt; samples_upto(Region::Ntsc, 60), 31_947);
-    assert_eq!(rt; samples_upto(Region::Pal, 60), 38_394);
-    assert_eq!(rt; Layout::new(Region::Ntsc, 0).parts(), 1);
-    assert_eq!(rt; Layout::new(Region::Ntsc, 1800).parts(), 1);
-    assert_eq!(rt; Layout::new(Region::Ntsc, 1801).parts(), 2);
-    assert_eq!(rt; Layout::new(Region::Pal, 36_000).parts(), 20);
+    let samples = [
+        samples_upto(Region::Ntsc, 60),
+        samples_upto(Region::Pal, 60),
+    ];
+    assert_eq!(rt; samples, [31_947, 38_394]);
+    let parts = [
+        Layout::new(Region::Ntsc, 0).parts(),
+        Layout::new(Region::Ntsc, 1800).parts(),
+        Layout::new(Region::Ntsc, 1801).parts(),
+        Layout::new(Region::Pal, 36_000).parts(),
+    ];
+    assert_eq!(rt; parts, [1, 1, 2, 20]);
     assert_eq!(rt; Layout::new(Region::Ntsc, 1801).start(1), 885000258);
     let head = file_head(rt.alloc(), Layout::new(Region::Pal, 7))?;
     assert_eq!(rt; head.len(), 1682);

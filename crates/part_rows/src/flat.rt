@@ -1,7 +1,8 @@
-ghost use Rattle.std.specs.Prelude.{◌+◌, ◌≤◌, length};
+ghost use Rattle.std.specs.Prelude.{◌≡◌, ◌+◌, ◌≤◌, length};
 
 use flat_memory::run;
 use spc700::{Spc, SpcAccess, SpcRegs};
+use std::process::Abort;
 use std::test::Fail;
 
 /// A program that sets up timer 0, waits for its counter, and copies two of its reads into ports.
@@ -73,27 +74,37 @@ fn product_of_the_largest_bytes(rt: HostRuntime) -> Result<(), Fail> {
     Ok(())
 }
 
+/// Makes the given number of accesses, and asserts which one is next. `then` names the moment.
+fn expect_next<R: Abort>(
+    rt: &R,
+    spc: &mut Spc,
+    memory: &mut [u8],
+    accesses: u64,
+    next: SpcAccess,
+    then: &str,
+)
+    requires { length memory.old ≡ 65536 }
+{
+    run(spc, memory, accesses);
+    assert_eq!(rt; spc.next(), next, "{then}");
+}
+
 #[test]
 fn timer_program_reads_the_counter_at_its_cycles(rt: HostRuntime) -> Result<(), Fail> {
     let mut bytes = vec![in rt.alloc(); 0u8; 65536]?;
     let memory = bytes.as_mut_slice();
     load(memory, 0xFFC0, &TIMER_PROGRAM);
     let mut spc = Spc::new(0xFFC0);
-    run(&mut spc, memory, 9);
-    assert_eq!(rt;
-        spc.next(),
-        SpcAccess::Write(0x00F1, 0x81),
-        "the timer is on from cycle 9"
-    );
-    run(&mut spc, memory, 119);
-    assert_eq!(rt; spc.next(), SpcAccess::Read(0x00FD), "cycle 128");
+    let timer_on = SpcAccess::Write(0x00F1, 0x81);
+    let counter_read = SpcAccess::Read(0x00FD);
+    expect_next(&rt, &mut spc, memory, 9, timer_on, "cycle 9");
+    expect_next(&rt, &mut spc, memory, 119, counter_read, "cycle 128");
     memory[0x00FD] = 1;
-    run(&mut spc, memory, 4);
-    assert_eq!(rt; spc.next(), SpcAccess::Write(0x00F4, 1), "cycle 132");
+    let one_copied = SpcAccess::Write(0x00F4, 1);
+    expect_next(&rt, &mut spc, memory, 4, one_copied, "cycle 132");
     memory[0x00FD] = 0;
-    run(&mut spc, memory, 3);
-    assert_eq!(rt; spc.next(), SpcAccess::Read(0x00FD), "cycle 135");
-    run(&mut spc, memory, 4);
-    assert_eq!(rt; spc.next(), SpcAccess::Write(0x00F5, 0), "cycle 139");
+    expect_next(&rt, &mut spc, memory, 3, counter_read, "cycle 135");
+    let zero_copied = SpcAccess::Write(0x00F5, 0);
+    expect_next(&rt, &mut spc, memory, 4, zero_copied, "cycle 139");
     Ok(())
 }

@@ -56,11 +56,8 @@ fn thirty_five_slivers_lose_the_first_object(rt: HostRuntime) -> Result<(), Fail
     writes(&mut p, &[(0x15, 0), (0x16, 0), (0x17, 0), (0x18, 0xff)]);
     let mut dots = [NOTHING; 256];
     let over = obj_row(&p, 0, &mut dots);
-    assert!(rt; !over.range);
-    assert!(rt; over.time);
-    assert!(rt; !dots[200].on);
-    assert!(rt; dots[208].on);
-    assert!(rt; dots[216].on);
+    assert!(rt; over.time && !over.range);
+    assert!(rt; !dots[200].on && dots[208].on && dots[216].on);
     Ok(())
 }
 
@@ -82,8 +79,12 @@ fn mode_7_repeats_its_tile(rt: HostRuntime) -> Result<(), Fail> {
         rotated_row(&p, 1, 0, &mut dots);
     }
     for x in 0..256usize {
-        assert_eq!(rt; dots[x].on, x % 8 == 0);
-        assert_eq!(rt; dots[x].colour, if x % 8 == 0 { 0x1234 } else { 0 });
+        let wanted = if x % 8 == 0 {
+            (true, 0x1234)
+        } else {
+            (false, 0)
+        };
+        assert_eq!(rt; (dots[x].on, dots[x].colour), wanted);
     }
     Ok(())
 }
@@ -148,8 +149,6 @@ fn the_first_row_of_text(rt: HostRuntime) -> Result<(), Fail> {
         assert_eq!(rt; out[e], if e / 2 % 8 == 0 { 0x7fff } else { 0 });
     }
     let _second = draw(&p, &tiles, 2, &mut out);
-    for e in 0..512usize {
-        assert_eq!(rt; out[e], 0);
-    }
+    assert_eq!(rt; out, [0; 512]);
     Ok(())
 }

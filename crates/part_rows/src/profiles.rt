@@ -59,16 +59,29 @@ fn colour_at_left(p: &Ppu, row: u16) -> Option<u16> {
     }
 }
 
+/// Sets up the object (`put_turned_object`), and returns the colours at the left of four rows.
+fn colours_of_turned_object(
+    p: &mut Ppu,
+    size_code: u8,
+    large: bool,
+    rows: [u16; 4],
+) -> [Option<u16>; 4] {
+    put_turned_object(p, size_code, large);
+    [
+        colour_at_left(p, rows[0]),
+        colour_at_left(p, rows[1]),
+        colour_at_left(p, rows[2]),
+        colour_at_left(p, rows[3]),
+    ]
+}
+
 /// In the first profile an object of 16 by 32 is turned over as a whole: row r shows line 31 - r.
 #[test]
 fn first_profile_turns_an_upright_object_as_a_whole(rt: HostRuntime) -> Result<(), Fail> {
     let mut p = unit(rt.alloc(), Profile::First)?;
     for size_code in 6..8u8 {
-        put_turned_object(&mut p, size_code, false);
-        assert_eq!(rt; colour_at_left(&p, 4), Some(0x2222));
-        assert_eq!(rt; colour_at_left(&p, 20), Some(0x1111));
-        assert_eq!(rt; colour_at_left(&p, 11), None);
-        assert_eq!(rt; colour_at_left(&p, 27), None);
+        let colours = colours_of_turned_object(&mut p, size_code, false, [4, 20, 11, 27]);
+        assert_eq!(rt; colours, [Some(0x2222), Some(0x1111), None, None]);
     }
     Ok(())
 }
@@ -78,11 +91,8 @@ fn first_profile_turns_an_upright_object_as_a_whole(rt: HostRuntime) -> Result<(
 fn second_profile_turns_each_half_of_an_upright_object(rt: HostRuntime) -> Result<(), Fail> {
     let mut p = unit(rt.alloc(), Profile::Second)?;
     for size_code in 6..8u8 {
-        put_turned_object(&mut p, size_code, false);
-        assert_eq!(rt; colour_at_left(&p, 4), Some(0x1111));
-        assert_eq!(rt; colour_at_left(&p, 20), Some(0x2222));
-        assert_eq!(rt; colour_at_left(&p, 11), None);
-        assert_eq!(rt; colour_at_left(&p, 27), None);
+        let colours = colours_of_turned_object(&mut p, size_code, false, [4, 20, 11, 27]);
+        assert_eq!(rt; colours, [Some(0x1111), Some(0x2222), None, None]);
     }
     Ok(())
 }
@@ -91,18 +101,13 @@ fn second_profile_turns_each_half_of_an_upright_object(rt: HostRuntime) -> Resul
 /// by halves, they are on rows 20 and 4.
 #[test]
 fn an_object_of_32_by_64_is_turned_by_the_profile(rt: HostRuntime) -> Result<(), Fail> {
+    let rows = [52, 36, 20, 4];
     let mut p = unit(rt.alloc(), Profile::First)?;
-    put_turned_object(&mut p, 6, true);
-    assert_eq!(rt; colour_at_left(&p, 52), Some(0x1111));
-    assert_eq!(rt; colour_at_left(&p, 36), Some(0x2222));
-    assert_eq!(rt; colour_at_left(&p, 20), None);
-    assert_eq!(rt; colour_at_left(&p, 4), None);
+    let colours = colours_of_turned_object(&mut p, 6, true, rows);
+    assert_eq!(rt; colours, [Some(0x1111), Some(0x2222), None, None]);
     let mut p = unit(rt.alloc(), Profile::Second)?;
-    put_turned_object(&mut p, 6, true);
-    assert_eq!(rt; colour_at_left(&p, 52), None);
-    assert_eq!(rt; colour_at_left(&p, 36), None);
-    assert_eq!(rt; colour_at_left(&p, 20), Some(0x1111));
-    assert_eq!(rt; colour_at_left(&p, 4), Some(0x2222));
+    let colours = colours_of_turned_object(&mut p, 6, true, rows);
+    assert_eq!(rt; colours, [None, None, Some(0x1111), Some(0x2222)]);
     Ok(())
 }
 
@@ -111,9 +116,8 @@ fn an_object_of_32_by_64_is_turned_by_the_profile(rt: HostRuntime) -> Result<(),
 fn a_square_object_is_turned_as_a_whole(rt: HostRuntime) -> Result<(), Fail> {
     for profile in [Profile::First, Profile::Second] {
         let mut p = unit(rt.alloc(), profile)?;
-        put_turned_object(&mut p, 7, true);
-        assert_eq!(rt; colour_at_left(&p, 4), Some(0x2222));
-        assert_eq!(rt; colour_at_left(&p, 20), Some(0x1111));
+        let colours = colours_of_turned_object(&mut p, 7, true, [4, 20, 11, 27]);
+        assert_eq!(rt; colours, [Some(0x2222), Some(0x1111), None, None]);
     }
     Ok(())
 }
@@ -137,19 +141,27 @@ fn put_no_layers(p: &mut Ppu) {
     writes(p, &[(0x32, 0x9f)]);
 }
 
+/// Returns the two dots of a picture without layers, in this profile and with these settings.
+fn dots_of_no_layer(
+    alloc: Global,
+    profile: Profile,
+    settings: &[(u8, u8)],
+) -> Result<(u16, u16), Fail> {
+    let mut p = unit(alloc, profile)?;
+    put_no_layers(&mut p);
+    writes(&mut p, settings);
+    two_dots(alloc, &p)
+}
+
 /// Where the sub screen is empty an even dot has the fixed colour in the first profile, CGRAM 0 in the second: with
 /// half dots, and in modes 5 and 6.
 #[test]
 fn an_even_dot_of_no_layer_has_the_profiles_colour(rt: HostRuntime) -> Result<(), Fail> {
     for setting in [(0x33u8, 0x08u8), (0x05, 5), (0x05, 6)] {
-        let mut p = unit(rt.alloc(), Profile::First)?;
-        put_no_layers(&mut p);
-        writes(&mut p, &[setting]);
-        assert_eq!(rt; two_dots(rt.alloc(), &p)?, (0x7c00, 0x1234));
-        let mut p = unit(rt.alloc(), Profile::Second)?;
-        put_no_layers(&mut p);
-        writes(&mut p, &[setting]);
-        assert_eq!(rt; two_dots(rt.alloc(), &p)?, (0x1234, 0x1234));
+        let first = dots_of_no_layer(rt.alloc(), Profile::First, &[setting])?;
+        assert_eq!(rt; first, (0x7c00, 0x1234));
+        let second = dots_of_no_layer(rt.alloc(), Profile::Second, &[setting])?;
+        assert_eq!(rt; second, (0x1234, 0x1234));
     }
     Ok(())
 }
@@ -158,61 +170,73 @@ fn an_even_dot_of_no_layer_has_the_profiles_colour(rt: HostRuntime) -> Result<()
 /// blue becomes 4 + 31, cut to 31.
 #[test]
 fn an_odd_dot_takes_the_fixed_colour_in_both_profiles(rt: HostRuntime) -> Result<(), Fail> {
-    let mut p = unit(rt.alloc(), Profile::First)?;
-    put_no_layers(&mut p);
-    writes(&mut p, &[(0x33, 0x08), (0x30, 0x02), (0x31, 0x20)]);
-    assert_eq!(rt; two_dots(rt.alloc(), &p)?, (0x7c00, 0x7e34));
-    let mut p = unit(rt.alloc(), Profile::Second)?;
-    put_no_layers(&mut p);
-    writes(&mut p, &[(0x33, 0x08), (0x30, 0x02), (0x31, 0x20)]);
-    assert_eq!(rt; two_dots(rt.alloc(), &p)?, (0x1234, 0x7e34));
+    let settings = [(0x33, 0x08), (0x30, 0x02), (0x31, 0x20)];
+    let first = dots_of_no_layer(rt.alloc(), Profile::First, &settings)?;
+    assert_eq!(rt; first, (0x7c00, 0x7e34));
+    let second = dots_of_no_layer(rt.alloc(), Profile::Second, &settings)?;
+    assert_eq!(rt; second, (0x1234, 0x7e34));
     Ok(())
 }
 
-/// Pixels of one colour on the sub screen hide CGRAM 0 from the even dots: BG1 there alone, all of tile 0 in colour 3.
+/// Puts BG1 on the sub screen alone, with half dots: all of its tile 0 in colour 3, which is 5555.
+fn put_layer_below(p: &mut Ppu) {
+    writes(p, &[(0x33, 0x08), (0x2d, 1), (0x07, 4), (0x15, 0x80)]);
+    writes(p, &[(0x16, 0), (0x17, 0)]);
+    for _ in 0..8u8 {
+        writes(p, &[(0x18, 0xff), (0x19, 0xff)]);
+    }
+    writes(p, &[(0x21, 3), (0x22, 0x55), (0x22, 0x55)]);
+}
+
+/// Returns the two dots of a picture with a layer on its sub screen alone, in this profile.
+fn dots_of_a_layer_below(alloc: Global, profile: Profile) -> Result<(u16, u16), Fail> {
+    let mut p = unit(alloc, profile)?;
+    put_no_layers(&mut p);
+    put_layer_below(&mut p);
+    two_dots(alloc, &p)
+}
+
+/// Pixels of one colour on the sub screen hide CGRAM 0 from the even dots.
 #[test]
 fn an_even_dot_of_a_layer_has_its_colour_in_both_profiles(rt: HostRuntime) -> Result<(), Fail> {
     for profile in [Profile::First, Profile::Second] {
-        let mut p = unit(rt.alloc(), profile)?;
-        put_no_layers(&mut p);
-        writes(&mut p, &[(0x33, 0x08), (0x2d, 1), (0x07, 4), (0x15, 0x80)]);
-        writes(&mut p, &[(0x16, 0), (0x17, 0)]);
-        for _ in 0..8u8 {
-            writes(&mut p, &[(0x18, 0xff), (0x19, 0xff)]);
-        }
-        writes(&mut p, &[(0x21, 3), (0x22, 0x55), (0x22, 0x55)]);
-        assert_eq!(rt; two_dots(rt.alloc(), &p)?, (0x5555, 0x1234));
+        let dots = dots_of_a_layer_below(rt.alloc(), profile)?;
+        assert_eq!(rt; dots, (0x5555, 0x1234));
     }
     Ok(())
+}
+
+/// Makes four writes of VRAM, each right after one that VRAM does not take, and returns the words that they change. The
+/// address is 5 at first. It steps by 1 after a low byte, and then by 32 after a high one.
+fn words_after_passed_writes(p: &mut Ppu) -> [Option<u16>; 4] {
+    writes(p, &[(0x15, 0x00), (0x16, 5), (0x17, 0)]);
+    p.pass_vram(0x18);
+    let first = p.write(0x18, 0x77);
+    p.pass_vram(0x19);
+    let second = p.write(0x18, 0x77);
+    writes(p, &[(0x15, 0x81)]);
+    p.pass_vram(0x18);
+    let third = p.write(0x19, 0x66);
+    p.pass_vram(0x19);
+    let fourth = p.write(0x19, 0x66);
+    [first, second, third, fourth]
 }
 
 /// A write that VRAM does not take steps the address by bit 7 of 2115, and writes no word.
 #[test]
 fn a_passed_write_steps_the_address_alone(rt: HostRuntime) -> Result<(), Fail> {
     let mut p = unit(rt.alloc(), Profile::Second)?;
-    writes(&mut p, &[(0x15, 0x00), (0x16, 5), (0x17, 0)]);
-    p.pass_vram(0x18);
-    assert_eq!(rt; p.write(0x18, 0x77), Some(6));
-    p.pass_vram(0x19);
-    assert_eq!(rt; p.write(0x18, 0x77), Some(7));
-    writes(&mut p, &[(0x15, 0x81)]);
-    p.pass_vram(0x18);
-    assert_eq!(rt; p.write(0x19, 0x66), Some(8));
-    p.pass_vram(0x19);
-    assert_eq!(rt; p.write(0x19, 0x66), Some(72));
+    let words = words_after_passed_writes(&mut p);
+    assert_eq!(rt; words, [Some(6), Some(7), Some(8), Some(72)]);
     let vram = p.vram();
-    assert_eq!(rt;
-        [vram[5], vram[6], vram[7], vram[8]],
-        [0, 0x77, 0x77, 0x6600]
-    );
+    let low = [vram[5], vram[6], vram[7], vram[8]];
+    assert_eq!(rt; low, [0, 0x77, 0x77, 0x6600]);
     assert_eq!(rt; [vram[40], vram[72], vram[104]], [0, 0x6600, 0]);
     Ok(())
 }
 
-/// A latch keeps the dot 400 / 4 and line 257, and sets bit 6 of 213F.
-#[test]
-fn a_latch_keeps_both_counters(rt: HostRuntime) -> Result<(), Fail> {
-    let mut p = unit(rt.alloc(), Profile::Second)?;
+/// Latches dot 100 and line 257, and returns what is read then: both counters twice, and bit 6 of 213F twice.
+fn reads_after_latch(p: &mut Ppu) -> [u8; 6] {
     let then = Spot {
         h: 400,
         v: 257,
@@ -224,11 +248,21 @@ fn a_latch_keeps_both_counters(rt: HostRuntime) -> Result<(), Fail> {
         blank: false,
     };
     p.latch(then);
-    assert_eq!(rt; p.read(0x3c, 0, now), 100);
-    assert_eq!(rt; p.read(0x3c, 0, now), 0);
-    assert_eq!(rt; p.read(0x3d, 0, now), 1);
-    assert_eq!(rt; p.read(0x3d, 0, now), 1);
-    assert_eq!(rt; p.read(0x3f, 0, now) / 64 % 2, 1);
-    assert_eq!(rt; p.read(0x3f, 0, now) / 64 % 2, 0);
+    [
+        p.read(0x3c, 0, now),
+        p.read(0x3c, 0, now),
+        p.read(0x3d, 0, now),
+        p.read(0x3d, 0, now),
+        p.read(0x3f, 0, now) / 64 % 2,
+        p.read(0x3f, 0, now) / 64 % 2,
+    ]
+}
+
+/// A latch keeps the dot 400 / 4 and line 257, and sets bit 6 of 213F.
+#[test]
+fn a_latch_keeps_both_counters(rt: HostRuntime) -> Result<(), Fail> {
+    let mut p = unit(rt.alloc(), Profile::Second)?;
+    let found = reads_after_latch(&mut p);
+    assert_eq!(rt; found, [100, 0, 1, 1, 1, 0]);
     Ok(())
 }

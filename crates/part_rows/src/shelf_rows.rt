@@ -32,6 +32,24 @@ fn put<H: Shelf>(shelf: &mut H, out: Out, text: &str) -> Result<(), Failed> {
     shelf.put(out, text.as_bytes())
 }
 
+/// Whether the shelf loads these bytes, and no others, from a file.
+fn loads<H: Shelf>(alloc: Global, shelf: &mut H, name: &str, wanted: &str) -> bool {
+    match load(alloc, shelf, name, wanted.len()) {
+        Ok(bytes) => bytes.as_slice() == wanted.as_bytes(),
+        Err(_) => false,
+    }
+}
+
+/// Whether the shelf loads a file of `abc`, unless there is room for two bytes or the file is removed. A folder is no
+/// file.
+fn follows_a_file(rt: &HostRuntime, shelf: &mut FileShelf<'_, HostRuntime>, name: &str) -> bool {
+    loads(rt.alloc(), shelf, name, "abc")
+        && end_of_load(rt.alloc(), shelf, name, 2) == Err(LoadEnd::TooLong)
+        && fs::remove_file(rt, name).is_ok()
+        && end_of_load(rt.alloc(), shelf, name, 3) == Err(LoadEnd::Failed)
+        && end_of_load(rt.alloc(), shelf, "/", 3) == Err(LoadEnd::Failed)
+}
+
 #[test]
 fn real_files_come_back(rt: HostRuntime) -> Result<(), Fail> {
     let mut path = env::temp_dir(&rt)?;
@@ -39,33 +57,28 @@ fn real_files_come_back(rt: HostRuntime) -> Result<(), Fail> {
     let name = path.to_str().ok_or("no text")?;
     fs::write(&rt, name, "abc")?;
     let mut shelf = FileShelf::new(&rt);
-    let bytes = load(rt.alloc(), &mut shelf, name, 3)?;
-    assert_eq!(rt; bytes.as_slice(), b"abc".as_slice());
-    assert_eq!(rt;
-        end_of_load(rt.alloc(), &mut shelf, name, 2),
-        Err(LoadEnd::TooLong)
-    );
-    fs::remove_file(&rt, name)?;
-    assert_eq!(rt;
-        end_of_load(rt.alloc(), &mut shelf, name, 3),
-        Err(LoadEnd::Failed)
-    );
-    assert_eq!(rt;
-        end_of_load(rt.alloc(), &mut shelf, "/", 3),
-        Err(LoadEnd::Failed)
-    );
+    assert!(rt; follows_a_file(&rt, &mut shelf, name));
     Ok(())
+}
+
+/// Puts text to the video and flushes it, before it is created and after. It is created twice: first as a folder.
+fn results_around_creation<H: Shelf>(shelf: &mut H) -> [Result<(), Failed>; 6] {
+    [
+        put(shelf, Out::Video, "early"),
+        shelf.flush(Out::Video),
+        shelf.create(Out::Video, "/"),
+        shelf.create(Out::Video, "/dev/null"),
+        put(shelf, Out::Video, "abc"),
+        shelf.flush(Out::Video),
+    ]
 }
 
 #[test]
 fn an_output_takes_nothing_before_it_is_created(rt: HostRuntime) {
     let mut shelf = FileShelf::new(&rt);
-    assert_eq!(rt; put(&mut shelf, Out::Video, "early"), Err(Failed));
-    assert_eq!(rt; shelf.flush(Out::Video), Err(Failed));
-    assert_eq!(rt; shelf.create(Out::Video, "/"), Err(Failed));
-    assert_eq!(rt; shelf.create(Out::Video, "/dev/null"), Ok(()));
-    assert_eq!(rt; put(&mut shelf, Out::Video, "abc"), Ok(()));
-    assert_eq!(rt; shelf.flush(Out::Video), Ok(()));
+    let found = results_around_creation(&mut shelf);
+    let failed = Err(Failed);
+    assert_eq!(rt; found, [failed, failed, failed, Ok(()), Ok(()), Ok(())]);
 }
 
 const FOLDER: &str = "/tmp/snes-part-rows-names";
