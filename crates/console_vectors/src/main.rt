@@ -72,6 +72,28 @@ fn show_tally<R: Print + Eprint>(rt: &R, tally: &Tally) -> io::Result<()> {
     )
 }
 
+/// Follows a line of a job, which is read into `case`.
+fn follow_line<R: Files + Print + AllocGlobal + Threads>(
+    rt: &R,
+    watch: &Watch<'_, R>,
+    gate: &dyn Gate,
+    case: &mut Case,
+    tally: &mut Tally,
+    line: &str,
+) -> io::Result<()> {
+    if line.starts_with("job ") {
+        case.begin(rt.alloc());
+        return Ok(());
+    }
+    if line == "end" {
+        return compare(rt, watch, gate, case, tally);
+    }
+    match case.line(rt.alloc(), line) {
+        Some(()) => Ok(()),
+        None => println!(rt; "no line of a job: {line}"),
+    }
+}
+
 /// Follows the lines of jobs, each of which is read into `case`.
 fn follow_lines<R: Files + Print + AllocGlobal + Threads>(
     rt: &R,
@@ -82,15 +104,8 @@ fn follow_lines<R: Files + Print + AllocGlobal + Threads>(
     text: &str,
 ) -> io::Result<()> {
     for line in text.lines() {
-        if line.is_empty() || line.starts_with("#") {
-            continue;
-        }
-        if line.starts_with("job ") {
-            *case = Case::new(rt.alloc());
-        } else if line == "end" {
-            compare(rt, watch, gate, case, tally)?;
-        } else if case.line(rt.alloc(), line).is_none() {
-            println!(rt; "no line of a job: {line}")?;
+        if !line.is_empty() && !line.starts_with("#") {
+            follow_line(rt, watch, gate, case, tally, line)?;
         }
     }
     Ok(())

@@ -73,6 +73,13 @@ pub struct Marks {
     pub sound: Track,
 }
 
+impl Marks {
+    /// Whether the frames of both sides agree.
+    pub fn agree(&self) -> bool {
+        self.video.agrees() && self.sound.agrees()
+    }
+}
+
 impl Sink for Marks {
     ghost holds = { λ marks side bytes. Unit {0} };
 

@@ -34,10 +34,10 @@ pub fn play(alloc: Global, job: &Job, marks: &mut Marks) -> Option<()> {
     if end > 1 << 62 {
         return None;
     }
-    let Ok(console) = ConsoleSide::new(alloc, job) else {
+    let Ok(sound) = AudioSide::new(alloc, job) else {
         return None;
     };
-    let Ok(sound) = AudioSide::new(alloc, job) else {
+    let Ok(console) = ConsoleSide::new(alloc, job) else {
         return None;
     };
     if !is_one(console.region(), sound.region()) {

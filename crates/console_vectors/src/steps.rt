@@ -184,6 +184,26 @@ impl Pair {
         record.end_step();
         Some(())
     }
+
+    /// Takes steps, the earlier side first, until both records are full.
+    fn fill(
+        &mut self,
+        region: Region,
+        console_record: &mut Record,
+        sound_record: &mut Record,
+    ) -> Option<()> {
+        for _ in 0..MOST_STEPS {
+            if console_record.is_full() && sound_record.is_full() {
+                return Some(());
+            }
+            if self.console.stamp() <= self.sound.stamp() {
+                self.step_console(region, console_record)?;
+            } else {
+                self.step_sound(sound_record)?;
+            }
+        }
+        None
+    }
 }
 
 /// Takes the first steps of a job, the earlier side first, until both records are full.
@@ -193,10 +213,10 @@ pub fn record_steps(
     console_record: &mut Record,
     sound_record: &mut Record,
 ) -> Option<()> {
-    let Ok(console) = ConsoleSide::new(alloc, job) else {
+    let Ok(sound) = AudioSide::new(alloc, job) else {
         return None;
     };
-    let Ok(sound) = AudioSide::new(alloc, job) else {
+    let Ok(console) = ConsoleSide::new(alloc, job) else {
         return None;
     };
     let mut pair = Pair {
@@ -206,15 +226,5 @@ pub fn record_steps(
         to_sound: [0; 4],
         dma: Dma::new(),
     };
-    for _ in 0..MOST_STEPS {
-        if console_record.is_full() && sound_record.is_full() {
-            return Some(());
-        }
-        if pair.console.stamp() <= pair.sound.stamp() {
-            pair.step_console(job.region, console_record)?;
-        } else {
-            pair.step_sound(sound_record)?;
-        }
-    }
-    None
+    pair.fill(job.region, console_record, sound_record)
 }

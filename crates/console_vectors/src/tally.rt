@@ -1,9 +1,12 @@
 use crate::case::Case;
+use crate::marks::Marks;
 use crate::play::play;
+use crate::record::Record;
 use crate::steps::record_steps;
 use crate::turns::play_on_two;
 use job_player::Carrier;
 use port_wire::Gate;
+use snes_defs::Job;
 use std::alloc::Global;
 use std::io;
 use std::rt::Files;
@@ -79,25 +82,40 @@ impl Tally {
     }
 }
 
-/// Whether each frame of a job agrees by the serial console; `None` if it is not a valid job.
-fn agrees(alloc: Global, case: &Case) -> Option<bool> {
-    let job = case.job(alloc)?;
-    let mut marks = case.marks(alloc)?;
-    play(alloc, &job, &mut marks)?;
-    Some(marks.video.agrees() && marks.sound.agrees())
+/// Plays a job by the serial console, and returns whether each frame agrees with the marks.
+fn agrees_with(alloc: Global, job: &Job, marks: &mut Marks) -> Option<bool> {
+    play(alloc, job, marks)?;
+    Some(marks.agree())
 }
 
-/// Returns the number of hashes of a job's first steps, and how many agree.
-fn steps_that_agree(alloc: Global, case: &Case) -> Option<(usize, usize)> {
+/// Whether each frame of a job agrees by the serial console; `None` if it is not a valid job.
+fn agrees(alloc: Global, case: &Case) -> Option<bool> {
+    let mut marks = case.marks(alloc)?;
     let job = case.job(alloc)?;
-    let (mut console, mut sound) = case.records(alloc)?;
-    record_steps(alloc, &job, &mut console, &mut sound)?;
+    agrees_with(alloc, &job, &mut marks)
+}
+
+/// Records a job's first steps, and returns the number of their hashes, and how many agree.
+fn count_steps(
+    alloc: Global,
+    job: &Job,
+    console: &mut Record,
+    sound: &mut Record,
+) -> Option<(usize, usize)> {
+    record_steps(alloc, job, console, sound)?;
     let (of_console, console_agree) = console.count();
     let (of_sound, sound_agree) = sound.count();
     Some((
         of_console.saturating_add(of_sound),
         console_agree.saturating_add(sound_agree),
     ))
+}
+
+/// Returns the number of hashes of a job's first steps, and how many agree.
+fn steps_that_agree(alloc: Global, case: &Case) -> Option<(usize, usize)> {
+    let (mut console, mut sound) = case.records(alloc)?;
+    let job = case.job(alloc)?;
+    count_steps(alloc, &job, &mut console, &mut sound)
 }
 
 /// Compares the first steps of a job, and names it if one of their hashes differs.
@@ -124,6 +142,16 @@ struct ByTurns {
     counts: Counts,
 }
 
+/// Returns the result of a job that made these turns, if it was played. It may make no more than `most`.
+fn turns_told(counts: Counts, turns: Option<u64>, most: u64, marks: &Marks) -> Option<ByTurns> {
+    let turns = turns?;
+    Some(ByTurns {
+        agrees: marks.agree(),
+        numbered: counts.turns == turns && turns <= most,
+        counts,
+    })
+}
+
 /// Runs a job by turns over a wire; `None` if it is not a valid job. The watch is the gate too.
 fn by_turns<R: AllocGlobal + Threads + Files>(
     rt: &R,
@@ -132,17 +160,65 @@ fn by_turns<R: AllocGlobal + Threads + Files>(
     case: &Case,
     carrier: Carrier,
 ) -> Option<ByTurns> {
-    let alloc = rt.alloc();
-    let job = case.job(alloc)?;
-    let mut marks = case.marks(alloc)?;
+    let mut marks = case.marks(rt.alloc())?;
+    let job = case.job(rt.alloc())?;
     watch.begin();
-    let turns = play_on_two(rt, &job, carrier, gate, &mut marks)?;
-    let counts = watch.counts();
-    Some(ByTurns {
-        agrees: marks.video.agrees() && marks.sound.agrees(),
-        numbered: counts.turns == turns && turns <= case.turns,
-        counts,
+    let turns = play_on_two(rt, &job, carrier, gate, &mut marks);
+    turns_told(watch.counts(), turns, case.turns, &marks)
+}
+
+/// The results of a job each way.
+#[derive(Clone, Copy)]
+struct Found {
+    /// Whether it agrees by the serial console.
+    agrees: bool,
+    /// The result over the log behind its lock.
+    locked: ByTurns,
+    /// The result over words without a lock.
+    lockless: ByTurns,
+}
+
+/// Plays a job each way; `None` if it is not a valid job.
+fn play_each_way<R: AllocGlobal + Threads + Files>(
+    rt: &R,
+    watch: &Watch<'_, R>,
+    gate: &dyn Gate,
+    case: &Case,
+) -> Option<Found> {
+    Some(Found {
+        agrees: agrees(rt.alloc(), case)?,
+        locked: by_turns(rt, watch, gate, case, Carrier::Lock)?,
+        lockless: by_turns(rt, watch, gate, case, Carrier::Words)?,
     })
+}
+
+/// Counts a job that differs one way, and names it.
+fn tell_difference<R: Print>(rt: &R, job: u64, how: &str, different: &mut u64) -> io::Result<()> {
+    *different = different.saturating_add(1);
+    println!(rt; "job {job} differs{how}")
+}
+
+/// Counts each way in which a job differs, and names them.
+fn tell_differences<R: Print>(rt: &R, found: Found, tally: &mut Tally) -> io::Result<()> {
+    let job = tally.jobs;
+    if !found.agrees {
+        tell_difference(rt, job, "", &mut tally.different)?;
+    }
+    if !found.locked.agrees {
+        tell_difference(rt, job, " by turns", &mut tally.different_by_turns)?;
+    }
+    if !found.lockless.agrees {
+        tell_difference(
+            rt,
+            job,
+            " without a lock",
+            &mut tally.different_without_lock,
+        )?;
+    }
+    if !found.locked.numbered || !found.lockless.numbered {
+        println!(rt; "job {job} has other turns")?;
+    }
+    Ok(())
 }
 
 /// Compares a job each way, counts it, and names what is wrong.
@@ -154,30 +230,12 @@ pub fn compare<R: AllocGlobal + Threads + Files + Print>(
     tally: &mut Tally,
 ) -> io::Result<()> {
     tally.jobs = tally.jobs.saturating_add(1);
-    let job = tally.jobs;
-    let (Some(agrees), Some(locked), Some(lockless)) = (
-        agrees(rt.alloc(), case),
-        by_turns(rt, watch, gate, case, Carrier::Lock),
-        by_turns(rt, watch, gate, case, Carrier::Words),
-    ) else {
+    let Some(found) = play_each_way(rt, watch, gate, case) else {
+        let job = tally.jobs;
         return println!(rt; "job {job} is none");
     };
-    if !agrees {
-        tally.different = tally.different.saturating_add(1);
-        println!(rt; "job {job} differs")?;
-    }
-    if !locked.agrees {
-        tally.different_by_turns = tally.different_by_turns.saturating_add(1);
-        println!(rt; "job {job} differs by turns")?;
-    }
-    if !lockless.agrees {
-        tally.different_without_lock = tally.different_without_lock.saturating_add(1);
-        println!(rt; "job {job} differs without a lock")?;
-    }
-    if !locked.numbered || !lockless.numbered {
-        println!(rt; "job {job} has other turns")?;
-    }
-    tally.locked.count(locked.counts);
-    tally.lockless.count(lockless.counts);
+    tell_differences(rt, found, tally)?;
+    tally.locked.count(found.locked.counts);
+    tally.lockless.count(found.lockless.counts);
     compare_steps(rt, case, tally)
 }

@@ -59,10 +59,11 @@ fn job_of(alloc: Global, play: Play, frames: u32) -> Option<Job> {
     } else {
         first_script(play.idiom)
     };
+    let cart = accept(cartridge(alloc, play.idiom).ok()?).ok()?;
     let script = read_script(alloc, text.as_bytes()).ok()?;
     let region = script.region();
     Some(Job {
-        cart: accept(cartridge(alloc, play.idiom).ok()?).ok()?,
+        cart,
         boot: free_boot_rom(),
         table: interpolation_table(),
         script,
@@ -71,18 +72,33 @@ fn job_of(alloc: Global, play: Play, frames: u32) -> Option<Job> {
     })
 }
 
-/// Plays a row, and returns its film with the sum of a frame.
-fn film_of(alloc: Global, play: Play, frames: u32, frame: u32) -> Option<Film> {
-    let job = job_of(alloc, play, frames)?;
+/// Plays a job by the serial console.
+fn play_job(alloc: Global, job: &Job, film: &mut Film) -> Option<()> {
     if job.frames > 36_000 {
         return None;
     }
-    let mut film = Film::new(frame);
-    let Ok(player) = Console::ready(alloc, &job) else {
+    let Ok(player) = Console::ready(alloc, job) else {
         return None;
     };
-    player.play_serial(&mut film).ok()?;
-    Some(film)
+    player.play_serial(film).ok()
+}
+
+/// Plays a row.
+fn play_row(alloc: Global, play: Play, frames: u32, film: &mut Film) -> Option<()> {
+    let job = job_of(alloc, play, frames)?;
+    play_job(alloc, &job, film)
+}
+
+/// Returns the sum of a row's frame in hexadecimal.
+fn sum_of(alloc: Global, play: Play) -> Option<String> {
+    let mut film = Film::new(play.frames);
+    play_row(alloc, play, play.frames.checked_add(1)?, &mut film)?;
+    hex::encode(alloc, film.sum()?).ok()
+}
+
+/// Returns the name of a row's profile.
+fn profile_of(play: Play) -> &'static str {
+    if play.is_second { "second" } else { "first" }
 }
 
 /// Prints the frame of a row.
@@ -93,24 +109,23 @@ fn show<R: Print + AllocGlobal>(
 ) -> Option<io::Result<()>> {
     let play = play_of(words)?;
     let wanted = words.next()?;
-    let film = film_of(rt.alloc(), play, play.frames.checked_add(1)?, play.frames)?;
-    let sum = hex::encode(rt.alloc(), film.sum()?).ok()?;
-    let (stem, frame) = (name(play.idiom), play.frames);
-    let profile = if play.is_second { "second" } else { "first" };
-    if sum.as_str() == wanted {
-        return Some(println!(rt; "{stem}, {profile} profile, frame {frame}: as in the row"));
-    }
-    Some(println!(rt; "{line}: the sum is {sum}"))
+    let sum = sum_of(rt.alloc(), play)?;
+    let (stem, frame, profile) = (name(play.idiom), play.frames, profile_of(play));
+    Some(if sum.as_str() == wanted {
+        println!(rt; "{stem}, {profile} profile, frame {frame}: as in the row")
+    } else {
+        println!(rt; "{line}: the sum is {sum}")
+    })
 }
 
-/// Prints the sounds of a row.
-fn hear<R: Print + AllocGlobal>(
+/// Prints the sounds of a row's film.
+fn tell_sounds<R: Print>(
     rt: &R,
     line: &str,
+    play: Play,
+    film: &Film,
     words: &mut SplitWhitespace<'_>,
 ) -> Option<io::Result<()>> {
-    let play = play_of(words)?;
-    let film = film_of(rt.alloc(), play, play.frames, 0)?;
     let mut sound = 0usize;
     for word in words {
         let length = word.parse::<u32>().ok()?;
@@ -122,12 +137,23 @@ fn hear<R: Print + AllocGlobal>(
         }
         sound = sound.saturating_add(1);
     }
-    let stem = name(play.idiom);
-    let profile = if play.is_second { "second" } else { "first" };
+    let (stem, profile) = (name(play.idiom), profile_of(play));
     Some(match film.length(sound) {
         Some(other) => println!(rt; "{line}: one more sound, of {other} samples"),
         None => println!(rt; "{stem}, {profile} profile, {sound} sounds: as in the row"),
     })
+}
+
+/// Prints the sounds of a row.
+fn hear<R: Print + AllocGlobal>(
+    rt: &R,
+    line: &str,
+    words: &mut SplitWhitespace<'_>,
+) -> Option<io::Result<()>> {
+    let play = play_of(words)?;
+    let mut film = Film::new(0);
+    play_row(rt.alloc(), play, play.frames, &mut film)?;
+    tell_sounds(rt, line, play, &film, words)
 }
 
 /// Returns whether a line is one of these rows.

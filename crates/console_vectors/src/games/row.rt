@@ -1,4 +1,5 @@
 //! Follows the lines of a file of rows.
+ghost use Rattle.std.specs.Prelude.{◌≤◌};
 
 use crate::games::film::Film;
 use cart_map::accept;
@@ -40,10 +41,11 @@ fn job_of(alloc: Global, row: &Row, frames: u32) -> Option<Job> {
     } else {
         row.hello.as_slice().to_vec(alloc).ok()?
     };
+    let cart = accept(image).ok()?;
     let script = read_script(alloc, row.script.as_slice()).ok()?;
     let region = script.region();
     Some(Job {
-        cart: accept(image).ok()?,
+        cart,
         boot: free_boot_rom(),
         table: interpolation_table(),
         script,
@@ -52,33 +54,59 @@ fn job_of(alloc: Global, row: &Row, frames: u32) -> Option<Job> {
     })
 }
 
-/// Plays a job, and returns the hashes of its sound and of the wanted frames.
-fn film_of<R: AllocGlobal + Threads>(rt: &R, job: &Job, by: By, wanted: Vec<bool>) -> Option<Film> {
+/// Plays a job by the serial console.
+fn play_serial(alloc: Global, job: &Job, film: &mut Film) -> Option<()>
+    requires { job.now.frames ≤ 36000 }
+{
+    let Ok(player) = Console::ready(alloc, job) else {
+        return None;
+    };
+    player.play_serial(film).ok()
+}
+
+/// Plays a job by turns over the log behind its lock.
+fn play_turns<R: AllocGlobal + Threads>(rt: &R, job: &Job, film: &mut Film) -> Option<()>
+    requires { job.now.frames ≤ 36000 }
+{
+    let Ok(turning) = Console::ready_turns(rt.alloc(), job) else {
+        return None;
+    };
+    Console::play_turns(turning, rt, &OpenGate, film).ok()
+}
+
+/// Plays a job by turns over words without a lock.
+fn play_words<R: AllocGlobal + Threads>(rt: &R, job: &Job, film: &mut Film) -> Option<()>
+    requires { job.now.frames ≤ 36000 }
+{
+    let Ok(turning) = Console::ready_turns(rt.alloc(), job) else {
+        return None;
+    };
+    Console::play_words(turning, rt, &OpenGate, film).ok()
+}
+
+/// Plays a job.
+fn play<R: AllocGlobal + Threads>(rt: &R, job: &Job, by: By, film: &mut Film) -> Option<()> {
     if job.frames > 36_000 {
         return None;
     }
-    let alloc = rt.alloc();
-    let mut film = Film::new(alloc, wanted).ok()?;
     match by {
-        By::Serial => {
-            let Ok(player) = Console::ready(alloc, job) else {
-                return None;
-            };
-            player.play_serial(&mut film).ok()?
-        }
-        By::Run => {
-            let Ok(turning) = Console::ready_turns(alloc, job) else {
-                return None;
-            };
-            Console::play_turns(turning, rt, &OpenGate, &mut film).ok()?
-        }
-        By::Lockless => {
-            let Ok(turning) = Console::ready_turns(alloc, job) else {
-                return None;
-            };
-            Console::play_words(turning, rt, &OpenGate, &mut film).ok()?
-        }
+        By::Serial => play_serial(rt.alloc(), job, film),
+        By::Run => play_turns(rt, job, film),
+        By::Lockless => play_words(rt, job, film),
     }
+}
+
+/// Plays a row, and returns the hashes of its sound and of the wanted frames.
+fn film_of<R: AllocGlobal + Threads>(
+    rt: &R,
+    row: &Row,
+    by: By,
+    frames: u32,
+    wanted: Vec<bool>,
+) -> Option<Film> {
+    let mut film = Film::new(rt.alloc(), wanted).ok()?;
+    let job = job_of(rt.alloc(), row, frames)?;
+    play(rt, &job, by, &mut film)?;
     Some(film)
 }
 
@@ -151,8 +179,7 @@ impl Row {
         };
         let frames = words.next()?.parse::<u32>().ok()?;
         let wanted = wanted(rt.alloc(), frames, all, words.clone().ok()?)?;
-        let job = job_of(rt.alloc(), self, frames)?;
-        Some((film_of(rt, &job, by, wanted)?, words))
+        Some((film_of(rt, self, by, frames, wanted)?, words))
     }
 
     /// Prints the result of a line that plays.
@@ -168,10 +195,16 @@ impl Row {
             return Ok(());
         }
         if line.starts_with("show") {
-            return show(rt, &film, frames);
+            show(rt, &film, frames)
+        } else {
+            self.compare(rt, &film)
         }
+    }
+
+    /// Prints the first frame that differs from what was kept.
+    fn compare<R: Print>(&self, rt: &R, film: &Film) -> io::Result<()> {
         match &self.kept {
-            Some(kept) => match kept.first_difference(&film) {
+            Some(kept) => match kept.first_difference(film) {
                 Some(frame) => println!(rt; "the first frame that differs: {frame}"),
                 None => println!(rt; "no frame differs"),
             },
