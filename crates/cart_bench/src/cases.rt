@@ -4,7 +4,7 @@
 //! reads a golden film or makes golden sums is made at once.
 
 use crate::golden::{Recorder, golden_of};
-use crate::inputs::{Input, input_of, name_in};
+use crate::inputs::{Input, Reader, input_of};
 use crate::judging::{Compared, Judging};
 use crate::labels::{number_of, symbols_of};
 use crate::pictures::read_pngs;
@@ -13,7 +13,6 @@ use crate::warnings::judge_warnings;
 use crate::watching::{Watching, watching_of};
 use anyhow::{Context, Error, Result, bail};
 use bench_checks::{Case, Verdict};
-use file_shelf::FileShelf;
 use film_formats::{FRAME_BYTES, Piece, read_piece};
 use frame_sums::SumsFile;
 use snes_defs::{Job, Region};
@@ -32,14 +31,6 @@ pub struct Wanted<'a> {
     pub keeps: bool,
     /// Whether golden sums are made, and not compared.
     pub updates: bool,
-}
-
-/// The path of the golden sums of a case, if it names a file for them.
-fn sums_path(alloc: Global, wanted: &Wanted<'_>, case: &Case) -> Result<Option<String>> {
-    match &case.sums {
-        Some(name) => Ok(Some(name_in(alloc, wanted.folder, name.as_str())?)),
-        None => Ok(None),
-    }
 }
 
 /// A golden film, and its current picture.
@@ -67,21 +58,17 @@ impl<F: Read + Drop> Film<F> {
 }
 
 /// Opens the golden film of a case, if it names one.
-fn film_of<R: Files + AllocGlobal>(
-    rt: &R,
-    wanted: &Wanted<'_>,
-    case: &Case,
-) -> Result<Option<Film<R::File>>> {
-    let alloc = rt.alloc();
+fn film_of<R: Files + Print>(reader: &Reader<'_, R>, case: &Case) -> Result<Option<Film<R::File>>> {
     let Some(name) = &case.film else {
         return Ok(None);
     };
-    let name = name_in(alloc, wanted.folder, name.as_str())?;
-    let file = fs::open(rt, name.as_str()).context(format_args!("cannot read {name}"))?;
+    let picture = vec![in reader.alloc; 0u8; FRAME_BYTES]?;
+    let name = reader.path_of(name.as_str())?;
+    let file = fs::open(reader.rt, name.as_str()).context(format_args!("cannot read {name}"))?;
     Ok(Some(Film {
         name,
         file,
-        picture: vec![in alloc; 0u8; FRAME_BYTES]?,
+        picture,
     }))
 }
 
@@ -126,42 +113,56 @@ pub enum Ready {
 
 /// Reads the golden sums of a case, if they are compared.
 fn read_sums<R: Files + Print>(
-    shelf: &mut FileShelf<'_, R>,
-    alloc: Global,
+    reader: &mut Reader<'_, R>,
     wanted: &Wanted<'_>,
     case: &Case,
 ) -> Result<Option<SumsFile>> {
     if wanted.updates {
         return Ok(None);
     }
-    match sums_path(alloc, wanted, case)? {
-        Some(path) => Ok(Some(golden_of(shelf, alloc, path.as_str())?)),
+    match &case.sums {
+        Some(name) => Ok(Some(golden_of(reader, name.as_str())?)),
         None => Ok(None),
     }
 }
 
-/// Reads into a task what its run needs beside the job. `size` is that of the cartridge's file. Who owns the task drops it after a fault.
+/// Finds what the labels of a case stand for.
+fn find_labels(case: &Case, symbols: Option<&Symbols>, task: &mut Task) -> Result<()> {
+    find_places(case, symbols, &mut task.compared.places)?;
+    find_awaited(case, symbols, &mut task.awaited)
+}
+
+/// Reads into a task what its run needs beside the job and the symbol file. `size` is that of the cartridge's file.
+fn read_beside<R: Files + Print>(
+    reader: &mut Reader<'_, R>,
+    wanted: &Wanted<'_>,
+    case: &Case,
+    size: usize,
+    symbols: Option<&Symbols>,
+    task: &mut Task,
+) -> Result<()> {
+    task.compared.golden = read_sums(reader, wanted, case)?;
+    read_pngs(reader, case, &mut task.compared.pngs)?;
+    find_labels(case, symbols, task)?;
+    task.watching = watching_of(reader, case, size)?;
+    Ok(())
+}
+
+/// Reads into a task what its run needs beside the job. Who owns the task drops it after a fault.
 fn read_task<R: Files + Print>(
-    shelf: &mut FileShelf<'_, R>,
-    alloc: Global,
+    reader: &mut Reader<'_, R>,
     wanted: &Wanted<'_>,
     case: &Case,
     size: usize,
     task: &mut Task,
 ) -> Result<()> {
-    let symbols = symbols_of(shelf, alloc, wanted.folder, case)?;
-    task.compared.golden = read_sums(shelf, alloc, wanted, case)?;
-    read_pngs(shelf, alloc, wanted.folder, case, &mut task.compared.pngs)?;
-    find_places(case, symbols.as_ref(), &mut task.compared.places)?;
-    find_awaited(case, symbols.as_ref(), &mut task.awaited)?;
-    task.watching = watching_of(shelf, alloc, wanted.folder, case, size)?;
-    Ok(())
+    let symbols = symbols_of(reader, case)?;
+    read_beside(reader, wanted, case, size, symbols.as_ref(), task)
 }
 
 /// Reads what the run of a case needs. `size` is that of the cartridge's file.
 fn task_of<R: Files + Print>(
-    shelf: &mut FileShelf<'_, R>,
-    alloc: Global,
+    reader: &mut Reader<'_, R>,
     wanted: &Wanted<'_>,
     case: &Case,
     job: Job,
@@ -169,11 +170,11 @@ fn task_of<R: Files + Print>(
 ) -> Result<Task> {
     let mut task = Task {
         job,
-        compared: Compared::new(alloc),
-        awaited: Vec::new(alloc),
+        compared: Compared::new(reader.alloc),
+        awaited: Vec::new(reader.alloc),
         watching: None,
     };
-    read_task(shelf, alloc, wanted, case, size, &mut task)?;
+    read_task(reader, wanted, case, size, &mut task)?;
     Ok(task)
 }
 
@@ -195,12 +196,11 @@ fn judge_frames(
 fn judge_job(
     alloc: Global,
     job: &Job,
-    frames: u32,
     awaited: &mut [Awaited],
     judging: &mut Judging<'_>,
 ) -> Result<()> {
     let mut played = Played::new(alloc, job)?;
-    judge_frames(&mut played, frames, awaited, judging)
+    judge_frames(&mut played, job.frames, awaited, judging)
 }
 
 /// Runs the job of a case and judges its frames, and once more under the watch if no warnings are expected.
@@ -211,23 +211,21 @@ fn judge_runs(
     awaited: &mut [Awaited],
     judging: &mut Judging<'_>,
 ) -> Result<()> {
-    judge_job(alloc, job, job.frames, awaited, judging)?;
+    judge_job(alloc, job, awaited, judging)?;
     judge_warnings(alloc, watching, job, judging)
 }
 
-/// Runs a case, and judges it.
+/// Runs a case that has been read, and judges it into a verdict.
 fn run_task(
     alloc: Global,
     keeps: bool,
     case: &Case,
-    job: &Job,
-    compared: &Compared,
-    watching: &Option<Watching>,
-    awaited: &mut [Awaited],
-) -> Result<Verdict> {
-    let mut judging = Judging::new(alloc, case, keeps, compared);
-    judge_runs(alloc, job, watching, awaited, &mut judging)?;
-    Ok(judging.verdict())
+    task: &mut Task,
+    verdict: &mut Verdict,
+) -> Result<()> {
+    let mut judging = Judging::new(alloc, case, keeps, &task.compared, verdict);
+    let awaited = task.awaited.as_mut_slice();
+    judge_runs(alloc, &task.job, &task.watching, awaited, &mut judging)
 }
 
 /// What makes the golden sums of a case, if they are made.
@@ -294,152 +292,152 @@ impl<F: Read + Drop> Beside<F> {
         &mut self,
         alloc: Global,
         job: &Job,
-        frames: u32,
         awaited: &mut [Awaited],
         judging: &mut Judging<'_>,
     ) -> Result<()> {
         let mut played = Played::new(alloc, job)?;
-        self.judge_frames(&mut played, frames, awaited, judging)
+        self.judge_frames(&mut played, job.frames, awaited, judging)
     }
 }
 
 /// What the run of a case has beside its machines.
-fn beside_of<R: Files + AllocGlobal>(
-    rt: &R,
+fn beside_of<R: Files + Print>(
+    reader: &Reader<'_, R>,
     wanted: &Wanted<'_>,
     case: &Case,
     region: Region,
 ) -> Result<Beside<R::File>> {
-    let film = film_of(rt, wanted, case)?;
-    let recorder = recorder_of(rt.alloc(), wanted, case, region)?;
+    let film = film_of(reader, case)?;
+    let recorder = recorder_of(reader.alloc, wanted, case, region)?;
     Ok(Beside { film, recorder })
 }
 
 /// Runs a case beside its golden film, or to make its golden sums, and judges it. Returns what made the sums, too.
-fn run_beside<R: Files + Print + AllocGlobal>(
-    rt: &R,
+fn run_beside<R: Files + Print>(
+    reader: &Reader<'_, R>,
     wanted: &Wanted<'_>,
     case: &Case,
     job: &Job,
     awaited: &mut [Awaited],
     judging: &mut Judging<'_>,
 ) -> Result<Option<Recorder>> {
-    let mut beside = beside_of(rt, wanted, case, job.region)?;
-    beside.judge_job(rt.alloc(), job, case.frames, awaited, judging)?;
+    let mut beside = beside_of(reader, wanted, case, job.region)?;
+    beside.judge_job(reader.alloc, job, awaited, judging)?;
     Ok(beside.recorder)
 }
 
 /// Writes the golden sums of a case that made them, and notes it.
 fn write_sums<R: Files + Print>(
-    shelf: &mut FileShelf<'_, R>,
-    alloc: Global,
-    wanted: &Wanted<'_>,
+    reader: &mut Reader<'_, R>,
     case: &Case,
     sums: Recorder,
     judging: &mut Judging<'_>,
 ) -> Result<()> {
-    let Some(path) = sums_path(alloc, wanted, case)? else {
+    let Some(name) = &case.sums else {
         return Ok(());
     };
-    sums.write(shelf, path.as_str())?;
-    let note = format!(in alloc; "wrote {path}")?;
-    judging.note(note)
+    let path = reader.path_of(name.as_str())?;
+    sums.write(reader, path.as_str())?;
+    judging.note(format!(in reader.alloc; "wrote {path}")?)
 }
 
 /// Runs a case beside its golden film, or to make its golden sums, and judges it.
-fn judge_with_files<R: Files + Print + AllocGlobal>(
-    rt: &R,
-    shelf: &mut FileShelf<'_, R>,
+fn judge_with_files<R: Files + Print>(
+    reader: &mut Reader<'_, R>,
     wanted: &Wanted<'_>,
     case: &Case,
     job: &Job,
-    watching: &Option<Watching>,
     awaited: &mut [Awaited],
     judging: &mut Judging<'_>,
 ) -> Result<()> {
-    if let Some(sums) = run_beside(rt, wanted, case, job, awaited, judging)? {
-        write_sums(shelf, rt.alloc(), wanted, case, sums, judging)?;
+    match run_beside(reader, wanted, case, job, awaited, judging)? {
+        Some(sums) => write_sums(reader, case, sums, judging),
+        None => Ok(()),
     }
-    judge_warnings(rt.alloc(), watching, job, judging)
 }
 
-/// Runs a case beside its golden film, or to make its golden sums, and returns the verdict on it.
-fn run_with_files<R: Files + Print + AllocGlobal>(
-    rt: &R,
-    shelf: &mut FileShelf<'_, R>,
+/// Runs a case beside its golden film, or to make its golden sums, and judges it into a verdict.
+fn run_with_files<R: Files + Print>(
+    reader: &mut Reader<'_, R>,
     wanted: &Wanted<'_>,
     case: &Case,
-    task: Task,
-) -> Result<Verdict> {
-    let Task {
-        job,
-        compared,
-        mut awaited,
-        watching,
-    } = task;
-    let awaited = awaited.as_mut_slice();
-    let mut judging = Judging::new(rt.alloc(), case, wanted.keeps, &compared);
-    judge_with_files(
-        rt,
-        shelf,
-        wanted,
-        case,
-        &job,
-        &watching,
-        awaited,
-        &mut judging,
-    )?;
-    Ok(judging.verdict())
+    task: &mut Task,
+    verdict: &mut Verdict,
+) -> Result<()> {
+    let alloc = reader.alloc;
+    let mut judging = Judging::new(alloc, case, wanted.keeps, &task.compared, verdict);
+    let awaited = task.awaited.as_mut_slice();
+    judge_with_files(reader, wanted, case, &task.job, awaited, &mut judging)?;
+    judge_warnings(alloc, &task.watching, &task.job, &mut judging)
 }
 
-/// Compares why a cartridge is refused with what is expected.
-fn judge_refusal(alloc: Global, case: &Case, cause: &str) -> Result<Verdict> {
+/// A case in which this one thing is not as expected.
+fn failed(alloc: Global, line: String) -> Result<Ready> {
     let mut verdict = Verdict::new(alloc);
+    verdict.fail(line)?;
+    Ok(Ready::Ended(verdict))
+}
+
+/// A case whose cartridge is refused: compares why with what is expected.
+fn refused(alloc: Global, case: &Case, cause: &str) -> Result<Ready> {
     match &case.refused {
-        Some(expected) if expected.as_str() == cause => {}
-        Some(_) => verdict.fail(format!(in alloc; "the cartridge is refused: {cause}")?)?,
+        Some(expected) if expected.as_str() == cause => Ok(Ready::Ended(Verdict::new(alloc))),
+        Some(_) => failed(
+            alloc,
+            format!(in alloc; "the cartridge is refused: {cause}")?,
+        ),
         None => bail!("{} refused: {cause}", case.cart.as_str()),
     }
-    Ok(verdict)
 }
 
-/// The verdict on a case whose cartridge is accepted against what is expected.
-fn accepted(alloc: Global) -> Result<Verdict> {
-    let mut verdict = Verdict::new(alloc);
-    verdict.fail(String::from_str(alloc, "the cartridge is accepted")?)?;
-    Ok(verdict)
+/// A case whose cartridge is accepted against what is expected.
+fn accepted(alloc: Global) -> Result<Ready> {
+    failed(alloc, String::from_str(alloc, "the cartridge is accepted")?)
+}
+
+/// Whether the run of a case reads or writes files.
+fn has_files(wanted: &Wanted<'_>, case: &Case) -> bool {
+    case.film.is_some() || (wanted.updates && case.sums.is_some())
+}
+
+/// Makes the run of a case that reads or writes files.
+fn end_with_files<R: Files + Print>(
+    reader: &mut Reader<'_, R>,
+    wanted: &Wanted<'_>,
+    case: &Case,
+    task: &mut Task,
+) -> Result<Ready> {
+    let mut verdict = Verdict::new(reader.alloc);
+    run_with_files(reader, wanted, case, task, &mut verdict)?;
+    Ok(Ready::Ended(verdict))
 }
 
 /// Reads what the run of a case needs, and makes the run at once if it reads or writes files. `size` is that of the
 /// cartridge's file.
-fn ready_to_run<R: Files + Print + AllocGlobal>(
-    rt: &R,
-    shelf: &mut FileShelf<'_, R>,
+fn ready_to_run<R: Files + Print>(
+    reader: &mut Reader<'_, R>,
     wanted: &Wanted<'_>,
     case: &Case,
     job: Job,
     size: usize,
 ) -> Result<Ready> {
-    let task = task_of(shelf, rt.alloc(), wanted, case, job, size)?;
-    if case.film.is_some() || (wanted.updates && case.sums.is_some()) {
-        let verdict = run_with_files(rt, shelf, wanted, case, task)?;
-        return Ok(Ready::Ended(verdict));
+    let mut task = task_of(reader, wanted, case, job, size)?;
+    if has_files(wanted, case) {
+        return end_with_files(reader, wanted, case, &mut task);
     }
     Ok(Ready::Runs(task))
 }
 
-/// Reads a case with this shelf.
-fn ready_by<R: Files + Print + AllocGlobal>(
-    rt: &R,
-    shelf: &mut FileShelf<'_, R>,
+/// Reads a case with this reader.
+fn ready_by<R: Files + Print>(
+    reader: &mut Reader<'_, R>,
     wanted: &Wanted<'_>,
     case: &Case,
 ) -> Result<Ready> {
-    let alloc = rt.alloc();
-    match input_of(shelf, alloc, wanted.folder, case)? {
-        Input::Refused(cause) => { Ok(Ready::Ended(judge_refusal(alloc, case, cause.as_str())?)) }
-        Input::Runs(_, _) if case.refused.is_some() => Ok(Ready::Ended(accepted(alloc)?)),
-        Input::Runs(job, size) => ready_to_run(rt, shelf, wanted, case, job, size),
+    match input_of(reader, case)? {
+        Input::Refused(cause) => refused(reader.alloc, case, cause.as_str()),
+        Input::Runs(_, _) if case.refused.is_some() => accepted(reader.alloc),
+        Input::Runs(job, size) => ready_to_run(reader, wanted, case, job, size),
     }
 }
 
@@ -449,8 +447,8 @@ fn try_ready<R: Files + Print + AllocGlobal>(
     wanted: &Wanted<'_>,
     case: &Case,
 ) -> Result<Ready> {
-    let mut shelf = FileShelf::new(rt);
-    ready_by(rt, &mut shelf, wanted, case)
+    let mut reader = Reader::new(rt, rt.alloc(), wanted.folder);
+    ready_by(&mut reader, wanted, case)
 }
 
 /// Reads a case. If it can't be read, its verdict says so.
@@ -476,17 +474,11 @@ pub fn judge_task(
     alloc: Global,
     keeps: bool,
     case: &Case,
-    task: Task,
+    task: &mut Task,
 ) -> Result<Verdict, AllocError> {
-    let Task {
-        job,
-        compared,
-        mut awaited,
-        watching,
-    } = task;
-    let awaited = awaited.as_mut_slice();
-    match run_task(alloc, keeps, case, &job, &compared, &watching, awaited) {
-        Ok(verdict) => Ok(verdict),
+    let mut verdict = Verdict::new(alloc);
+    match run_task(alloc, keeps, case, task, &mut verdict) {
+        Ok(()) => Ok(verdict),
         Err(error) => fault_for(alloc, &error),
     }
 }

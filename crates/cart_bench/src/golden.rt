@@ -3,7 +3,7 @@
 ghost use Rattle.std.specs.Prelude.{◌≡◌, Ok, IfOk};
 ghost use Rattle.frame_sums.specs.SumsFile.{sums_of_file};
 
-use crate::inputs::{fault_of, load};
+use crate::inputs::Reader;
 use anyhow::{Result, bail};
 use bench_checks::read_golden;
 use file_shelf::FileShelf;
@@ -18,16 +18,23 @@ use std::rt::Files;
 const SUMS: usize = 5_000_000;
 
 /// Reads the golden sums of a file.
-pub fn golden_of<R: Files + Print>(
-    shelf: &mut FileShelf<'_, R>,
-    alloc: Global,
-    path: &str,
-) -> Result<SumsFile> {
-    let bytes = match load(shelf, alloc, path, SUMS) {
-        Ok(bytes) => bytes,
-        Err(error) => bail!("{error:#} (--update writes golden sums)"),
-    };
-    read_golden(alloc, path, bytes.as_slice())
+pub fn golden_of<R: Files + Print>(reader: &mut Reader<'_, R>, name: &str) -> Result<SumsFile> {
+    let mut file = reader.named(name)?;
+    if let Err(error) = reader.read_into(&mut file, SUMS) {
+        bail!("{error:#} (--update writes golden sums)");
+    }
+    read_golden(reader.alloc, file.path.as_str(), file.bytes.as_slice())
+}
+
+/// Creates the file of golden sums at this path. A file that the case reads is refused.
+fn create_sums<R: Files + Print>(reader: &mut Reader<'_, R>, path: &str) -> Result<()> {
+    if path.is_empty() || path.len() > 4096 {
+        bail!("cannot write {path}");
+    }
+    match reader.shelf.create(Out::Sums, path) {
+        Ok(()) => Ok(()),
+        Err(_) => Err(reader.fault_of("write", path)),
+    }
 }
 
 /// The sums of a run, while they are made.
@@ -52,20 +59,20 @@ impl Recorder {
         let _ = self.sums.take(Side::Sound, sound);
     }
 
-    /// Writes the sums of the whole run to a file, in the form that `snes sums` writes. A file that the case reads is
-    /// refused.
-    pub fn write<R: Files + Print>(self, shelf: &mut FileShelf<'_, R>, path: &str) -> Result<()> {
+    /// Puts the sums of the whole run to the file that was created for them. Returns whether all is written.
+    fn put<R: Files + Print>(self, shelf: &mut FileShelf<'_, R>) -> bool {
         let Recorder { sums } = self;
-        if path.is_empty() || path.len() > 4096 {
-            bail!("cannot write {path}");
-        }
-        if shelf.create(Out::Sums, path).is_err() {
-            return Err(fault_of(shelf, "write", path));
-        }
         let (video, audio) = sums.finish();
-        if put_sums(shelf, &video, &audio).is_err() || shelf.flush(Out::Sums).is_err() {
-            return Err(fault_of(shelf, "write", path));
+        put_sums(shelf, &video, &audio).is_ok() && shelf.flush(Out::Sums).is_ok()
+    }
+
+    /// Writes the sums of the whole run to a file, in the form that `snes sums` writes.
+    pub fn write<R: Files + Print>(self, reader: &mut Reader<'_, R>, path: &str) -> Result<()> {
+        create_sums(reader, path)?;
+        if self.put(&mut reader.shelf) {
+            Ok(())
+        } else {
+            Err(reader.fault_of("write", path))
         }
-        Ok(())
     }
 }

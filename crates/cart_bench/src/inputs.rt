@@ -10,6 +10,7 @@ use shelf::{LoadEnd, Shelf};
 use snes_defs::{Cart, Job, Profile, Region, Spans, Table};
 use std::alloc::{AllocError, Global};
 use std::rt::Files;
+use std::str;
 
 /// The most bytes of a cartridge's file (4 MiB and a header of 512 bytes), of a boot ROM, of a table and of a script.
 const CART: usize = 4_194_816;
@@ -29,35 +30,91 @@ pub enum Input {
     Refused(String),
 }
 
-/// The name of a file of the bench file's folder, as the system takes it.
-pub fn name_in(alloc: Global, folder: &str, name: &str) -> Result<String, AllocError> {
-    if folder.is_empty() || name.starts_with("/") {
-        return String::from_str(alloc, name);
-    }
-    format!(in alloc; "{folder}{name}")
+/// Reads the files of cases, and writes their golden sums.
+#[derive(Drop)]
+pub struct Reader<'a, R: Files + Print> {
+    /// The runtime that has the files.
+    pub rt: &'a R,
+    /// What the files are read into.
+    pub alloc: Global,
+    /// The folder of the bench file: empty, or with a slash at its end.
+    folder: &'a str,
+    /// The files that are read and written whole.
+    pub shelf: FileShelf<'a, R>,
 }
 
-/// What is said if a file can't be read or written, and why.
-pub fn fault_of<R: Files + Print>(shelf: &FileShelf<'_, R>, what: &str, name: &str) -> Error {
-    match shelf.first_fault() {
-        Some(cause) => anyhow!("cannot {what} {name}: {cause}"),
-        None => anyhow!("cannot {what} {name}"),
+/// A file of a case.
+#[derive(Drop)]
+pub struct Loaded {
+    /// Its path, as the system takes it and as messages call it.
+    pub path: String,
+    /// What it has, once it has been read.
+    pub bytes: Vec<u8>,
+}
+
+impl<'a, R: Files + Print> Reader<'a, R> {
+    /// Returns the reader of the files of a bench file's folder.
+    pub fn new(rt: &'a R, alloc: Global, folder: &'a str) -> Reader<'a, R> {
+        Reader {
+            rt,
+            alloc,
+            folder,
+            shelf: FileShelf::new(rt),
+        }
+    }
+
+    /// The path of a file of the folder, as the system takes it.
+    pub fn path_of(&self, name: &str) -> Result<String, AllocError> {
+        let folder = self.folder;
+        if folder.is_empty() || name.starts_with("/") {
+            return String::from_str(self.alloc, name);
+        }
+        format!(in self.alloc; "{folder}{name}")
+    }
+
+    /// What is said if a file can't be read or written, and why.
+    pub fn fault_of(&self, what: &str, path: &str) -> Error {
+        match self.shelf.first_fault() {
+            Some(cause) => anyhow!("cannot {what} {path}: {cause}"),
+            None => anyhow!("cannot {what} {path}"),
+        }
+    }
+
+    /// A file of the folder, of which nothing has been read yet.
+    pub fn named(&self, name: &str) -> Result<Loaded, AllocError> {
+        Ok(Loaded {
+            path: self.path_of(name)?,
+            bytes: Vec::new(self.alloc),
+        })
+    }
+
+    /// Reads the whole of a named file, of at most `most` bytes.
+    pub fn read_into(&mut self, file: &mut Loaded, most: usize) -> Result<()> {
+        file.bytes.clear();
+        let path = file.path.as_str();
+        match self.shelf.load(path, most, &mut file.bytes) {
+            Ok(()) => Ok(()),
+            Err(LoadEnd::Failed) => Err(self.fault_of("read", path)),
+            Err(LoadEnd::TooLong) => Err(anyhow!("{path} refused: more than {most} bytes")),
+            Err(LoadEnd::NoMemory) => Err(anyhow!("no memory")),
+        }
+    }
+
+    /// Reads a whole file of the folder, of at most `most` bytes.
+    pub fn load(&mut self, name: &str, most: usize) -> Result<Loaded> {
+        let mut file = self.named(name)?;
+        self.read_into(&mut file, most)?;
+        Ok(file)
     }
 }
 
-/// Reads a whole file of at most `most` bytes.
-pub fn load<R: Files + Print>(
-    shelf: &mut FileShelf<'_, R>,
-    alloc: Global,
-    name: &str,
-    most: usize,
-) -> Result<Vec<u8>> {
-    let mut bytes = Vec::new(alloc);
-    match shelf.load(name, most, &mut bytes) {
-        Ok(()) => Ok(bytes),
-        Err(LoadEnd::Failed) => Err(fault_of(shelf, "read", name)),
-        Err(LoadEnd::TooLong) => Err(anyhow!("{name} refused: more than {most} bytes")),
-        Err(LoadEnd::NoMemory) => Err(anyhow!("no memory")),
+impl Loaded {
+    /// Returns the text of the file.
+    pub fn text(&self) -> Result<&str> {
+        match str::from_utf8(self.bytes.as_slice()) {
+            Ok(text) => Ok(text),
+            Err(_) => Err(anyhow!("{} refused: it is no text", self.path.as_str())),
+        }
     }
 }
 
@@ -73,38 +130,26 @@ fn words_of(alloc: Global, cause: CartRefused) -> Result<String, AllocError> {
 }
 
 /// Reads the boot ROM of a case.
-fn boot_of<R: Files + Print>(
-    shelf: &mut FileShelf<'_, R>,
-    alloc: Global,
-    folder: &str,
-    case: &Case,
-) -> Result<[u8; 64]> {
+fn boot_of<R: Files + Print>(reader: &mut Reader<'_, R>, case: &Case) -> Result<[u8; 64]> {
     let Some(name) = &case.boot else {
         return Ok(free_boot_rom());
     };
-    let name = name_in(alloc, folder, name.as_str())?;
-    let bytes = load(shelf, alloc, name.as_str(), BOOT)?;
-    match read_boot(bytes.as_slice()) {
+    let file = reader.load(name.as_str(), BOOT)?;
+    match read_boot(file.bytes.as_slice()) {
         Some(boot) => Ok(boot),
-        None => Err(anyhow!("{name} refused: a boot ROM has 64 bytes")),
+        None => Err(anyhow!("{} refused: a boot ROM has 64 bytes", file.path.as_str())),
     }
 }
 
 /// Reads the table of a case.
-fn table_of<R: Files + Print>(
-    shelf: &mut FileShelf<'_, R>,
-    alloc: Global,
-    folder: &str,
-    case: &Case,
-) -> Result<Table> {
+fn table_of<R: Files + Print>(reader: &mut Reader<'_, R>, case: &Case) -> Result<Table> {
     let Some(name) = &case.table else {
         return Ok(interpolation_table());
     };
-    let name = name_in(alloc, folder, name.as_str())?;
-    let bytes = load(shelf, alloc, name.as_str(), TABLE)?;
-    match read_table(bytes.as_slice()) {
+    let file = reader.load(name.as_str(), TABLE)?;
+    match read_table(file.bytes.as_slice()) {
         Ok(table) => Ok(table),
-        Err(entry) => Err(anyhow!("{name} refused: no table, at entry {entry}")),
+        Err(entry) => Err(anyhow!("{} refused: no table, at entry {entry}", file.path.as_str())),
     }
 }
 
@@ -115,33 +160,45 @@ fn empty_script(alloc: Global, case: &Case) -> Spans {
     Spans::versioned(Vec::new(alloc), region, profile, Vec::new(alloc))
 }
 
-/// Reads the script of a case. Its region and its profile are the case's, if the case names them.
-fn script_of<R: Files + Print>(
-    shelf: &mut FileShelf<'_, R>,
-    alloc: Global,
-    folder: &str,
-    case: &Case,
-) -> Result<Spans> {
-    let Some(name) = &case.script else {
-        return Ok(empty_script(alloc, case));
-    };
-    let name = name_in(alloc, folder, name.as_str())?;
-    let bytes = load(shelf, alloc, name.as_str(), SCRIPT)?;
-    let script = match read_script(alloc, bytes.as_slice()) {
-        Ok(script) => script,
-        Err(ScriptEnd::Line(line)) => bail!("{name} refused: no script, at line {line}"),
-        Err(ScriptEnd::NoMemory) => bail!("no memory"),
-    };
+/// What of a script is other than the case says, if something is.
+fn other_than_named(case: &Case, script: &Spans) -> Option<&'static str> {
     if case.region.is_some_and(|region| region != script.region()) {
-        bail!("{name} is a script of the other region: its first line says which");
+        return Some("region");
     }
     if case
         .profile
         .is_some_and(|profile| profile != script.profile())
     {
-        bail!("{name} is a script of the other profile: its first line says which");
+        return Some("profile");
     }
-    Ok(script)
+    None
+}
+
+/// The script of a file. Its region and its profile are the case's, if the case names them.
+fn script_in(alloc: Global, case: &Case, path: &str, bytes: &[u8]) -> Result<Spans> {
+    let script = match read_script(alloc, bytes) {
+        Ok(script) => script,
+        Err(ScriptEnd::Line(line)) => bail!("{path} refused: no script, at line {line}"),
+        Err(ScriptEnd::NoMemory) => bail!("no memory"),
+    };
+    match other_than_named(case, &script) {
+        Some(what) => bail!("{path} is a script of the other {what}: its first line says which"),
+        None => Ok(script),
+    }
+}
+
+/// Reads the script of a case.
+fn script_of<R: Files + Print>(reader: &mut Reader<'_, R>, case: &Case) -> Result<Spans> {
+    let Some(name) = &case.script else {
+        return Ok(empty_script(reader.alloc, case));
+    };
+    let file = reader.load(name.as_str(), SCRIPT)?;
+    script_in(
+        reader.alloc,
+        case,
+        file.path.as_str(),
+        file.bytes.as_slice(),
+    )
 }
 
 /// What a job has beside its cartridge.
@@ -153,15 +210,10 @@ struct Inputs {
 }
 
 /// Reads what a job has beside its cartridge.
-fn inputs_of<R: Files + Print>(
-    shelf: &mut FileShelf<'_, R>,
-    alloc: Global,
-    folder: &str,
-    case: &Case,
-) -> Result<Inputs> {
-    let boot = boot_of(shelf, alloc, folder, case)?;
-    let table = table_of(shelf, alloc, folder, case)?;
-    let script = script_of(shelf, alloc, folder, case)?;
+fn inputs_of<R: Files + Print>(reader: &mut Reader<'_, R>, case: &Case) -> Result<Inputs> {
+    let boot = boot_of(reader, case)?;
+    let table = table_of(reader, case)?;
+    let script = script_of(reader, case)?;
     Ok(Inputs {
         boot,
         table,
@@ -170,18 +222,12 @@ fn inputs_of<R: Files + Print>(
 }
 
 /// The job of a cartridge.
-fn job_of<R: Files + Print>(
-    shelf: &mut FileShelf<'_, R>,
-    alloc: Global,
-    folder: &str,
-    case: &Case,
-    cart: Cart,
-) -> Result<Job> {
+fn job_of<R: Files + Print>(reader: &mut Reader<'_, R>, case: &Case, cart: Cart) -> Result<Job> {
     let Inputs {
         boot,
         table,
         script,
-    } = inputs_of(shelf, alloc, folder, case)?;
+    } = inputs_of(reader, case)?;
     let region = script.region();
     Ok(Job {
         cart,
@@ -194,28 +240,17 @@ fn job_of<R: Files + Print>(
 }
 
 /// Reads the file of a case's cartridge.
-fn cart_bytes<R: Files + Print>(
-    shelf: &mut FileShelf<'_, R>,
-    alloc: Global,
-    folder: &str,
-    case: &Case,
-) -> Result<Vec<u8>> {
-    let name = name_in(alloc, folder, case.cart.as_str())?;
-    load(shelf, alloc, name.as_str(), CART)
+fn cart_bytes<R: Files + Print>(reader: &mut Reader<'_, R>, case: &Case) -> Result<Vec<u8>> {
+    Ok(reader.load(case.cart.as_str(), CART)?.bytes)
 }
 
 /// Reads what a case runs.
-pub fn input_of<R: Files + Print>(
-    shelf: &mut FileShelf<'_, R>,
-    alloc: Global,
-    folder: &str,
-    case: &Case,
-) -> Result<Input> {
-    let bytes = cart_bytes(shelf, alloc, folder, case)?;
+pub fn input_of<R: Files + Print>(reader: &mut Reader<'_, R>, case: &Case) -> Result<Input> {
+    let bytes = cart_bytes(reader, case)?;
     let size = bytes.len();
     match accept(bytes) {
-        Ok(cart) => Ok(Input::Runs(job_of(shelf, alloc, folder, case, cart)?, size)),
+        Ok(cart) => Ok(Input::Runs(job_of(reader, case, cart)?, size)),
         Err(CartEnd::NoMemory) => bail!("no memory"),
-        Err(CartEnd::Refused(cause)) => Ok(Input::Refused(words_of(alloc, cause)?)),
+        Err(CartEnd::Refused(cause)) => Ok(Input::Refused(words_of(reader.alloc, cause)?)),
     }
 }

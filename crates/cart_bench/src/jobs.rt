@@ -88,12 +88,28 @@ impl Crew {
 }
 
 /// Runs a case that is dealt to a worker. The pictures and the sound of one that is as expected are dropped.
-fn judge(alloc: Global, keeps: bool, case: &Case, task: Task) -> Result<Verdict, AllocError> {
+fn judge(alloc: Global, keeps: bool, case: &Case, task: &mut Task) -> Result<Verdict, AllocError> {
     let mut verdict = judge_task(alloc, keeps, case, task)?;
     if verdict.end() == End::Passed {
         verdict.forget();
     }
     Ok(verdict)
+}
+
+/// Runs a case that is dealt to a worker, and adds the verdict on it.
+fn add_judged(
+    alloc: Global,
+    keeps: bool,
+    wave: &[Case],
+    dealt: &mut Dealt,
+    done: &mut Vec<Judged>,
+) -> Result<(), AllocError> {
+    let place = dealt.place;
+    let Some(case) = wave.get(place) else {
+        return Ok(());
+    };
+    let verdict = judge(alloc, keeps, case, &mut dealt.task)?;
+    Ok(done.push(Judged { place, verdict })?)
 }
 
 /// Runs the cases that are dealt to a worker.
@@ -105,11 +121,8 @@ fn work(
 ) -> Result<Vec<Judged>, AllocError> {
     let mut done = Vec::new(alloc);
     for dealt in hand {
-        let Dealt { place, task } = dealt;
-        if let Some(case) = wave.get(place) {
-            let verdict = judge(alloc, keeps, case, task)?;
-            done.push(Judged { place, verdict })?;
-        }
+        let mut dealt = dealt;
+        add_judged(alloc, keeps, wave, &mut dealt, &mut done)?;
     }
     Ok(done)
 }
@@ -123,35 +136,51 @@ fn empty_hands(alloc: Global, count: usize) -> Result<Vec<Vec<Dealt>>, AllocErro
     Ok(hands)
 }
 
-/// The verdicts, in the order of the cases. A case without one can't have been run.
+/// The verdict on a case. A case without one can't have been run.
+fn verdict_in(alloc: Global, slot: Option<Verdict>) -> Result<Verdict, AllocError> {
+    match slot {
+        Some(verdict) => Ok(verdict),
+        None => Verdict::fault(alloc, String::from_str(alloc, "no worker has run it")?),
+    }
+}
+
+/// The verdicts, in the order of the cases.
 fn in_order(alloc: Global, found: Vec<Option<Verdict>>) -> Result<Vec<Verdict>, AllocError> {
     let mut verdicts = Vec::new(alloc);
     for slot in found {
-        match slot {
-            Some(verdict) => verdicts.push(verdict)?,
-            None => {
-                let reason = String::from_str(alloc, "no worker has run it")?;
-                verdicts.push(Verdict::fault(alloc, reason)?)?;
-            }
-        }
+        verdicts.push(verdict_in(alloc, slot)?)?;
     }
     Ok(verdicts)
 }
 
+/// Puts the verdicts of a worker to the places of their cases.
+fn put_list(found: &mut [Option<Verdict>], list: Vec<Judged>) {
+    for judged in list {
+        let Judged { place, verdict } = judged;
+        if let Some(slot) = found.get_mut(place) {
+            *slot = Some(verdict);
+        }
+    }
+}
+
 /// Puts the verdicts of the workers to the places of their cases.
 fn put_in(
-    found: &mut Vec<Option<Verdict>>,
+    found: &mut [Option<Verdict>],
     lists: Vec<Result<Vec<Judged>, AllocError>>,
 ) -> Result<(), AllocError> {
     for list in lists {
-        for judged in list? {
-            let Judged { place, verdict } = judged;
-            if let Some(slot) = found.get_mut(place) {
-                *slot = Some(verdict);
-            }
-        }
+        put_list(found, list?);
     }
     Ok(())
+}
+
+/// Gives what the run of a case needs to the worker whose turn it is.
+fn hand_out(hands: &mut [Vec<Dealt>], dealt: Dealt) -> Result<(), AllocError> {
+    let workers = hands.len().max(1);
+    match hands.get_mut(dealt.place % workers) {
+        Some(hand) => Ok(hand.push(dealt)?),
+        None => Ok(()),
+    }
 }
 
 /// Deals what the run of the case at a place needs to a worker. If it has ended without a run, its verdict is noted.
@@ -164,10 +193,7 @@ fn deal(
     match ready {
         Ready::Ended(verdict) => Ok(found.push(Some(verdict))?),
         Ready::Runs(task) => {
-            let workers = hands.len().max(1);
-            if let Some(hand) = hands.get_mut(place % workers) {
-                hand.push(Dealt { place, task })?;
-            }
+            hand_out(hands, Dealt { place, task })?;
             Ok(found.push(None)?)
         }
     }
@@ -212,7 +238,7 @@ fn judge_into<R: Files + Print + AllocGlobal + Threads + Sync>(
     found: &mut Vec<Option<Verdict>>,
 ) -> Result<()> {
     let lists = run_wave(rt, wanted, workers, wave, found)?;
-    Ok(put_in(found, lists)?)
+    Ok(put_in(found.as_mut_slice(), lists)?)
 }
 
 /// Judges the cases of a wave. The verdicts are in the order of the cases. `before` is how many cases are before it.

@@ -11,6 +11,7 @@ use bench_checks::{
     Case, FrameCheck, Golden, MemoryCheck, Shot, Sum, Verdict, is_heard_as, is_silent, is_sum_met,
 };
 use frame_sums::{SumPair, SumsFile};
+use golden_frame::Found;
 use sha2::{Digest, Sha256};
 use std::alloc::Global;
 
@@ -66,7 +67,8 @@ pub struct Judging<'a> {
     /// Whether pictures and samples are kept for a page.
     keeps: bool,
     compared: &'a Compared,
-    verdict: Verdict,
+    /// What is known of it so far.
+    verdict: &'a mut Verdict,
     /// All pictures and all samples so far, if there are golden sums.
     pictures: Sha256,
     sounds: Sha256,
@@ -121,15 +123,35 @@ fn other_sum(
     }
 }
 
+/// What a page shows beside a picture: that of the golden film, if there is one.
+fn golden_film(alloc: Global, film: Option<&[u8]>) -> Result<Option<Golden>> {
+    match film {
+        Some(bytes) => Ok(Some(Golden::Frame(Vec::from_slice(alloc, bytes)?))),
+        None => Ok(None),
+    }
+}
+
+/// What a page shows beside a picture: a golden PNG. `turned` has a bit turned wherever they differ.
+fn golden_png(alloc: Global, png: &GoldenPng, turned: &[u8]) -> Result<Golden> {
+    let file = Vec::from_slice(alloc, png.file.as_slice())?;
+    Ok(Golden::Png(file, Vec::from_slice(alloc, turned)?))
+}
+
 impl<'a> Judging<'a> {
     /// Returns a case before its run.
-    pub fn new(alloc: Global, case: &'a Case, keeps: bool, compared: &'a Compared) -> Judging<'a> {
+    pub fn new(
+        alloc: Global,
+        case: &'a Case,
+        keeps: bool,
+        compared: &'a Compared,
+        verdict: &'a mut Verdict,
+    ) -> Judging<'a> {
         Judging {
             alloc,
             case,
             keeps,
             compared,
-            verdict: Verdict::new(alloc),
+            verdict,
             pictures: Sha256::new(),
             sounds: Sha256::new(),
             heard: None,
@@ -139,35 +161,34 @@ impl<'a> Judging<'a> {
         }
     }
 
-    /// Keeps the picture of a frame at which something failed. `film` is the golden picture, if there is a golden film.
-    fn keep_shot(&mut self, frame: u32, picture: &[u8], film: Option<&[u8]>) -> Result<()> {
-        let expected = match film {
-            Some(bytes) => Some(Golden::Frame(Vec::from_slice(self.alloc, bytes)?)),
-            None => None,
-        };
+    /// Keeps the picture of a frame that is not as expected, beside the one that is expected, if it is known.
+    fn keep_shot(&mut self, frame: u32, picture: &[u8], expected: Option<Golden>) -> Result<()> {
+        let came = Vec::from_slice(self.alloc, picture)?;
         self.verdict.shots.push(Shot {
             frame,
-            came: Vec::from_slice(self.alloc, picture)?,
+            came,
             expected,
         })?;
         Ok(())
     }
 
-    /// Keeps the picture of a frame whose golden PNG differs. `turned` has a bit turned wherever it does.
-    fn keep_png(
+    /// Tells what the comparison of the picture of a frame with a golden PNG found.
+    fn tell_png(
         &mut self,
         frame: u32,
         picture: &[u8],
         png: &GoldenPng,
-        turned: &[u8],
+        found: &Found,
     ) -> Result<()> {
-        let file = Vec::from_slice(self.alloc, png.file.as_slice())?;
-        let turned = Vec::from_slice(self.alloc, turned)?;
-        self.verdict.shots.push(Shot {
-            frame,
-            came: Vec::from_slice(self.alloc, picture)?,
-            expected: Some(Golden::Png(file, turned)),
-        })?;
+        let Some(place) = found.place else {
+            return Ok(());
+        };
+        let line = png.line_of(self.alloc, found.differing, place)?;
+        self.verdict.fail(line)?;
+        if self.keeps {
+            let expected = golden_png(self.alloc, png, found.turned())?;
+            self.keep_shot(frame, picture, Some(expected))?;
+        }
         Ok(())
     }
 
@@ -177,13 +198,7 @@ impl<'a> Judging<'a> {
         for png in compared.pngs.as_slice() {
             if png.at == frame {
                 let found = png.compare(alloc, picture)?;
-                if let Some(place) = found.place {
-                    self.verdict
-                        .fail(png.line_of(alloc, found.differing, place)?)?;
-                    if self.keeps {
-                        self.keep_png(frame, picture, png, found.turned())?;
-                    }
-                }
+                self.tell_png(frame, picture, png, &found)?;
             }
         }
         Ok(())
@@ -300,7 +315,8 @@ impl<'a> Judging<'a> {
         }
         let is_met = sums_met && memories_met && film_met;
         if self.keeps && !is_met && self.verdict.shots.is_empty() {
-            self.keep_shot(frame, picture, film)?;
+            let expected = golden_film(self.alloc, film)?;
+            self.keep_shot(frame, picture, expected)?;
         }
         Ok(())
     }
@@ -392,10 +408,5 @@ impl<'a> Judging<'a> {
     /// Notes what else was done: a line.
     pub fn note(&mut self, line: String) -> Result<()> {
         Ok(self.verdict.notes.push(line)?)
-    }
-
-    /// Returns the verdict.
-    pub fn verdict(self) -> Verdict {
-        self.verdict
     }
 }

@@ -1,12 +1,9 @@
 //! The addresses of labels, by the symbol file of a case.
 
-use crate::inputs::{load, name_in};
+use crate::inputs::Reader;
 use anyhow::{Result, anyhow};
 use bench_checks::{Address, Case};
-use file_shelf::FileShelf;
-use std::alloc::Global;
 use std::rt::Files;
-use std::str;
 use symbol_files::Symbols;
 
 /// The most bytes of a symbol file.
@@ -14,22 +11,16 @@ pub const SYMBOLS: usize = 67_108_864;
 
 /// Reads the symbol file of a case, if it names one.
 pub fn symbols_of<R: Files + Print>(
-    shelf: &mut FileShelf<'_, R>,
-    alloc: Global,
-    folder: &str,
+    reader: &mut Reader<'_, R>,
     case: &Case,
 ) -> Result<Option<Symbols>> {
     let Some(name) = &case.symbols else {
         return Ok(None);
     };
-    let path = name_in(alloc, folder, name.as_str())?;
-    let bytes = load(shelf, alloc, path.as_str(), SYMBOLS)?;
-    let Ok(text) = str::from_utf8(bytes.as_slice()) else {
-        return Err(anyhow!("{path} refused: it is no text"));
-    };
-    match Symbols::read(alloc, text) {
+    let file = reader.load(name.as_str(), SYMBOLS)?;
+    match Symbols::read(reader.alloc, file.text()?) {
         Ok(symbols) => Ok(Some(symbols)),
-        Err(error) => Err(anyhow!("{path} refused: {error}")),
+        Err(error) => Err(anyhow!("{} refused: {error}", file.path.as_str())),
     }
 }
 

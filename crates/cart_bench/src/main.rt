@@ -32,7 +32,6 @@ use clap::ArgMatches;
 use companion_words::{DONE, FAULT, NO, Program, answer, command, exit_of};
 use jobs::{Crew, judge_wave};
 use standard_streams::hold_standard_streams;
-use std::alloc::Global;
 use std::io::IsTerminal;
 use std::process::ExitCode;
 use std::rt::{Env, Files};
@@ -47,21 +46,16 @@ fn folder_of<'a>(name: &'a str) -> &'a str {
     }
 }
 
-/// The cases that are run: all, or that of the name that is given.
-fn chosen(alloc: Global, name: Option<&str>, all: Vec<Case>) -> Result<Vec<Case>> {
+/// Drops all cases but those of the name that is given, if one is.
+fn keep_chosen(name: Option<&str>, cases: &mut Vec<Case>) -> Result<()> {
     let Some(name) = name else {
-        return Ok(all);
+        return Ok(());
     };
-    let mut list = Vec::new(alloc);
-    for case in all {
-        if case.name.as_str() == name {
-            list.push(case)?;
-        }
-    }
-    if list.is_empty() {
+    cases.retain(|case| case.name.as_str() == name);
+    if cases.is_empty() {
         bail!("no case has the name that --case gives");
     }
-    Ok(list)
+    Ok(())
 }
 
 /// How the cases are run and told.
@@ -89,21 +83,20 @@ fn tell_case<R: Files + Print + AllocGlobal>(
     }
 }
 
-/// Tells the verdicts on the cases of a wave, and keeps them without their pictures and sound.
+/// Tells the verdicts on the cases of a wave, and drops their pictures and sound. `before` is how many cases came before.
 fn tell_wave<R: Files + Print + AllocGlobal>(
     rt: &R,
     is_tap: bool,
+    before: usize,
     wave: &[Case],
-    judged: Vec<Verdict>,
+    judged: &mut [Verdict],
     page: &mut Option<Page<'_>>,
-    verdicts: &mut Vec<Verdict>,
 ) -> Result<()> {
-    for (case, verdict) in wave.iter().zip(judged) {
-        let mut verdict = verdict;
-        let number = verdicts.len().saturating_add(1);
-        tell_case(rt, is_tap, number, case, &verdict, page)?;
+    let mut number = before;
+    for (case, verdict) in wave.iter().zip(judged.iter_mut()) {
+        number = number.saturating_add(1);
+        tell_case(rt, is_tap, number, case, verdict, page)?;
         verdict.forget();
-        verdicts.push(verdict)?;
     }
     Ok(())
 }
@@ -118,8 +111,10 @@ fn run_cases<R: Files + Print + Eprint + AllocGlobal + Threads + Sync>(
 ) -> Result<()> {
     let crew = told.crew;
     for wave in cases.chunks(crew.wave()) {
-        let judged = judge_wave(rt, &told.wanted, crew, verdicts.len(), wave)?;
-        tell_wave(rt, told.is_tap, wave, judged, page, verdicts)?;
+        let before = verdicts.len();
+        let mut judged = judge_wave(rt, &told.wanted, crew, before, wave)?;
+        tell_wave(rt, told.is_tap, before, wave, judged.as_mut_slice(), page)?;
+        verdicts.append(&mut judged)?;
     }
     Ok(())
 }
@@ -165,8 +160,9 @@ fn cases_of<R: Files + AllocGlobal>(
     chosen_name: Option<&str>,
 ) -> Result<Vec<Case>> {
     let text = fs::read_to_string(rt, name).context(format_args!("cannot read {name}"))?;
-    let all = read_cases(rt.alloc(), name, text.as_str())?;
-    chosen(rt.alloc(), chosen_name, all)
+    let mut cases = read_cases(rt.alloc(), name, text.as_str())?;
+    keep_chosen(chosen_name, &mut cases)?;
+    Ok(cases)
 }
 
 /// Writes JUnit's XML, if the command line asks for it.

@@ -1,9 +1,8 @@
 //! The golden PNGs of a case: they are read before its run, and compared with the pictures of their frames.
 
-use crate::inputs::{load, name_in};
+use crate::inputs::Reader;
 use anyhow::{Result, bail};
 use bench_checks::Case;
-use file_shelf::FileShelf;
 use film_formats::{Colour, FRAME_BYTES};
 use golden_frame::{Found, Golden, Place};
 use std::alloc::{AllocError, Global};
@@ -25,30 +24,19 @@ pub struct GoldenPng {
 }
 
 /// Reads the file of a golden PNG.
-fn file_of<R: Files + Print>(
-    shelf: &mut FileShelf<'_, R>,
-    alloc: Global,
-    folder: &str,
-    name: &str,
-) -> Result<(Vec<u8>, Golden)> {
-    let path = name_in(alloc, folder, name)?;
-    let file = load(shelf, alloc, path.as_str(), PNG)?;
-    let golden = Golden::read(alloc, path.as_str(), file.as_slice())?;
-    Ok((file, golden))
+fn file_of<R: Files + Print>(reader: &mut Reader<'_, R>, name: &str) -> Result<(Vec<u8>, Golden)> {
+    let file = reader.load(name, PNG)?;
+    let golden = Golden::read(reader.alloc, file.path.as_str(), file.bytes.as_slice())?;
+    Ok((file.bytes, golden))
 }
 
 /// Reads the golden PNG of a frame.
-fn png_of<R: Files + Print>(
-    shelf: &mut FileShelf<'_, R>,
-    alloc: Global,
-    folder: &str,
-    at: u32,
-    name: &str,
-) -> Result<GoldenPng> {
-    let (file, golden) = file_of(shelf, alloc, folder, name)?;
+fn png_of<R: Files + Print>(reader: &mut Reader<'_, R>, at: u32, name: &str) -> Result<GoldenPng> {
+    let called = String::from_str(reader.alloc, name)?;
+    let (file, golden) = file_of(reader, name)?;
     Ok(GoldenPng {
         at,
-        name: String::from_str(alloc, name)?,
+        name: called,
         file,
         golden,
     })
@@ -56,15 +44,13 @@ fn png_of<R: Files + Print>(
 
 /// Reads the golden PNGs of a case.
 pub fn read_pngs<R: Files + Print>(
-    shelf: &mut FileShelf<'_, R>,
-    alloc: Global,
-    folder: &str,
+    reader: &mut Reader<'_, R>,
     case: &Case,
     pngs: &mut Vec<GoldenPng>,
 ) -> Result<()> {
     for check in case.frame_checks.as_slice() {
         if let Some(name) = &check.png {
-            pngs.push(png_of(shelf, alloc, folder, check.at, name.as_str())?)?;
+            pngs.push(png_of(reader, check.at, name.as_str())?)?;
         }
     }
     Ok(())

@@ -7,7 +7,7 @@ use console_machine::ConsoleSide;
 use cpu_tables::Access;
 use serial_console::Serial;
 use side_law::Machine;
-use snes_defs::{Job, MOST_FRAMES, Region};
+use snes_defs::{Job, MOST_FRAMES, NoMemory, Region};
 use std::alloc::{AllocError, Global};
 
 /// The last stamp at which a step may begin.
@@ -128,18 +128,23 @@ fn waits(awaited: &[Awaited]) -> bool {
     false
 }
 
+/// The two machines of a job, before their first step.
+fn machines_of(alloc: Global, job: &Job) -> Result<Serial<ConsoleSide, AudioSide>, NoMemory> {
+    let sound = AudioSide::new(alloc, job)?;
+    let console = ConsoleSide::new(alloc, job)?;
+    Ok(Serial::new(console, sound))
+}
+
 impl Played {
     /// Returns the run of a job before its first frame.
     pub fn new(alloc: Global, job: &Job) -> Result<Played> {
-        let Ok(console) = ConsoleSide::new(alloc, job) else {
-            bail!("no memory");
-        };
-        let Ok(sound) = AudioSide::new(alloc, job) else {
+        let buffer = vec![in alloc; 0u8; BUFFER]?;
+        let Ok(serial) = machines_of(alloc, job) else {
             bail!("no memory");
         };
         Ok(Played {
-            serial: Serial::new(console, sound),
-            buffer: vec![in alloc; 0u8; BUFFER]?,
+            serial,
+            buffer,
             region: job.region,
             frames: 0,
             emitted: Emitted {

@@ -1,14 +1,11 @@
 //! What the watch of `lint`'s rules needs besides a job: what may be broken, and what places are called.
 
-use crate::inputs::{load, name_in};
+use crate::inputs::Reader;
 use crate::labels::SYMBOLS;
-use anyhow::{Result, bail};
+use anyhow::Result;
 use bench_checks::{Case, NoWarnings};
-use file_shelf::FileShelf;
 use lint_watch::{Allowed, Sources};
-use std::alloc::Global;
 use std::rt::Files;
-use std::str;
 
 /// The most bytes of a file of allowed places.
 const ALLOWED: usize = 1_048_576;
@@ -24,64 +21,56 @@ pub struct Watching {
     pub sources: Sources,
 }
 
-/// The text of bytes. `path` is what messages call their file.
-fn text_of<'a>(path: &str, bytes: &'a [u8]) -> Result<&'a str> {
-    match str::from_utf8(bytes) {
-        Ok(text) => Ok(text),
-        Err(_) => bail!("{path} refused: it is no text"),
-    }
+/// Adds what a file of allowed places names.
+fn allow_file<R: Files + Print>(
+    reader: &mut Reader<'_, R>,
+    name: &str,
+    allowed: &mut Allowed,
+) -> Result<()> {
+    let file = reader.load(name, ALLOWED)?;
+    allowed.allow_file(reader.alloc, file.path.as_str(), file.text()?)?;
+    Ok(())
 }
 
-/// Reads what may be broken in the run of a case.
-fn allowed_of<R: Files + Print>(
-    shelf: &mut FileShelf<'_, R>,
-    alloc: Global,
-    folder: &str,
+/// Adds what may be broken in the run of a case.
+fn allow_expected<R: Files + Print>(
+    reader: &mut Reader<'_, R>,
     expected: &NoWarnings,
-) -> Result<Allowed> {
-    let mut allowed = Allowed::nothing(alloc);
+    allowed: &mut Allowed,
+) -> Result<()> {
     for rule in expected.allow.as_slice() {
         allowed.allow_rules(rule.name())?;
     }
-    if let Some(name) = &expected.allowed {
-        let path = name_in(alloc, folder, name.as_str())?;
-        let bytes = load(shelf, alloc, path.as_str(), ALLOWED)?;
-        let text = text_of(path.as_str(), bytes.as_slice())?;
-        allowed.allow_file(alloc, path.as_str(), text)?;
+    match &expected.allowed {
+        Some(name) => allow_file(reader, name.as_str(), allowed),
+        None => Ok(()),
     }
-    Ok(allowed)
 }
 
 /// Reads the labels and the lines of source of a case, if it names a symbol file.
-fn sources_of<R: Files + Print>(
-    shelf: &mut FileShelf<'_, R>,
-    alloc: Global,
-    folder: &str,
-    case: &Case,
-) -> Result<Sources> {
+fn sources_of<R: Files + Print>(reader: &mut Reader<'_, R>, case: &Case) -> Result<Sources> {
     let Some(name) = &case.symbols else {
         return Ok(Sources::none());
     };
-    let path = name_in(alloc, folder, name.as_str())?;
-    let bytes = load(shelf, alloc, path.as_str(), SYMBOLS)?;
-    let text = text_of(path.as_str(), bytes.as_slice())?;
-    Sources::read(alloc, path.as_str(), text)
+    let file = reader.load(name.as_str(), SYMBOLS)?;
+    Sources::read(reader.alloc, file.path.as_str(), file.text()?)
 }
 
 /// Reads what the watch of a run needs, if the case expects no warnings. `size` is that of the cartridge's file.
 pub fn watching_of<R: Files + Print>(
-    shelf: &mut FileShelf<'_, R>,
-    alloc: Global,
-    folder: &str,
+    reader: &mut Reader<'_, R>,
     case: &Case,
     size: usize,
 ) -> Result<Option<Watching>> {
     let Some(expected) = &case.no_warnings else {
         return Ok(None);
     };
+    let mut allowed = Allowed::nothing(reader.alloc);
+    allow_expected(reader, expected, &mut allowed)?;
+    let sources = sources_of(reader, case)?;
     Ok(Some(Watching {
         size,
-        allowed: allowed_of(shelf, alloc, folder, expected)?,
-        sources: sources_of(shelf, alloc, folder, case)?,
+        allowed,
+        sources,
     }))
 }
