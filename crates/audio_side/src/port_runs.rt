@@ -23,7 +23,7 @@ use snes_defs::Act;
 use spc700::{Place, Spc, SpcAccess};
 
 /// What came of an access over the ports.
-#[derive(Clone, Copy, Debug, PartialEq, Eq)]
+#[derive(Clone, Copy)]
 pub enum Found {
     /// It was made.
     Made,

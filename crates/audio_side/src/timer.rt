@@ -2,7 +2,7 @@ ghost use Rattle.std.specs.Prelude.{◌≡◌};
 ghost use Rattle.audio_side.specs.Timer.{stopped, switched, ticked};
 
 /// One of the three timers.
-#[derive(Clone, Copy, Debug, PartialEq, Eq)]
+#[derive(Clone, Copy)]
 pub struct Timer {
     /// Whether the timer runs: its bit of F1.
     pub on: bool,

@@ -1,5 +1,5 @@
 /// An event at a place of the beam. At one place events come in this order.
-#[derive(Clone, Copy, Debug, PartialEq, Eq)]
+#[derive(Clone, Copy)]
 pub enum Event {
     /// A line begins. In line 0 a frame begins, and vertical blank ends.
     Line,
@@ -18,7 +18,7 @@ pub enum Event {
 }
 
 /// The events that happen at one place.
-#[derive(Clone, Copy, Debug, PartialEq, Eq)]
+#[derive(Clone, Copy)]
 pub struct Happens {
     /// Whether `Event::Line` happens.
     pub line: bool,

@@ -5,7 +5,7 @@ use lint_rules::Rule;
 use snes_defs::{Profile, Region};
 
 /// A memory whose bytes can be expected.
-#[derive(Clone, Copy, PartialEq, Eq)]
+#[derive(Clone, Copy)]
 pub enum Memory {
     /// Work RAM.
     Wram,

@@ -11,7 +11,7 @@ use std::alloc::Global;
 use std::fmt;
 
 /// A sum.
-#[derive(Clone, Copy, PartialEq, Eq)]
+#[derive(Clone, Copy)]
 pub struct Sum {
     /// Its bytes.
     pub bytes: [u8; 32],

@@ -23,7 +23,7 @@ pub struct Shot {
 }
 
 /// How a case ended.
-#[derive(Clone, Copy, PartialEq, Eq)]
+#[derive(Clone, Copy)]
 pub enum End {
     /// All is as expected.
     Passed,

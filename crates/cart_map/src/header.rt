@@ -1,7 +1,7 @@
 use snes_defs::MapKind;
 
 /// The contents of a cartridge's header that the map needs.
-#[derive(Clone, Copy, Debug, PartialEq, Eq)]
+#[derive(Clone, Copy)]
 pub struct Header {
     /// LoROM or HiROM.
     pub map: MapKind,

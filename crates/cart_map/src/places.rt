@@ -1,5 +1,5 @@
 /// A place on the bus: the byte of a memory or the register that an address names, or nothing.
-#[derive(Clone, Copy, Debug, PartialEq, Eq)]
+#[derive(Clone, Copy)]
 pub enum Place {
     /// This byte of the 128 KiB of work RAM.
     Wram(u32),

@@ -14,7 +14,7 @@ pub enum CartRefused {
 }
 
 /// The cause for which a file wasn't accepted.
-#[derive(Clone, Copy, Debug, PartialEq, Eq)]
+#[derive(Clone, Copy)]
 pub enum CartEnd {
     /// The file isn't a cartridge of this console, by this rule.
     Refused(CartRefused),

@@ -22,7 +22,7 @@ const PAGES: u32 = 2048;
 const NO_MEMORY: u16 = 2000;
 
 /// An access to the memory: its byte and its clocks.
-#[derive(Clone, Copy, Debug, PartialEq, Eq)]
+#[derive(Clone, Copy)]
 pub struct MemoryAccess {
     /// The number of the byte in the memory: work RAM, then the cartridge's RAM, then its ROM.
     pub at: usize,
@@ -31,7 +31,7 @@ pub struct MemoryAccess {
 }
 
 /// A page of 8 KiB of addresses: memory, one byte after another, or `NO_MEMORY`.
-#[derive(Clone, Copy, Debug, PartialEq, Eq)]
+#[derive(Clone, Copy)]
 pub(crate) struct Page {
     /// The byte of the memory at the first address.
     at: u32,

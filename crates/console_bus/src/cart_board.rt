@@ -1,7 +1,7 @@
 use snes_defs::MapKind;
 
 /// A cartridge's map, and the sizes of its memories.
-#[derive(Clone, Copy, Debug, PartialEq, Eq)]
+#[derive(Clone, Copy)]
 pub struct CartBoard {
     /// LoROM or HiROM.
     pub map: MapKind,

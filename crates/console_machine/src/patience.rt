@@ -7,7 +7,7 @@ const MOST_RUNS: u8 = 63;
 /// When to search for an idle loop (a *round* is one iteration of it). A search that finds none makes the next one wait
 /// about twice as long. So a program that works or talks pays for few of them. After a search that finds one, the next
 /// run searches again. It never changes what a run does.
-#[derive(Clone, Copy, Debug, PartialEq, Eq)]
+#[derive(Clone, Copy)]
 pub struct Patience {
     /// How many runs are left before the next search.
     left: u8,

@@ -29,7 +29,7 @@ use snes_defs::{Act, Region};
 const MOST_RUNS: u16 = 256;
 
 /// What came of an access of the B bus.
-#[derive(Clone, Copy, Debug, PartialEq, Eq)]
+#[derive(Clone, Copy)]
 pub(crate) enum Found {
     /// It was made.
     Made,

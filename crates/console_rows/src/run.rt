@@ -22,7 +22,7 @@ const PAL_CLOCK: u64 = 102_400;
 const MOST_STEPS: u32 = 2_000_000;
 
 /// How acts are shown.
-#[derive(Clone, Copy, Debug, PartialEq, Eq)]
+#[derive(Clone, Copy)]
 pub enum Show {
     /// With the position of the beam at which the step begins.
     Places,

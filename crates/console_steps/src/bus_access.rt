@@ -19,7 +19,7 @@ const WORK_RAM: usize = 131_072;
 pub const REGISTER_CLOCKS: u8 = 6;
 
 /// What an access of the processor reaches.
-#[derive(Clone, Copy, Debug, PartialEq, Eq)]
+#[derive(Clone, Copy)]
 pub enum Target {
     /// This byte of the memory: work RAM, then the cartridge's RAM, then its ROM.
     Memory(usize),
@@ -34,7 +34,7 @@ pub enum Target {
 }
 
 /// An access of the processor at an address: what it reaches, and its clocks.
-#[derive(Clone, Copy, Debug, PartialEq, Eq)]
+#[derive(Clone, Copy)]
 pub struct BusAccess {
     /// What the access reaches.
     pub target: Target,

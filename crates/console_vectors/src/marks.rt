@@ -4,7 +4,7 @@ use shelf::Failed;
 use snes_defs::Side;
 
 /// The bytes that one side emits in a frame: their number and their hash.
-#[derive(Clone, Copy, Debug, PartialEq, Eq)]
+#[derive(Clone, Copy)]
 pub struct Frame {
     /// The number of bytes.
     pub size: u64,

@@ -1,7 +1,7 @@
 use case_text::{hashed, no_hash};
 
 /// The hash of the records of the first `steps` steps.
-#[derive(Clone, Copy, Debug, PartialEq, Eq)]
+#[derive(Clone, Copy)]
 pub struct Beginning {
     /// The number of steps.
     pub steps: u64,

@@ -18,7 +18,7 @@ const MOST_STEPS: u32 = 1_000_000;
 const OPEN: u32 = 0x2100;
 
 /// What a step is: its letter, and the address and port that go with it.
-#[derive(Clone, Copy, Debug, PartialEq, Eq)]
+#[derive(Clone, Copy)]
 struct Step {
     letter: u8,
     address: u32,

@@ -10,7 +10,7 @@ use cpu_modes::{Micro, Place};
 use cpu_tables::{Access, Mode, Op, Regs, Row};
 
 /// A 65C816 between two accesses.
-#[derive(Clone, Copy, PartialEq, Eq, Debug)]
+#[derive(Clone, Copy)]
 pub struct Cpu {
     micro: Micro,
     kept: bool,

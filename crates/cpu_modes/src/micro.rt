@@ -4,7 +4,7 @@ use crate::place::{Place, Traffic};
 use cpu_tables::{Access, Regs, Row};
 
 /// An instruction in the middle of its accesses.
-#[derive(Clone, Copy, PartialEq, Eq, Debug)]
+#[derive(Clone, Copy)]
 pub struct Micro {
     /// The registers at the instruction's start.
     pub start: Regs,

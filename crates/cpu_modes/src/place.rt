@@ -1,5 +1,5 @@
 /// Whether the data of an instruction is read, written, or both.
-#[derive(Clone, Copy, PartialEq, Eq, Debug)]
+#[derive(Clone, Copy)]
 pub enum Direction {
     /// The data is read.
     Load,
@@ -10,7 +10,7 @@ pub enum Direction {
 }
 
 /// How the data of an instruction moves, and how wide it is.
-#[derive(Clone, Copy, PartialEq, Eq, Debug)]
+#[derive(Clone, Copy)]
 pub struct Traffic {
     /// Whether the data is read, written, or both.
     pub direction: Direction,
@@ -19,7 +19,7 @@ pub struct Traffic {
 }
 
 /// Where the high byte of data is.
-#[derive(Clone, Copy, PartialEq, Eq, Debug)]
+#[derive(Clone, Copy)]
 pub enum Reach {
     /// At the next 24-bit address.
     NextAddress,
@@ -28,7 +28,7 @@ pub enum Reach {
 }
 
 /// What an offset from the direct register is for.
-#[derive(Clone, Copy, PartialEq, Eq, Debug)]
+#[derive(Clone, Copy)]
 pub enum DirectKind {
     /// `d`: the data in the direct page.
     Plain,
@@ -51,7 +51,7 @@ pub enum DirectKind {
 }
 
 /// What a pointer to data is for.
-#[derive(Clone, Copy, PartialEq, Eq, Debug)]
+#[derive(Clone, Copy)]
 pub enum PointerKind {
     /// `(d)` and `(d,X)`
     Plain,
@@ -68,7 +68,7 @@ pub enum PointerKind {
 }
 
 /// What an operand of two bytes or more is for.
-#[derive(Clone, Copy, PartialEq, Eq, Debug)]
+#[derive(Clone, Copy)]
 pub enum OperandKind {
     /// `a`
     Plain,
@@ -103,7 +103,7 @@ pub enum OperandKind {
 }
 
 /// What the third byte of an operand is for.
-#[derive(Clone, Copy, PartialEq, Eq, Debug)]
+#[derive(Clone, Copy)]
 pub enum BankKind {
     /// `al`
     Plain,
@@ -114,7 +114,7 @@ pub enum BankKind {
 }
 
 /// How many bytes the target of a jump has in memory.
-#[derive(Clone, Copy, PartialEq, Eq, Debug)]
+#[derive(Clone, Copy)]
 pub enum TargetKind {
     /// Two bytes: the bank is given.
     Near,
@@ -123,7 +123,7 @@ pub enum TargetKind {
 }
 
 /// What a return instruction returns from.
-#[derive(Clone, Copy, PartialEq, Eq, Debug)]
+#[derive(Clone, Copy)]
 pub enum ReturnKind {
     /// A subroutine: RTS.
     Near,
@@ -134,7 +134,7 @@ pub enum ReturnKind {
 }
 
 /// The place of an instruction's next access in its order.
-#[derive(Clone, Copy, PartialEq, Eq, Debug)]
+#[derive(Clone, Copy)]
 pub enum Place {
     /// The fetch of the only operand byte, the last access.
     OperandByte,

@@ -5,7 +5,7 @@ ghost use Rattle.cpu_modes.specs.Uses.{use_of};
 use cpu_tables::Op;
 
 /// How many bits the data of an operation has.
-#[derive(Clone, Copy, PartialEq, Eq, Debug)]
+#[derive(Clone, Copy)]
 pub enum Width {
     /// 8 bits if M is set, else 16.
     Memory,
@@ -18,7 +18,7 @@ pub enum Width {
 }
 
 /// What interrupts a program.
-#[derive(Clone, Copy, PartialEq, Eq, Debug)]
+#[derive(Clone, Copy)]
 pub enum Cause {
     /// COP
     Coprocessor,
@@ -31,7 +31,7 @@ pub enum Cause {
 }
 
 /// What an operation does on the bus besides finding its operand.
-#[derive(Clone, Copy, PartialEq, Eq, Debug)]
+#[derive(Clone, Copy)]
 pub enum Use {
     /// The data is read.
     Load(Width),

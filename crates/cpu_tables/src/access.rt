@@ -1,5 +1,5 @@
 /// One cycle of the processor. Addresses have 24 bits: the bank, then the place in it.
-#[derive(Clone, Copy, PartialEq, Eq, Debug)]
+#[derive(Clone, Copy, PartialEq, Eq)]
 pub enum Access {
     /// A byte of the program is read, at the program bank and the program counter.
     Fetch(u32),

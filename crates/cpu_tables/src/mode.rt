@@ -1,6 +1,6 @@
 /// The addressing modes. In the comments `d` is an offset of one byte from the direct register, `a`
 /// an address of two bytes, `al` one of three, and a pair of brackets stands for a pointer.
-#[derive(Clone, Copy, PartialEq, Eq, Debug)]
+#[derive(Clone, Copy)]
 pub enum Mode {
     /// `#`: the operand follows the opcode, as wide as the operation. REP, SEP and WDM have one byte.
     Immediate,

@@ -2,7 +2,7 @@ use crate::mode::Mode;
 use crate::operation::Op;
 
 /// What an opcode means: an operation and an addressing mode.
-#[derive(Clone, Copy, PartialEq, Eq, Debug)]
+#[derive(Clone, Copy)]
 pub struct Row {
     /// The operation.
     pub op: Op,

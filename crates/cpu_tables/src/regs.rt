@@ -1,5 +1,5 @@
 /// The registers that a program sees.
-#[derive(Clone, Copy, PartialEq, Eq, Debug)]
+#[derive(Clone, Copy, Debug, PartialEq, Eq)]
 pub struct Regs {
     /// A, the accumulator: at 8 bits its high byte stays, and is named B.
     pub a: u16,

@@ -5,7 +5,7 @@ ghost use Rattle.dma_hdma.specs.Pattern.{offset_of, length_of, address};
 use crate::moves::Move;
 
 /// The work of a channel's HDMA that is left at this moment.
-#[derive(Clone, Copy, Debug, PartialEq, Eq)]
+#[derive(Clone, Copy)]
 pub enum Work {
     /// Nothing.
     Idle,
@@ -21,7 +21,7 @@ pub enum Work {
 
 /// A channel: its registers and its state. Source of the registers: fullsnes, "SNES DMA and HDMA
 /// Channel 0..7 Registers".
-#[derive(Clone, Copy, Debug, PartialEq, Eq)]
+#[derive(Clone, Copy)]
 pub struct Channel {
     /// 43x0 DMAP. Bit 7: from B to A (DMA). Bit 6: the table names its data's addresses (HDMA). Bit
     /// 4: the A address falls; bit 3: it stays (DMA). Bits 2-0: the pattern.

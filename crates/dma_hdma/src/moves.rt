@@ -1,5 +1,5 @@
 /// The way of one byte that a channel moves. Addresses have 24 bits; a port is the low byte of 21xx.
-#[derive(Clone, Copy, Debug, PartialEq, Eq)]
+#[derive(Clone, Copy, PartialEq, Eq)]
 pub enum Move {
     /// From the A side to a B register.
     ToB { from: u32, port: u8 },

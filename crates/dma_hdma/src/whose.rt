@@ -1,5 +1,5 @@
 /// The channel that moves the next byte.
-#[derive(Clone, Copy, Debug, PartialEq, Eq)]
+#[derive(Clone, Copy)]
 pub enum Turn {
     /// No byte is due.
     Nobody,

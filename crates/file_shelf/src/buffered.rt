@@ -99,7 +99,7 @@ impl<F: Write + Drop> Drop for Buffered<F> {
 }
 
 /// How a write stopped: how many bytes were written, and why no more.
-#[derive(Clone, Copy, Debug, PartialEq, Eq)]
+#[derive(Clone, Copy)]
 pub(crate) struct Stopped {
     pub(crate) count: usize,
     pub(crate) cause: Cause,

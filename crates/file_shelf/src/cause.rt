@@ -3,7 +3,7 @@ use std::fmt::{self, Display, Formatter};
 use std::io::{Error, ErrorKind};
 
 /// Why a call of a shelf over real files failed.
-#[derive(Clone, Copy, Debug, PartialEq, Eq)]
+#[derive(Clone, Copy, PartialEq, Eq)]
 pub enum Cause {
     /// The system returned an error of this kind.
     System(ErrorKind),

@@ -247,7 +247,7 @@ impl<R: Files + Print> Shelf for FileShelf<'_, R> {
 }
 
 /// Why a file was not read whole.
-#[derive(Clone, Copy, Debug, PartialEq, Eq)]
+#[derive(Clone, Copy)]
 enum ReadEnd {
     Fault(io::ErrorKind),
     TooLong,

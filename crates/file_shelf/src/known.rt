@@ -8,14 +8,14 @@ use shelf::Out;
 const MOST_LOADED: usize = 8;
 
 /// The file that a name leads to, whatever names it has: its device, and its number there.
-#[derive(Clone, Copy, Debug)]
+#[derive(Clone, Copy)]
 pub(crate) struct Identity {
     pub(crate) device: u64,
     pub(crate) node: u64,
 }
 
 /// The other use of a file to be written.
-#[derive(Clone, Copy, Debug, PartialEq, Eq)]
+#[derive(Clone, Copy, PartialEq, Eq)]
 pub enum Clash {
     /// A file that was loaded.
     Loaded,

@@ -28,7 +28,7 @@ pub fn chunk_bytes(region: Region, from: u32, upto: u32) -> u64
 }
 
 /// The layout of an AVI file: its film's frames, which determine where its parts are.
-#[derive(Clone, Copy, Debug, PartialEq, Eq)]
+#[derive(Clone, Copy)]
 pub struct Layout {
     /// The region of the film.
     pub region: Region,

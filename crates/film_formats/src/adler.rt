@@ -1,5 +1,5 @@
 /// The two sums of Adler-32, of all bytes so far.
-#[derive(Clone, Copy, Debug, PartialEq, Eq)]
+#[derive(Clone, Copy)]
 pub struct Adler {
     /// 1 and the bytes, modulo 65521.
     pub plain: u16,

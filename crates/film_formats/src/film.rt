@@ -7,7 +7,7 @@ use std::io;
 use std::io::Read;
 
 /// How the read of a piece of a fixed length, as a frame, ended.
-#[derive(Clone, Copy, Debug, PartialEq, Eq)]
+#[derive(Clone, Copy, PartialEq, Eq)]
 pub enum Piece {
     /// The piece was read whole.
     Whole,

@@ -6,7 +6,7 @@ use crate::digests::Digests;
 use crate::file::SumsFile;
 
 /// The first line in which a file of sums and a run differ.
-#[derive(Clone, Copy, Debug, PartialEq, Eq)]
+#[derive(Clone, Copy)]
 pub enum Difference {
     /// The picture of a frame, from 0.
     Picture(u32),

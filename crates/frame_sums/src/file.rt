@@ -64,7 +64,7 @@ impl SumsFile {
 }
 
 /// Why a file of sums was not read.
-#[derive(Clone, Copy, Debug, PartialEq, Eq)]
+#[derive(Clone, Copy)]
 pub enum SumsEnd {
     /// The first line, from 1, that is in no form, or that is missing.
     Line(u32),

@@ -1,5 +1,5 @@
 /// The rule by which no header is written into a file.
-#[derive(Clone, Copy, Debug, PartialEq, Eq)]
+#[derive(Clone, Copy, PartialEq, Eq)]
 pub enum HeaderRefused {
     /// Its image has fewer than 32,768 bytes.
     TooShort,

@@ -17,7 +17,7 @@ const SHARED_AT: usize = 0x7800;
 const HEADER_AT: usize = 0x7fc0;
 
 /// A way in which programs use the console, and in which the two profiles differ. Each has a cartridge.
-#[derive(Clone, Copy, Debug, PartialEq, Eq)]
+#[derive(Clone, Copy)]
 pub enum Idiom {
     /// Waits until the auto-read of the pads has begun and until it is over.
     AutoRead,

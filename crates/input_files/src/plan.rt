@@ -8,7 +8,7 @@ use std::alloc::Global;
 use std::marker::Model;
 
 /// A step of a plan.
-#[derive(Clone, Copy, Debug, PartialEq, Eq)]
+#[derive(Clone, Copy)]
 pub enum PlanStep {
     /// Plays `count` frames with these pads.
     Go { count: u32, pad1: u16, pad2: u16 },
@@ -66,7 +66,7 @@ impl Plan {
 }
 
 /// Why a plan was not read.
-#[derive(Clone, Copy, Debug, PartialEq, Eq)]
+#[derive(Clone, Copy)]
 pub enum PlanEnd {
     /// The first invalid line, by its number from 1.
     Line(u32),

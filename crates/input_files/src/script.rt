@@ -7,7 +7,7 @@ use snes_defs::Spans;
 use std::alloc::Global;
 
 /// Why a script was not read.
-#[derive(Clone, Copy, Debug, PartialEq, Eq)]
+#[derive(Clone, Copy)]
 pub enum ScriptEnd {
     /// The first invalid line, by its number from 1.
     Line(u32),

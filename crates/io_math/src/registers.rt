@@ -1,5 +1,5 @@
 /// One controller port with its pad, and the words that auto-read kept of it.
-#[derive(Clone, Copy, Debug, PartialEq, Eq)]
+#[derive(Clone, Copy)]
 pub struct Pad {
     /// The pad's word in this frame: from bit 15 down B, Y, Select, Start, Up, Down, Left, Right, A, X, L, R.
     pub word: u16,
@@ -12,7 +12,7 @@ pub struct Pad {
 }
 
 /// The registers of NMI, the timer and auto-read: 4200 NMITIMEN, 4207-A, 4210, 4211.
-#[derive(Clone, Copy, Debug, PartialEq, Eq)]
+#[derive(Clone, Copy)]
 pub struct Interrupts {
     /// 4200 bit 7: NMI is on.
     pub nmi_on: bool,
@@ -31,7 +31,7 @@ pub struct Interrupts {
 }
 
 /// The registers of multiplication and division: 4202 to 4206, 4214 to 4217.
-#[derive(Clone, Copy, Debug, PartialEq, Eq)]
+#[derive(Clone, Copy)]
 pub struct Arithmetic {
     /// 4202 WRMPYA: the first factor.
     pub factor: u8,
@@ -44,7 +44,7 @@ pub struct Arithmetic {
 }
 
 /// All of the CPU's own registers, 4016 to 421F.
-#[derive(Clone, Copy, Debug, PartialEq, Eq)]
+#[derive(Clone, Copy)]
 pub struct IoRegisters {
     /// 4016 bit 0: while it is set, both pads give their first bit.
     pub strobe: bool,

@@ -26,7 +26,7 @@ pub struct Turning {
 }
 
 /// What carries the entries of both sides between two workers. What a run emits is the same.
-#[derive(Clone, Copy, Debug, PartialEq, Eq)]
+#[derive(Clone, Copy)]
 pub enum Carrier {
     /// One log behind a lock.
     Lock,

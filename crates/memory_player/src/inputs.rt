@@ -40,7 +40,7 @@ pub enum Why {
 }
 
 /// The reason why a job was not played to its end.
-#[derive(Clone, Copy, Debug, PartialEq, Eq)]
+#[derive(Clone, Copy)]
 pub enum End {
     /// More than 36,000 frames were asked for.
     Frames,

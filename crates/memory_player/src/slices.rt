@@ -12,7 +12,7 @@ use shelf::Failed;
 use snes_defs::Side;
 
 /// The number of bytes of output at the front of each slice.
-#[derive(Clone, Copy, Debug, PartialEq, Eq)]
+#[derive(Clone, Copy)]
 pub struct Counts {
     /// Bytes of video.
     pub video: usize,

@@ -5,7 +5,7 @@ use port_wire::PassLate;
 use snes_defs::Side;
 
 /// How a leg has ended.
-#[derive(Clone, Copy, Debug, PartialEq, Eq)]
+#[derive(Clone, Copy)]
 pub enum LegEnd {
     /// The machine has reached the end stamp.
     Done,

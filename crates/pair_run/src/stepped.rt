@@ -9,7 +9,7 @@ use side_law::Machine;
 use snes_defs::Side;
 
 /// What the caller of a turn has done after the legs.
-#[derive(Clone, Copy, Debug, PartialEq, Eq)]
+#[derive(Clone, Copy)]
 pub enum Stepped {
     /// One step of this side, the earlier one.
     Made(Side),

@@ -9,7 +9,7 @@ use snes_defs::Region;
 use std::alloc::Global;
 
 /// A part of the console that has cases.
-#[derive(Clone, Copy, PartialEq, Eq)]
+#[derive(Clone, Copy)]
 pub enum Part {
     Cartridges,
     Transfers,

@@ -10,7 +10,7 @@ use crate::windows::is_inside;
 use ppu_regs::{LayerScreens, LayerWindows, Ppu, Registers};
 
 /// One of the two screens that a dot is made of.
-#[derive(Clone, Copy, Debug, PartialEq, Eq)]
+#[derive(Clone, Copy)]
 pub enum Screen {
     Main,
     Sub,

@@ -8,7 +8,7 @@ use input_files::{Plan, PlanStep};
 use snes_defs::Region;
 
 /// The length of a plan.
-#[derive(Clone, Copy, Debug, PartialEq, Eq)]
+#[derive(Clone, Copy)]
 pub struct Lengths {
     /// The number of frames that its goes last.
     pub frames: u32,

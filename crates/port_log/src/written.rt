@@ -1,5 +1,5 @@
 /// A write that a side made at one of its outgoing ports.
-#[derive(Clone, Copy, Debug, PartialEq, Eq)]
+#[derive(Clone, Copy)]
 pub struct Written {
     /// The stamp of the step that wrote.
     pub at: u64,

@@ -1,7 +1,7 @@
 use snes_defs::Side;
 
 /// Why a call over a pass was refused.
-#[derive(Clone, Copy, Debug, PartialEq, Eq)]
+#[derive(Clone, Copy, PartialEq, Eq)]
 pub enum PassLate {
     /// The other side may still write what a read at the stamp `need` sees: `other` is its clock.
     Behind { need: u64, other: u64 },
@@ -12,7 +12,7 @@ pub enum PassLate {
 }
 
 /// The name of a call over a pass.
-#[derive(Clone, Copy, Debug, PartialEq, Eq)]
+#[derive(Clone, Copy)]
 pub enum CallName {
     Read,
     Clear,

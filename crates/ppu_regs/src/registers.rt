@@ -1,7 +1,7 @@
 use snes_defs::Profile;
 
 /// The part of a row, seen from a window, in which something holds: the two-bit codes 0 to 3 of 2130 CGWSEL.
-#[derive(Clone, Copy, Debug, PartialEq, Eq)]
+#[derive(Clone, Copy)]
 pub enum WindowPart {
     /// Nowhere (code 0).
     Never,
@@ -14,7 +14,7 @@ pub enum WindowPart {
 }
 
 /// The way in which a layer joins its two windows: the two-bit codes 0 to 3 of 212A WBGLOG and 212B WOBJLOG.
-#[derive(Clone, Copy, Debug, PartialEq, Eq)]
+#[derive(Clone, Copy)]
 pub enum Combine {
     /// In one of them at least (code 0).
     Or,
@@ -27,7 +27,7 @@ pub enum Combine {
 }
 
 /// The pixels outside of mode 7's plane of 1,024 by 1,024: codes 0 to 3 of bits 7-6 of 211A M7SEL.
-#[derive(Clone, Copy, Debug, PartialEq, Eq)]
+#[derive(Clone, Copy)]
 pub enum Outside {
     /// The plane again (codes 0 and 1).
     Wrap,
@@ -238,7 +238,7 @@ pub struct Counters {
 }
 
 /// The limits of the objects of a row that were passed.
-#[derive(Clone, Copy, Debug, PartialEq, Eq)]
+#[derive(Clone, Copy)]
 pub struct Over {
     /// More than 32 objects were on a row.
     pub range: bool,

@@ -13,7 +13,7 @@ use shelf::Out;
 use std::fmt::{self, Display, Formatter};
 
 /// The kinds of mistake in the arguments of a command line.
-#[derive(Clone, Copy, Debug, PartialEq, Eq)]
+#[derive(Clone, Copy)]
 pub enum Fault {
     /// There are no arguments.
     NoCommand,
@@ -48,7 +48,7 @@ pub enum Fault {
 }
 
 /// A mistake in the arguments, and the option and the argument at fault. Each of the two is empty if none is at fault.
-#[derive(Clone, Copy, Debug)]
+#[derive(Clone, Copy)]
 pub struct Mistake<'a> {
     /// The kind of the mistake.
     pub fault: Fault,

@@ -4,7 +4,7 @@ ghost use Rattle.run_io.specs.Options.{is_optional, input_option, output_option,
 use shelf::{Input, Out};
 
 /// The kinds of number that an option takes.
-#[derive(Clone, Copy, Debug, PartialEq, Eq)]
+#[derive(Clone, Copy)]
 pub enum Count {
     /// Frames of a run: 1 to 5 decimal digits, at most 36,000.
     Frames,
@@ -13,7 +13,7 @@ pub enum Count {
 }
 
 /// The kinds of setting: what an option takes that may be left out, besides an input.
-#[derive(Clone, Copy, Debug, PartialEq, Eq)]
+#[derive(Clone, Copy)]
 pub enum Setting {
     /// The title of a tune: 1 to 32 characters from 20 to 7E.
     Title,

@@ -44,7 +44,7 @@ const SILENCE: History = History {
 };
 
 /// The echo unit, whose delay line is in RAM.
-#[derive(Clone, Copy, Debug, PartialEq, Eq)]
+#[derive(Clone, Copy)]
 pub struct Echo {
     left: History,
     right: History,

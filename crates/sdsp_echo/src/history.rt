@@ -2,7 +2,7 @@ ghost use Rattle.std.specs.Prelude.{◌≡◌};
 ghost use Rattle.sdsp_echo.specs.Echo.{pushed};
 
 /// The last eight numbers of one side of the delay line, the oldest first.
-#[derive(Clone, Copy, Debug, PartialEq, Eq)]
+#[derive(Clone, Copy)]
 pub struct History {
     /// The oldest number.
     pub h0: i16,

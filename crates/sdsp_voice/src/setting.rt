@@ -1,5 +1,5 @@
 /// What a voice takes from the registers in one sample.
-#[derive(Clone, Copy, Debug, PartialEq, Eq)]
+#[derive(Clone, Copy)]
 pub struct Setting {
     /// VOL (L): the volume on the left, signed.
     pub left: i8,

@@ -1,5 +1,5 @@
 /// What the voices of one sample add up to, without and with echo on.
-#[derive(Clone, Copy, Debug, PartialEq, Eq)]
+#[derive(Clone, Copy)]
 pub struct Sums {
     /// The sum of all voices on the left.
     pub left: i16,

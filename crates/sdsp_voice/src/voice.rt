@@ -1,5 +1,5 @@
 /// The phase of a voice's envelope.
-#[derive(Clone, Copy, Debug, PartialEq, Eq)]
+#[derive(Clone, Copy)]
 pub enum Phase {
     Attack,
     Decay,
@@ -9,7 +9,7 @@ pub enum Phase {
 }
 
 /// One of the eight voices.
-#[derive(Clone, Copy, Debug, PartialEq, Eq)]
+#[derive(Clone, Copy)]
 pub struct Voice {
     /// The phase of the envelope.
     pub phase: Phase,

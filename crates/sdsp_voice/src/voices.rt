@@ -64,7 +64,7 @@ const RESTING: Voice = Voice {
 };
 
 /// The eight voices with their registers and the noise generator.
-#[derive(Clone, Copy, Debug, PartialEq, Eq)]
+#[derive(Clone, Copy)]
 pub struct Voices {
     /// The bytes of 00 to 7F, as written. ENVX, OUTX and ENDX are kept in the voices.
     registers: [u8; 128],

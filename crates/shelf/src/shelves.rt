@@ -3,7 +3,7 @@ ghost use Rattle.shelf.specs.Told.{Holds, Appends, AppendsSome, HasRisen};
 ghost use Rattle.shelf.specs.Shown.{Shown, IsUntouched, IsCreated, OnlyLoads, OnlyCreates, OnlyPuts};
 
 /// The kinds of files that the program loads.
-#[derive(Clone, Copy, Debug, PartialEq, Eq)]
+#[derive(Clone, Copy, PartialEq, Eq)]
 pub enum Input {
     /// The cartridge.
     Cart,
@@ -22,7 +22,7 @@ pub enum Input {
 }
 
 /// The seven places that the program writes to.
-#[derive(Clone, Copy, Debug, PartialEq, Eq)]
+#[derive(Clone, Copy, PartialEq, Eq)]
 pub enum Out {
     /// The frames of a run.
     Video,
@@ -41,7 +41,7 @@ pub enum Out {
 }
 
 /// Why a file was not loaded.
-#[derive(Clone, Copy, Debug, PartialEq, Eq)]
+#[derive(Clone, Copy, PartialEq, Eq)]
 pub enum LoadEnd {
     /// The shelf failed, and counted a fault of that name.
     Failed,

@@ -1,7 +1,7 @@
 use snes_defs::Act;
 
 /// One step of a `Tape`.
-#[derive(Clone, Copy, Debug, PartialEq, Eq)]
+#[derive(Clone, Copy)]
 pub struct Beat {
     /// By how much the step raises the stamp, from the least to the most of its region.
     pub rise: u64,

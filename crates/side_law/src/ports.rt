@@ -6,7 +6,7 @@ ghost use Rattle.side_law.specs.Gone.{Calls, Times, Leads, IsAnswered, IsRefused
 use snes_defs::Act;
 
 /// Why a machine has stopped.
-#[derive(Clone, Copy, Debug, PartialEq, Eq)]
+#[derive(Clone, Copy)]
 pub enum Stop {
     /// The next step does not begin before the given stamp, or there is no room for what it may emit.
     Until,

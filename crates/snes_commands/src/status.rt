@@ -43,7 +43,7 @@ impl Why {
 }
 
 /// How a call of the program ended.
-#[derive(Clone, Copy, Debug, PartialEq, Eq)]
+#[derive(Clone, Copy, PartialEq, Eq)]
 pub enum Status {
     /// Everything was done.
     Ok,

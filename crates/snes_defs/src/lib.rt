@@ -23,7 +23,7 @@ pub use spot::{IrqTime, Spot};
 pub use table::Table;
 
 /// Out of memory: the one failure that no input causes.
-#[derive(Clone, Copy, Debug, PartialEq, Eq)]
+#[derive(Clone, Copy, Debug)]
 pub struct NoMemory;
 
 /// The master clocks of a scanline.

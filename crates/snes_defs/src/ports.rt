@@ -8,7 +8,7 @@ pub enum Side {
 }
 
 /// What one step of a machine does at the four ports.
-#[derive(Clone, Copy, Debug, PartialEq, Eq)]
+#[derive(Clone, Copy, PartialEq, Eq)]
 pub enum Act {
     /// No port is touched.
     Quiet,

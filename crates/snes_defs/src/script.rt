@@ -17,7 +17,7 @@ mod growing;
 ///
 /// A pad word has from bit 15 down B, Y, Select, Start, Up, Down, Left, Right, A, X, L, R; its low
 /// four bits are 0.
-#[derive(Clone, Copy, Debug, PartialEq, Eq)]
+#[derive(Clone, Copy)]
 pub struct Span {
     /// How many frames the span lasts.
     pub count: u32,

@@ -1,5 +1,5 @@
 /// The position of the picture's beam.
-#[derive(Clone, Copy, Debug, PartialEq, Eq)]
+#[derive(Clone, Copy)]
 pub struct Spot {
     /// The line clock: master clocks since the line began, 0 to 1,363.
     pub h: u16,
@@ -10,7 +10,7 @@ pub struct Spot {
 }
 
 /// When the console's timer asks for an interrupt (4200 bits 5-4, 4207 to 420A).
-#[derive(Clone, Copy, Debug, PartialEq, Eq)]
+#[derive(Clone, Copy, PartialEq, Eq)]
 pub struct IrqTime {
     /// The kind: 0 never, 1 on every line at `h`, 2 at the start of line `v`, 3 on line `v` at `h`.
     pub kind: u8,

@@ -7,7 +7,7 @@ use snes_defs::Side;
 
 /// The result of a call besides its status.
 #[repr(C)]
-#[derive(Clone, Copy, Debug, PartialEq, Eq)]
+#[derive(Clone, Copy)]
 pub struct SnesAnswer {
     /// The reason why the job was not played to its end, as a number of `snes.h`; 0 at status 0.
     pub cause: u32,

@@ -8,7 +8,7 @@ use frame_player::{BeginEnd, FrameEnd};
 use memory_player::End;
 
 /// Why a call for a held console was not done.
-#[derive(Clone, Copy, Debug, PartialEq, Eq)]
+#[derive(Clone, Copy)]
 pub enum Fault {
     /// The caller's struct holds no console.
     Empty,

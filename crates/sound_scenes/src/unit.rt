@@ -16,7 +16,7 @@ pub struct Unit {
 }
 
 /// The result of a line of a scene.
-#[derive(Clone, Copy, Debug, PartialEq, Eq)]
+#[derive(Clone, Copy)]
 pub enum Outcome {
     /// The line was done, or the unit shows what it says.
     Holds,

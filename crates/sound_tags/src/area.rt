@@ -18,7 +18,7 @@ const HAS_TAGS: usize = 0x23;
 const YES: u8 = 26;
 
 /// Why a text is refused as the content of a field.
-#[derive(Clone, Copy, Debug, PartialEq, Eq)]
+#[derive(Clone, Copy)]
 pub enum FieldRefused {
     /// The text has more bytes than the field, or the number more digits: 3 for a length in seconds, 5 for a fade in
     /// milliseconds.

@@ -26,7 +26,7 @@ const LETTERS: u8 = 1;
 const NUMBER: u8 = 4;
 
 /// A chunk: what its head says, and where it lies in the file.
-#[derive(Clone, Copy, Debug, PartialEq, Eq)]
+#[derive(Clone, Copy)]
 pub struct Chunk {
     /// Which tag it is.
     pub id: u8,

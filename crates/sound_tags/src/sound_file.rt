@@ -11,7 +11,7 @@ const MOST: usize = 1_048_576;
 const LEAST: usize = 65_920;
 
 /// Why a file is not a sound file. The rules are those of `snes play`.
-#[derive(Clone, Copy, Debug, PartialEq, Eq)]
+#[derive(Clone, Copy)]
 pub enum NotSoundFile {
     /// The file has more than 1,048,576 bytes.
     TooLong,

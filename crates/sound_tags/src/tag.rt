@@ -13,7 +13,7 @@ use crate::header::{
 };
 
 /// A tag that is a text.
-#[derive(Clone, Copy, Debug, PartialEq, Eq)]
+#[derive(Clone, Copy)]
 pub enum TextTag {
     /// The title of the tune.
     Title,
@@ -34,7 +34,7 @@ pub enum TextTag {
 }
 
 /// A tag that is a number.
-#[derive(Clone, Copy, Debug, PartialEq, Eq)]
+#[derive(Clone, Copy)]
 pub enum NumberTag {
     /// The day when the file was taken, in eight decimal digits: year, month, day.
     Date,

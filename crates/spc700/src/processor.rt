@@ -7,7 +7,7 @@ use spc_modes::place::Place;
 use spc_tables::{SpcAccess, SpcMode, SpcOp, SpcRegs, SpcRow};
 
 /// An SPC700 between two accesses.
-#[derive(Clone, Copy, PartialEq, Eq, Debug)]
+#[derive(Clone, Copy)]
 pub struct Spc {
     pub(crate) micro: Micro,
 }

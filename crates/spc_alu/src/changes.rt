@@ -18,7 +18,7 @@ use spc_tables::CARRY;
 use status_bits::{is_set, with_bit};
 
 /// A changed byte, with PSW after the change.
-#[derive(Clone, Copy, PartialEq, Eq, Debug)]
+#[derive(Clone, Copy)]
 pub struct Changed {
     /// The byte's new value.
     pub value: u8,

@@ -2,7 +2,7 @@ use crate::place::Place;
 use spc_tables::{SpcRegs, SpcRow};
 
 /// An instruction in the middle of its accesses.
-#[derive(Clone, Copy, PartialEq, Eq, Debug)]
+#[derive(Clone, Copy)]
 pub struct Micro {
     /// The registers at its start.
     pub start: SpcRegs,

@@ -1,5 +1,5 @@
 /// What a pointer of the direct page is for.
-#[derive(Clone, Copy, PartialEq, Eq, Debug)]
+#[derive(Clone, Copy)]
 pub enum PointerKind {
     /// `[d+X]`: the data is at the pointer.
     Plain,
@@ -8,7 +8,7 @@ pub enum PointerKind {
 }
 
 /// The next access of an instruction.
-#[derive(Clone, Copy, PartialEq, Eq, Debug)]
+#[derive(Clone, Copy)]
 pub enum Place {
     /// The opcode fetch of the next instruction: this one has ended.
     Between,

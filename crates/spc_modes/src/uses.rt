@@ -4,7 +4,7 @@ ghost use Rattle.spc_modes.specs.Uses.{use_of};
 use spc_tables::SpcOp;
 
 /// What an operation does, as far as its accesses show.
-#[derive(Clone, Copy, PartialEq, Eq, Debug)]
+#[derive(Clone, Copy)]
 pub enum Use {
     /// Works inside the processor, in that many internal cycles.
     Internal(u8),

@@ -32,7 +32,7 @@ pub enum SpcRefused {
 }
 
 /// Why a file was not read.
-#[derive(Clone, Copy, Debug, PartialEq, Eq)]
+#[derive(Clone, Copy)]
 pub enum SpcEnd {
     Refused(SpcRefused),
     NoMemory,

@@ -1,5 +1,5 @@
 /// One cycle of the processor. Addresses have 16 bits.
-#[derive(Clone, Copy, PartialEq, Eq, Debug)]
+#[derive(Clone, Copy, Debug, PartialEq, Eq)]
 pub enum SpcAccess {
     /// The fetch of a byte of the program, at the program counter.
     Fetch(u16),

@@ -2,7 +2,7 @@
 ///
 /// In the comments `d` is a byte's offset in the direct page, `!a` an address of two bytes, and `r` a signed distance
 /// of a byte. A round bracket is a place in the direct page, a square bracket a pointer.
-#[derive(Clone, Copy, PartialEq, Eq, Debug)]
+#[derive(Clone, Copy)]
 pub enum SpcMode {
     /// No operand but the registers that the operation names.
     Implied,

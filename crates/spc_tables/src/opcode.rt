@@ -2,7 +2,7 @@ use crate::mode::SpcMode;
 use crate::operation::SpcOp;
 
 /// What an opcode means: its operation, and where its operands are.
-#[derive(Clone, Copy, PartialEq, Eq, Debug)]
+#[derive(Clone, Copy)]
 pub struct SpcRow {
     /// The operation.
     pub op: SpcOp,

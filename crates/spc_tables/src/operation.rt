@@ -1,5 +1,5 @@
 /// The operations: one for each mnemonic, and of MOV, CMP, INC, DEC, PUSH and POP one for each register.
-#[derive(Clone, Copy, PartialEq, Eq, Debug)]
+#[derive(Clone, Copy)]
 pub enum SpcOp {
     /// Nothing.
     Nop,

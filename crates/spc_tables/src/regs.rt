@@ -1,5 +1,5 @@
 /// The registers that a program sees.
-#[derive(Clone, Copy, PartialEq, Eq, Debug)]
+#[derive(Clone, Copy, Debug, PartialEq, Eq)]
 pub struct SpcRegs {
     /// A, the accumulator, and the low byte of the word YA.
     pub a: u8,

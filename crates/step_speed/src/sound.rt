@@ -75,7 +75,7 @@ fn fill(ram: &mut [u8])
 }
 
 /// What the voices do.
-#[derive(Clone, Copy, PartialEq, Eq, Debug)]
+#[derive(Clone, Copy)]
 enum Scene {
     /// Nothing, as after power on.
     BusState,

@@ -4,7 +4,7 @@ use crate::fields::field;
 use crate::numbers::{address_of, banked_of, hex_of};
 
 /// A form of symbol files.
-#[derive(Clone, Copy, Debug, PartialEq, Eq)]
+#[derive(Clone, Copy)]
 pub enum Form {
     /// VICE labels, as `ld65 -Ln` writes them: `al 008000 .name`.
     Vice,
@@ -17,7 +17,7 @@ pub enum Form {
 }
 
 /// A section of a file of WLA-DX.
-#[derive(Clone, Copy, Debug, PartialEq, Eq)]
+#[derive(Clone, Copy)]
 pub enum Section {
     /// Labels: `BB:AAAA name`.
     Labels,

@@ -19,7 +19,7 @@ struct Piece {
 }
 
 /// Bytes of the output file that a line of source made.
-#[derive(Clone, Copy, Debug, PartialEq, Eq)]
+#[derive(Clone, Copy)]
 pub struct SourceLine {
     /// The file of source, by its number from 0.
     pub file: u32,

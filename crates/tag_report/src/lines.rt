@@ -9,7 +9,7 @@ use sound_tags::{Form, NotSoundFile, NumberTag, TextTag, form_of, number_of, ref
 use std::alloc::{AllocError, Global};
 
 /// Why there is no report.
-#[derive(Clone, Copy, Debug, PartialEq, Eq)]
+#[derive(Clone, Copy)]
 pub enum ReportEnd {
     /// The file is not a sound file, for this cause.
     Refused(NotSoundFile),

@@ -37,7 +37,7 @@ struct Compared {
 }
 
 /// A pair of tapes of a region: its style and its seed.
-#[derive(Clone, Copy, Debug, PartialEq, Eq)]
+#[derive(Clone, Copy)]
 struct Pair {
     region: Region,
     style: Style,
@@ -45,7 +45,7 @@ struct Pair {
 }
 
 /// What carries the entries of both sides.
-#[derive(Clone, Copy, Debug, PartialEq, Eq)]
+#[derive(Clone, Copy)]
 enum Carrier {
     /// One log behind a lock.
     Lock,

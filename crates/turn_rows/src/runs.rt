@@ -21,7 +21,7 @@ use word_log::Words;
 const MOST_TURNS: u64 = 100_000;
 
 /// How the turns of a run follow one another.
-#[derive(Clone, Copy, Debug, PartialEq, Eq)]
+#[derive(Clone, Copy)]
 pub(crate) enum Manner {
     /// By `run_turns`, to near ends.
     Run,
@@ -30,7 +30,7 @@ pub(crate) enum Manner {
 }
 
 /// What two workers emitted, and the counts of their turns.
-#[derive(Clone, Copy, Debug, PartialEq, Eq)]
+#[derive(Clone, Copy)]
 pub(crate) struct Ran {
     pub(crate) sums: Sums,
     pub(crate) counts: Counts,

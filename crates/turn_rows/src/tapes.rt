@@ -15,7 +15,7 @@ use std::test::Fail;
 const BEATS: u64 = 6000;
 
 /// What a side does for some beats.
-#[derive(Clone, Copy, Debug, PartialEq, Eq)]
+#[derive(Clone, Copy)]
 enum Traffic {
     /// A write and a read of one port in turn. The other side begins with the read.
     Mailbox,
@@ -30,7 +30,7 @@ enum Traffic {
 }
 
 /// The style of the tapes of a pair.
-#[derive(Clone, Copy, Debug, PartialEq, Eq)]
+#[derive(Clone, Copy)]
 pub(crate) struct Style {
     /// The number of different rises, all multiples of the least, so that both sides are often at the same stamp. 0:
     /// any rise from the least to the most.

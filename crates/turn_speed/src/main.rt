@@ -109,7 +109,7 @@ fn frames<R: AllocGlobal + Threads + Clock>(rt: &R, count: u32) -> io::Result<Ta
 }
 
 /// How two machines that work are run.
-#[derive(Clone, Copy, Debug, PartialEq, Eq)]
+#[derive(Clone, Copy)]
 enum How {
     Serially,
     ByLock,

@@ -15,7 +15,7 @@ use std::alloc::Global;
 const MOST_TURNS: u64 = 10_000_000;
 
 /// The takes of a run: how many of each side, and a hash (64-bit FNV-1a) of their sides and sizes, in order.
-#[derive(Clone, Copy, Debug, PartialEq, Eq)]
+#[derive(Clone, Copy, PartialEq, Eq)]
 pub struct Order {
     /// The number of takes of the console.
     pub rows: u64,

@@ -1,5 +1,5 @@
 /// The counts of the turns of a run, or of several runs together.
-#[derive(Clone, Copy, Debug, PartialEq, Eq)]
+#[derive(Clone, Copy)]
 pub struct Counts {
     /// The turns that both workers started, each once, numbered from 0 on and in order.
     pub turns: u64,

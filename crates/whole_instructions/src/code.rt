@@ -12,7 +12,7 @@ use cpu_modes::{Reach, code_address, second_address};
 use cpu_tables::Regs;
 
 /// The bytes of an instruction in the memory.
-#[derive(Clone, Copy, Debug, PartialEq, Eq)]
+#[derive(Clone, Copy)]
 pub(crate) struct Code {
     /// The byte of the memory with the opcode. The three after it lie in the same page.
     pub(crate) at: usize,

@@ -11,7 +11,7 @@ use cpu_modes::{Reach, Traffic, direct_address, has_index_cycle};
 use cpu_tables::{Mode, Regs};
 
 /// Data that an instruction has come to.
-#[derive(Clone, Copy, Debug, PartialEq, Eq)]
+#[derive(Clone, Copy)]
 pub(crate) struct Reached {
     /// The bytes of the instruction after its opcode.
     pub(crate) operands: u16,

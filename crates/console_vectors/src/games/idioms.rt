@@ -19,7 +19,7 @@ use std::io;
 use std::str::SplitWhitespace;
 
 /// The cartridge, profile and number of a row.
-#[derive(Clone, Copy, Debug, PartialEq, Eq)]
+#[derive(Clone, Copy)]
 struct Play {
     idiom: Idiom,
     is_second: bool,

@@ -17,7 +17,7 @@ use std::str::SplitWhitespace;
 use std::thread::Threads;
 
 /// How a job is played.
-#[derive(Clone, Copy, Debug, PartialEq, Eq)]
+#[derive(Clone, Copy)]
 enum By {
     Serial,
     Run,

@@ -1,7 +1,7 @@
 use super::row::Width;
 
 /// What a cycle does on the bus.
-#[derive(Clone, Copy, PartialEq, Eq)]
+#[derive(Clone, Copy)]
 pub(crate) enum Kind {
     Fetch,
     Read,

@@ -1,5 +1,5 @@
 /// The flag of P that gives the width of an operation.
-#[derive(Clone, Copy, PartialEq, Eq)]
+#[derive(Clone, Copy)]
 pub(crate) enum Width {
     /// Always 8 bits, or shown by the cycles themselves.
     None,
