@@ -1,5 +1,0 @@
-use Rattle.cpu_alu_laws.proofs.BinarySums.{addition_taken_back}
-use Rattle.cpu_alu_laws.proofs.order.subtraction_takes_back_addition.Goals as goal
-
-pub returns : goal.returns
-returns c = addition_taken_back c.args.mode c.args.regs c.args.word c.requires.binary

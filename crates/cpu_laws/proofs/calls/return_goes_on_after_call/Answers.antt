@@ -1,5 +1,0 @@
-use Rattle.cpu_laws.proofs.CallLemmas.{return_goes_on}
-use Rattle.cpu_laws.proofs.calls.return_goes_on_after_call.Goals as goal
-
-pub returns : goal.returns
-returns c = return_goes_on

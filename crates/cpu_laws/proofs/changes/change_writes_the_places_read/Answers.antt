@@ -1,5 +1,0 @@
-use Rattle.cpu_laws.proofs.ChangeLemmas.{change_writes_places_read}
-use Rattle.cpu_laws.proofs.changes.change_writes_the_places_read.Goals as goal
-
-pub returns : goal.returns
-returns c = change_writes_places_read

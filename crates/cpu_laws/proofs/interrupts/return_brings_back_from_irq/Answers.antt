@@ -1,5 +1,0 @@
-use Rattle.cpu_laws.proofs.InterruptLemmas.{brings_back-irq}
-use Rattle.cpu_laws.proofs.interrupts.return_brings_back_from_irq.Goals as goal
-
-pub returns : goal.returns
-returns c = brings_back-irq

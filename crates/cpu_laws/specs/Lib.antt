@@ -1,4 +1,0 @@
-pub mod Outcomes
-pub mod Calls
-pub mod Changes
-pub mod Interrupts

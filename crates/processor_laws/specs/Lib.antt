@@ -1,0 +1,9 @@
+pub mod Numbers
+pub mod Wide
+pub mod Signed
+pub mod Outcomes
+pub mod Calls
+pub mod Changes
+pub mod Interrupts
+pub mod Accesses
+pub mod OnTheStack

@@ -1,3 +1,0 @@
-pub mod Taps
-pub mod Envelopes
-pub mod Ends

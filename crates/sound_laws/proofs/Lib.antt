@@ -1,0 +1,11 @@
+pub mod Taps
+pub mod Envelopes
+pub mod Ends
+pub mod Memory
+pub mod PlayOn
+pub mod Ports
+pub mod Rates
+pub mod Levels
+pub mod AllParts
+pub mod Alike
+pub mod Alone

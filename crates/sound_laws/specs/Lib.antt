@@ -1,0 +1,4 @@
+pub mod Silence
+pub mod Ends
+pub mod PlaysOn
+pub mod Parts

@@ -1,5 +1,0 @@
-use Rattle.spc_laws.proofs.Quotients.{product}
-use Rattle.spc_laws.proofs.arithmetic.multiplication.Goals as goal
-
-pub returns : goal.returns
-returns c = product c.args.mode c.args.regs

@@ -1,4 +1,0 @@
-pub mod Memory
-pub mod PlayOn
-pub mod Ports
-pub mod Rates

@@ -1,4 +1,0 @@
-pub mod Levels
-pub mod AllParts
-pub mod Alike
-pub mod Alone

@@ -1,5 +1,0 @@
-use Rattle.stem_player_laws.proofs.AllParts.{whole}
-use Rattle.stem_player_laws.proofs.whole.all_parts_are_the_output.Goals as goal
-
-pub returns : goal.returns
-returns c = whole
