@@ -1,6 +1,6 @@
 ghost use Rattle.std.specs.Prelude.{◌≡◌, ◌+◌, ◌≤◌, length};
 
-use flat_memory::run;
+use processor_laws::flat::run;
 use spc700::{Spc, SpcAccess, SpcRegs};
 use std::process::Abort;
 use std::test::Fail;

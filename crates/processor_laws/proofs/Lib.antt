@@ -16,3 +16,4 @@ pub mod SpcRows
 pub mod SpcCalls
 pub mod Pushes
 pub mod StoredWords
+pub mod FlatRuns

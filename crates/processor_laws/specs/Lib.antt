@@ -7,3 +7,6 @@ pub mod Changes
 pub mod Interrupts
 pub mod Accesses
 pub mod OnTheStack
+pub mod Flat
+pub mod FlatCpu
+pub mod FlatSpc

@@ -1,5 +1,5 @@
-use Rattle.flat_memory.proofs.Runs.{matches_at_first, matches_after_step}
-use Rattle.flat_memory.proofs.run.Goals as goal
+use Rattle.processor_laws.proofs.FlatRuns.{matches_at_first, matches_after_step}
+use Rattle.processor_laws.proofs.flat.run.Goals as goal
 
 pub accesses-init : goal.accesses-init
 accesses-init g c = λ s h. matches_at_first g.P.Processor.stands g.P.Processor.after_access c.args.processor.now c.args.memory.now s h

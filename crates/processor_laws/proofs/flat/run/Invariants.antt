@@ -1,6 +1,6 @@
-use Rattle.flat_memory.specs.Flat.{run}
-use Rattle.flat_memory.proofs.Runs.{Matches}
-use Rattle.flat_memory.proofs.run.Given as goal
+use Rattle.processor_laws.specs.Flat.{run}
+use Rattle.processor_laws.proofs.FlatRuns.{Matches}
+use Rattle.processor_laws.proofs.flat.run.Given as goal
 
 abbrev pub invariant-accesses : goal.invariant-accesses
 invariant-accesses g l =

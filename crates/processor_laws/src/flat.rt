@@ -1,16 +1,14 @@
 //! Runs a processor over a memory and nothing else.
 //!
-//! The crate shows that a processor which stops before each access composes with what it accesses.
+//! The module shows that a processor which stops before each access composes with what it accesses.
 //! `Processor` is the trait of such a processor: its state, which only proofs know, and what an access
 //! makes of that state and of the bytes of a memory. `run` promises that a run of n accesses is the
 //! model's (`specs/Flat.antt`), for every state that the processor stands for.
 //!
 //! The two processors are the 65C816 of `cpu65816` over 16 megabytes (`specs/FlatCpu.antt`) and the
 //! SPC700 of `spc700` over 64 KiB (`specs/FlatSpc.antt`).
-#![tactic(auto)]
-
 ghost use Rattle.std.specs.Prelude.{◌≡◌, ℕ, length};
-ghost use Rattle.flat_memory.specs.Flat.{Flat, run};
+ghost use Rattle.processor_laws.specs.Flat.{Flat, run};
 
 mod cpu;
 mod spc;

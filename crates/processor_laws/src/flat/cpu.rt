@@ -1,9 +1,9 @@
 ghost use Rattle.std.specs.Prelude.{◌^◌};
 ghost use Rattle.cpu65816.specs.Instruction.{CpuState};
 ghost use Rattle.cpu65816.specs.Stands.{Stands};
-ghost use Rattle.flat_memory.specs.FlatCpu.{after_access};
+ghost use Rattle.processor_laws.specs.FlatCpu.{after_access};
 
-use crate::Processor;
+use super::Processor;
 use cpu_tables::Access;
 use cpu65816::Cpu;
 

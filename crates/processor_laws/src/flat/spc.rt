@@ -1,9 +1,9 @@
 ghost use Rattle.std.specs.Prelude.{◌^◌};
 ghost use Rattle.spc700.specs.Instruction.{SpcState};
 ghost use Rattle.spc700.specs.Stands.{Stands};
-ghost use Rattle.flat_memory.specs.FlatSpc.{after_access};
+ghost use Rattle.processor_laws.specs.FlatSpc.{after_access};
 
-use crate::Processor;
+use super::Processor;
 use spc700::{Spc, SpcAccess};
 
 impl Processor for Spc {

@@ -1,5 +1,5 @@
 use Rattle.std.proofs.Common.{◌≡◌, ℕ, ◌+◌, List, refl, ap, subst, add-one}
-use Rattle.flat_memory.specs.Flat.{Flat, run}
+use Rattle.processor_laws.specs.Flat.{Flat, run}
 
 module _ {P State : Type 0} (stands : P → State → Type 0) (after : Flat State → Flat State) where
   -- a processor and a memory are what the model says

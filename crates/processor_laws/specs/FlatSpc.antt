@@ -3,7 +3,7 @@ use Rattle.std.specs.Prelude.{slice_index, slice_set}
 use Rattle.spc_tables.specs.declared.access.SpcAccess.{SpcAccess}
 use Rattle.spc_tables.specs.declared.access.SpcAccess.TheVariants.{Fetch, Read, Write, Inner}
 use Rattle.spc700.specs.Instruction.{SpcState, next_of, moved_on}
-use Rattle.flat_memory.specs.Flat.{Flat}
+use Rattle.processor_laws.specs.Flat.{Flat}
 
 -- one access: a fetch and a read get the byte of the memory, a write changes it
 abbrev pub made : SpcAccess → Flat SpcState → Flat SpcState

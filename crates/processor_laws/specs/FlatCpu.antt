@@ -3,7 +3,7 @@ use Rattle.std.specs.Prelude.{slice_index, slice_set}
 use Rattle.cpu_tables.specs.declared.access.Access.{Access}
 use Rattle.cpu_tables.specs.declared.access.Access.TheVariants.{Fetch, Read, Write, Inner}
 use Rattle.cpu65816.specs.Instruction.{CpuState, next_of, moved_on}
-use Rattle.flat_memory.specs.Flat.{Flat}
+use Rattle.processor_laws.specs.Flat.{Flat}
 
 -- one access: a fetch and a read get the byte of the memory, a write changes it
 abbrev pub made : Access → Flat CpuState → Flat CpuState
