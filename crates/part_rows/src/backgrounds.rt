@@ -66,11 +66,14 @@ fn cache_follows_the_bytes_of_a_word(rt: HostRuntime) -> Result<(), Fail> {
     let with_low = tiles.line(0, 2);
     let high = put_high_byte(&mut p, &mut tiles);
     let with_both = tiles.line(0, 2);
-    assert_eq!(rt; low, [None, None, None, Some(0), Some(0)]);
-    assert_eq!(rt; high, [None, None, Some(0)]);
+    let lines = [empty, with_low, with_both];
     assert_eq!(rt;
-        [empty, with_low, with_both],
-        [[0; 8], [1, 0, 0, 0, 0, 0, 0, 0], [3, 0, 0, 0, 0, 0, 0, 0]]
+        (low, high, lines),
+        (
+            [None, None, None, Some(0), Some(0)],
+            [None, None, Some(0)],
+            [[0; 8], [1, 0, 0, 0, 0, 0, 0, 0], [3, 0, 0, 0, 0, 0, 0, 0]]
+        )
     );
     Ok(())
 }

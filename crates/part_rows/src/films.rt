@@ -40,8 +40,9 @@ static SILENT: [u8; 44] = [
 
 #[test]
 fn sums_are_those_of_zlib(rt: HostRuntime) {
-    assert_eq!(rt; crc_of_chunk(b"IEND", &[]), 0xae42_6082);
-    assert_eq!(rt; Adler::new().fed_all(b"Wikipedia").number(), 0x11e6_0398);
+    let crc = crc_of_chunk(b"IEND", &[]);
+    let adler = Adler::new().fed_all(b"Wikipedia").number();
+    assert_eq!(rt; [crc, adler], [0xae42_6082, 0x11e6_0398]);
 }
 
 #[test]
@@ -69,12 +70,12 @@ fn a_picture_of_another_program_is_read(rt: HostRuntime) -> Result<(), Fail> {
     let found = read_png(rt.alloc(), &FILTERED)
         .ok()
         .map(|picture| adler_of(&picture));
-    // zlib.adler32 of the colours, by the script that made the picture.
-    assert!(rt; found == Some(545_987_332));
     let mut wrong = FILTERED;
     wrong[120] ^= 1;
-    assert!(rt; matches!(read_png(rt.alloc(), &wrong), Err(PngFault::Crc("IDAT"))));
-    assert!(rt; matches!(read_png(rt.alloc(), &FILTERED[..202]), Err(PngFault::Cut)));
+    let is_told = matches!(read_png(rt.alloc(), &wrong), Err(PngFault::Crc("IDAT")));
+    let is_cut = matches!(read_png(rt.alloc(), &FILTERED[..202]), Err(PngFault::Cut));
+    // zlib.adler32 of the colours, by the script that made the picture.
+    assert_eq!(rt; (found, is_told, is_cut), (Some(545_987_332), true, true));
     Ok(())
 }
 
@@ -131,10 +132,14 @@ fn a_cut_piece_is_told(rt: HostRuntime) {
     let bytes = [1u8, 2, 3, 4, 5, 6, 7];
     let mut reader = bytes.as_slice();
     let mut piece = [0u8; 4];
-    assert!(rt; read_piece(&mut reader, &mut piece).ok() == Some(Piece::Whole));
-    assert!(rt; piece == [1, 2, 3, 4]);
-    assert!(rt; read_piece(&mut reader, &mut piece).ok() == Some(Piece::Cut(3)));
-    assert!(rt; read_piece(&mut reader, &mut piece).ok() == Some(Piece::End));
+    let first = read_piece(&mut reader, &mut piece).ok();
+    let bytes_of_first = piece;
+    let second = read_piece(&mut reader, &mut piece).ok();
+    let third = read_piece(&mut reader, &mut piece).ok();
+    let are_told = first == Some(Piece::Whole)
+        && second == Some(Piece::Cut(3))
+        && third == Some(Piece::End);
+    assert_eq!(rt; (are_told, bytes_of_first), (true, [1, 2, 3, 4]));
 }
 
 #[test]
@@ -153,16 +158,17 @@ fn an_avi_has_parts_of_1800_frames(rt: HostRuntime) -> Result<(), Fail> {
         samples_upto(Region::Ntsc, 60),
         samples_upto(Region::Pal, 60),
     ];
-    assert_eq!(rt; samples, [31_947, 38_394]);
     let parts = [
         Layout::new(Region::Ntsc, 0).parts(),
         Layout::new(Region::Ntsc, 1800).parts(),
         Layout::new(Region::Ntsc, 1801).parts(),
         Layout::new(Region::Pal, 36_000).parts(),
     ];
-    assert_eq!(rt; parts, [1, 1, 2, 20]);
-    assert_eq!(rt; Layout::new(Region::Ntsc, 1801).start(1), 885000258);
-    let head = file_head(rt.alloc(), Layout::new(Region::Pal, 7))?;
-    assert_eq!(rt; head.len(), 1682);
+    let start = Layout::new(Region::Ntsc, 1801).start(1);
+    let head = file_head(rt.alloc(), Layout::new(Region::Pal, 7))?.len();
+    assert_eq!(rt;
+        (samples, parts, start, head),
+        ([31_947, 38_394], [1, 1, 2, 20], 885_000_258, 1682)
+    );
     Ok(())
 }

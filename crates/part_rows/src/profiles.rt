@@ -102,12 +102,13 @@ fn second_profile_turns_each_half_of_an_upright_object(rt: HostRuntime) -> Resul
 #[test]
 fn an_object_of_32_by_64_is_turned_by_the_profile(rt: HostRuntime) -> Result<(), Fail> {
     let rows = [52, 36, 20, 4];
-    let mut p = unit(rt.alloc(), Profile::First)?;
-    let colours = colours_of_turned_object(&mut p, 6, true, rows);
-    assert_eq!(rt; colours, [Some(0x1111), Some(0x2222), None, None]);
-    let mut p = unit(rt.alloc(), Profile::Second)?;
-    let colours = colours_of_turned_object(&mut p, 6, true, rows);
-    assert_eq!(rt; colours, [None, None, Some(0x1111), Some(0x2222)]);
+    let first = [Some(0x1111), Some(0x2222), None, None];
+    let second = [None, None, Some(0x1111), Some(0x2222)];
+    for (profile, wanted) in [(Profile::First, first), (Profile::Second, second)] {
+        let mut p = unit(rt.alloc(), profile)?;
+        let colours = colours_of_turned_object(&mut p, 6, true, rows);
+        assert_eq!(rt; colours, wanted, "{profile:?}");
+    }
     Ok(())
 }
 
@@ -159,9 +160,8 @@ fn dots_of_no_layer(
 fn an_even_dot_of_no_layer_has_the_profiles_colour(rt: HostRuntime) -> Result<(), Fail> {
     for setting in [(0x33u8, 0x08u8), (0x05, 5), (0x05, 6)] {
         let first = dots_of_no_layer(rt.alloc(), Profile::First, &[setting])?;
-        assert_eq!(rt; first, (0x7c00, 0x1234));
         let second = dots_of_no_layer(rt.alloc(), Profile::Second, &[setting])?;
-        assert_eq!(rt; second, (0x1234, 0x1234));
+        assert_eq!(rt; [first, second], [(0x7c00, 0x1234), (0x1234, 0x1234)]);
     }
     Ok(())
 }
@@ -172,9 +172,8 @@ fn an_even_dot_of_no_layer_has_the_profiles_colour(rt: HostRuntime) -> Result<()
 fn an_odd_dot_takes_the_fixed_colour_in_both_profiles(rt: HostRuntime) -> Result<(), Fail> {
     let settings = [(0x33, 0x08), (0x30, 0x02), (0x31, 0x20)];
     let first = dots_of_no_layer(rt.alloc(), Profile::First, &settings)?;
-    assert_eq!(rt; first, (0x7c00, 0x7e34));
     let second = dots_of_no_layer(rt.alloc(), Profile::Second, &settings)?;
-    assert_eq!(rt; second, (0x1234, 0x7e34));
+    assert_eq!(rt; [first, second], [(0x7c00, 0x7e34), (0x1234, 0x7e34)]);
     Ok(())
 }
 
@@ -227,11 +226,17 @@ fn words_after_passed_writes(p: &mut Ppu) -> [Option<u16>; 4] {
 fn a_passed_write_steps_the_address_alone(rt: HostRuntime) -> Result<(), Fail> {
     let mut p = unit(rt.alloc(), Profile::Second)?;
     let words = words_after_passed_writes(&mut p);
-    assert_eq!(rt; words, [Some(6), Some(7), Some(8), Some(72)]);
     let vram = p.vram();
     let low = [vram[5], vram[6], vram[7], vram[8]];
-    assert_eq!(rt; low, [0, 0x77, 0x77, 0x6600]);
-    assert_eq!(rt; [vram[40], vram[72], vram[104]], [0, 0x6600, 0]);
+    let high = [vram[40], vram[72], vram[104]];
+    assert_eq!(rt;
+        (words, low, high),
+        (
+            [Some(6), Some(7), Some(8), Some(72)],
+            [0, 0x77, 0x77, 0x6600],
+            [0, 0x6600, 0]
+        )
+    );
     Ok(())
 }
 

@@ -35,9 +35,12 @@ fn kind_of(alloc: Global, text: &str) -> Option<(Region, Profile)> {
 
 #[test]
 fn a_boot_rom_has_64_bytes(rt: HostRuntime) {
-    assert!(rt; read_boot(&[0xefu8; 63]).is_none());
-    assert!(rt; read_boot(&[0xefu8; 65]).is_none());
-    assert_eq!(rt; read_boot(&[0xefu8; 64]), Some([0xefu8; 64]));
+    let found = [
+        read_boot(&[0xefu8; 63]),
+        read_boot(&[0xefu8; 64]),
+        read_boot(&[0xefu8; 65]),
+    ];
+    assert_eq!(rt; found, [None, Some([0xefu8; 64]), None]);
 }
 
 /// Returns the entry at which a table is refused.
@@ -50,24 +53,26 @@ fn a_table_is_refused_at_its_first_large_entry(rt: HostRuntime) {
     let mut file = [0u8; 1024];
     file[1022] = 0xff;
     file[1023] = 0x07;
-    assert_eq!(rt;
-        read_table(&file).map(|table| table.at(511)).unwrap_or(0),
-        2047
-    );
+    let largest = read_table(&file).map(|table| table.at(511)).unwrap_or(0);
     file[1022] = 0x00;
     file[1023] = 0x08;
     let last = refused_entry(&file);
     file[9] = 0x80;
     let found = [last, refused_entry(&file), refused_entry(&file[..1023])];
-    assert_eq!(rt; found, [Some(511), Some(4), Some(512)]);
+    assert_eq!(rt; (largest, found), (2047, [Some(511), Some(4), Some(512)]));
 }
 
 #[test]
 fn spans_follow_one_another(rt: HostRuntime) -> Result<(), Fail> {
     let read = script(rt.alloc(), "2 8000 0000\n1 00F0 0000").ok_or("refused")?;
     let pads = [read.pads(0), read.pads(1), read.pads(2), read.pads(3)];
-    assert_eq!(rt; pads, [(0x8000, 0), (0x8000, 0), (0x00f0, 0), (0, 0)]);
-    assert_eq!(rt; read.region(), Region::Ntsc);
+    assert_eq!(rt;
+        (read.region(), pads),
+        (
+            Region::Ntsc,
+            [(0x8000, 0), (0x8000, 0), (0x00f0, 0), (0, 0)]
+        )
+    );
     Ok(())
 }
 
@@ -123,8 +128,7 @@ fn version_3_names_the_second_profile(rt: HostRuntime) -> Result<(), Fail> {
         assert_eq!(rt; kind_of(alloc, text), Some((region, profile)), "{text:?}");
     }
     let pal = script(alloc, text).ok_or("refused")?;
-    assert_eq!(rt; pal.pads(1), (0x8000, 0));
-    assert!(rt; pal.resets(2));
+    assert_eq!(rt; (pal.pads(1), pal.resets(2)), ((0x8000, 0), true));
     Ok(())
 }
 
@@ -170,18 +174,18 @@ fn resets_stand_at_new_sums_above_0(rt: HostRuntime) -> Result<(), Fail> {
 #[test]
 fn the_image_of_a_number_is_a_cartridge(rt: HostRuntime) -> Result<(), Fail> {
     let bytes = image(rt.alloc(), 0).map_err(|_: NoMemory| "no memory")?;
-    assert_eq!(rt;
-        (bytes.len(), bytes[0], bytes[0x8000]),
-        (524_288, 0x78, 0x3c)
-    );
+    let found = (bytes.len(), bytes[0], bytes[0x8000]);
     let cart = accept(bytes).map_err(|_: CartEnd| "refused")?;
-    assert_eq!(rt; (cart.map, cart.ram), (MapKind::LoRom, 0));
+    assert_eq!(rt;
+        (found, cart.map, cart.ram),
+        ((524_288, 0x78, 0x3c), MapKind::LoRom, 0)
+    );
     Ok(())
 }
 
 #[test]
 fn the_demo_has_a_boot_rom_and_a_ramp(rt: HostRuntime) {
     let boot = demo_boot_rom();
-    assert_eq!(rt; [boot[0], boot[62], boot[63]], [0x8f, 0xc0, 0xff]);
-    assert_eq!(rt; demo_table().at(511), 1022);
+    let ends = [boot[0], boot[62], boot[63]];
+    assert_eq!(rt; (ends, demo_table().at(511)), ([0x8f, 0xc0, 0xff], 1022));
 }
