@@ -51,7 +51,7 @@ prove() {
 build() { "$tree/tools/lab/unproved/build.sh" "$work/$1" "$@" >"$work/built" 2>&1 || { tail -n 3 "$work/built"; return 1; }; }
 
 # What the rows of the workers print. A body that waits for ever at each turn is cut off; what it has printed counts.
-rows() { (cd "$tree/crates/console_rows/data" && timeout 600 "$work/console_rows" workers 2>"$work/counts") >"$work/rows"; }
+rows() { (cd "$tree/crates/console_rows/data" && timeout 600 "$work/console_rows" workers workers.txt 2>"$work/counts") >"$work/rows"; }
 
 # Whether the tests complain of the tree as it is, and how: nothing where they don't.
 detected_by() {

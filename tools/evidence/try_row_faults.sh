@@ -16,13 +16,13 @@ trap 'rm -rf "$work"' EXIT
 git clone -q "$top" "$work/snes" && cd "$work/snes" || exit 2
 
 # Takes the rows of a crate: their words, what they have to print, and what no title of a row begins with. Of console_rows
-# that is the stored output without that of the words `workers` and `plans`, which begins with a quoted line.
+# that is the stored output of `rows.txt` alone, which ends before the first row of the workers.
 take_rows() {
   rows=$work/snes/crates/$1
   case $1 in
     console_rows)
       words=("$rows/data/rows.txt") untitled='^bytes:\|^rows \|^frame \|^after '
-      sed '/^"frames /,$d' "$rows/stdout" >"$work/wanted"
+      sed '/^run "frames /,$d' "$rows/stdout" >"$work/wanted"
       ;;
     sound_rows)
       words=() untitled='^  \|^cycle \|^sample '

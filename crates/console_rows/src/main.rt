@@ -1,5 +1,6 @@
 //! Runs the console's machine by itself over short programs, and prints what it does at the ports, with its clocks,
-//! or its picture, for comparison with hand-computed cases.
+//! or its picture, for comparison with hand-computed cases. Runs rows of the whole program over that console too, so
+//! that one program has them all.
 //!
 //! The program follows the lines of the given files, such as `data/rows.txt`, where each row says why its expected
 //! output, in `stdout`, is what it is. The lines, with numbers in hexadecimal except for counts:
@@ -16,10 +17,10 @@
 //! - `bytes TO` prints the bytes that are written to the ports, up to a clock.
 //! - `picture FRAME` prints a frame from 0 on, equal rows in one line, each by runs of equal dots.
 //!
-//! An argument `workers` or `plans` instead of a file runs rows about what no output byte and no clause shows. They are
-//! that a run's two workers overlap, and through how many frames a rewinder steps its machines. After an
-//! argument `job` come those of one run over real files. It is run as `snes` runs it, its workers are counted, and the
-//! status is that of `snes`.
+//! The files after an argument `program` are rows of the whole program (`program`), and those after `workers` are rows
+//! about what no output byte and no clause shows: that a run's two workers overlap. An argument `plans` runs those
+//! about through how many frames a rewinder steps its machines. After an argument `job` come those of one run over
+//! real files. It is run as `snes` runs it, its workers are counted, and the status is that of `snes`.
 //!
 //! A read of a port gets 0, except in rows with `torn`: port 0 gets 1 after clock 540, and port 1 gets 2 after clock
 //! 546.
@@ -29,11 +30,13 @@ mod cartridge;
 mod job;
 mod picture;
 mod plans;
+mod program;
 mod row;
 mod run;
 mod workers;
 
 use port_wire::Gate;
+use program::rows::Rows;
 use row::Row;
 use std::alloc::Global;
 use std::process::ExitCode;
@@ -42,14 +45,48 @@ use std::thread::Threads;
 use std::{env, fs, io};
 use turn_watch::Watch;
 
-/// Follows the lines of a file.
-fn follow<R: Files + Print + AllocGlobal>(rt: &R, row: &mut Row, name: &str) -> io::Result<()> {
+/// What the rows of a file are of.
+#[derive(Clone, Copy)]
+enum Kind {
+    /// The console by itself.
+    Console,
+    /// The whole program.
+    Program,
+    /// The whole program's two workers.
+    Workers,
+}
+
+/// Follows a line of a file of rows.
+fn follow_line<R: Files + Print + Eprint + AllocGlobal + Threads + Sync>(
+    rt: &R,
+    watch: &Watch<'_, R>,
+    gate: &dyn Gate,
+    kind: Kind,
+    row: &mut Row,
+    rows: &mut Rows,
+    line: &str,
+) -> io::Result<()> {
+    match kind {
+        Kind::Program => program::follow(rt, watch, gate, rows, line),
+        Kind::Console => row.follow(rt, rt.alloc(), line),
+        Kind::Workers => workers::follow(rt, watch, gate, rows, line),
+    }
+}
+
+/// Follows the lines of a file. Rows of the program begin without files, and with no room.
+fn follow<R: Files + Print + Eprint + AllocGlobal + Threads + Sync>(
+    rt: &R,
+    watch: &Watch<'_, R>,
+    gate: &dyn Gate,
+    kind: Kind,
+    row: &mut Row,
+    rows: &mut Rows,
+    name: &str,
+) -> io::Result<()> {
+    rows.begin(rt.alloc());
     let text = fs::read_to_string(rt, name)?;
     for line in text.lines() {
-        if line.is_empty() || line.starts_with("#") {
-            continue;
-        }
-        row.follow(rt, rt.alloc(), line)?;
+        follow_line(rt, watch, gate, kind, row, rows, line)?;
     }
     Ok(())
 }
@@ -60,13 +97,16 @@ fn follow_words<R: Files + Print + Eprint + AllocGlobal + Threads + Sync>(
     watch: &Watch<'_, R>,
     gate: &dyn Gate,
     row: &mut Row,
+    rows: &mut Rows,
     words: &[String],
 ) -> io::Result<()> {
+    let mut kind = Kind::Console;
     for word in words {
         match word.as_str() {
-            "workers" => workers::show_all(rt, watch, gate)?,
+            "program" => kind = Kind::Program,
+            "workers" => kind = Kind::Workers,
             "plans" => plans::show_all(rt)?,
-            name => follow(rt, row, name)?,
+            name => follow(rt, watch, gate, kind, row, rows, name)?,
         }
     }
     Ok(())
@@ -80,7 +120,8 @@ fn follow_all<R: Files + Print + Eprint + AllocGlobal + Threads + Sync>(
     words: &[String],
 ) -> io::Result<()> {
     let mut row = Row::new(rt.alloc());
-    follow_words(rt, watch, gate, &mut row, words)
+    let mut rows = Rows::new(rt.alloc());
+    follow_words(rt, watch, gate, &mut row, &mut rows, words)
 }
 
 /// Does what the program's arguments ask for. The watch is the gate too.

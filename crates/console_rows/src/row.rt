@@ -100,8 +100,11 @@ impl Row {
         }
     }
 
-    /// Follows a line. Prints it if it is invalid.
+    /// Follows a line, unless it is empty or a comment. Prints it if it is invalid.
     pub fn follow(&mut self, rt: &impl Print, alloc: Global, line: &str) -> io::Result<()> {
+        if line.is_empty() || line.starts_with("#") {
+            return Ok(());
+        }
         if let Some(title) = line.strip_prefix("row ") {
             self.is_torn = false;
             if self.cartridge.begin(alloc).is_none() {

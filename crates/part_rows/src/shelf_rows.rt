@@ -1,5 +1,5 @@
 // Tests of real files, as an outside reader expects them, and of the lines as they are printed. Planned failures, a
-// shelf that never fails and a full device are in the rows of the whole program, `program_rows` and `console_rows`.
+// shelf that never fails and a full device are in the rows of the whole program, in `console_rows`.
 use file_shelf::{Cause, Clash, FileShelf};
 use run_io::{Line, cannot_read_line, cannot_write_line, frames_line, no_memory_line, usage_line};
 use shelf::{Failed, Input, LoadEnd, Out, Shelf};

@@ -1,6 +1,6 @@
 ghost use Rattle.std.specs.Prelude.{◌≤◌, length};
 
-use crate::rows::Outcome;
+use crate::program::rows::Outcome;
 use shelf::Out;
 use std::{io, str};
 

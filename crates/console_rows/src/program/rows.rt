@@ -1,6 +1,6 @@
-use crate::answer::answer;
-use crate::files::Files;
-use memory_shelves::{MemShelf, ShelfCall};
+use crate::program::answer::answer;
+use crate::program::files::Files;
+use memory_shelves::{MemShelf, ShelfCall, SureShelf};
 use port_wire::{Gate, OpenGate};
 use run_io::Argv;
 use shelf::Out;
@@ -47,6 +47,11 @@ impl Rows {
         }
     }
 
+    /// Begins another file of rows, of which no line was followed.
+    pub fn begin(&mut self, alloc: Global) {
+        *self = Rows::new(alloc);
+    }
+
     /// Follows a line that says what rows are run with.
     pub fn line(&mut self, line: &str) -> Option<()> {
         if let Some(count) = line.strip_prefix("room ") {
@@ -84,6 +89,23 @@ impl Rows {
     fn shelf(&self, alloc: Global, words: &str, here: Option<Failure>) -> Option<MemShelf> {
         let mut shelf = MemShelf::new(alloc, self.room).ok()?;
         self.fill(&mut shelf, words, here)?;
+        Some(shelf)
+    }
+
+    /// Gives a shelf that never fails the files that the arguments name.
+    fn hold(&self, shelf: &mut SureShelf, words: &str) -> Option<()> {
+        for word in words.split(' ') {
+            if let Some(bytes) = self.files.find(word) {
+                shelf.hold(word, bytes).ok()?;
+            }
+        }
+        Some(())
+    }
+
+    /// Returns a shelf that never fails, with the files that the arguments name.
+    pub fn sure_shelf(&self, alloc: Global, words: &str) -> Option<SureShelf> {
+        let mut shelf = SureShelf::new(alloc, self.room).ok()?;
+        self.hold(&mut shelf, words)?;
         Some(shelf)
     }
 }

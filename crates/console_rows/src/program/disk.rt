@@ -1,6 +1,6 @@
 // Runs rows over real files.
-use crate::answer::answer;
-use crate::rows::{Outcome, Rows, performed, words_of};
+use crate::program::answer::answer;
+use crate::program::rows::{Outcome, Rows, performed, words_of};
 use file_shelf::FileShelf;
 use port_wire::OpenGate;
 use run_io::Argv;

@@ -1,7 +1,7 @@
-use crate::compare::{are_alike, is_begun, is_same};
-use crate::disk::disk;
-use crate::rows::{Failure, Outcome, Rows, performed, performed_through};
-use crate::show::{Detail, show_answer, show_outputs};
+use crate::program::compare::{are_alike, is_begun, is_same};
+use crate::program::disk::disk;
+use crate::program::rows::{Failure, Outcome, Rows, performed, performed_through};
+use crate::program::show::{Detail, show_answer, show_outputs};
 use memory_shelves::ShelfCall;
 use port_wire::Gate;
 use shelf::Out;

@@ -1,4 +1,4 @@
-use crate::rows::Outcome;
+use crate::program::rows::Outcome;
 use shelf::Out;
 
 /// Whether an output has the same name and bytes in two outcomes.
