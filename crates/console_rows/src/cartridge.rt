@@ -3,7 +3,7 @@
 use cart_map::accept;
 use case_text::{hexadecimal, part, put};
 use input_files::read_script;
-use snes_defs::{Job, Table};
+use snes_defs::{Cart, Job, Table};
 use std::alloc::Global;
 use std::str::SplitWhitespace;
 
@@ -114,13 +114,18 @@ impl Cartridge {
         self.script.push(b'\n').ok()
     }
 
+    /// Returns the cartridge as a console takes it.
+    fn accepted(&self, alloc: Global) -> Option<Cart> {
+        accept(self.image.as_slice().to_vec(alloc).ok()?).ok()
+    }
+
     /// Returns the job of the cartridge and the script.
     pub fn job(&self, alloc: Global) -> Option<Job> {
-        let image = self.image.as_slice().to_vec(alloc).ok()?;
+        let cart = self.accepted(alloc)?;
         let script = read_script(alloc, self.script.as_slice()).ok()?;
         let region = script.region();
         Some(Job {
-            cart: accept(image).ok()?,
+            cart,
             boot: [0xef; 64],
             table: Table::of([0; 512]),
             script,

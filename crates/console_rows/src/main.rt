@@ -67,7 +67,7 @@ fn follow_line<R: Files + Print + Eprint + AllocGlobal + Threads + Sync>(
     line: &str,
 ) -> io::Result<()> {
     match kind {
-        Kind::Program => program::follow(rt, watch, gate, rows, line),
+        Kind::Program => program::follow::follow(rt, watch, gate, rows, line),
         Kind::Console => row.follow(rt, rt.alloc(), line),
         Kind::Workers => workers::follow(rt, watch, gate, rows, line),
     }

@@ -3,8 +3,6 @@
 use crate::run::make;
 use console_machine::ConsoleSide;
 use side_law::Machine;
-use snes_defs::Job;
-use std::alloc::Global;
 use std::io;
 
 /// The bytes of a row of 512 dots, and the rows of a frame.
@@ -73,8 +71,8 @@ fn show_rows(rt: &impl Print, row: &Dots, from: u64, to: u64) -> io::Result<()> 
     show_row(rt, row)
 }
 
-/// Prints the frame of a console.
-fn show_frame(rt: &impl Print, side: &mut ConsoleSide, frame: u64) -> io::Result<()> {
+/// Prints a frame of a console, counted from 0 from its start on.
+pub fn show_frame(rt: &impl Print, side: &mut ConsoleSide, frame: u64) -> io::Result<()> {
     let mut last = [0u8; ROW];
     let mut from = 0u64;
     let mut rows = 0u64;
@@ -98,12 +96,4 @@ fn show_frame(rt: &impl Print, side: &mut ConsoleSide, frame: u64) -> io::Result
         }
     }
     println!(rt; "too few rows")
-}
-
-/// Prints a frame of a job.
-pub fn show_picture(rt: &impl Print, alloc: Global, job: &Job, frame: u64) -> io::Result<()> {
-    match ConsoleSide::new(alloc, job) {
-        Ok(mut side) => show_frame(rt, &mut side, frame),
-        Err(_) => println!(rt; "no memory"),
-    }
 }

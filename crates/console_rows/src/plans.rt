@@ -41,12 +41,26 @@ fn play_job(alloc: Global, job: &Job, plan: &Plan) -> Result<Option<u64>, NoMemo
     }
 }
 
-/// Returns through how many frames a plan steps both sides, to the nearest.
+/// Returns to how many frames of both sides the stamps of a played plan amount, to the nearest.
+fn frames_of(stepped: Result<Option<u64>, NoMemory>) -> Option<u64> {
+    let stamps = stepped.ok()??;
+    Some(stamps.saturating_add(FRAME_STAMPS) / (2 * FRAME_STAMPS))
+}
+
+/// Returns through how many frames a plan steps both sides of a job.
+fn count_frames_of(alloc: Global, job: &Job, plan: &[u8]) -> Option<u64>
+    requires script { job.now.script ≡ path_script job.now.region 0 empty_path }
+{
+    match read_plan(alloc, plan) {
+        Ok(plan) => frames_of(play_job(alloc, job, &plan)),
+        Err(_) => None,
+    }
+}
+
+/// Returns through how many frames a plan steps both sides.
 fn count_frames(alloc: Global, plan: &[u8]) -> Option<u64> {
     let job = talking_job(alloc)?;
-    let plan = read_plan(alloc, plan).ok()?;
-    let stamps = play_job(alloc, &job, &plan).ok()??;
-    Some(stamps.saturating_add(FRAME_STAMPS) / (2 * FRAME_STAMPS))
+    count_frames_of(alloc, &job, plan)
 }
 
 /// Prints a plan's count.

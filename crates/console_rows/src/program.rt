@@ -31,8 +31,6 @@ pub mod answer;
 mod compare;
 mod disk;
 mod files;
-mod follow;
+pub mod follow;
 pub mod rows;
 mod show;
-
-pub use follow::follow;

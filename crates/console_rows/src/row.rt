@@ -1,9 +1,10 @@
 //! Follows the lines of a file of rows.
 
 use crate::cartridge::Cartridge;
-use crate::picture::show_picture;
+use crate::picture::show_frame;
 use crate::run::{Run, Show};
-use snes_defs::Job;
+use console_machine::ConsoleSide;
+use snes_defs::{Job, Region};
 use std::alloc::Global;
 use std::io;
 use std::str::SplitWhitespace;
@@ -46,6 +47,12 @@ fn frame_of(line: &str) -> Option<u64> {
     line.strip_prefix("picture ")?.parse().ok()
 }
 
+/// Puts a copy of a cartridge in the place of another, if there is one.
+fn set(cartridge: &mut Cartridge, copy: Option<Cartridge>) -> Option<()> {
+    *cartridge = copy?;
+    Some(())
+}
+
 /// Prints a line that is invalid.
 fn name_line(rt: &impl Print, line: &str) -> io::Result<()> {
     println!(rt; "no line of a row: {line}")
@@ -73,14 +80,8 @@ impl Row {
             b"set" => self.cartridge.set(words),
             b"line" => self.cartridge.wait(words),
             b"put" => self.cartridge.put(words),
-            b"keep" => {
-                self.kept = self.cartridge.copied(alloc)?;
-                Some(())
-            }
-            b"kept" => {
-                self.cartridge = self.kept.copied(alloc)?;
-                Some(())
-            }
+            b"keep" => set(&mut self.kept, self.cartridge.copied(alloc)),
+            b"kept" => set(&mut self.cartridge, self.kept.copied(alloc)),
             b"torn" => {
                 self.is_torn = true;
                 Some(())
@@ -89,14 +90,28 @@ impl Row {
         }
     }
 
-    /// Runs the row as a line asks for.
-    fn run(&self, rt: &impl Print, job: &Job, alloc: Global, line: &str) -> io::Result<()> {
+    /// Runs the row's console as a line asks for.
+    fn show(
+        &self,
+        rt: &impl Print,
+        side: &mut ConsoleSide,
+        region: Region,
+        line: &str,
+    ) -> io::Result<()> {
         if let Some((show, from, to)) = shown(line) {
-            return Run::new(show, from, to, self.is_torn).acts(rt, alloc, job);
+            return Run::new(show, from, to, self.is_torn).show_acts(rt, side, region);
         }
         match frame_of(line) {
-            Some(frame) => show_picture(rt, alloc, job, frame),
+            Some(frame) => show_frame(rt, side, frame),
             None => name_line(rt, line),
+        }
+    }
+
+    /// Makes the row's console, and runs it as a line asks for.
+    fn run(&self, rt: &impl Print, job: &Job, alloc: Global, line: &str) -> io::Result<()> {
+        match ConsoleSide::new(alloc, job) {
+            Ok(mut side) => self.show(rt, &mut side, job.region, line),
+            Err(_) => println!(rt; "no memory"),
         }
     }
 

@@ -2,8 +2,7 @@
 
 use console_machine::ConsoleSide;
 use side_law::Machine;
-use snes_defs::{Act, Job, Region};
-use std::alloc::Global;
+use snes_defs::{Act, Region};
 use std::io;
 
 /// Master clocks of a line, and lines of a frame in NTSC and in PAL.
@@ -130,8 +129,8 @@ impl Run {
         }
     }
 
-    /// Takes the steps of a console of a job's region, and prints its acts.
-    fn show_acts(
+    /// Takes the steps of a console of a region, and prints its acts.
+    pub fn show_acts(
         &mut self,
         rt: &impl Print,
         side: &mut ConsoleSide,
@@ -162,13 +161,5 @@ impl Run {
             println!(rt; "")?;
         }
         Ok(())
-    }
-
-    /// Takes the steps of a job, and prints its acts.
-    pub fn acts(&mut self, rt: &impl Print, alloc: Global, job: &Job) -> io::Result<()> {
-        match ConsoleSide::new(alloc, job) {
-            Ok(mut side) => self.show_acts(rt, &mut side, job.region),
-            Err(_) => println!(rt; "no memory"),
-        }
     }
 }

@@ -1,6 +1,6 @@
 // Runs rows over real files.
 use crate::program::answer::answer;
-use crate::program::rows::{Outcome, Rows, performed, words_of};
+use crate::program::rows::{NO_ROW, Outcome, Rows, words_of};
 use file_shelf::FileShelf;
 use port_wire::OpenGate;
 use run_io::Argv;
@@ -104,18 +104,16 @@ fn answer_between<R: AllocGlobal + Threads + Print + Files>(
     clear(rt, rows, words, row)
 }
 
-/// Runs `disk WORDS`: a row over real files in the current folder, which holds none of them before and after. Prints
-/// the line, the exit status, and if that is 0, whether the outputs are those of the same row in memory.
+/// Runs a row over real files in the current folder, which holds none of them before and after. Prints the line, the
+/// exit status, and if that is 0, whether the outputs are those of the same row in memory.
 pub fn disk<R: AllocGlobal + Threads + Print + Files>(
     rt: &R,
     rows: &Rows,
     words: &str,
+    row: &Outcome,
 ) -> io::Result<()> {
-    let Some(argv) = words_of(rt.alloc(), words) else {
-        return println!(rt; "  no memory, or no row");
-    };
-    match performed(rt, rows, words, None) {
-        Some(row) => answer_between(rt, rows, words, &argv, &row),
-        None => println!(rt; "  no memory, or no row"),
+    match words_of(rt.alloc(), words) {
+        Some(argv) => answer_between(rt, rows, words, &argv, row),
+        None => println!(rt; "  {NO_ROW}"),
     }
 }

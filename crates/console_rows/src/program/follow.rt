@@ -1,6 +1,6 @@
 use crate::program::compare::{are_alike, is_begun, is_same};
 use crate::program::disk::disk;
-use crate::program::rows::{Failure, Outcome, Rows, performed, performed_through};
+use crate::program::rows::{Failure, NO_ROW, Outcome, Rows, performed, performed_through};
 use crate::program::show::{Detail, show_answer, show_outputs};
 use memory_shelves::ShelfCall;
 use port_wire::Gate;
@@ -14,9 +14,6 @@ use turn_watch::{Counts, Watch};
 
 /// More puts than any row makes whose puts fail in turn.
 const MOST_PUTS: u32 = 2000;
-
-/// What is printed of a row whose line is invalid, or for which allocation failed.
-const NO_ROW: &str = "  no memory, or no row";
 
 /// Keeps an output that was made, as a file for later rows.
 fn keep(rows: &mut Rows, outcome: &Outcome, out: Out) -> Option<()> {
@@ -33,31 +30,17 @@ fn keep_made(rows: &mut Rows, outcome: &Outcome) -> Option<()> {
     keep(rows, outcome, Out::Spc)
 }
 
-/// Runs a row, and prints the status and all that was written.
-fn row<R: AllocGlobal + Threads + Print>(rt: &R, rows: &mut Rows, words: &str) -> io::Result<()> {
-    match performed(rt, rows, words, None) {
-        Some(outcome) => show_row(rt, rows, &outcome),
-        None => println!(rt; "{NO_ROW}"),
-    }
-}
-
+/// Prints the status of a row and all that was written.
 fn show_row<R: Print>(rt: &R, rows: &mut Rows, outcome: &Outcome) -> io::Result<()> {
     show_answer(rt, outcome)?;
     show_outputs(rt, outcome, Detail::Bytes)?;
     match keep_made(rows, outcome) {
         Some(()) => Ok(()),
-        None => println!(rt; "{NO_ROW}"),
+        None => println!(rt; "  {NO_ROW}"),
     }
 }
 
-/// Runs a row whose line has two numbers that are not known from outside, and prints the line up to them.
-fn opening<R: AllocGlobal + Threads + Print>(rt: &R, rows: &Rows, words: &str) -> io::Result<()> {
-    match performed(rt, rows, words, None) {
-        Some(outcome) => show_opening(rt, &outcome),
-        None => println!(rt; "{NO_ROW}"),
-    }
-}
-
+/// Prints the line of a row up to its two sums, which are not known from outside.
 fn show_opening<R: Print>(rt: &R, outcome: &Outcome) -> io::Result<()> {
     let exit = outcome.status.exit();
     let said = str::from_utf8(outcome.shelf.written(Out::Say)).unwrap_or("");
@@ -99,26 +82,28 @@ fn show_workers<R: Print + Eprint>(rt: &R, command: &str, counts: Counts) -> io:
         "{command}: {} turns, {} on two threads, {} overlapped",
         counts.turns, counts.on_two_threads, counts.overlapped
     );
-    if counts.turns == 0 {
-        println!(rt; "  {command}: no turn")
+    let told = if counts.turns == 0 {
+        "no turn"
     } else if !counts.all_on_two_threads() {
-        println!(rt; "  {command}: a turn in one thread")
+        "a turn in one thread"
     } else if !counts.overlaps() {
-        println!(rt; "  {command}: two threads in every turn, whose legs never overlap")
+        "two threads in every turn, whose legs never overlap"
     } else {
-        println!(rt; "  {command}: two threads in every turn")
-    }
+        "two threads in every turn"
+    };
+    println!(rt; "  {command}: {told}")
 }
 
 /// Prints whether `serial` and `lockless` left the same as `run`.
 fn show_alike<R: Print>(rt: &R, serially: Option<bool>, lockless: Option<bool>) -> io::Result<()> {
-    match (serially, lockless) {
-        (Some(true), Some(true)) => println!(rt; "  run, serial and lockless alike"),
-        (Some(true), Some(false)) => println!(rt; "  run and lockless differ"),
-        (Some(false), Some(true)) => println!(rt; "  run and serial differ"),
-        (Some(false), Some(false)) => println!(rt; "  run, serial and lockless differ"),
-        _ => println!(rt; "{NO_ROW}"),
-    }
+    let told = match (serially, lockless) {
+        (Some(true), Some(true)) => "run, serial and lockless alike",
+        (Some(true), Some(false)) => "run and lockless differ",
+        (Some(false), Some(true)) => "run and serial differ",
+        (Some(false), Some(false)) => "run, serial and lockless differ",
+        _ => NO_ROW,
+    };
+    println!(rt; "  {told}")
 }
 
 /// Runs a row by `run`, by `serial` and by `lockless`. Prints what `run` left, whether each of the others left the
@@ -134,7 +119,7 @@ fn both<R: AllocGlobal + Threads + Files + Sync + Print + Eprint>(
     watch.begin();
     match run_by(rt, gate, rows, "run", words) {
         Some(outcome) => show_both(rt, watch, gate, rows, words, detail, &outcome),
-        None => println!(rt; "{NO_ROW}"),
+        None => println!(rt; "  {NO_ROW}"),
     }
 }
 
@@ -223,7 +208,7 @@ fn fail_put<R: AllocGlobal + Threads + Print>(
     match performed(rt, rows, words, Some(here)) {
         Some(part) => count(rt, nth, &part, whole, puts),
         None => {
-            println!(rt; "{NO_ROW}")?;
+            println!(rt; "  {NO_ROW}")?;
             Ok(false)
         }
     }
@@ -252,27 +237,8 @@ fn fail_each<R: AllocGlobal + Threads + Print>(
     )
 }
 
-/// Runs a row whose puts fail in turn.
-fn each<R: AllocGlobal + Threads + Print>(rt: &R, rows: &Rows, words: &str) -> io::Result<()> {
-    match performed(rt, rows, words, None) {
-        Some(whole) => fail_each(rt, rows, words, &whole),
-        None => println!(rt; "{NO_ROW}"),
-    }
-}
-
-/// Runs a row of which some put fails, and prints the status. Prints too whether it left a prefix of what the row
-/// leaves without a failure, with at least a byte of the output that failed. How long depends on where the two workers
-/// met.
-fn part<R: AllocGlobal + Threads + Print>(rt: &R, rows: &mut Rows, words: &str) -> io::Result<()> {
-    let part = performed(rt, rows, words, None);
-    rows.mend();
-    match part {
-        Some(part) => beside(rt, rows, words, &part),
-        None => println!(rt; "{NO_ROW}"),
-    }
-}
-
-/// Compares what a row with a failed put left with what it leaves without a failure, and prints the result.
+/// Prints the status of a row of which some put failed. Prints too whether it left a prefix of what the row leaves
+/// without a failure, with at least a byte of the output that failed. How long depends on where the two workers met.
 fn beside<R: AllocGlobal + Threads + Print>(
     rt: &R,
     rows: &Rows,
@@ -281,7 +247,7 @@ fn beside<R: AllocGlobal + Threads + Print>(
 ) -> io::Result<()> {
     match performed(rt, rows, words, None) {
         Some(whole) => show_part(rt, part, &whole),
-        None => println!(rt; "{NO_ROW}"),
+        None => println!(rt; "  {NO_ROW}"),
     }
 }
 
@@ -291,19 +257,20 @@ fn show_part<R: Print>(rt: &R, part: &Outcome, whole: &Outcome) -> io::Result<()
         Status::WriteFault(out) => part.shelf.written(out).len(),
         _ => 0,
     };
-    if left == 0 {
-        println!(rt; "  no bytes are left")
+    let bytes = if left == 0 {
+        "no"
     } else if is_begun(part, whole) {
-        println!(rt; "  first bytes are left")
+        "first"
     } else {
-        println!(rt; "  other bytes are left")
-    }
+        "other"
+    };
+    println!(rt; "  {bytes} bytes are left")
 }
 
 /// Runs `look NAME`: prints the length of a file, and its bytes at 8000 and at its end.
 fn look<R: Print>(rt: &R, rows: &Rows, name: &str) -> io::Result<()> {
     let Some(bytes) = rows.files.find(name) else {
-        return println!(rt; "{NO_ROW}");
+        return println!(rt; "  {NO_ROW}");
     };
     match bytes.get(0x8000) {
         Some(byte) => println!(rt; "  {} bytes, that at 8000 is {byte:02x}", bytes.len()),
@@ -311,29 +278,75 @@ fn look<R: Print>(rt: &R, rows: &Rows, name: &str) -> io::Result<()> {
     }
 }
 
+/// What is printed of a row that is run once.
+#[derive(Clone, Copy)]
+enum Shown {
+    /// The status and all that was written.
+    Whole,
+    /// The line up to its sums.
+    Opening,
+    /// What is left if each put fails in turn.
+    Each,
+    /// What the planned failure of a put left.
+    Part,
+    /// Whether real files come to hold the same.
+    Disk,
+}
+
+/// Prints what a line asks for of a row that was run. It is lent here, so that one function drops it.
+fn show_as_asked<R: AllocGlobal + Threads + Print + Files>(
+    rt: &R,
+    rows: &mut Rows,
+    shown: Shown,
+    words: &str,
+    outcome: &Outcome,
+) -> io::Result<()> {
+    match shown {
+        Shown::Whole => show_row(rt, rows, outcome),
+        Shown::Opening => show_opening(rt, outcome),
+        Shown::Each => fail_each(rt, rows, words, outcome),
+        Shown::Part => {
+            rows.mend();
+            beside(rt, rows, words, outcome)
+        }
+        Shown::Disk => disk(rt, rows, words, outcome),
+    }
+}
+
+/// Runs a row once, and prints what a line asks for.
+fn run_row<R: AllocGlobal + Threads + Print + Files>(
+    rt: &R,
+    rows: &mut Rows,
+    shown: Shown,
+    words: &str,
+) -> io::Result<()> {
+    match performed(rt, rows, words, None) {
+        Some(outcome) => show_as_asked(rt, rows, shown, words, &outcome),
+        None => println!(rt; "  {NO_ROW}"),
+    }
+}
+
 /// The kinds of lines that run something.
 #[derive(Clone, Copy)]
 enum Kind {
-    Row,
-    Opening,
-    Both,
-    Alike,
-    Each,
-    Part,
-    Disk,
+    /// A row is run once.
+    Row(Shown),
+    /// A row is run by `run`, `serial` and `lockless`, and this much is printed of its outputs.
+    Both(Detail),
+    /// A file is looked at.
     Look,
 }
 
 /// Returns the kind of a line by its first word.
 fn kind_of(word: &str) -> Option<Kind> {
     Some(match word.as_bytes() {
-        b"$" => Kind::Row,
-        b"opening" => Kind::Opening,
-        b"both" => Kind::Both,
-        b"alike" => Kind::Alike,
-        b"each" => Kind::Each,
-        b"part" => Kind::Part,
-        b"disk" => Kind::Disk,
+        b"$" => Kind::Row(Shown::Whole),
+        b"opening" => Kind::Row(Shown::Opening),
+        b"both" => Kind::Both(Detail::Bytes),
+        b"alike" => Kind::Both(Detail::Length),
+        b"each" => Kind::Row(Shown::Each),
+        b"part" => Kind::Row(Shown::Part),
+        b"disk" => Kind::Row(Shown::Disk),
         b"look" => Kind::Look,
         _ => return None,
     })
@@ -349,13 +362,8 @@ fn run<R: AllocGlobal + Threads + Print + Eprint + Files + Sync>(
     words: &str,
 ) -> io::Result<()> {
     let done = match kind {
-        Kind::Row => row(rt, rows, words),
-        Kind::Opening => opening(rt, rows, words),
-        Kind::Both => both(rt, watch, gate, rows, words, Detail::Bytes),
-        Kind::Alike => both(rt, watch, gate, rows, words, Detail::Length),
-        Kind::Each => each(rt, rows, words),
-        Kind::Part => part(rt, rows, words),
-        Kind::Disk => disk(rt, rows, words),
+        Kind::Row(shown) => run_row(rt, rows, shown, words),
+        Kind::Both(detail) => both(rt, watch, gate, rows, words, detail),
         Kind::Look => look(rt, rows, words),
     };
     rows.mend();

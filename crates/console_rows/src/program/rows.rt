@@ -9,6 +9,9 @@ use std::alloc::Global;
 use std::str;
 use std::thread::Threads;
 
+/// What is printed of a row whose line is invalid, or for which allocation failed.
+pub const NO_ROW: &str = "no memory, or no row";
+
 /// A planned failure: the nth call of this kind fails.
 #[derive(Clone, Copy)]
 pub struct Failure {
