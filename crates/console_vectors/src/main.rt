@@ -3,8 +3,9 @@
 //! (`games`), until the word `jobs`.
 //!
 //! Each job is run by the serial console's loop, and by turns of two workers over either wire. The jobs are external
-//! test vectors: two other programs agreed on them. The program uses `console_machine`, `audio_side` and `run_drive`,
-//! and `job_player` for the run by turns. It names each job that differs, and prints last how many jobs there were.
+//! test vectors: two other programs agreed on them. The program uses `job_player` for both runs,
+//! and `console_machine` and `audio_side` for the first steps. It names each job that differs, and prints last how many
+//! jobs there were.
 //! Those of `data/differing.txt` are wrong in one thing each, and must differ. Those of `data/turns.txt` are computed
 //! by hand: sixty red frames, and two processors that pass bytes through the ports.
 //!

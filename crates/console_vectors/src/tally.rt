@@ -88,11 +88,10 @@ fn agrees_with(alloc: Global, job: &Job, marks: &mut Marks) -> Option<bool> {
     Some(marks.agree())
 }
 
-/// Whether each frame of a job agrees by the serial console; `None` if it is not a valid job.
-fn agrees(alloc: Global, case: &Case) -> Option<bool> {
+/// Whether each frame of a case's job agrees by the serial console; `None` if it can't be played.
+fn agrees(alloc: Global, case: &Case, job: &Job) -> Option<bool> {
     let mut marks = case.marks(alloc)?;
-    let job = case.job(alloc)?;
-    agrees_with(alloc, &job, &mut marks)
+    agrees_with(alloc, job, &mut marks)
 }
 
 /// Records a job's first steps, and returns the number of their hashes, and how many agree.
@@ -111,24 +110,28 @@ fn count_steps(
     ))
 }
 
-/// Returns the number of hashes of a job's first steps, and how many agree.
-fn steps_that_agree(alloc: Global, case: &Case) -> Option<(usize, usize)> {
+/// Returns the number of hashes of the first steps of a case's job, and how many agree.
+fn steps_that_agree(alloc: Global, case: &Case, job: &Job) -> Option<(usize, usize)> {
     let (mut console, mut sound) = case.records(alloc)?;
-    let job = case.job(alloc)?;
-    count_steps(alloc, &job, &mut console, &mut sound)
+    count_steps(alloc, job, &mut console, &mut sound)
 }
 
-/// Compares the first steps of a job, and names it if one of their hashes differs.
-fn compare_steps<R: AllocGlobal + Print>(rt: &R, case: &Case, tally: &mut Tally) -> io::Result<()> {
-    let job = tally.jobs;
-    let Some((beginnings, agree)) = steps_that_agree(rt.alloc(), case) else {
-        return println!(rt; "job {job} makes too few steps");
+/// Compares the first steps of a case's job, and names it if one of their hashes differs.
+fn compare_steps<R: AllocGlobal + Print>(
+    rt: &R,
+    case: &Case,
+    job: &Job,
+    tally: &mut Tally,
+) -> io::Result<()> {
+    let number = tally.jobs;
+    let Some((beginnings, agree)) = steps_that_agree(rt.alloc(), case, job) else {
+        return println!(rt; "job {number} makes too few steps");
     };
     tally.beginnings = tally.beginnings.saturating_add(beginnings);
     if agree != beginnings {
         let different = beginnings.saturating_sub(agree);
         tally.beginnings_different = tally.beginnings_different.saturating_add(different);
-        println!(rt; "job {job} has other steps")?;
+        println!(rt; "job {number} has other steps")?;
     }
     Ok(())
 }
@@ -152,18 +155,18 @@ fn turns_told(counts: Counts, turns: Option<u64>, most: u64, marks: &Marks) -> O
     })
 }
 
-/// Runs a job by turns over a wire; `None` if it is not a valid job. The watch is the gate too.
+/// Runs a case's job by turns over a wire; `None` if it can't be played. The watch is the gate too.
 fn by_turns<R: AllocGlobal + Threads + Files>(
     rt: &R,
     watch: &Watch<'_, R>,
     gate: &dyn Gate,
     case: &Case,
+    job: &Job,
     carrier: Carrier,
 ) -> Option<ByTurns> {
     let mut marks = case.marks(rt.alloc())?;
-    let job = case.job(rt.alloc())?;
     watch.begin();
-    let turns = play_on_two(rt, &job, carrier, gate, &mut marks);
+    let turns = play_on_two(rt, job, carrier, gate, &mut marks);
     turns_told(watch.counts(), turns, case.turns, &marks)
 }
 
@@ -178,17 +181,18 @@ struct Found {
     lockless: ByTurns,
 }
 
-/// Plays a job each way; `None` if it is not a valid job.
+/// Plays a case's job each way; `None` if it can't be played.
 fn play_each_way<R: AllocGlobal + Threads + Files>(
     rt: &R,
     watch: &Watch<'_, R>,
     gate: &dyn Gate,
     case: &Case,
+    job: &Job,
 ) -> Option<Found> {
     Some(Found {
-        agrees: agrees(rt.alloc(), case)?,
-        locked: by_turns(rt, watch, gate, case, Carrier::Lock)?,
-        lockless: by_turns(rt, watch, gate, case, Carrier::Words)?,
+        agrees: agrees(rt.alloc(), case, job)?,
+        locked: by_turns(rt, watch, gate, case, job, Carrier::Lock)?,
+        lockless: by_turns(rt, watch, gate, case, job, Carrier::Words)?,
     })
 }
 
@@ -221,7 +225,30 @@ fn tell_differences<R: Print>(rt: &R, found: Found, tally: &mut Tally) -> io::Re
     Ok(())
 }
 
-/// Compares a job each way, counts it, and names what is wrong.
+/// Compares a case's job each way, and names what is wrong.
+fn compare_job<R: AllocGlobal + Threads + Files + Print>(
+    rt: &R,
+    watch: &Watch<'_, R>,
+    gate: &dyn Gate,
+    case: &Case,
+    job: &Job,
+    tally: &mut Tally,
+) -> io::Result<()> {
+    let Some(found) = play_each_way(rt, watch, gate, case, job) else {
+        return name_no_job(rt, tally.jobs);
+    };
+    tell_differences(rt, found, tally)?;
+    tally.locked.count(found.locked.counts);
+    tally.lockless.count(found.lockless.counts);
+    compare_steps(rt, case, job, tally)
+}
+
+/// Prints that a job is not valid, or can't be played.
+fn name_no_job(rt: &impl Print, number: u64) -> io::Result<()> {
+    println!(rt; "job {number} is none")
+}
+
+/// Compares the job of a case each way, counts it, and names what is wrong.
 pub fn compare<R: AllocGlobal + Threads + Files + Print>(
     rt: &R,
     watch: &Watch<'_, R>,
@@ -230,12 +257,8 @@ pub fn compare<R: AllocGlobal + Threads + Files + Print>(
     tally: &mut Tally,
 ) -> io::Result<()> {
     tally.jobs = tally.jobs.saturating_add(1);
-    let Some(found) = play_each_way(rt, watch, gate, case) else {
-        let job = tally.jobs;
-        return println!(rt; "job {job} is none");
-    };
-    tell_differences(rt, found, tally)?;
-    tally.locked.count(found.locked.counts);
-    tally.lockless.count(found.lockless.counts);
-    compare_steps(rt, case, tally)
+    match case.job(rt.alloc()) {
+        Some(job) => compare_job(rt, watch, gate, case, &job, tally),
+        None => name_no_job(rt, tally.jobs),
+    }
 }

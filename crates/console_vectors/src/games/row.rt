@@ -96,6 +96,18 @@ fn play<R: AllocGlobal + Threads>(rt: &R, job: &Job, by: By, film: &mut Film) ->
     }
 }
 
+/// Plays a row.
+fn play_row<R: AllocGlobal + Threads>(
+    rt: &R,
+    row: &Row,
+    by: By,
+    frames: u32,
+    film: &mut Film,
+) -> Option<()> {
+    let job = job_of(rt.alloc(), row, frames)?;
+    play(rt, &job, by, film)
+}
+
 /// Plays a row, and returns the hashes of its sound and of the wanted frames.
 fn film_of<R: AllocGlobal + Threads>(
     rt: &R,
@@ -105,8 +117,7 @@ fn film_of<R: AllocGlobal + Threads>(
     wanted: Vec<bool>,
 ) -> Option<Film> {
     let mut film = Film::new(rt.alloc(), wanted).ok()?;
-    let job = job_of(rt.alloc(), row, frames)?;
-    play(rt, &job, by, &mut film)?;
+    play_row(rt, row, by, frames, &mut film)?;
     Some(film)
 }
 
