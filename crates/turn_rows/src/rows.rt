@@ -204,7 +204,6 @@ fn the_ring_goes_round_twice(rt: HostRuntime) -> Result<(), Fail> {
         Manner::Bare,
     )?
     .sums;
-    assert_eq!(rt; serial.sound.count, 5000);
-    assert_eq!(rt; turns, serial);
+    assert_eq!(rt; (serial.sound.count, turns), (5000, serial));
     Ok(())
 }

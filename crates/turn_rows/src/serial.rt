@@ -26,9 +26,9 @@ fn sound_reads_what_is_written_at_its_stamp(rt: HostRuntime) -> Result<(), Fail>
     assert_eq!(rt; serial.turn(), Side::Console);
     assert_eq!(rt; serial.turn(), Side::Sound);
     let mut bytes = [0; 4];
-    assert_eq!(rt; serial.sound().drain(&mut bytes), 1);
-    assert_eq!(rt; bytes[0], 7);
-    assert_eq!(rt; serial.console().pending(), 0);
+    let drained = serial.sound().drain(&mut bytes);
+    let pending = serial.console().pending();
+    assert_eq!(rt; (drained, bytes[0], pending), (1, 7, 0));
     Ok(())
 }
 
@@ -40,9 +40,9 @@ fn console_does_not_read_what_is_written_at_its_stamp(rt: HostRuntime) -> Result
     assert_eq!(rt; serial.turn(), Side::Console);
     assert_eq!(rt; serial.turn(), Side::Sound);
     let mut bytes = [9; 4];
-    assert_eq!(rt; serial.console().drain(&mut bytes), 1);
-    assert_eq!(rt; bytes[0], 0);
-    assert_eq!(rt; serial.sound().pending(), 0);
+    let drained = serial.console().drain(&mut bytes);
+    let pending = serial.sound().pending();
+    assert_eq!(rt; (drained, bytes[0], pending), (1, 0, 0));
     Ok(())
 }
 
@@ -54,7 +54,7 @@ fn sound_reads_what_is_written_at_its_stamp_in_pal(rt: HostRuntime) -> Result<()
     assert_eq!(rt; serial.turn(), Side::Console);
     assert_eq!(rt; serial.turn(), Side::Sound);
     let mut bytes = [0; 4];
-    assert_eq!(rt; serial.sound().drain(&mut bytes), 1);
-    assert_eq!(rt; bytes[0], 7);
+    let drained = serial.sound().drain(&mut bytes);
+    assert_eq!(rt; (drained, bytes[0]), (1, 7));
     Ok(())
 }
