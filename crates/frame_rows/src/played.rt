@@ -6,6 +6,23 @@ use frame_player::{FrameEnd, Frames};
 use snes_defs::Region;
 use std::alloc::Global;
 
+/// What is done to a console, with what it has to give.
+#[derive(Clone, Copy)]
+pub enum Step {
+    /// Frames with a pad of controller 1: the first dot of the last picture.
+    Dot(u32, u16, Result<u16, FrameEnd>),
+    /// A frame with a pad, into rooms of so many bytes for picture and samples.
+    Into(u16, usize, usize, Result<(), FrameEnd>),
+    /// The number of samples of all frames.
+    Samples(usize),
+    /// The state is stored in a slot, if there is one.
+    Keep(u32, bool),
+    /// The state of a slot is taken back, if there is one.
+    Back(u32, bool),
+    /// The reset button is pressed, if it can be.
+    Reset(bool),
+}
+
 /// A console of the door, and rooms for a frame.
 #[derive(Drop)]
 pub struct Played {
@@ -91,5 +108,32 @@ impl Played {
         ensures { IsConsole self.new }
     {
         self.console.reset()
+    }
+
+    /// Takes a step, and returns whether it gives what it has to.
+    fn gives(&mut self, step: Step) -> bool
+        requires { IsConsole self.old }
+        ensures { IsConsole self.new }
+    {
+        match step {
+            Step::Dot(frames, pad, wanted) => self.dot_after(frames, pad) == wanted,
+            Step::Into(pad, video, sound, wanted) => self.play_into(pad, video, sound) == wanted,
+            Step::Samples(wanted) => self.samples == wanted,
+            Step::Keep(slot, wanted) => self.keep(slot) == wanted,
+            Step::Back(slot, wanted) => self.back(slot) == wanted,
+            Step::Reset(wanted) => self.reset() == wanted,
+        }
+    }
+
+    /// Takes steps up to the first that gives something else, and returns its number.
+    pub fn first_wrong(&mut self, steps: &[Step]) -> Option<usize>
+        requires { IsConsole self.old }
+    {
+        for (k, step) in steps.iter().enumerate() {
+            if !self.gives(*step) {
+                return Some(k);
+            }
+        }
+        None
     }
 }

@@ -96,11 +96,8 @@ fn job(alloc: Global, boot: [u8; 64], region: Region, with_reset: bool) -> io::R
     })
 }
 
-/// Runs a job for the given number of steps, and prints the acts among them.
-fn run(rt: &impl Print, alloc: Global, job: &Job, steps: u64) -> io::Result<()> {
-    let Ok(mut side) = AudioSide::new(alloc, job) else {
-        return println!(rt; "no memory");
-    };
+/// Runs a sound side for the given number of steps, and prints the acts among them.
+fn run(rt: &impl Print, side: &mut AudioSide, steps: u64) -> io::Result<()> {
     let mut bytes = [0u8; 256];
     for cycle in 0..steps {
         match side.act() {
@@ -120,16 +117,21 @@ fn run(rt: &impl Print, alloc: Global, job: &Job, steps: u64) -> io::Result<()> 
     Ok(())
 }
 
+/// Runs a job for the given number of steps, and prints the acts among them.
+fn show_acts(rt: &impl Print, alloc: Global, job: &Job, steps: u64) -> io::Result<()> {
+    let Ok(mut side) = AudioSide::new(alloc, job) else {
+        return println!(rt; "no memory");
+    };
+    run(rt, &mut side, steps)
+}
+
 /// Returns the number of two bytes, low byte first.
 fn number(low: u8, high: u8) -> i16 {
     (low as u16 + 256 * high as u16).cast_signed()
 }
 
-/// Prints the first ten samples of a job.
-fn listen(rt: &impl Print, alloc: Global, job: &Job) -> io::Result<()> {
-    let Ok(mut side) = AudioSide::new(alloc, job) else {
-        return println!(rt; "no memory");
-    };
+/// Prints the first ten samples of a sound side.
+fn listen(rt: &impl Print, side: &mut AudioSide) -> io::Result<()> {
     let mut bytes = [0u8; 4];
     for cycle in 0..320u64 {
         if !side.ready() || side.stamp() > 1 << 62 {
@@ -145,32 +147,48 @@ fn listen(rt: &impl Print, alloc: Global, job: &Job) -> io::Result<()> {
     Ok(())
 }
 
+/// Prints the first ten samples of a job.
+fn show_samples(rt: &impl Print, alloc: Global, job: &Job) -> io::Result<()> {
+    let Ok(mut side) = AudioSide::new(alloc, job) else {
+        return println!(rt; "no memory");
+    };
+    listen(rt, &mut side)
+}
+
+/// Runs a program in place of the boot ROM, and prints its acts.
+fn show_program(rt: &impl Print, alloc: Global, program: &[u8], steps: u64) -> io::Result<()> {
+    let job = job(alloc, boot_rom(program), Region::Ntsc, false)?;
+    show_acts(rt, alloc, &job, steps)
+}
+
+/// Runs a job that stops, and whose reset button is pressed in frame 1.
+fn show_reset(rt: &impl Print, alloc: Global, region: Region, steps: u64) -> io::Result<()> {
+    let job = job(alloc, boot_rom(&[0xFF]), region, true)?;
+    show_acts(rt, alloc, &job, steps)
+}
+
+/// Plays a program of a block in a profile.
+fn show_block(rt: &impl Print, alloc: Global, program: &[u8], profile: Profile) -> io::Result<()> {
+    let mut job = job(alloc, boot_rom(program), Region::Ntsc, false)?;
+    job.table = newest_alone();
+    job.script = Spans::versioned(Vec::new(alloc), Region::Ntsc, profile, Vec::new(alloc));
+    show_samples(rt, alloc, &job)
+}
+
 fn main(rt: HostRuntime) -> io::Result<()> {
     let alloc = rt.alloc();
     println!(rt; "timer")?;
-    let timer = job(alloc, boot_rom(&TIMER_PROGRAM), Region::Ntsc, false)?;
-    run(&rt, alloc, &timer, 1000)?;
+    show_program(&rt, alloc, &TIMER_PROGRAM, 1000)?;
     println!(rt; "reset, Ntsc")?;
-    let ntsc = job(alloc, boot_rom(&[0xFF]), Region::Ntsc, true)?;
-    run(&rt, alloc, &ntsc, 40000)?;
+    show_reset(&rt, alloc, Region::Ntsc, 40000)?;
     println!(rt; "reset, Pal")?;
-    let pal = job(alloc, boot_rom(&[0xFF]), Region::Pal, true)?;
-    run(&rt, alloc, &pal, 50000)?;
+    show_reset(&rt, alloc, Region::Pal, 50000)?;
     println!(rt; "block")?;
-    let mut block = job(alloc, boot_rom(&BLOCK_PROGRAM), Region::Ntsc, false)?;
-    block.table = newest_alone();
-    listen(&rt, alloc, &block)?;
+    show_block(&rt, alloc, &BLOCK_PROGRAM, Profile::First)?;
     profiles::show(&rt, alloc)?;
     println!(rt; "the block with the end, first profile")?;
-    block.boot = boot_rom(&ended_block());
-    listen(&rt, alloc, &block)?;
+    show_block(&rt, alloc, &ended_block(), Profile::First)?;
     println!(rt; "the block with the end, second profile")?;
-    block.script = Spans::versioned(
-        Vec::new(alloc),
-        Region::Ntsc,
-        Profile::Second,
-        Vec::new(alloc),
-    );
-    listen(&rt, alloc, &block)?;
+    show_block(&rt, alloc, &ended_block(), Profile::Second)?;
     upload::show(&rt, alloc)
 }

@@ -237,41 +237,57 @@ fn start(alloc: Global) -> io::Result<Option<AudioSide>> {
     Ok(AudioSide::new(alloc, &job).ok())
 }
 
+/// Sends the blocks of a row to a sound side at its start, and prints what comes of it.
+fn show_upload(
+    rt: &impl Print,
+    side: &mut AudioSide,
+    upload: &Upload,
+    wanted: &[u8],
+) -> io::Result<()> {
+    let mut sender = Sender::new(upload.manner);
+    match send(side, &mut sender, upload) {
+        Err(missing) => show_missing(rt, &missing),
+        Ok(()) => show_start(rt, side, &mut sender, upload.start, wanted),
+    }
+}
+
 /// Runs a row: an upload from reset on.
 fn row(rt: &impl Print, alloc: Global, upload: &Upload) -> io::Result<()> {
     println!(rt; "{}", upload.title)?;
+    let wanted = wanted(alloc, upload.blocks)?;
     let Some(mut side) = start(alloc)? else {
         return println!(rt; "no memory");
     };
-    let mut sender = Sender::new(upload.manner);
-    let wanted = wanted(alloc, upload.blocks)?;
-    match send(&mut side, &mut sender, upload) {
-        Err(missing) => show_missing(rt, &missing),
-        Ok(()) => show_start(rt, &mut side, &mut sender, upload.start, wanted.as_slice()),
+    show_upload(rt, &mut side, upload, wanted.as_slice())
+}
+
+/// Sends a program that leaves the two pages full and jumps back to the boot ROM, and then a byte, to a sound side at
+/// its start. Prints what comes of it.
+fn show_again(rt: &impl Print, side: &mut AudioSide, wanted: &[u8]) -> io::Result<()> {
+    let mut sender = Sender::new(USUAL);
+    for upload in [
+        Upload::usual("", &DIRTY_PROGRAM, 0x0300),
+        Upload::usual("", &ONE_BYTE, 0x0200),
+    ] {
+        if let Err(missing) = send(side, &mut sender, &upload) {
+            return show_missing(rt, &missing);
+        }
     }
+    show_start(rt, side, &mut sender, 0x0200, wanted)
 }
 
 /// Runs a row in which a program leaves the two pages full and jumps back to the boot ROM.
 fn begin_again(rt: &impl Print, alloc: Global) -> io::Result<()> {
     println!(rt; "begun again by a program that left its pages full")?;
-    let Some(mut side) = start(alloc)? else {
-        return println!(rt; "no memory");
-    };
-    let mut sender = Sender::new(USUAL);
-    let first = Upload::usual("", &DIRTY_PROGRAM, 0x0300);
-    let again = Upload::usual("", &ONE_BYTE, 0x0200);
-    if let Err(missing) = send(&mut side, &mut sender, &first) {
-        return show_missing(rt, &missing);
-    }
-    if let Err(missing) = send(&mut side, &mut sender, &again) {
-        return show_missing(rt, &missing);
-    }
     let mut wanted = wanted(alloc, &DIRTY_PROGRAM)?;
     for at in 0x0100..0x0200u16 {
         put(&mut wanted, at, 0xa5);
     }
     put(&mut wanted, 0x0200, 0x5a);
-    show_start(rt, &mut side, &mut sender, 0x0200, wanted.as_slice())
+    let Some(mut side) = start(alloc)? else {
+        return println!(rt; "no memory");
+    };
+    show_again(rt, &mut side, wanted.as_slice())
 }
 
 /// Runs a row in which nothing but the offer happens, for a long time.
