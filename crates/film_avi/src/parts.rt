@@ -64,99 +64,110 @@ impl Layout {
     }
 }
 
-/// Adds the index of parts of a stream: 0 is the picture, 1 the sound.
-fn push_part_index(
-    alloc: Global,
-    out: &mut Vec<u8>,
-    layout: Layout,
-    stream: usize,
-) -> Result<(), AllocError>
+/// Adds the bytes of a stream's index of parts: stream 0 is the picture, 1 the sound.
+fn push_part_index(index: &mut Vec<u8>, layout: Layout, stream: usize) -> Result<(), AllocError>
     requires { stream < 2 }
 {
     let parts = layout.parts();
-    let mut index = Vec::new(alloc);
-    push_little2(&mut index, 4)?;
-    push_little2(&mut index, 0)?;
-    push_little4(&mut index, parts)?;
+    push_little2(index, 4)?;
+    push_little2(index, 0)?;
+    push_little4(index, parts)?;
     index.extend_from_slice(CHUNKS[stream])?;
-    push_little4(&mut index, 0)?;
-    push_little4(&mut index, 0)?;
-    push_little4(&mut index, 0)?;
+    push_little4(index, 0)?;
+    push_little4(index, 0)?;
+    push_little4(index, 0)?;
     for part in 0..ENTRIES {
         if part >= parts {
-            push_part_entry(&mut index, 0, 0, 0)?;
+            push_part_entry(index, 0, 0, 0)?;
             continue;
         }
         let (from, upto) = (layout.from(part), layout.upto(part));
         let size = 32 + 8 * upto.saturating_sub(from) as u64;
         let at = layout.indexes_at(part);
         if stream == 0 {
-            push_part_entry(&mut index, at, size, upto.saturating_sub(from) as u64)?;
+            push_part_entry(index, at, size, upto.saturating_sub(from) as u64)?;
         } else {
             let samples = samples_upto(layout.region, upto).saturating_sub(samples_upto(
                 layout.region,
                 from,
             ));
-            push_part_entry(&mut index, at.saturating_add(size), size, samples)?;
+            push_part_entry(index, at.saturating_add(size), size, samples)?;
         }
     }
-    push_chunk(out, b"indx", index.as_slice())
+    Ok(())
 }
 
-/// The list `strl` of the picture.
-fn picture_list(alloc: Global, layout: Layout) -> Result<Vec<u8>, AllocError> {
-    let mut list = Vec::new(alloc);
+/// Adds the bytes of the picture's list `strl`.
+fn push_picture(alloc: Global, list: &mut Vec<u8>, layout: Layout) -> Result<(), AllocError> {
+    let frames = layout.frames as u64;
     list.extend_from_slice(b"strl")?;
-    let header = picture_bytes(alloc, layout.region, layout.frames as u64)?;
-    push_chunk(&mut list, b"strh", header.as_slice())?;
-    let format = picture_format_bytes(alloc)?;
-    push_chunk(&mut list, b"strf", format.as_slice())?;
-    push_part_index(alloc, &mut list, layout, 0)?;
-    Ok(list)
+    push_chunk(
+        list,
+        b"strh",
+        picture_bytes(alloc, layout.region, frames)?.as_slice(),
+    )?;
+    push_chunk(list, b"strf", picture_format_bytes(alloc)?.as_slice())?;
+    let mut index = Vec::new(alloc);
+    push_part_index(&mut index, layout, 0)?;
+    push_chunk(list, b"indx", index.as_slice())
 }
 
-/// The list `strl` of the sound.
-fn sound_list(alloc: Global, layout: Layout) -> Result<Vec<u8>, AllocError> {
-    let mut list = Vec::new(alloc);
+/// Adds the bytes of the sound's list `strl`.
+fn push_sound(alloc: Global, list: &mut Vec<u8>, layout: Layout) -> Result<(), AllocError> {
+    let samples = samples_upto(layout.region, layout.frames);
     list.extend_from_slice(b"strl")?;
-    let header = sound_bytes(alloc, samples_upto(layout.region, layout.frames))?;
-    push_chunk(&mut list, b"strh", header.as_slice())?;
-    let format = sound_format_bytes(alloc)?;
-    push_chunk(&mut list, b"strf", format.as_slice())?;
-    push_part_index(alloc, &mut list, layout, 1)?;
-    Ok(list)
+    push_chunk(list, b"strh", sound_bytes(alloc, samples)?.as_slice())?;
+    push_chunk(list, b"strf", sound_format_bytes(alloc)?.as_slice())?;
+    let mut index = Vec::new(alloc);
+    push_part_index(&mut index, layout, 1)?;
+    push_chunk(list, b"indx", index.as_slice())
 }
 
-/// The list `odml`: the frames of all parts.
-fn whole_list(alloc: Global, layout: Layout) -> Result<Vec<u8>, AllocError> {
+/// Adds the bytes of the list `odml`: the frames of all parts.
+fn push_whole(alloc: Global, list: &mut Vec<u8>, layout: Layout) -> Result<(), AllocError> {
     let mut whole = Vec::new(alloc);
     push_little4(&mut whole, layout.frames)?;
     whole.resize(248, 0)?;
-    let mut list = Vec::new(alloc);
     list.extend_from_slice(b"odml")?;
-    push_chunk(&mut list, b"dmlh", whole.as_slice())?;
-    Ok(list)
+    push_chunk(list, b"dmlh", whole.as_slice())
+}
+
+/// Adds the bytes of the list `hdrl`, which describes both streams.
+fn push_headers(alloc: Global, headers: &mut Vec<u8>, layout: Layout) -> Result<(), AllocError> {
+    let frames = layout.upto(0) as u64;
+    headers.extend_from_slice(b"hdrl")?;
+    push_chunk(
+        headers,
+        b"avih",
+        main_bytes(alloc, layout.region, frames)?.as_slice(),
+    )?;
+    let mut list = Vec::new(alloc);
+    push_picture(alloc, &mut list, layout)?;
+    push_chunk(headers, b"LIST", list.as_slice())?;
+    list.clear();
+    push_sound(alloc, &mut list, layout)?;
+    push_chunk(headers, b"LIST", list.as_slice())?;
+    list.clear();
+    push_whole(alloc, &mut list, layout)?;
+    push_chunk(headers, b"LIST", list.as_slice())
+}
+
+/// Adds the start of a file.
+fn push_file_head(alloc: Global, out: &mut Vec<u8>, layout: Layout) -> Result<(), AllocError> {
+    let mut headers = Vec::new(alloc);
+    push_headers(alloc, &mut headers, layout)?;
+    push_head(out, b"RIFF", layout.riff_bytes(0))?;
+    out.extend_from_slice(b"AVI ")?;
+    push_chunk(out, b"LIST", headers.as_slice())?;
+    push_head(out, b"LIST", layout.movi_bytes(0))?;
+    out.extend_from_slice(b"movi")
 }
 
 /// The start of a file: the head of its first part, and the description of both streams. It has the same number of
 /// bytes whatever the frames are, so it can be written again once they are counted.
 pub fn file_head(alloc: Global, layout: Layout) -> Result<Vec<u8>, AllocError> {
-    let mut headers = Vec::new(alloc);
-    headers.extend_from_slice(b"hdrl")?;
-    let main = main_bytes(alloc, layout.region, layout.upto(0) as u64)?;
-    push_chunk(&mut headers, b"avih", main.as_slice())?;
-    let picture = picture_list(alloc, layout)?;
-    push_chunk(&mut headers, b"LIST", picture.as_slice())?;
-    let sound = sound_list(alloc, layout)?;
-    push_chunk(&mut headers, b"LIST", sound.as_slice())?;
-    let whole = whole_list(alloc, layout)?;
-    push_chunk(&mut headers, b"LIST", whole.as_slice())?;
     let mut out = Vec::new(alloc);
-    push_head(&mut out, b"RIFF", layout.riff_bytes(0))?;
-    out.extend_from_slice(b"AVI ")?;
-    push_chunk(&mut out, b"LIST", headers.as_slice())?;
-    push_head(&mut out, b"LIST", layout.movi_bytes(0))?;
-    out.extend_from_slice(b"movi")?;
+    push_file_head(alloc, &mut out, layout)?;
     Ok(out)
 }
 
@@ -175,10 +186,9 @@ pub fn part_head(alloc: Global, layout: Layout, part: u32) -> Result<Vec<u8>, Al
     Ok(out)
 }
 
-/// Adds the index of one stream's chunks in a part.
+/// Adds the bytes of the index of one stream's chunks in a part.
 fn push_index(
-    alloc: Global,
-    out: &mut Vec<u8>,
+    index: &mut Vec<u8>,
     layout: Layout,
     part: u32,
     stream: usize,
@@ -187,30 +197,25 @@ fn push_index(
     requires stream { stream < 2 }
 {
     let (from, upto) = (layout.from(part), layout.upto(part));
-    let mut index = Vec::new(alloc);
-    push_little2(&mut index, 2)?;
-    push_little2(&mut index, 256)?;
-    push_little4(&mut index, upto.saturating_sub(from))?;
+    push_little2(index, 2)?;
+    push_little2(index, 256)?;
+    push_little4(index, upto.saturating_sub(from))?;
     index.extend_from_slice(CHUNKS[stream])?;
-    push_little8(&mut index, layout.movi_at(part))?;
-    push_little4(&mut index, 0)?;
+    push_little8(index, layout.movi_at(part))?;
+    push_little4(index, 0)?;
     for frame in from..upto {
         let behind = 4 + chunk_bytes(layout.region, from, frame);
         if stream == 0 {
-            push_chunk_entry(&mut index, behind + 8, PICTURE_BYTES)?;
+            push_chunk_entry(index, behind + 8, PICTURE_BYTES)?;
         } else {
             let samples = samples_upto(layout.region, frame + 1).saturating_sub(samples_upto(
                 layout.region,
                 frame,
             ));
-            push_chunk_entry(&mut index, behind + 8 + PICTURE_BYTES + 8, 4 * samples)?;
+            push_chunk_entry(index, behind + 8 + PICTURE_BYTES + 8, 4 * samples)?;
         }
     }
-    push_chunk(
-        out,
-        if stream == 0 { b"ix00" } else { b"ix01" },
-        index.as_slice(),
-    )
+    Ok(())
 }
 
 /// The indexes of a part, which come after its chunks. After those of the first part comes the index in the old form.
@@ -218,25 +223,30 @@ pub fn indexes(alloc: Global, layout: Layout, part: u32) -> Result<Vec<u8>, Allo
     requires { part < 32 }
 {
     let mut out = Vec::new(alloc);
-    push_index(alloc, &mut out, layout, part, 0)?;
-    push_index(alloc, &mut out, layout, part, 1)?;
+    let mut index = Vec::new(alloc);
+    push_index(&mut index, layout, part, 0)?;
+    push_chunk(&mut out, b"ix00", index.as_slice())?;
+    index.clear();
+    push_index(&mut index, layout, part, 1)?;
+    push_chunk(&mut out, b"ix01", index.as_slice())?;
     if part == 0 {
-        push_old_index(alloc, &mut out, layout)?;
+        index.clear();
+        push_old_index(&mut index, layout)?;
+        push_chunk(&mut out, b"idx1", index.as_slice())?;
     }
     Ok(out)
 }
 
-/// Adds the index in the old form, of the first part alone.
-fn push_old_index(alloc: Global, out: &mut Vec<u8>, layout: Layout) -> Result<(), AllocError> {
-    let mut index = Vec::new(alloc);
+/// Adds the bytes of the index in the old form, of the first part alone.
+fn push_old_index(index: &mut Vec<u8>, layout: Layout) -> Result<(), AllocError> {
     for frame in 0..layout.upto(0) {
         let at = 4 + chunk_bytes(layout.region, 0, frame);
         let samples = samples_upto(layout.region, frame + 1).saturating_sub(samples_upto(
             layout.region,
             frame,
         ));
-        push_old_entry(&mut index, b"00db", at, PICTURE_BYTES)?;
-        push_old_entry(&mut index, b"01wb", at + 8 + PICTURE_BYTES, 4 * samples)?;
+        push_old_entry(index, b"00db", at, PICTURE_BYTES)?;
+        push_old_entry(index, b"01wb", at + 8 + PICTURE_BYTES, 4 * samples)?;
     }
-    push_chunk(out, b"idx1", index.as_slice())
+    Ok(())
 }
