@@ -8,17 +8,29 @@ use crate::sounds::{Sounds, open_sounds};
 use anyhow::{Context, Result, bail, ensure};
 use clap::ArgMatches;
 use film_avi::{
-    Layout, PART_FRAMES, PICTURE_BYTES, file_head, indexes, part_head, push_head, push_turned,
+    Layout, PART_FRAMES, PICTURE_BYTES, file_head, indexes, part_head, push_chunk, push_head,
+    push_turned,
 };
 use film_formats::{FRAME_BYTES, SAMPLE_BYTES};
 use snes_defs::Region;
-use std::alloc::Global;
+use std::alloc::{AllocError, Global};
 use std::collections::VecDeque;
 use std::io::{BufWriter, Read, Seek, SeekFrom, Write};
 use std::rt::Files;
 
 /// How many frames of the picture are read before the first one's samples, as `look sums` does.
 const AHEAD: usize = 12;
+
+/// The chunk of the picture that was read last.
+fn picture_chunk<F: Read + Drop>(
+    alloc: Global,
+    frames: &Frames<'_, F>,
+) -> Result<Vec<u8>, AllocError> {
+    let mut chunk = Vec::new(alloc);
+    push_head(&mut chunk, b"00db", PICTURE_BYTES)?;
+    push_turned(&mut chunk, frames.frame())?;
+    Ok(chunk)
+}
 
 /// The pictures of a film as their chunks are written, some of them read ahead.
 #[derive(Drop)]
@@ -36,9 +48,7 @@ impl<F: Read + Drop> Chunks<'_, F> {
                 break;
             }
             if self.frames.next()? {
-                let mut chunk = Vec::new(alloc);
-                push_head(&mut chunk, b"00db", PICTURE_BYTES)?;
-                push_turned(&mut chunk, self.frames.frame())?;
+                let chunk = picture_chunk(alloc, &self.frames)?;
                 self.ahead.push_back(chunk)?;
             } else {
                 self.ended = true;
@@ -76,15 +86,20 @@ impl<F: Read + Drop, W: Write + Drop> Making<'_, F, W> {
             let Some(picture) = self.chunks.next(alloc)? else {
                 break;
             };
-            self.out.write_all(picture.as_slice())?;
-            let sound = self.sounds.next()?;
-            let mut head = Vec::new(alloc);
-            push_head(&mut head, b"01wb", sound.len() as u64)?;
-            self.out.write_all(head.as_slice())?;
-            self.out.write_all(sound)?;
+            self.write_chunk_of_each(alloc, picture.as_slice())?;
             written = frame + 1;
         }
         Ok(written)
+    }
+
+    /// Writes the chunk of a picture, and that of its frame's samples.
+    fn write_chunk_of_each(&mut self, alloc: Global, picture: &[u8]) -> Result<()> {
+        self.out.write_all(picture)?;
+        let samples = self.sounds.next()?;
+        let mut chunk = Vec::new(alloc);
+        push_chunk(&mut chunk, b"01wb", samples)?;
+        self.out.write_all(chunk.as_slice())?;
+        Ok(())
     }
 }
 
@@ -100,12 +115,15 @@ fn write_parts<F: Read + Drop, W: Write + Drop>(
     let told = Layout::new(region, told);
     let mut frames = 0u32;
     for part in 0..20u32 {
-        let head = part_head(alloc, told, part)?;
-        making.out.write_all(head.as_slice())?;
+        making
+            .out
+            .write_all(part_head(alloc, told, part)?.as_slice())?;
         let written = making.write_chunks(alloc)?;
         frames = frames.saturating_add(written).min(MOST_FRAMES);
-        let index = indexes(alloc, Layout::new(region, frames), part)?;
-        making.out.write_all(index.as_slice())?;
+        let counted = Layout::new(region, frames);
+        making
+            .out
+            .write_all(indexes(alloc, counted, part)?.as_slice())?;
         if making.chunks.is_over(alloc)? {
             break;
         }
@@ -117,6 +135,17 @@ fn write_parts<F: Read + Drop, W: Write + Drop>(
     Ok(frames)
 }
 
+/// Writes bytes again at a place in the file.
+fn write_again<W: Write + Seek + Drop>(
+    out: &mut BufWriter<W>,
+    place: u64,
+    bytes: &[u8],
+) -> Result<()> {
+    out.seek(SeekFrom::Start(place))?;
+    out.write_all(bytes)?;
+    Ok(())
+}
+
 /// Writes the heads of the first and of the last part again, once the frames are counted.
 fn write_heads<W: Write + Seek + Drop>(
     alloc: Global,
@@ -125,12 +154,8 @@ fn write_heads<W: Write + Seek + Drop>(
 ) -> Result<()> {
     let last = layout.parts().saturating_sub(1);
     let head = part_head(alloc, layout, last)?;
-    out.seek(SeekFrom::Start(layout.start(last)))?;
-    out.write_all(head.as_slice())?;
-    let head = file_head(alloc, layout)?;
-    out.seek(SeekFrom::Start(0))?;
-    out.write_all(head.as_slice())?;
-    Ok(())
+    write_again(out, layout.start(last), head.as_slice())?;
+    write_again(out, 0, file_head(alloc, layout)?.as_slice())
 }
 
 /// The frames of a film whose length is known. It has to be a whole number of them.
@@ -215,10 +240,7 @@ fn write_whole<F: Read + Drop, W: Write + Seek + Drop>(
             "cannot go back in {name}"
         ))?;
     }
-    making
-        .out
-        .flush()
-        .context(format_args!("cannot write {name}"))
+    films::write_of(name, making.out.flush())
 }
 
 /// Obeys `look avi VIDEO AUDIO OUT`. If the number of frames can't be known before, as of a pipe, OUT has to be a

@@ -5,9 +5,8 @@ ghost use Rattle.std.specs.Prelude.{◌≡◌, ◌<◌, length, vec_len};
 use anyhow::{Context, Result, bail, ensure};
 use clap::ArgMatches;
 use film_formats::{FRAME_BYTES, Piece, read_piece};
-use std::alloc::{AllocError, Global};
 use std::fs::{self, Metadata, OpenFile, OpenOptions};
-use std::io::{BufWriter, Read, Seek, SeekFrom, Write};
+use std::io::{self, BufWriter, Read, Seek, SeekFrom, Write};
 use std::os::unix::fs::MetadataExt;
 use std::rt::Files;
 
@@ -24,14 +23,24 @@ fn input_path(name: &str) -> &str {
     if name == "-" { "/dev/stdin" } else { name }
 }
 
+/// What a read of the file of a name returned. An error says which file can't be read.
+pub fn read_of<T>(name: &str, done: io::Result<T>) -> Result<T> {
+    done.context(format_args!("cannot read {name}"))
+}
+
+/// What a write of the file of a name returned. An error says which file can't be written.
+pub fn write_of<T>(name: &str, done: io::Result<T>) -> Result<T> {
+    done.context(format_args!("cannot write {name}"))
+}
+
 /// Opens the file of a name; `-` is standard input.
 pub fn open<R: Files>(rt: &R, name: &str) -> Result<R::File> {
-    fs::open(rt, input_path(name)).context(format_args!("cannot read {name}"))
+    read_of(name, fs::open(rt, input_path(name)))
 }
 
 /// Reads the whole file of a name.
 pub fn read<R: Files + AllocGlobal>(rt: &R, name: &str) -> Result<Vec<u8>> {
-    fs::read(rt, input_path(name)).context(format_args!("cannot read {name}"))
+    read_of(name, fs::read(rt, input_path(name)))
 }
 
 /// Reads the first bytes of the file of a name into some room, and returns how many there are: all the file has, or all
@@ -40,7 +49,7 @@ pub fn read_into<R: Files>(rt: &R, name: &str, room: &mut [u8]) -> Result<usize>
     requires { 0 < length room.old }
 {
     let mut file = open(rt, name)?;
-    match read_piece(&mut file, room).context(format_args!("cannot read {name}"))? {
+    match read_of(name, read_piece(&mut file, room))? {
         Piece::Whole => Ok(room.len()),
         Piece::End => Ok(0),
         Piece::Cut(count) => Ok(count),
@@ -59,18 +68,9 @@ fn is_same<R: Files>(rt: &R, input: &str, file: &Metadata) -> bool {
     }
 }
 
-/// Creates a file of a name; `-` is standard output. If it is one of the inputs, by whatever name, it is refused and
-/// stays as it is.
-pub fn create<R: Files>(rt: &R, name: &str, inputs: &[&str]) -> Result<R::File> {
-    let path = if name == "-" { "/dev/stdout" } else { name };
-    let file = OpenOptions::new()
-        .write(true)
-        .create(true)
-        .open(rt, path)
-        .context(format_args!("cannot write {name}"))?;
-    let about = file
-        .metadata()
-        .context(format_args!("cannot write {name}"))?;
+/// Empties the file of a name. If it is one of the inputs, by whatever name, it is refused and stays as it is.
+fn empty<R: Files>(rt: &R, file: &R::File, name: &str, inputs: &[&str]) -> Result<()> {
+    let about = write_of(name, file.metadata())?;
     for input in inputs {
         ensure!(
             !is_same(rt, input, &about),
@@ -78,9 +78,18 @@ pub fn create<R: Files>(rt: &R, name: &str, inputs: &[&str]) -> Result<R::File> 
         );
     }
     if about.is_file() {
-        file.set_len(0)
-            .context(format_args!("cannot write {name}"))?;
+        write_of(name, file.set_len(0))?;
     }
+    Ok(())
+}
+
+/// Creates a file of a name; `-` is standard output. If it is one of the inputs, by whatever name, it is refused and
+/// stays as it is.
+pub fn create<R: Files>(rt: &R, name: &str, inputs: &[&str]) -> Result<R::File> {
+    let path = if name == "-" { "/dev/stdout" } else { name };
+    let opened = OpenOptions::new().write(true).create(true).open(rt, path);
+    let file = write_of(name, opened)?;
+    empty(rt, &file, name, inputs)?;
     Ok(file)
 }
 
@@ -95,8 +104,7 @@ pub fn create_buffered<R: Files + AllocGlobal>(
 
 /// Writes bytes to the file of a name.
 pub fn write_to<W: Write>(file: &mut W, name: &str, bytes: &[u8]) -> Result<()> {
-    file.write_all(bytes)
-        .context(format_args!("cannot write {name}"))
+    write_of(name, file.write_all(bytes))
 }
 
 /// Writes a whole file of a name, which may be no input.
@@ -123,24 +131,11 @@ pub struct Frames<'a, F: Read + Drop> {
     ghost whole: { vec_len bytes ≡ 244736 },
 }
 
-impl<'a, F: Read + Drop> Frames<'a, F> {
-    /// The frames of a file of this name, of which none is read yet.
-    pub fn new(alloc: Global, name: &'a str, file: F) -> Result<Frames<'a, F>, AllocError> {
-        let bytes = vec![in alloc; 0u8; FRAME_BYTES]?;
-        Ok(Frames {
-            name,
-            file,
-            bytes,
-            read: 0,
-        })
-    }
-
+impl<F: Read + Drop> Frames<'_, F> {
     /// Reads the next frame.
     fn piece(&mut self) -> Result<Piece> {
-        let piece = read_piece(&mut self.file, self.bytes.as_mut_slice()).context(format_args!(
-            "cannot read {}",
-            self.name
-        ))?;
+        let read = read_piece(&mut self.file, self.bytes.as_mut_slice());
+        let piece = read_of(self.name, read)?;
         if piece == Piece::Whole {
             self.read = self.read.saturating_add(1);
         }
@@ -198,9 +193,7 @@ impl<'a, F: Read + Drop> Frames<'a, F> {
         };
         let skipped = wanted.min(whole);
         let place = skipped.saturating_mul(FRAME_BYTES as u64);
-        self.file
-            .seek(SeekFrom::Start(place))
-            .context(format_args!("cannot read {}", self.name))?;
+        read_of(self.name, self.file.seek(SeekFrom::Start(place)))?;
         self.read = skipped;
         Ok(())
     }
@@ -215,7 +208,13 @@ impl<'a, F: Read + Drop> Frames<'a, F> {
 
 /// Opens a film, of which no frame is read yet.
 pub fn open_film<'a, R: Files + AllocGlobal>(rt: &R, name: &'a str) -> Result<Frames<'a, R::File>> {
-    Ok(Frames::new(rt.alloc(), name, open(rt, name)?)?)
+    let file = open(rt, name)?;
+    Ok(Frames {
+        name,
+        file,
+        bytes: vec![in rt.alloc(); 0u8; FRAME_BYTES]?,
+        read: 0,
+    })
 }
 
 /// The whole frames of a regular file, which may still grow; nothing of a pipe.

@@ -20,32 +20,20 @@ pub struct Sounds<'a, F: Read + Drop> {
     region: Region,
     bytes: Vec<u8>,
     frames: u32,
+    /// The samples of these frames.
+    samples: u64,
 }
 
-impl<'a, F: Read + Drop> Sounds<'a, F> {
-    /// The sound in a file of this name, of which no frame is read yet.
-    pub fn new(alloc: Global, name: &'a str, file: F, region: Region) -> Result<Sounds<'a, F>> {
-        Ok(Sounds {
-            name,
-            file: BufReader::new(alloc, file)?,
-            region,
-            bytes: Vec::new(alloc),
-            frames: 0,
-        })
-    }
-
+impl<F: Read + Drop> Sounds<'_, F> {
     /// Returns the bytes of the next frame's samples, which must all be there.
     pub fn next(&mut self) -> Result<&[u8]> {
-        let before = samples_upto(self.region, self.frames)?;
         let upto = samples_upto(self.region, self.frames.saturating_add(1))?;
-        let count = upto.saturating_sub(before) as usize;
+        let count = upto.saturating_sub(self.samples) as usize;
         self.bytes.clear();
         self.bytes.resize(count.saturating_mul(SAMPLE_BYTES), 0)?;
         if count > 0 {
-            match read_piece(&mut self.file, self.bytes.as_mut_slice()).context(format_args!(
-                "cannot read {}",
-                self.name
-            ))? {
+            let read = read_piece(&mut self.file, self.bytes.as_mut_slice());
+            match films::read_of(self.name, read)? {
                 Piece::Whole => {}
                 _ => bail!(
                     "{} is cut: it ends in frame {}; is the region right?",
@@ -55,6 +43,7 @@ impl<'a, F: Read + Drop> Sounds<'a, F> {
             }
         }
         self.frames = self.frames.saturating_add(1);
+        self.samples = upto;
         Ok(self.bytes.as_slice())
     }
 
@@ -68,7 +57,7 @@ impl<'a, F: Read + Drop> Sounds<'a, F> {
         for _ in 0..count {
             films::write_to(to, out, self.next()?)?;
         }
-        to.flush().context(format_args!("cannot write {out}"))
+        films::write_of(out, to.flush())
     }
 
     /// Goes on behind the next `count` frames.
@@ -82,10 +71,7 @@ impl<'a, F: Read + Drop> Sounds<'a, F> {
     /// Fails if anything is left after the last frame.
     pub fn end(&mut self) -> Result<()> {
         let mut byte = [0u8; 1];
-        match read_piece(&mut self.file, &mut byte).context(format_args!(
-            "cannot read {}",
-            self.name
-        ))? {
+        match films::read_of(self.name, read_piece(&mut self.file, &mut byte))? {
             Piece::End => Ok(()),
             _ => bail!(
                 "{} goes on behind the last of {} frames; is the region right?",
@@ -102,7 +88,15 @@ pub fn open_sounds<'a, R: Files + AllocGlobal>(
     name: &'a str,
     region: Region,
 ) -> Result<Sounds<'a, R::File>> {
-    Sounds::new(rt.alloc(), name, films::open(rt, name)?, region)
+    let file = films::open(rt, name)?;
+    Ok(Sounds {
+        name,
+        file: BufReader::new(rt.alloc(), file)?,
+        region,
+        bytes: Vec::new(rt.alloc()),
+        frames: 0,
+        samples: 0,
+    })
 }
 
 /// How many bytes are copied in one piece.
@@ -125,9 +119,8 @@ fn copy_samples<F: Read, W: Write>(
     let mut part = part_of_copy(alloc)?;
     let mut copied = 0u64;
     for _ in 0..u64::MAX {
-        let count = match read_piece(from, part.as_mut_slice()).context(format_args!(
-            "cannot read {name}"
-        ))? {
+        let read = read_piece(from, part.as_mut_slice());
+        let count = match films::read_of(name, read)? {
             Piece::Whole => COPIED,
             Piece::End => break,
             Piece::Cut(count) => count,
@@ -183,7 +176,7 @@ impl Making<'_> {
                 .context(format_args!("cannot go back in {out}"))?;
             films::write_to(to, out, header.as_slice())?;
         }
-        to.flush().context(format_args!("cannot write {out}"))
+        films::write_of(out, to.flush())
     }
 }
 
