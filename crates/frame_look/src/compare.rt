@@ -1,9 +1,9 @@
-//! The comparison of two films or two sounds, in `look diff`.
+//! The comparison of two films, in `look diff`.
 
 ghost use Rattle.std.specs.Prelude.{◌≡◌, length};
 
 use crate::films::{self, Frames};
-use crate::found::Found;
+use crate::found::{Found, Parts, compare};
 use anyhow::Result;
 use clap::ArgMatches;
 use film_formats::{Colour, FRAME_BYTES, ROW_BYTES, first_apart, marked_png};
@@ -29,7 +29,7 @@ impl fmt::Display for Dot {
 
 /// The first dot in which two films differ.
 #[derive(Clone, Copy)]
-struct Place {
+pub struct Place {
     frame: u64,
     row: usize,
     dot: usize,
@@ -51,32 +51,25 @@ impl fmt::Display for Place {
     }
 }
 
-/// The first place in which two frames of this number differ.
-fn place_in(frame: u64, first: &[u8], second: &[u8]) -> Option<Place>
-    requires first { length first.now ≡ FRAME_BYTES }
-    requires second { length second.now ≡ FRAME_BYTES }
-{
-    let at = first_apart(first, second)?;
-    let low = at - at % 2;
-    Some(Place {
-        frame,
-        row: at / ROW_BYTES,
-        dot: at % ROW_BYTES / 2,
-        first: u16::from_le_bytes([first[low], first[low + 1]]),
-        second: u16::from_le_bytes([second[low], second[low + 1]]),
-    })
-}
+impl<F: Read + Drop> Parts for Frames<'_, F> {
+    type Place = Place;
 
-/// Counts the frames that a film has left.
-fn count_rest<F: Read + Drop>(frames: &mut Frames<'_, F>) -> Result<u64> {
-    let mut count = 0u64;
-    for _ in 0..u64::MAX {
-        if !frames.next()? {
-            break;
-        }
-        count = count.saturating_add(1);
+    fn read_next(&mut self) -> Result<bool> {
+        self.next()
     }
-    Ok(count)
+
+    fn place(&self, other: &Self, number: u64) -> Option<Place> {
+        let (first, second) = (self.frame(), other.frame());
+        let at = first_apart(first, second)?;
+        let low = at - at % 2;
+        Some(Place {
+            frame: number,
+            row: at / ROW_BYTES,
+            dot: at % ROW_BYTES / 2,
+            first: u16::from_le_bytes([first[low], first[low + 1]]),
+            second: u16::from_le_bytes([second[low], second[low + 1]]),
+        })
+    }
 }
 
 /// A picture of where two frames differ: its name, if it is wanted, and those of the inputs, of which it may be none.
@@ -101,37 +94,22 @@ impl Marked<'_> {
 }
 
 /// Compares two films, frame by frame. Writes a picture of the first frame that differs, if one is wanted.
-fn compare_films<R: Files + AllocGlobal>(
+fn compare_films<'a, R: Files + AllocGlobal>(
     rt: &R,
-    a: &mut Frames<'_, R::File>,
-    b: &mut Frames<'_, R::File>,
+    a: &mut Frames<'a, R::File>,
+    b: &mut Frames<'a, R::File>,
     marked: Marked<'_>,
 ) -> Result<Found<Place>> {
     let mut found = Found::new();
-    for frame in 0..u64::MAX {
-        match (a.next()?, b.next()?) {
-            (true, true) => {
-                let place = place_in(frame, a.frame(), b.frame());
-                if found.count(place) {
-                    marked.write(rt, a.frame(), b.frame())?;
-                }
-            }
-            (true, false) => {
-                found.only_first = count_rest(a)?.saturating_add(1);
-                break;
-            }
-            (false, true) => {
-                found.only_second = count_rest(b)?.saturating_add(1);
-                break;
-            }
-            (false, false) => break,
-        }
+    if compare(a, b, &mut found)? {
+        marked.write(rt, a.frame(), b.frame())?;
+        compare(a, b, &mut found)?;
     }
     Ok(found)
 }
 
 /// Opens the two films that are the inputs of a picture, and compares them.
-fn compare<R: Files + AllocGlobal>(rt: &R, marked: Marked<'_>) -> Result<Found<Place>> {
+fn compare_files<R: Files + AllocGlobal>(rt: &R, marked: Marked<'_>) -> Result<Found<Place>> {
     let [first, second] = marked.inputs;
     let mut a = films::open_film(rt, first)?;
     let mut b = films::open_film(rt, second)?;
@@ -159,6 +137,6 @@ pub fn say_difference<R: Files + Print + AllocGlobal>(
     if let Some(frame) = words.get_one::<u64>("frame") {
         return crate::golden::say_difference(rt, frame, marked);
     }
-    let found = compare(rt, marked)?;
+    let found = compare_files(rt, marked)?;
     found.tell(rt, "film", "frames")
 }

@@ -1,19 +1,27 @@
 //! The comparison of two sounds, in `look diff --audio`.
 
 use crate::films;
-use crate::found::Found;
-use anyhow::{Context, Result, bail};
+use crate::found::{Found, Parts, compare};
+use anyhow::{Result, bail};
 use film_formats::{Piece, SAMPLE_BYTES, read_piece};
-use std::alloc::Global;
 use std::fmt;
 use std::io::{BufReader, Read};
 use std::rt::Files;
 
-/// A stereo sample.
-#[derive(Clone, Copy, PartialEq, Eq)]
-struct Sample {
-    left: i16,
-    right: i16,
+/// The bytes of a stereo sample: left, then right.
+#[derive(Clone, Copy)]
+struct Sample([u8; SAMPLE_BYTES]);
+
+impl fmt::Display for Sample {
+    fn fmt<W: fmt::Write>(&self, f: &mut fmt::Formatter<W>) -> fmt::Result {
+        let [a, b, c, d] = self.0;
+        write!(
+            f,
+            "{} {}",
+            i16::from_le_bytes([a, b]),
+            i16::from_le_bytes([c, d])
+        )
+    }
 }
 
 /// Raw samples, read one after another.
@@ -21,35 +29,22 @@ struct Sample {
 struct Samples<'a, F: Read + Drop> {
     name: &'a str,
     file: BufReader<F>,
+    /// The bytes of the sample that was read last.
+    bytes: [u8; SAMPLE_BYTES],
     read: u64,
 }
 
-impl<'a, F: Read + Drop> Samples<'a, F> {
-    /// The samples in a file of this name.
-    fn new(alloc: Global, name: &'a str, file: F) -> Result<Samples<'a, F>> {
-        Ok(Samples {
-            name,
-            file: BufReader::new(alloc, file)?,
-            read: 0,
-        })
-    }
+impl<F: Read + Drop> Parts for Samples<'_, F> {
+    type Place = Place;
 
-    /// The next sample, or nothing after the last one.
-    fn next(&mut self) -> Result<Option<Sample>> {
-        let mut bytes = [0u8; SAMPLE_BYTES];
-        match read_piece(&mut self.file, &mut bytes).context(format_args!(
-            "cannot read {}",
-            self.name
-        ))? {
+    fn read_next(&mut self) -> Result<bool> {
+        let read = read_piece(&mut self.file, &mut self.bytes);
+        match films::read_of(self.name, read)? {
             Piece::Whole => {
                 self.read = self.read.saturating_add(1);
-                let [a, b, c, d] = bytes;
-                Ok(Some(Sample {
-                    left: i16::from_le_bytes([a, b]),
-                    right: i16::from_le_bytes([c, d]),
-                }))
+                Ok(true)
             }
-            Piece::End => Ok(None),
+            Piece::End => Ok(false),
             Piece::Cut(count) => bail!(
                 "{} is cut: sample {} has {count} of its 4 bytes",
                 self.name,
@@ -58,22 +53,21 @@ impl<'a, F: Read + Drop> Samples<'a, F> {
         }
     }
 
-    /// How many samples are left.
-    fn count_rest(&mut self) -> Result<u64> {
-        let mut count = 0u64;
-        for _ in 0..u64::MAX {
-            if self.next()?.is_none() {
-                break;
-            }
-            count = count.saturating_add(1);
+    fn place(&self, other: &Self, number: u64) -> Option<Place> {
+        if self.bytes == other.bytes {
+            return None;
         }
-        Ok(count)
+        Some(Place {
+            number,
+            first: Sample(self.bytes),
+            second: Sample(other.bytes),
+        })
     }
 }
 
 /// The first sample in which two sounds differ.
 #[derive(Clone, Copy)]
-struct Place {
+pub struct Place {
     number: u64,
     first: Sample,
     second: Sample,
@@ -83,42 +77,31 @@ impl fmt::Display for Place {
     fn fmt<W: fmt::Write>(&self, f: &mut fmt::Formatter<W>) -> fmt::Result {
         write!(
             f,
-            "sample {}: {} {} and {} {}",
-            self.number, self.first.left, self.first.right, self.second.left, self.second.right
+            "sample {}: {} and {}",
+            self.number, self.first, self.second
         )
     }
 }
 
-/// The place of two samples of this number, if they differ.
-fn place_of(number: u64, first: Sample, second: Sample) -> Option<Place> {
-    if first == second {
-        return None;
-    }
-    Some(Place {
-        number,
-        first,
-        second,
+/// Opens a sound, of which no sample is read yet.
+fn open_samples<'a, R: Files + AllocGlobal>(rt: &R, name: &'a str) -> Result<Samples<'a, R::File>> {
+    let file = films::open(rt, name)?;
+    Ok(Samples {
+        name,
+        file: BufReader::new(rt.alloc(), file)?,
+        bytes: [0; SAMPLE_BYTES],
+        read: 0,
     })
 }
 
 /// Compares two sounds, sample by sample.
-fn compare<F: Read + Drop>(a: &mut Samples<'_, F>, b: &mut Samples<'_, F>) -> Result<Found<Place>> {
+fn compare_samples<'a, F: Read + Drop>(
+    a: &mut Samples<'a, F>,
+    b: &mut Samples<'a, F>,
+) -> Result<Found<Place>> {
     let mut found = Found::new();
-    for number in 0..u64::MAX {
-        match (a.next()?, b.next()?) {
-            (Some(first), Some(second)) => {
-                let _is_the_first = found.count(place_of(number, first, second));
-            }
-            (Some(_), None) => {
-                found.only_first = a.count_rest()?.saturating_add(1);
-                break;
-            }
-            (None, Some(_)) => {
-                found.only_second = b.count_rest()?.saturating_add(1);
-                break;
-            }
-            (None, None) => break,
-        }
+    if compare(a, b, &mut found)? {
+        compare(a, b, &mut found)?;
     }
     Ok(found)
 }
@@ -129,9 +112,9 @@ fn compare_files<R: Files + AllocGlobal>(
     first: &str,
     second: &str,
 ) -> Result<Found<Place>> {
-    let mut a = Samples::new(rt.alloc(), first, films::open(rt, first)?)?;
-    let mut b = Samples::new(rt.alloc(), second, films::open(rt, second)?)?;
-    compare(&mut a, &mut b)
+    let mut a = open_samples(rt, first)?;
+    let mut b = open_samples(rt, second)?;
+    compare_samples(&mut a, &mut b)
 }
 
 /// Obeys `look diff --audio A B`.
