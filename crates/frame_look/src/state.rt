@@ -131,7 +131,7 @@ impl State {
 
     /// Checks the header of a file that has `count` bytes.
     fn check(&self, name: &str, count: usize) -> Result<()> {
-        if !self.has_text() {
+        if !self.bytes.as_slice().starts_with(TEXT) {
             bail!("{name} is not a state: it does not begin with SNESDUMP");
         }
         let version = self.number(0x08, 1);
@@ -143,16 +143,6 @@ impl State {
             bail!("{name} has {count} bytes, and its header says {size}");
         }
         Ok(())
-    }
-
-    /// Whether it begins with its text.
-    fn has_text(&self) -> bool {
-        for (at, byte) in TEXT.iter().enumerate() {
-            if self.byte(at) != *byte {
-                return false;
-            }
-        }
-        true
     }
 
     /// The byte at an offset, 0 behind the last.
@@ -193,26 +183,6 @@ impl State {
     }
 }
 
-/// Up to sixteen bytes of a memory from an address on.
-#[derive(Clone, Copy)]
-struct HexLine<'a> {
-    state: &'a State,
-    memory: Memory,
-    from: usize,
-    count: usize,
-}
-
-impl fmt::Display for HexLine<'_> {
-    fn fmt<W: fmt::Write>(&self, f: &mut fmt::Formatter<W>) -> fmt::Result {
-        write!(f, "{:<5} {:05x} ", self.memory.name, self.from)?;
-        for n in 0..self.count {
-            let at = self.memory.at.saturating_add(self.from).saturating_add(n);
-            write!(f, " {:02x}", self.state.byte(at))?;
-        }
-        Ok(())
-    }
-}
-
 /// Some bytes of a state.
 #[derive(Clone, Copy)]
 struct Bytes<'a> {
@@ -221,10 +191,67 @@ struct Bytes<'a> {
     count: usize,
 }
 
+impl Bytes<'_> {
+    /// Whether all of them are 0.
+    fn are_zero(self) -> bool {
+        for n in 0..self.count {
+            if self.state.byte(self.at.saturating_add(n)) != 0 {
+                return false;
+            }
+        }
+        true
+    }
+}
+
 impl fmt::Display for Bytes<'_> {
     fn fmt<W: fmt::Write>(&self, f: &mut fmt::Formatter<W>) -> fmt::Result {
         for n in 0..self.count {
             write!(f, " {:02x}", self.state.byte(self.at.saturating_add(n)))?;
+        }
+        Ok(())
+    }
+}
+
+/// The registers of the 65C816 as they are printed, without the last: of each the text before it, its offset and its
+/// bytes.
+static MAIN_REGISTERS: [Field; 9] = fields![
+    "65C816 A " 0x20 2,
+    " X " 0x22 2,
+    " Y " 0x24 2,
+    " S " 0x26 2,
+    " D " 0x28 2,
+    " PC " 0x2D 1,
+    ":" 0x2A 2,
+    " DBR " 0x2C 1,
+    " P " 0x2E 1,
+];
+
+/// Those of the SPC700.
+static SOUND_REGISTERS: [Field; 6] = fields![
+    "SPC700 A " 0x30 1,
+    " X " 0x31 1,
+    " Y " 0x32 1,
+    " SP " 0x33 1,
+    " PC " 0x34 2,
+    " PSW " 0x36 1,
+];
+
+/// Registers of a state.
+#[derive(Clone, Copy)]
+struct Registers<'a> {
+    state: &'a State,
+    fields: &'static [Field],
+}
+
+impl fmt::Display for Registers<'_> {
+    fn fmt<W: fmt::Write>(&self, f: &mut fmt::Formatter<W>) -> fmt::Result {
+        for field in self.fields {
+            let number = self.state.number(field.at, field.size);
+            if field.size == 1 {
+                write!(f, "{}{number:02x}", field.name)?;
+            } else {
+                write!(f, "{}{number:04x}", field.name)?;
+            }
         }
         Ok(())
     }
@@ -243,28 +270,16 @@ fn say_registers<R: Print>(rt: &R, s: &State) -> Result<()> {
         region_name(s.number(0x09, 1)),
         s.number(0x10, 4)
     )?;
-    println!(rt;
-        "65C816 A {:04x} X {:04x} Y {:04x} S {:04x} D {:04x} PC {:02x}:{:04x} DBR {:02x} P {:02x} E {}",
-        s.number(0x20, 2),
-        s.number(0x22, 2),
-        s.number(0x24, 2),
-        s.number(0x26, 2),
-        s.number(0x28, 2),
-        s.number(0x2D, 1),
-        s.number(0x2A, 2),
-        s.number(0x2C, 1),
-        s.number(0x2E, 1),
-        s.number(0x2F, 1)
-    )?;
-    println!(rt;
-        "SPC700 A {:02x} X {:02x} Y {:02x} SP {:02x} PC {:04x} PSW {:02x}",
-        s.number(0x30, 1),
-        s.number(0x31, 1),
-        s.number(0x32, 1),
-        s.number(0x33, 1),
-        s.number(0x34, 2),
-        s.number(0x36, 1)
-    )?;
+    let main = Registers {
+        state: s,
+        fields: &MAIN_REGISTERS,
+    };
+    println!(rt; "{main} E {}", s.number(0x2F, 1))?;
+    let sound = Registers {
+        state: s,
+        fields: &SOUND_REGISTERS,
+    };
+    println!(rt; "{sound}")?;
     let read = |at| Bytes {
         state: s,
         at,
@@ -272,17 +287,6 @@ fn say_registers<R: Print>(rt: &R, s: &State) -> Result<()> {
     };
     println!(rt; "ports  F4{}  2140{}", read(0x38), read(0x3C))?;
     Ok(())
-}
-
-/// Whether all bytes of a line are 0.
-fn is_blank(state: &State, memory: &Memory, from: usize, count: usize) -> bool {
-    for n in 0..count {
-        let at = memory.at.saturating_add(from).saturating_add(n);
-        if state.byte(at) != 0 {
-            return false;
-        }
-    }
-    true
 }
 
 /// Prints some bytes of a memory, line by line; lines of zeros only where they are asked for.
@@ -300,15 +304,13 @@ fn say_lines<R: Print>(
         if from >= end {
             break;
         }
-        let count = (end - from).min(LINE);
-        if blank || !is_blank(state, &memory, from, count) {
-            let shown = HexLine {
-                state,
-                memory,
-                from,
-                count,
-            };
-            println!(rt; "{shown}")?;
+        let bytes = Bytes {
+            state,
+            at: memory.at.saturating_add(from),
+            count: (end - from).min(LINE),
+        };
+        if blank || !bytes.are_zero() {
+            println!(rt; "{:<5} {from:05x} {bytes}", memory.name)?;
         }
     }
     Ok(())
