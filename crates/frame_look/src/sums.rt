@@ -100,52 +100,42 @@ fn write_head<W: Write>(out: &mut W, form: Form, with_sound: bool) -> io::Result
     }
 }
 
-/// Writes the line of a frame.
-fn write_frame<W: Write>(
-    out: &mut W,
+/// The sum of a picture and that of its sound, if it is summed.
+#[derive(Clone, Copy)]
+struct Pair {
     form: Form,
-    frame: u32,
     picture: Sum,
     sound: Option<Sum>,
-) -> io::Result<()> {
-    let comma = if frame == 0 { "" } else { "," };
-    match (form, sound) {
-        (Form::Csv, Some(sound)) => writeln!(out, "{frame},{picture},{sound}"),
-        (Form::Csv, None) => writeln!(out, "{frame},{picture}"),
-        (Form::Json, Some(sound)) => {
-            write!(
-                out,
-                "{comma}\n{{\"frame\": {frame}, \"picture\": \"{picture}\", \"sound\": \"{sound}\"}}"
-            )
+}
+
+impl fmt::Display for Pair {
+    fn fmt<W: fmt::Write>(&self, f: &mut fmt::Formatter<W>) -> fmt::Result {
+        let picture = self.picture;
+        match (self.form, self.sound) {
+            (Form::Csv, Some(sound)) => write!(f, "{picture},{sound}"),
+            (Form::Csv, None) => write!(f, "{picture}"),
+            (Form::Json, Some(sound)) => {
+                write!(f, "\"picture\": \"{picture}\", \"sound\": \"{sound}\"")
+            }
+            (Form::Json, None) => write!(f, "\"picture\": \"{picture}\""),
         }
-        (Form::Json, None) => write!(
-            out,
-            "{comma}\n{{\"frame\": {frame}, \"picture\": \"{picture}\"}}"
-        ),
+    }
+}
+
+/// Writes the line of a frame.
+fn write_frame<W: Write>(out: &mut W, frame: u32, pair: Pair) -> io::Result<()> {
+    let comma = if frame == 0 { "" } else { "," };
+    match pair.form {
+        Form::Csv => writeln!(out, "{frame},{pair}"),
+        Form::Json => write!(out, "{comma}\n{{\"frame\": {frame}, {pair}}}"),
     }
 }
 
 /// Writes the sums of both files.
-fn write_all<W: Write>(
-    out: &mut W,
-    form: Form,
-    frames: u32,
-    picture: Sum,
-    sound: Option<Sum>,
-) -> io::Result<()> {
-    match (form, sound) {
-        (Form::Csv, Some(sound)) => writeln!(out, "all,{picture},{sound}"),
-        (Form::Csv, None) => writeln!(out, "all,{picture}"),
-        (Form::Json, Some(sound)) => {
-            writeln!(
-                out,
-                "\n],\n\"frames\": {frames}, \"picture\": \"{picture}\", \"sound\": \"{sound}\"}}"
-            )
-        }
-        (Form::Json, None) => writeln!(
-            out,
-            "\n],\n\"frames\": {frames}, \"picture\": \"{picture}\"}}"
-        ),
+fn write_all<W: Write>(out: &mut W, frames: u32, pair: Pair) -> io::Result<()> {
+    match pair.form {
+        Form::Csv => writeln!(out, "all,{pair}"),
+        Form::Json => writeln!(out, "\n],\n\"frames\": {frames}, {pair}}}"),
     }
 }
 
@@ -161,8 +151,12 @@ fn write_frames<F: Read + Drop, W: Write>(
         let Some(picture) = pictures.next()? else {
             break;
         };
-        let sound = heard.next()?;
-        write_frame(out, form, frame, picture, sound)?;
+        let pair = Pair {
+            form,
+            picture,
+            sound: heard.next()?,
+        };
+        write_frame(out, frame, pair)?;
         frames = frame + 1;
     }
     Ok(frames)
@@ -180,9 +174,12 @@ fn write_sums<F: Read + Drop, W: Write>(
     if pictures.next()?.is_some() {
         bail!("more than {MOST_FRAMES} frames: a run has no more");
     }
-    let sound = heard.end()?;
-    let picture = Sum(pictures.all.finalize_reset());
-    write_all(out, form, frames, picture, sound)?;
+    let pair = Pair {
+        form,
+        sound: heard.end()?,
+        picture: Sum(pictures.all.finalize_reset()),
+    };
+    write_all(out, frames, pair)?;
     out.flush()?;
     Ok(())
 }
