@@ -36,17 +36,23 @@ fn fits(region: Region, video: u64, audio: u64) -> bool {
     }
 }
 
+/// The region that is given, if one is.
+fn region_given(words: &ArgMatches<'_>) -> Option<Region> {
+    match words.get_str("region")? {
+        "pal" => Some(Region::Pal),
+        _ => Some(Region::Ntsc),
+    }
+}
+
 /// The region of a film: the one given, else the one that the lengths of the two files fit. For a pipe it is NTSC.
 pub fn region_of<R: Files>(rt: &R, words: &ArgMatches<'_>, video: &str, audio: &str) -> Region {
-    match words.get_str("region") {
-        Some("pal") => Region::Pal,
-        Some(_) => Region::Ntsc,
-        None => match (films::length(rt, video), films::length(rt, audio)) {
-            (Some(video), Some(audio))
-                if fits(Region::Pal, video, audio) && !fits(Region::Ntsc, video, audio) =>
-                Region::Pal,
-            _ => Region::Ntsc,
-        },
+    if let Some(region) = region_given(words) {
+        return region;
+    }
+    match (films::length(rt, video), films::length(rt, audio)) {
+        (Some(video), Some(audio))
+            if fits(Region::Pal, video, audio) && !fits(Region::Ntsc, video, audio) => Region::Pal,
+        _ => Region::Ntsc,
     }
 }
 
@@ -62,10 +68,8 @@ fn is_whole(region: Region, samples: u64) -> bool {
 
 /// The region of a sound alone: the one given, else the only one of which its length is a whole number of frames.
 pub fn region_of_sound<R: Files>(rt: &R, words: &ArgMatches<'_>, audio: &str) -> Result<Region> {
-    match words.get_str("region") {
-        Some("pal") => return Ok(Region::Pal),
-        Some(_) => return Ok(Region::Ntsc),
-        None => {}
+    if let Some(region) = region_given(words) {
+        return Ok(region);
     }
     if let Some(bytes) = films::length(rt, audio) {
         let samples = bytes / SAMPLE_BYTES as u64;

@@ -72,29 +72,30 @@ impl Sheet {
         }
     }
 
-    /// Puts a number into the strip below the picture that begins at a place: each dot of a digit is two by two.
+    /// Puts a row of a digit at a place: each dot of it is two by two.
+    fn put_digit_row(&mut self, at: usize, bits: u8) {
+        for dot in 0..3usize {
+            if bits & (4u8 >> dot) != 0 {
+                let place = at.saturating_add(6 * dot);
+                self.put(place, &[255; 6]);
+                self.put(place.saturating_add(SHEET_ROW), &[255; 6]);
+            }
+        }
+    }
+
+    /// Puts a number into the strip below the picture that begins at a place.
     fn put_number(&mut self, at: usize, number: &str) {
+        let first = at
+            .saturating_add((SMALL_ROWS + 2) * SHEET_ROW)
+            .saturating_add(6);
         for (i, digit) in number.bytes().enumerate() {
             let Some(rows) = DIGITS.get(digit.saturating_sub(b'0') as usize) else {
                 continue;
             };
+            let column = first.saturating_add(i.saturating_mul(24));
             for (k, bits) in rows.iter().enumerate() {
-                for dot in 0..3usize {
-                    if *bits & (4u8 >> dot) != 0 {
-                        let row = SMALL_ROWS
-                            .saturating_add(2)
-                            .saturating_add(k.saturating_mul(2));
-                        let column = i
-                            .saturating_mul(8)
-                            .saturating_add(2 * dot)
-                            .saturating_add(2);
-                        let place = at
-                            .saturating_add(row.saturating_mul(SHEET_ROW))
-                            .saturating_add(column.saturating_mul(3));
-                        self.put(place, &[255; 6]);
-                        self.put(place.saturating_add(SHEET_ROW), &[255; 6]);
-                    }
-                }
+                let row = k.saturating_mul(2 * SHEET_ROW);
+                self.put_digit_row(column.saturating_add(row), *bits);
             }
         }
     }
