@@ -5,6 +5,7 @@
 #![tactic(auto)]
 
 mod json;
+mod members;
 mod people;
 mod sarif;
 mod tap;

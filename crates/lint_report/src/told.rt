@@ -1,7 +1,7 @@
 //! A report: findings, each with what tells a person where it is.
 
 use lint_rules::{Finding, Rule, Severity, Unit};
-use std::alloc::{AllocError, Global};
+use std::fmt;
 
 /// The format of a report.
 #[derive(Clone, Copy)]
@@ -83,37 +83,52 @@ pub(crate) fn unit_name(unit: Unit) -> &'static str {
     }
 }
 
-/// Returns the address of a cause: six digits on the console, four on the sound side; a byte of the file is named as one.
-pub(crate) fn address_text(alloc: Global, finding: &Finding) -> Result<String, AllocError> {
-    let address = finding.cause.address;
-    match finding.cause.unit {
-        Unit::Console => format!(in alloc; "{address:06X}"),
-        Unit::Sound => format!(in alloc; "{address:04X}"),
-        Unit::File => format!(in alloc; "byte {address:X}"),
+/// The address of a cause as reports have it: six digits on the console, four on the sound side; a byte of the file is named
+/// as one.
+#[derive(Drop)]
+pub(crate) struct Address<'a>(pub &'a Finding);
+
+impl fmt::Display for Address<'_> {
+    fn fmt<W: fmt::Write>(&self, f: &mut fmt::Formatter<W>) -> fmt::Result {
+        let address = self.0.cause.address;
+        match self.0.cause.unit {
+            Unit::Console => write!(f, "{address:06X}"),
+            Unit::Sound => write!(f, "{address:04X}"),
+            Unit::File => write!(f, "byte {address:X}"),
+        }
     }
 }
 
-/// Returns the address of a cause with its label.
-pub(crate) fn place_text(alloc: Global, told: &Told<'_>) -> Result<String, AllocError> {
-    let address = address_text(alloc, &told.finding)?;
-    match told.label {
-        Some((name, 0)) => format!(in alloc; "{address} {name}"),
-        Some((name, offset)) => format!(in alloc; "{address} {name}+{offset:02X}"),
-        None => Ok(address),
+/// The address of a finding's cause with its label.
+#[derive(Drop)]
+pub(crate) struct Place<'a>(pub &'a Told<'a>);
+
+impl fmt::Display for Place<'_> {
+    fn fmt<W: fmt::Write>(&self, f: &mut fmt::Formatter<W>) -> fmt::Result {
+        let address = Address(&self.0.finding);
+        match self.0.label {
+            Some((name, 0)) => write!(f, "{address} {name}"),
+            Some((name, offset)) => write!(f, "{address} {name}+{offset:02X}"),
+            None => write!(f, "{address}"),
+        }
     }
 }
 
-/// Returns the sentence of a finding, with the bytes that a transfer is too long by, and with what more there is to say.
-pub(crate) fn sentence(alloc: Global, told: &Told<'_>) -> Result<String, AllocError> {
-    let text = told.finding.rule.text();
-    let most = told.finding.most;
-    if most > 0 {
-        format!(in alloc; "{text} ({most} bytes)")
-    } else if told.advice.is_empty() {
-        String::from_str(alloc, text)
-    } else {
-        let advice = told.advice;
-        format!(in alloc; "{text}: {advice}")
+/// The sentence of a finding, with the bytes that a transfer is too long by, and with what more there is to say.
+#[derive(Drop)]
+pub(crate) struct Sentence<'a>(pub &'a Told<'a>);
+
+impl fmt::Display for Sentence<'_> {
+    fn fmt<W: fmt::Write>(&self, f: &mut fmt::Formatter<W>) -> fmt::Result {
+        let text = self.0.finding.rule.text();
+        let (most, advice) = (self.0.finding.most, self.0.advice);
+        if most > 0 {
+            write!(f, "{text} ({most} bytes)")
+        } else if advice.is_empty() {
+            write!(f, "{text}")
+        } else {
+            write!(f, "{text}: {advice}")
+        }
     }
 }
 

@@ -18,6 +18,7 @@ mod cover;
 mod digits;
 mod ends;
 mod labels;
+mod line;
 mod looks;
 mod mnemonics;
 mod operands;

@@ -4,9 +4,8 @@ ghost use Rattle.std.specs.Prelude.{◌≡◌};
 ghost use Rattle.cpu_alu.specs.Flow.{relative};
 ghost use Rattle.cpu_modes.specs.Addresses.{join};
 
-use crate::digits::{push_hex2, push_hex4, push_hex6, push_text};
+use crate::line::Line;
 use cpu_tables::{INDEX_8, MEMORY_8, Mode, Op};
-use std::alloc::AllocError;
 
 /// The kind of number in an operand.
 #[derive(Clone, Copy)]
@@ -134,39 +133,26 @@ pub fn near(behind: u16, distance: u8) -> u16
 }
 
 /// Adds the number of an operand, whose bytes follow an opcode at `pc`.
-fn push_operand_number(
-    out: &mut Vec<u8>,
-    number: Number,
-    pc: u16,
-    bytes: [u8; 3],
-) -> Result<(), AllocError> {
+fn push_operand_number(out: &mut Line, number: Number, pc: u16, bytes: [u8; 3]) {
     let [first, second, third] = bytes;
     match number {
-        Number::Nothing => Ok(()),
-        Number::Byte => push_hex2(out, first),
-        Number::Word => push_hex4(out, word(first, second)),
-        Number::Long => push_hex6(
-            out,
-            u32::from(word(first, second)) + 65_536 * u32::from(third),
-        ),
-        Number::Near => push_hex4(out, near(pc.wrapping_add(2), first)),
-        Number::Far => push_hex4(out, pc.wrapping_add(3).wrapping_add(word(first, second))),
+        Number::Nothing => {}
+        Number::Byte => out.hex2(first),
+        Number::Word => out.hex4(word(first, second)),
+        Number::Long => out.hex6(u32::from(word(first, second)) + 65_536 * u32::from(third)),
+        Number::Near => out.hex4(near(pc.wrapping_add(2), first)),
+        Number::Far => out.hex4(pc.wrapping_add(3).wrapping_add(word(first, second))),
         Number::Banks => {
-            push_hex2(out, second)?;
-            push_text(out, ",$")?;
-            push_hex2(out, first)
+            out.hex2(second);
+            out.text(",$");
+            out.hex2(first);
         }
     }
 }
 
 /// Adds an operand, whose bytes follow an opcode at `pc`.
-pub fn push_operand(
-    out: &mut Vec<u8>,
-    operand: Operand,
-    pc: u16,
-    bytes: [u8; 3],
-) -> Result<(), AllocError> {
-    push_text(out, operand.front)?;
-    push_operand_number(out, operand.number, pc, bytes)?;
-    push_text(out, operand.back)
+pub fn push_operand(out: &mut Line, operand: Operand, pc: u16, bytes: [u8; 3]) {
+    out.text(operand.front);
+    push_operand_number(out, operand.number, pc, bytes);
+    out.text(operand.back);
 }

@@ -1,50 +1,49 @@
 //! Operands of the SPC700, as they are written after a mnemonic, in Sony's syntax.
 
-use crate::digits::{push_hex2, push_hex4, push_number, push_text};
+use crate::line::Line;
 use crate::operands::{near, word};
 use spc_tables::SpcMode;
-use std::alloc::AllocError;
 
 /// Adds a byte as a number, with the text before it and after it.
-fn push_byte(out: &mut Vec<u8>, front: &str, byte: u8, back: &str) -> Result<(), AllocError> {
-    push_text(out, front)?;
-    push_hex2(out, byte)?;
-    push_text(out, back)
+fn push_byte(out: &mut Line, front: &str, byte: u8, back: &str) {
+    out.text(front);
+    out.hex2(byte);
+    out.text(back);
 }
 
 /// Adds a word as a number, with the text before it and after it.
-fn push_word(out: &mut Vec<u8>, front: &str, word: u16, back: &str) -> Result<(), AllocError> {
-    push_text(out, front)?;
-    push_hex4(out, word)?;
-    push_text(out, back)
+fn push_word(out: &mut Line, front: &str, word: u16, back: &str) {
+    out.text(front);
+    out.hex4(word);
+    out.text(back);
 }
 
 /// Adds a bit's number, after its byte.
-fn push_bit(out: &mut Vec<u8>, bit: u8) -> Result<(), AllocError> {
-    push_text(out, ".")?;
-    push_number(out, u64::from(bit), 0)
+fn push_bit(out: &mut Line, bit: u8) {
+    out.text(".");
+    out.number(u64::from(bit), 0);
 }
 
 /// Adds two addresses or numbers; the one written first is second in the program.
-fn push_two(out: &mut Vec<u8>, between: &str, bytes: [u8; 2]) -> Result<(), AllocError> {
+fn push_two(out: &mut Line, between: &str, bytes: [u8; 2]) {
     let [second, first] = bytes;
-    push_byte(out, "$", first, between)?;
-    push_hex2(out, second)
+    push_byte(out, "$", first, between);
+    out.hex2(second);
 }
 
 /// Adds a bit of a byte in the first 8 KiB.
-fn push_memory_bit(out: &mut Vec<u8>, place: u16) -> Result<(), AllocError> {
-    push_word(out, "$", place % 8192, "")?;
-    push_bit(out, (place / 8192) as u8)
+fn push_memory_bit(out: &mut Line, place: u16) {
+    push_word(out, "$", place % 8192, "");
+    push_bit(out, (place / 8192) as u8);
 }
 
 /// Adds the operand before a branch's target, for the modes that have both.
-fn push_tested(out: &mut Vec<u8>, mode: SpcMode, byte: u8) -> Result<(), AllocError> {
+fn push_tested(out: &mut Line, mode: SpcMode, byte: u8) {
     match mode {
         SpcMode::DirectBitRelative(bit) => {
-            push_byte(out, "$", byte, "")?;
-            push_bit(out, bit)?;
-            push_text(out, ",")
+            push_byte(out, "$", byte, "");
+            push_bit(out, bit);
+            out.text(",");
         }
         SpcMode::DirectXRelative => push_byte(out, "$", byte, "+X,"),
         _ => push_byte(out, "$", byte, ","),
@@ -52,17 +51,12 @@ fn push_tested(out: &mut Vec<u8>, mode: SpcMode, byte: u8) -> Result<(), AllocEr
 }
 
 /// Adds the operand of a mode, whose bytes follow an opcode at `pc`.
-pub fn push_spc_operand(
-    out: &mut Vec<u8>,
-    mode: SpcMode,
-    pc: u16,
-    bytes: [u8; 2],
-) -> Result<(), AllocError> {
+pub fn push_spc_operand(out: &mut Line, mode: SpcMode, pc: u16, bytes: [u8; 2]) {
     let [first, second] = bytes;
     let both = word(first, second);
     match mode {
-        SpcMode::Implied | SpcMode::Stack => Ok(()),
-        SpcMode::Accumulator => push_text(out, "A"),
+        SpcMode::Implied | SpcMode::Stack => {}
+        SpcMode::Accumulator => out.text("A"),
         SpcMode::Immediate => push_byte(out, "#$", first, ""),
         SpcMode::Direct | SpcMode::HighPage => push_byte(out, "$", first, ""),
         SpcMode::DirectX => push_byte(out, "$", first, "+X"),
@@ -70,25 +64,25 @@ pub fn push_spc_operand(
         SpcMode::Absolute => push_word(out, "!$", both, ""),
         SpcMode::AbsoluteX => push_word(out, "!$", both, "+X"),
         SpcMode::AbsoluteY => push_word(out, "!$", both, "+Y"),
-        SpcMode::IndirectX => push_text(out, "(X)"),
-        SpcMode::IndirectXIncrement => push_text(out, "(X)+"),
+        SpcMode::IndirectX => out.text("(X)"),
+        SpcMode::IndirectXIncrement => out.text("(X)+"),
         SpcMode::DirectXPointer => push_byte(out, "[$", first, "+X]"),
         SpcMode::DirectPointerY => push_byte(out, "[$", first, "]+Y"),
         SpcMode::DirectImmediate => push_two(out, ",#$", bytes),
         SpcMode::DirectDirect => push_two(out, ",$", bytes),
-        SpcMode::IndirectXIndirectY => push_text(out, "(X),(Y)"),
+        SpcMode::IndirectXIndirectY => out.text("(X),(Y)"),
         SpcMode::DirectBit(bit) => {
-            push_byte(out, "$", first, "")?;
-            push_bit(out, bit)
+            push_byte(out, "$", first, "");
+            push_bit(out, bit);
         }
         SpcMode::DirectBitRelative(_) | SpcMode::DirectRelative | SpcMode::DirectXRelative => {
-            push_tested(out, mode, first)?;
-            push_word(out, "$", near(pc.wrapping_add(3), second), "")
+            push_tested(out, mode, first);
+            push_word(out, "$", near(pc.wrapping_add(3), second), "");
         }
         SpcMode::MemoryBit => push_memory_bit(out, both),
         SpcMode::Relative => push_word(out, "$", near(pc.wrapping_add(2), first), ""),
         SpcMode::YRelative => push_word(out, "Y,$", near(pc.wrapping_add(2), first), ""),
         SpcMode::AbsoluteXPointer => push_word(out, "[!$", both, "+X]"),
-        SpcMode::VectorTable(number) => push_number(out, u64::from(number), 0),
+        SpcMode::VectorTable(number) => out.number(u64::from(number), 0),
     }
 }

@@ -4,6 +4,7 @@ use crate::breaks::{Break, hits};
 use crate::comma::{HEAD, LABEL_HEAD, push_labels, push_row};
 use crate::cover::note;
 use crate::labels::Labels;
+use crate::line::Line;
 use crate::pair::Pair;
 use crate::step::{Kind, Step};
 use crate::text::{push_line, push_names};
@@ -139,7 +140,7 @@ impl Telling<'_> {
 /// Writes the line of a step.
 fn write_step<W: Write>(
     out: &mut W,
-    line: &mut Vec<u8>,
+    line: &mut Line,
     pair: &Pair,
     labels: &Labels,
     step: &Step,
@@ -149,16 +150,16 @@ fn write_step<W: Write>(
     let (console, _) = pair.machines();
     let named = labels.names_of(console.bus(), step);
     if is_csv {
-        push_row(line, pair.region(), step)?;
+        push_row(line, pair.region(), step);
         if labels.is_given() {
-            push_labels(line, named)?;
+            push_labels(line, named);
         }
     } else {
-        push_line(line, pair.region(), step)?;
-        push_names(line, named)?;
+        push_line(line, pair.region(), step);
+        push_names(line, named);
     }
-    line.push(b'\n')?;
-    out.write_all(line.as_slice())
+    line.text("\n");
+    out.write_all(line.bytes()?)
 }
 
 /// Writes the head of CSV.
@@ -186,7 +187,7 @@ fn tell_steps<W: Write>(
     pair: &mut Pair,
     labels: &Labels,
     coverage: &mut Coverage,
-    line: &mut Vec<u8>,
+    line: &mut Line,
     out: &mut W,
 ) -> Result<()> {
     let wanted = telling.wanted;
@@ -221,7 +222,7 @@ pub fn write_trace<W: Write>(
     coverage: &mut Coverage,
     out: &mut W,
 ) -> Result<Told> {
-    let mut line = Vec::with_capacity(alloc, 256)?;
+    let mut line = Line::new(alloc)?;
     let mut telling = Telling::new(wanted);
     if wanted.is_csv && wanted.tells_steps {
         telling.is_closed = is_closed(write_head(out, labels), FAULT)?;
