@@ -1,14 +1,20 @@
 //! The keys of a table of a bench file, each of a known name and of the right kind.
+//!
+//! A table keeps the first fault that is found while it is read, and tells it at its end. What is read after a fault counts
+//! for nothing. So whoever reads a table reads all of it, and nobody looks at each key.
 
-use anyhow::{Result, bail};
-use std::alloc::Global;
+use anyhow::{Error, Result, anyhow};
+use std::alloc::{AllocError, Global};
+use std::fmt;
 use toml::{Table, Value};
 
-/// A table of the file, and what messages call it.
-#[derive(Clone, Copy)]
+/// A table of the file while it is read, and what messages call it.
+#[derive(Drop)]
 pub struct Fields<'a> {
     path: &'a str,
     table: &'a Table,
+    /// The first fault.
+    fault: Option<Error>,
 }
 
 /// Whether a name is one of these.
@@ -32,20 +38,76 @@ fn number_in(value: &Value, most: u32) -> Option<u32> {
     }
 }
 
+/// Adds an item to a list.
+fn push_to<T: Drop>(list: &mut Vec<T>, item: T) -> Result<()> {
+    Ok(list.push(item)?)
+}
+
 impl<'a> Fields<'a> {
-    /// Returns the fields of a table, if it has only keys of these names.
-    pub fn new(path: &'a str, table: &'a Table, known: &[&str]) -> Result<Fields<'a>> {
+    /// Returns the fields of a table, which has only keys of these names.
+    pub fn new(path: &'a str, table: &'a Table, known: &[&str]) -> Fields<'a> {
+        let mut fields = Fields {
+            path,
+            table,
+            fault: None,
+        };
         for (key, _value) in table.iter() {
             if !is_among(known, key.as_str()) {
-                bail!("{path}: the key {} is not known here", key.as_str());
+                fields.refuse(format_args!("the key {} is not known here", key.as_str()));
             }
         }
-        Ok(Fields { path, table })
+        fields
     }
 
-    /// What messages call the table.
-    pub fn path(&self) -> &'a str {
-        self.path
+    /// Keeps a fault, if it is the first.
+    fn keep(&mut self, fault: Error) {
+        if self.fault.is_none() {
+            self.fault = Some(fault);
+        }
+    }
+
+    /// Refuses the table for this reason.
+    pub fn refuse<D: fmt::Display + Drop>(&mut self, reason: D) {
+        let path = self.path;
+        self.keep(anyhow!("{path}: {reason}"));
+    }
+
+    /// Keeps the fault of what was done, if there is one.
+    pub fn note(&mut self, done: Result<()>) {
+        if let Err(fault) = done {
+            self.keep(fault);
+        }
+    }
+
+    /// Returns what was made, unless memory ran out.
+    fn made<T: Drop>(&mut self, made: Result<T, AllocError>) -> Option<T> {
+        match made {
+            Ok(made) => Some(made),
+            Err(fault) => {
+                self.keep(Error::from(fault));
+                None
+            }
+        }
+    }
+
+    /// Adds an item to a list.
+    pub fn push<T: Drop>(&mut self, list: &mut Vec<T>, item: T) {
+        self.note(push_to(list, item));
+    }
+
+    /// Returns the first fault, if there is one.
+    pub fn end(self) -> Result<()> {
+        match self.fault {
+            Some(fault) => Err(fault),
+            None => Ok(()),
+        }
+    }
+
+    /// What messages call a table of a list of this one: the list's key, and the table's place in it, from 1.
+    pub fn path_of(&mut self, alloc: Global, key: &str, place: usize) -> Option<String> {
+        let number = place.saturating_add(1);
+        let path = self.path;
+        self.made(format!(in alloc; "{path}, {key} {number}"))
     }
 
     /// Whether the key is there.
@@ -53,106 +115,165 @@ impl<'a> Fields<'a> {
         self.table.get(key).is_some()
     }
 
-    /// The text of a key, if it is there.
-    pub fn text(&self, alloc: Global, key: &str) -> Result<Option<String>> {
-        let Some(value) = self.table.get(key) else {
-            return Ok(None);
-        };
-        match value.as_str() {
-            Some(text) => Ok(Some(String::from_str(alloc, text)?)),
-            None => bail!("{}: {key} is no text", self.path),
+    /// The text of a key, if it is there, as it stands in the table.
+    pub fn text_in(&mut self, key: &str) -> Option<&'a str> {
+        let value = self.table.get(key)?;
+        let text = value.as_str();
+        if text.is_none() {
+            self.refuse(format_args!("{key} is no text"));
+        }
+        text
+    }
+
+    /// A copy of the text of a key, if it is there.
+    pub fn text(&mut self, alloc: Global, key: &str) -> Option<String> {
+        let text = self.text_in(key)?;
+        self.made(String::from_str(alloc, text))
+    }
+
+    /// A copy of the text of a key, which has to be there.
+    pub fn needed_text(&mut self, alloc: Global, key: &str) -> String {
+        match self.text(alloc, key) {
+            Some(text) => text,
+            None => {
+                self.refuse(format_args!("{key} is missing"));
+                String::new(alloc)
+            }
         }
     }
 
     /// The number of a key, if it is there.
-    pub fn number(&self, key: &str, most: u32) -> Result<Option<u32>> {
-        let Some(value) = self.table.get(key) else {
-            return Ok(None);
-        };
-        match number_in(value, most) {
-            Some(number) => Ok(Some(number)),
-            None => bail!("{}: {key} is no whole number from 0 to {most}", self.path),
+    pub fn number(&mut self, key: &str, most: u32) -> Option<u32> {
+        let value = self.table.get(key)?;
+        let number = number_in(value, most);
+        if number.is_none() {
+            self.refuse(format_args!("{key} is no whole number from 0 to {most}"));
         }
+        number
+    }
+
+    /// The number of a key, which has to be there.
+    pub fn needed_number(&mut self, key: &str, most: u32) -> u32 {
+        match self.number(key, most) {
+            Some(number) => number,
+            None => {
+                self.refuse(format_args!("{key} is missing"));
+                0
+            }
+        }
+    }
+
+    /// The value that the text of a key stands for, if it is there: one of two.
+    pub fn one_of<T: Copy>(&mut self, key: &str, one: (&str, T), other: (&str, T)) -> Option<T> {
+        let text = self.text_in(key)?;
+        let ((first, value), (second, other)) = (one, other);
+        if text == first {
+            return Some(value);
+        }
+        if text == second {
+            return Some(other);
+        }
+        self.refuse(format_args!("{key} is neither {first} nor {second}"));
+        None
+    }
+
+    /// The least and the most of a table of the two, by its key.
+    fn bounds_in(&mut self, key: &str, table: &Table, most: u32) -> (u32, u32) {
+        let mut both = Fields::new(self.path, table, &["least", "most"]);
+        let least = both.number("least", most).unwrap_or(0);
+        let greatest = both.number("most", most).unwrap_or(most);
+        if greatest < least {
+            both.refuse(format_args!("of {key} the least is above the most"));
+        }
+        self.note(both.end());
+        (least, greatest)
     }
 
     /// The least and the most of a key, which is a number, or a table of the two.
-    pub fn bounds(&self, key: &str, most: u32) -> Result<Option<(u32, u32)>> {
-        let Some(value) = self.table.get(key) else {
-            return Ok(None);
-        };
-        match value.as_table() {
-            Some(table) => {
-                let both = Fields::new(self.path, table, &["least", "most"])?;
-                let least = both.number("least", most)?.unwrap_or(0);
-                let most = both.number("most", most)?.unwrap_or(most);
-                if most < least {
-                    bail!("{}: of {key} the least is above the most", self.path);
-                }
-                Ok(Some((least, most)))
+    pub fn bounds(&mut self, key: &str, most: u32) -> Option<(u32, u32)> {
+        match self.table.get(key)?.as_table() {
+            Some(table) => Some(self.bounds_in(key, table, most)),
+            None => {
+                let number = self.number(key, most)?;
+                Some((number, number))
             }
-            None => Ok(self.number(key, most)?.map(|number| (number, number))),
         }
+    }
+
+    /// The bytes of a text of hexadecimal digits.
+    fn digits(&mut self, alloc: Global, key: &str, text: &str) -> Option<Vec<u8>> {
+        match hex::decode(alloc, text) {
+            Ok(bytes) if !bytes.is_empty() => Some(bytes),
+            _ => {
+                self.refuse(format_args!("{key} is no text of hexadecimal digits"));
+                None
+            }
+        }
+    }
+
+    /// The bytes of a list of numbers.
+    fn listed(&mut self, alloc: Global, key: &str, list: &[Value]) -> Vec<u8> {
+        let mut bytes = Vec::new(alloc);
+        for item in list {
+            match number_in(item, 255) {
+                Some(number) => self.push(&mut bytes, (number % 256) as u8),
+                None => self.refuse(format_args!("{key} has what is no byte")),
+            }
+        }
+        bytes
     }
 
     /// The bytes of a key: a list of numbers, or a text of hexadecimal digits.
-    pub fn bytes(&self, alloc: Global, key: &str) -> Result<Option<Vec<u8>>> {
-        let Some(value) = self.table.get(key) else {
-            return Ok(None);
-        };
+    pub fn bytes(&mut self, alloc: Global, key: &str) -> Option<Vec<u8>> {
+        let value = self.table.get(key)?;
         if let Some(text) = value.as_str() {
-            return match hex::decode(alloc, text) {
-                Ok(bytes) if !bytes.is_empty() => Ok(Some(bytes)),
-                _ => bail!("{}: {key} is no text of hexadecimal digits", self.path),
-            };
+            return self.digits(alloc, key, text);
         }
-        let mut bytes = Vec::new(alloc);
-        if let Some(list) = value.as_array() {
-            for item in list.as_slice() {
-                match number_in(item, 255) {
-                    Some(number) => bytes.push((number % 256) as u8)?,
-                    None => bail!("{}: {key} has what is no byte", self.path),
-                }
-            }
-        }
+        let bytes = match value.as_array() {
+            Some(list) => self.listed(alloc, key, list.as_slice()),
+            None => Vec::new(alloc),
+        };
         if bytes.is_empty() {
-            bail!("{}: {key} has no bytes", self.path);
+            self.refuse(format_args!("{key} has no bytes"));
         }
-        Ok(Some(bytes))
+        Some(bytes)
     }
 
     /// The texts of a key's list; none if it isn't there.
-    pub fn texts(&self, alloc: Global, key: &str) -> Result<Vec<&'a str>> {
+    pub fn texts(&mut self, alloc: Global, key: &str) -> Vec<&'a str> {
         let mut texts = Vec::new(alloc);
         let Some(value) = self.table.get(key) else {
-            return Ok(texts);
+            return texts;
         };
         let Some(list) = value.as_array() else {
-            bail!("{}: {key} is no list of texts", self.path);
+            self.refuse(format_args!("{key} is no list of texts"));
+            return texts;
         };
         for item in list.as_slice() {
             match item.as_str() {
-                Some(text) => texts.push(text)?,
-                None => bail!("{}: {key} is no list of texts", self.path),
+                Some(text) => self.push(&mut texts, text),
+                None => self.refuse(format_args!("{key} is no list of texts")),
             }
         }
-        Ok(texts)
+        texts
     }
 
     /// The tables of a key; none if it isn't there.
-    pub fn tables(&self, alloc: Global, key: &str) -> Result<Vec<&'a Table>> {
+    pub fn tables(&mut self, alloc: Global, key: &str) -> Vec<&'a Table> {
         let mut tables = Vec::new(alloc);
         let Some(value) = self.table.get(key) else {
-            return Ok(tables);
+            return tables;
         };
         let Some(list) = value.as_array() else {
-            bail!("{}: {key} is no list of tables: write [[{key}]]", self.path);
+            self.refuse(format_args!("{key} is no list of tables: write [[{key}]]"));
+            return tables;
         };
         for item in list.as_slice() {
             match item.as_table() {
-                Some(table) => tables.push(table)?,
-                None => bail!("{}: {key} is no list of tables", self.path),
+                Some(table) => self.push(&mut tables, table),
+                None => self.refuse(format_args!("{key} is no list of tables")),
             }
         }
-        Ok(tables)
+        tables
     }
 }
