@@ -174,12 +174,41 @@ fn fires(timer: IrqTime, v: u16, h: u16) -> bool
         || ((timer.kind == 3 && v == timer.v) && h as u32 == 4 * timer.h as u32)
 }
 
+/// Returns what happens where the table has one row, or none: a line, a refresh, a row of the picture, or HDMA.
+#[inline(always)]
+fn one_row(line: bool, refresh: bool, draw: bool, hdma_line: bool) -> Happens
+    ensures { result ≡ record { line = line; blank = false; hdma_frame = false; refresh = refresh; draw = draw; hdma_line = hdma_line; timer = false } }
+{
+    Happens {
+        line,
+        blank: false,
+        hdma_frame: false,
+        refresh,
+        draw,
+        hdma_line,
+        timer: false,
+    }
+}
+
 /// Returns the row of the table at a line and a line clock.
-#[tactic(auto, unfolding(crate::specs::Events::happens_at, crate::specs::Events::is_blank_line))]
+#[tactic(auto, unfolding(crate::specs::Events::happens_at, crate::specs::Events::is_blank_line, crate::specs::Events::fires))]
 #[inline(always)]
 fn happens(timer: IrqTime, overscan: bool, blank: bool, v: u16, h: u16) -> Happens
     ensures { result ≡ happens_at timer overscan blank v h }
 {
+    // Where the timer is off, most places have one row of the table, and one comparison tells which.
+    if timer.kind == 0 && h == 536 {
+        return one_row(false, true, false, false);
+    }
+    if timer.kind == 0 && h == 0 && 1 <= v && v <= 224 {
+        return one_row(true, false, false, false);
+    }
+    if timer.kind == 0 && h == BLANK_CLOCK && 1 <= v && v <= 239 {
+        return one_row(false, false, true, false);
+    }
+    if timer.kind == 0 && h == 1104 && !blank {
+        return one_row(false, false, false, true);
+    }
     Happens {
         line: h == 0,
         blank: h == 0 && ((v == 225 && !overscan) || (v == 240 && !blank)),
@@ -228,7 +257,7 @@ fn timer_place(timer: IrqTime, v: u16) -> u16
 }
 
 /// Returns the next line clock after this one at which anything may happen.
-#[tactic(auto, unfolding(crate::specs::Places::next_place))]
+#[tactic(auto, unfolding(crate::specs::Places::next_place, crate::specs::Places::timer_place))]
 fn next_place(timer: IrqTime, blank: bool, v: u16, h: u16) -> u16
     requires { h < 1364 }
     ensures place { result ≡ next_place timer blank v h }
@@ -236,6 +265,9 @@ fn next_place(timer: IrqTime, blank: bool, v: u16, h: u16) -> u16
     ensures within { result ≤ 1364 }
 {
     let table = table_place(blank, v, h);
+    if timer.kind == 0 {
+        return table;
+    }
     let fires = timer_place(timer, v);
     if h < fires && fires < table {
         fires
