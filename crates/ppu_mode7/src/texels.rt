@@ -97,6 +97,23 @@ fn take_values(vram: &[u16], tiles: &[u8; 256], fine: &[u8; 256], out: &mut [u8;
     }
 }
 
+/// Reads the tiles of words of the map, and from these the values of pixels, sixteen columns after another.
+fn take_both(vram: &[u16], words: &[u16; 256], fine: &[u8; 256], out: &mut [u8; 256])
+    requires size { length vram.now ≡ 32768 }
+    requires small_words { (c : ℕ) → c < 256 → slice_index words.now c < 16384 }
+    requires small_pixels { (c : ℕ) → c < 256 → slice_index fine.now c < 64 }
+    ensures { (c : ℕ) → c < 256 → slice_index out.new c ≡ slice_index vram.now
+        (64 * (slice_index vram.now (slice_index words.now c) % 256) + slice_index fine.now c) / 256 }
+{
+    'groups: for group in 0..16usize {
+        'columns: for column in 0..16usize {
+            let c = 16 * group + column;
+            let tile = vram[words[c] as usize] % 256;
+            out[c] = (vram[64 * tile as usize + fine[c] as usize] / 256) as u8;
+        }
+    }
+}
+
 #[inline(always)]
 #[tactic(auto, unfolding(scanline_ops::specs::RankedPixels::chosen))]
 fn unless_marked(mark: u8, v: u8) -> u8
@@ -123,18 +140,18 @@ pub fn values(code: Outside, vram: &[u16], along: &Line, out: &mut [u8; 256])
 {
     let mut words = [0u16; 256];
     let mut fine = [0u8; 256];
-    let mut tiles = [0u8; 256];
     look(along, &mut words, &mut fine);
-    take_tiles(vram, &words, &mut tiles);
     match code {
-        Outside::Wrap => take_values(vram, &tiles, &fine, out),
+        Outside::Wrap => take_both(vram, &words, &fine, out),
         Outside::Nothing => {
-            take_values(vram, &tiles, &fine, out);
+            take_both(vram, &words, &fine, out);
             let mut marks = [0u8; 256];
             mark_outside(along, &mut marks);
             clear_marked(&marks, out);
         }
         Outside::TileZero => {
+            let mut tiles = [0u8; 256];
+            take_tiles(vram, &words, &mut tiles);
             let mut marks = [0u8; 256];
             mark_outside(along, &mut marks);
             clear_marked(&marks, &mut tiles);
