@@ -23,7 +23,7 @@ pub struct Shot {
 }
 
 /// How a case ended.
-#[derive(Clone, Copy)]
+#[derive(Clone, Copy, PartialEq, Eq)]
 pub enum End {
     /// All is as expected.
     Passed,

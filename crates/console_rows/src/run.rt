@@ -21,7 +21,7 @@ const PAL_CLOCK: u64 = 102_400;
 const MOST_STEPS: u32 = 2_000_000;
 
 /// How acts are shown.
-#[derive(Clone, Copy)]
+#[derive(Clone, Copy, PartialEq, Eq)]
 pub enum Show {
     /// With the position of the beam at which the step begins.
     Places,

@@ -1,5 +1,5 @@
 /// The operations, one for each mnemonic, and the three (NMI, IRQ, reset) that no opcode has.
-#[derive(Clone, Copy)]
+#[derive(Clone, Copy, PartialEq, Eq)]
 pub enum Op {
     /// Adds the operand and the carry to A.
     Adc,

@@ -6,7 +6,7 @@ ghost use Rattle.lint_rules.specs.Profiles.{is_of_first_alone, is_mended};
 use snes_defs::Profile;
 
 /// How much a finding weighs.
-#[derive(Clone, Copy)]
+#[derive(Clone, Copy, PartialEq, Eq)]
 pub enum Severity {
     /// The program works here in part only by what this machine forgives, or it fails here.
     Warning,

@@ -4,7 +4,7 @@ ghost use Rattle.std.specs.Prelude.{◌≡◌, ◌<◌, ◌≤◌};
 ghost use Rattle.lint_rules.specs.Shown.{words_of, by_layer, depth_at, side_of, turned, entry_word, map_word, tile_at, tile_word, line_word_by, line_word, moves_layer, across_by, moved_by_two, moved_by_one, moved, of_planes, weight_at, value_of, colour_by, colour_of};
 
 /// The bits a pixel of a background.
-#[derive(Clone, Copy)]
+#[derive(Clone, Copy, PartialEq, Eq)]
 pub enum Depth {
     /// Four colours.
     Two,

@@ -31,7 +31,7 @@ pub const INDEX: u8 = 64;
 pub const MEMORY: u8 = 128;
 
 /// How a byte was used. Of several ways it is the first.
-#[derive(Clone, Copy)]
+#[derive(Clone, Copy, PartialEq, Eq)]
 pub enum Use {
     /// It was executed.
     Executed,

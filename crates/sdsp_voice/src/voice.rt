@@ -1,5 +1,5 @@
 /// The phase of a voice's envelope.
-#[derive(Clone, Copy)]
+#[derive(Clone, Copy, PartialEq, Eq)]
 pub enum Phase {
     Attack,
     Decay,

@@ -11,7 +11,7 @@ use std::rt::Files;
 use symbol_files::SourceLines;
 
 /// The form of a file of coverage, by the end of its name.
-#[derive(Clone, Copy)]
+#[derive(Clone, Copy, PartialEq, Eq)]
 pub enum Form {
     /// A log of code and data: `.cdl`.
     Log,

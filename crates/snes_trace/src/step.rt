@@ -6,7 +6,7 @@ use snes_defs::Side;
 use spc_tables::SpcRegs;
 
 /// The kind of a step.
-#[derive(Clone, Copy)]
+#[derive(Clone, Copy, PartialEq, Eq)]
 pub enum Kind {
     /// The processor fetches an opcode.
     Opcode,

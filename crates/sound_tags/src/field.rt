@@ -2,7 +2,7 @@ ghost use Rattle.std.specs.Prelude.{◌≡◌, ◌+◌, ◌≤◌};
 ghost use Rattle.sound_tags.specs.Fields.{offset_of, size_of, is_number};
 
 /// The two forms of ID666.
-#[derive(Clone, Copy)]
+#[derive(Clone, Copy, PartialEq, Eq)]
 pub enum Form {
     /// Lengths are decimal digits, the date is a text.
     Text,
@@ -11,7 +11,7 @@ pub enum Form {
 }
 
 /// A field of ID666.
-#[derive(Clone, Copy)]
+#[derive(Clone, Copy, PartialEq, Eq)]
 pub enum Field {
     /// The title of the tune: 32 bytes at 2E.
     Title,

@@ -7,7 +7,7 @@
 use crate::audio_side::AudioSide;
 use crate::clock_ratio::end_stamp_in;
 use crate::console_machine::ConsoleSide;
-use crate::file_shelf::Failed;
+use crate::shelf::Failed;
 use crate::kit::{Global, Vec};
 use crate::run_drive::{Sink, run_serial};
 use crate::snes_defs::{Job, Side};

@@ -7,11 +7,11 @@ import os, re, sys
 
 CRATES = """snes_defs clock_ratio status_bits port_entries side_law serial_console cpu_tables cpu_alu cpu_modes cpu65816 cart_map
 io_math beam dma_hdma scanline_ops ppu_regs tile_cache ppu_tiles color_window ppu_mode7 ppu_objects ppu_screens ppu_line
-console_bus console_steps console_machine spc_tables spc_alu spc_modes spc700 sdsp_voice sdsp_echo audio_side input_files demo_files
+console_bus console_steps whole_instructions console_machine spc_tables spc_alu spc_modes spc700 sdsp_voice sdsp_echo audio_side input_files demo_files shelf worker_gate
 run_drive""".split()
 # Of these crates only some files: the loops of the serial run without the shelf of files and the threads.
-ONLY = {"run_drive": {"pours.rt", "serial_run.rt", "sink.rt"}}
-NAMES = set(CRATES) | {"file_shelf"}
+ONLY = {"run_drive": {"pours.rt", "serial_run.rt", "sink.rt", "driving.rt"}}
+NAMES = set(CRATES)
 KIT = {"arrayvec", "circular_buffer", "byteorder", "bstr"}
 
 
@@ -101,7 +101,7 @@ def main():
             for file in sorted(ONLY[name]):
                 f.write("pub use %s::*;\n" % file[:-3])
     with open(os.path.join(out, "main.rs"), "w") as f:
-        f.write("#![allow(unused, dead_code)]\n#![recursion_limit = \"512\"]\nmod kit;\nuse kit::{arrayvec, bstr, byteorder, circular_buffer, file_shelf};\n")
+        f.write("#![allow(unused, dead_code)]\n#![recursion_limit = \"512\"]\nmod kit;\nuse kit::{arrayvec, bstr, byteorder, circular_buffer};\n")
         f.writelines("mod %s;\n" % name for name in CRATES)
         f.write("mod bench;\nfn main() {\n    bench::main();\n}\n")
 

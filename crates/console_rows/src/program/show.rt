@@ -14,7 +14,7 @@ const MOST_LETTERS: usize = 64;
 const LINE: usize = 16;
 
 /// How much of an output is printed.
-#[derive(Clone, Copy)]
+#[derive(Clone, Copy, PartialEq, Eq)]
 pub enum Detail {
     /// Its length.
     Length,

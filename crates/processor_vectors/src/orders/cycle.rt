@@ -1,7 +1,7 @@
 use super::row::Width;
 
 /// What a cycle does on the bus.
-#[derive(Clone, Copy)]
+#[derive(Clone, Copy, PartialEq, Eq)]
 pub(crate) enum Kind {
     Fetch,
     Read,
