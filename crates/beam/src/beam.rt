@@ -196,7 +196,7 @@ fn one_row(line: bool, refresh: bool, draw: bool, hdma_line: bool) -> Happens
 fn happens(timer: IrqTime, overscan: bool, blank: bool, v: u16, h: u16) -> Happens
     ensures { result ≡ happens_at timer overscan blank v h }
 {
-    // Where the timer is off, most places have one row of the table, and one comparison tells which.
+    // If the timer is off, most places have one row of the table. These are looked for first.
     if timer.kind == 0 && h == 536 {
         return one_row(false, true, false, false);
     }
