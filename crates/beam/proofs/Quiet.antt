@@ -1,10 +1,9 @@
 -- Between two places of the table nothing happens.
-use Rattle.std.proofs.Common.{◌≡◌, ℕ, suc, zero, ◌+◌, ◌-◌, ◌*◌, ◌<◌, ◌≤◌, Bool, true, false, not, ◌&&◌, ◌||◌, ◌==◌, nat_lt, nat_le, List, [], ◌∷◌, ◌++◌, refl, sym, ap, append-nil, sub-one, ◌∙◌, arith, add-zero, add-one, if◌then◌else◌, cond}
-use Rattle.std.proofs.lemmas.Grind.{common_steps}
+use Rattle.std.proofs.Common.{◌≡◌, ℕ, suc, zero, ◌+◌, ◌-◌, ◌<◌, ◌≤◌, Bool, true, false, not, ◌&&◌, ◌||◌, ◌==◌, nat_lt, nat_le, [], refl, sym, ap, append-nil, sub-one, ◌∙◌, arith, add-zero, if◌then◌else◌}
 use Rattle.std.proofs.lemmas.Bool.Decides.{nat_tests}
 use Rattle.snes_defs.specs.declared.spot.IrqTime.{IrqTime}
 use Rattle.beam.specs.declared.events.Happens.{Happens}
-use Rattle.beam.specs.Events.{BeamValue, fires, is_blank_line, happens_at, one_if, events_of, blank_after, next_h, next_v, happens_next, beam_next, beam_after, passed}
+use Rattle.beam.specs.Events.{BeamValue, fires, happens_at, events_of, blank_after, next_h, next_v, happens_next, beam_next, beam_after, passed}
 use Rattle.beam.specs.Places.{table_place, timer_place, next_place}
 
 -- on line v there is no row of the table at line clock x

@@ -1,7 +1,7 @@
 //! The beam, and the table of what happens at its places.
 ghost use Rattle.std.specs.Prelude.{◌≡◌, ◌-◌, ◌+◌, ◌==◌, ◌<◌, ◌≤◌, Bool, [], false, if◌then◌else◌};
 ghost use Rattle.beam.specs.Events.{BeamValue, lines_of, fires, next_v, next_h, happens_at, events_of, happens_next, beam_next, blank_after, beam_after, passed};
-ghost use Rattle.beam.specs.Places.{table_place, timer_place, next_place, clocks_left};
+ghost use Rattle.beam.specs.Places.{table_place, timer_place, next_place, clocks_left, one_row, stop_of};
 
 use crate::events::Happens;
 use snes_defs::{BLANK_CLOCK, IrqTime, LINE_CLOCKS, Region, Spot};
@@ -121,16 +121,32 @@ impl Beam {
         ensures same_timer { self.new.timer ≡ self.old.timer }
         ensures same_region { self.new.region ≡ self.old.region }
     {
-        let (v, h) = place_of(self.region, self.v, self.place);
-        let happens = happens(self.timer, overscan, self.blank, v, h);
-        let blank = blank_after(self.blank, happens, v, h);
-        let place = next_place(self.timer, blank, v, h);
-        self.blank = blank;
-        self.v = v;
-        self.place = place;
-        self.left = place - h;
-        happens
+        let stop = stop_at(
+            self.region,
+            self.timer,
+            overscan,
+            self.blank,
+            self.v,
+            self.place,
+        );
+        self.blank = stop.blank;
+        self.v = stop.v;
+        self.place = stop.next;
+        self.left = stop.next - stop.h;
+        stop.happens
     }
+}
+
+/// Where the beam stops, and what happens there.
+#[derive(Drop)]
+struct Stop {
+    happens: Happens,
+    v: u16,
+    h: u16,
+    /// Whether vertical blank has begun, after what happens.
+    blank: bool,
+    /// The line clock of the next place of the line.
+    next: u16,
 }
 
 /// Returns the line and the line clock of a place, 1 to 1,364, on line `v`.
@@ -174,41 +190,12 @@ fn fires(timer: IrqTime, v: u16, h: u16) -> bool
         || ((timer.kind == 3 && v == timer.v) && h as u32 == 4 * timer.h as u32)
 }
 
-/// Returns what happens where the table has one row, or none: a line, a refresh, a row of the picture, or HDMA.
-#[inline(always)]
-fn one_row(line: bool, refresh: bool, draw: bool, hdma_line: bool) -> Happens
-    ensures { result ≡ record { line = line; blank = false; hdma_frame = false; refresh = refresh; draw = draw; hdma_line = hdma_line; timer = false } }
-{
-    Happens {
-        line,
-        blank: false,
-        hdma_frame: false,
-        refresh,
-        draw,
-        hdma_line,
-        timer: false,
-    }
-}
-
 /// Returns the row of the table at a line and a line clock.
-#[tactic(auto, unfolding(crate::specs::Events::happens_at, crate::specs::Events::is_blank_line, crate::specs::Events::fires))]
+#[tactic(auto, unfolding(crate::specs::Events::happens_at, crate::specs::Events::is_blank_line))]
 #[inline(always)]
 fn happens(timer: IrqTime, overscan: bool, blank: bool, v: u16, h: u16) -> Happens
     ensures { result ≡ happens_at timer overscan blank v h }
 {
-    // If the timer is off, most places have one row of the table. These are looked for first.
-    if timer.kind == 0 && h == 536 {
-        return one_row(false, true, false, false);
-    }
-    if timer.kind == 0 && h == 0 && 1 <= v && v <= 224 {
-        return one_row(true, false, false, false);
-    }
-    if timer.kind == 0 && h == BLANK_CLOCK && 1 <= v && v <= 239 {
-        return one_row(false, false, true, false);
-    }
-    if timer.kind == 0 && h == 1104 && !blank {
-        return one_row(false, false, false, true);
-    }
     Happens {
         line: h == 0,
         blank: h == 0 && ((v == 225 && !overscan) || (v == 240 && !blank)),
@@ -265,13 +252,89 @@ fn next_place(timer: IrqTime, blank: bool, v: u16, h: u16) -> u16
     ensures within { result ≤ 1364 }
 {
     let table = table_place(blank, v, h);
-    if timer.kind == 0 {
-        return table;
-    }
     let fires = timer_place(timer, v);
     if h < fires && fires < table {
         fires
     } else {
         table
     }
+}
+
+/// Returns where the beam stops at a place, 1 to 1,364, of line `v`, by the whole table.
+#[tactic(auto, unfolding(crate::specs::Places::stop_of))]
+#[inline(never)]
+fn any_stop(region: Region, timer: IrqTime, overscan: bool, blank: bool, v: u16, place: u16) -> Stop
+    requires line { v < lines_of region }
+    requires low { 0 < place }
+    requires high { place ≤ 1364 }
+    ensures stop { result ≡ stop_of region timer overscan blank v (place - 1) }
+    ensures next { result.next ≡ next_place timer result.blank result.v result.h }
+    ensures line { result.v < lines_of region }
+    ensures later { result.h < result.next }
+    ensures within { result.next ≤ 1364 }
+{
+    let (v, h) = place_of(region, v, place);
+    let happens = happens(timer, overscan, blank, v, h);
+    let blank = blank_after(blank, happens, v, h);
+    let next = next_place(timer, blank, v, h);
+    Stop {
+        happens,
+        v,
+        h,
+        blank,
+        next,
+    }
+}
+
+/// Returns a stop with one row of the table: a line, a refresh, a row of the picture, or HDMA.
+#[inline(always)]
+fn one_row(v: u16, h: u16, blank: bool, next: u16) -> Stop
+    ensures { result ≡ one_row v h blank next }
+{
+    let happens = Happens {
+        line: h == 0,
+        blank: false,
+        hdma_frame: false,
+        refresh: h == 536,
+        draw: h == BLANK_CLOCK,
+        hdma_line: h == 1104,
+        timer: false,
+    };
+    Stop {
+        happens,
+        v,
+        h,
+        blank,
+        next,
+    }
+}
+
+/// The same as `any_stop`. If the timer is off, most places have one row of the table. These are looked for first.
+#[tactic(auto, unfolding(crate::specs::Places::stop_of, crate::specs::Events::next_v, crate::specs::Events::next_h, crate::specs::Events::happens_at, crate::specs::Events::is_blank_line, crate::specs::Events::fires, crate::specs::Events::blank_after, crate::specs::Places::next_place, crate::specs::Places::timer_place, crate::specs::Places::table_place))]
+#[inline(always)]
+fn stop_at(region: Region, timer: IrqTime, overscan: bool, blank: bool, v: u16, place: u16) -> Stop
+    requires line { v < lines_of region }
+    requires low { 0 < place }
+    requires high { place ≤ 1364 }
+    ensures stop { result ≡ stop_of region timer overscan blank v (place - 1) }
+    ensures next { result.next ≡ next_place timer result.blank result.v result.h }
+    ensures line { result.v < lines_of region }
+    ensures later { result.h < result.next }
+    ensures within { result.next ≤ 1364 }
+{
+    if timer.kind == 0 {
+        if place == 536 {
+            return one_row(v, 536, blank, table_place(blank, v, 536));
+        }
+        if place == BLANK_CLOCK && 1 <= v && v <= 239 {
+            return one_row(v, BLANK_CLOCK, blank, table_place(blank, v, BLANK_CLOCK));
+        }
+        if place == 1104 && !blank {
+            return one_row(v, 1104, blank, LINE_CLOCKS);
+        }
+        if place == LINE_CLOCKS && v < 224 {
+            return one_row(v + 1, 0, blank, 536);
+        }
+    }
+    any_stop(region, timer, overscan, blank, v, place)
 }

@@ -1,7 +1,7 @@
-use Rattle.std.proofs.Common.{◌≡◌, ℕ, ◌-◌, ◌+◌, ◌<◌, ◌≤◌, ap, sym, refl, ◌∙◌, arith}
-use Rattle.beam.specs.Events.{BeamValue, lines_of}
+use Rattle.std.proofs.Common.{◌≡◌, ◌-◌, ◌+◌, ◌<◌, ap, sym, refl, ◌∙◌, arith}
+use Rattle.beam.specs.Events.{BeamValue}
 use Rattle.beam.specs.Places.{next_place}
-use Rattle.beam.proofs.Quiet.{quiet_passed, nearer, further}
+use Rattle.beam.proofs.Quiet.{quiet_passed, nearer}
 use Rattle.beam.proofs.beam.Beam.go_on.Goals as goal
 
 -- what contracts see of the fields
