@@ -13,7 +13,8 @@ use crate::order::rank;
 use color_window::{fixed, mark_mixed, mix_marked, mix_row};
 use ppu_regs::{Ppu, RankedRow, Registers, WindowPart};
 use scanline_ops::{
-    any_named, dim_colour, dim_small_row, fill_dots, is_found_key, look_up, write_dots, write_twice,
+    any_named, dim_colour, dim_small_row, fill_dots, is_found_key, look_up_direct, write_dots,
+    write_twice,
 };
 use snes_defs::Profile;
 
@@ -25,21 +26,26 @@ fn direct(r: &Registers) -> bool
     r.colour.direct && (r.mode == 3 || r.mode == 4 || r.mode == 7)
 }
 
-/// Looks up the colours of the pixels in front.
-#[tactic(auto, unfolding(crate::specs::Screens::front_pixel_colour))]
+/// Looks up the colours of the pixels in front in CGRAM, sixteen at a time, so that little is spent on counting them.
+/// Direct colours have a loop of their own.
+#[tactic(auto, unfolding(crate::specs::Screens::front_pixel_colour, scanline_ops::specs::Colours::pixel_colour))]
 fn front_colours(p: &Ppu, front: &RankedRow, out: &mut [u16; 256])
     ensures { (x : ℕ) → x < 256 → slice_index out.new x ≡ front_pixel_colour p.now (ranked_pixel_at front.now x) }
 {
     let r = p.registers();
-    look_up(
-        p.cgram(),
-        direct(r),
-        rank(r, 1, 0),
-        rank(r, 1, 1),
-        &front.ranks,
-        &front.numbers,
-        out,
-    );
+    let cgram = p.cgram();
+    if direct(r) {
+        let low = rank(r, 1, 0);
+        let high = rank(r, 1, 1);
+        look_up_direct(cgram, low, high, &front.ranks, &front.numbers, out);
+        return;
+    }
+    for group in 0..16usize {
+        for place in 0..16usize {
+            let x = 16 * group + place;
+            out[x] = cgram[front.numbers[x] as usize];
+        }
+    }
 }
 
 /// Looks up the colours in front on the sub screen, if 2130 asks for them.
@@ -63,74 +69,72 @@ fn is_never(part: WindowPart) -> bool
     }
 }
 
-/// Writes the main screen's colours before brightness, wherever it is black or mixed. The sub screen's colours count
-/// only if 2130 asks for them.
+/// Mixes the main screen's colours wherever it is black or mixed. The sub screen's colours count only if 2130 asks for
+/// them.
 #[tactic(auto, unfolding(crate::specs::Screens::main_colour), using(crate::proofs::Mixes::apart))]
-fn mixed_colours(p: &Ppu, main: &RankedRow, sub: &RankedRow, out: &mut [u16; 256])
-    ensures { (x : ℕ) → x < 256 → slice_index out.new x ≡
+fn mix_everywhere(p: &Ppu, main: &RankedRow, sub: &RankedRow, colours: &mut [u16; 256])
+    requires { (x : ℕ) → x < 256 → slice_index colours.old x ≡ front_pixel_colour p.now (ranked_pixel_at main.now x) }
+    ensures { (x : ℕ) → x < 256 → slice_index colours.new x ≡
         main_colour p.now x (ranked_pixel_at main.now x) (ranked_pixel_at sub.now x) }
 {
     let mut subs = [0u16; 256];
     asked_colours(p, sub, &mut subs);
-    front_colours(p, main, out);
-    mix_row(p, &main.ranks, out, &sub.ranks, &subs);
+    mix_row(p, &main.ranks, colours, &sub.ranks, &subs);
 }
 
-/// Writes the main screen's colours before brightness, if it is black nowhere. Arithmetic is done at the marked pixels
-/// alone.
+/// Mixes the main screen's colours at the marked pixels, if it is black nowhere.
 #[tactic(auto, unfolding(crate::specs::Screens::main_colour), using(crate::proofs::Mixes::apart))]
-fn marked_colours(
+fn mix_at_marks(
     p: &Ppu,
     main: &RankedRow,
     sub: &RankedRow,
     marks: &[u8; 256],
-    out: &mut [u16; 256],
+    colours: &mut [u16; 256],
 )
+    requires front { (x : ℕ) → x < 256 → slice_index colours.old x ≡
+        front_pixel_colour p.now (ranked_pixel_at main.now x) }
     requires black { p.now.registers.colour.black ≡ Never }
     requires marks { (x : ℕ) → x < 256 → slice_index marks.now x ≡
         (if is_mixed p.now.registers.colour (is_inside p.now.registers 6 x) (is_named (slice_index main.now.ranks x))
         then 1 else 0) }
-    ensures { (x : ℕ) → x < 256 → slice_index out.new x ≡
+    ensures { (x : ℕ) → x < 256 → slice_index colours.new x ≡
         main_colour p.now x (ranked_pixel_at main.now x) (ranked_pixel_at sub.now x) }
 {
     let mut subs = [0u16; 256];
     asked_colours(p, sub, &mut subs);
-    front_colours(p, main, out);
-    mix_marked(p, marks, out, &sub.ranks, &subs);
+    mix_marked(p, marks, colours, &sub.ranks, &subs);
 }
 
-/// Writes the main screen's colours before brightness, if it is black nowhere and no pixel is marked.
+/// Mixes the main screen's colours, if it is black nowhere. The colour window says where arithmetic is done.
 #[tactic(auto, unfolding(crate::specs::Screens::main_colour), using(crate::proofs::Mixes::unmixed))]
-fn unmixed_colours(
-    p: &Ppu,
-    main: &RankedRow,
-    sub: &RankedRow,
-    marks: &[u8; 256],
-    out: &mut [u16; 256],
-)
+fn mix_by_window(p: &Ppu, main: &RankedRow, sub: &RankedRow, colours: &mut [u16; 256])
+    requires front { (x : ℕ) → x < 256 → slice_index colours.old x ≡
+        front_pixel_colour p.now (ranked_pixel_at main.now x) }
     requires black { p.now.registers.colour.black ≡ Never }
-    requires marks { (x : ℕ) → x < 256 → slice_index marks.now x ≡
-        (if is_mixed p.now.registers.colour (is_inside p.now.registers 6 x) (is_named (slice_index main.now.ranks x))
-        then 1 else 0) }
-    requires none { (x : ℕ) → x < 256 → slice_index marks.now x ≡ 0 }
-    ensures { (x : ℕ) → x < 256 → slice_index out.new x ≡
-        main_colour p.now x (ranked_pixel_at main.now x) (ranked_pixel_at sub.now x) }
-{
-    front_colours(p, main, out);
-}
-
-/// Writes the main screen's colours before brightness, if it is black nowhere. The colour window says where
-/// arithmetic is done.
-fn windowed_colours(p: &Ppu, main: &RankedRow, sub: &RankedRow, out: &mut [u16; 256])
-    requires black { p.now.registers.colour.black ≡ Never }
-    ensures { (x : ℕ) → x < 256 → slice_index out.new x ≡
+    ensures { (x : ℕ) → x < 256 → slice_index colours.new x ≡
         main_colour p.now x (ranked_pixel_at main.now x) (ranked_pixel_at sub.now x) }
 {
     let mut marks = [0u8; 256];
     if mark_mixed(p, &main.ranks, &mut marks) {
-        marked_colours(p, main, sub, &marks, out);
-    } else {
-        unmixed_colours(p, main, sub, &marks, out);
+        mix_at_marks(p, main, sub, &marks, colours);
+    }
+}
+
+/// Makes of the colours in front the main screen's colours before brightness. They stay as they are if the screen is
+/// black nowhere and arithmetic is done nowhere.
+#[tactic(auto, unfolding(crate::specs::Screens::main_colour), using(crate::proofs::Mixes::unnamed))]
+fn mix(p: &Ppu, main: &RankedRow, sub: &RankedRow, colours: &mut [u16; 256])
+    requires { (x : ℕ) → x < 256 → slice_index colours.old x ≡ front_pixel_colour p.now (ranked_pixel_at main.now x) }
+    ensures { (x : ℕ) → x < 256 → slice_index colours.new x ≡
+        main_colour p.now x (ranked_pixel_at main.now x) (ranked_pixel_at sub.now x) }
+{
+    let colour = &p.registers().colour;
+    if !is_never(colour.black) {
+        mix_everywhere(p, main, sub, colours);
+    } else if !is_never(colour.none) {
+        mix_by_window(p, main, sub, colours);
+    } else if any_named(&main.ranks) {
+        mix_everywhere(p, main, sub, colours);
     }
 }
 
@@ -175,25 +179,6 @@ fn halved(r: &Registers) -> bool
     r.settings.half_dots || r.mode == 5 || r.mode == 6
 }
 
-/// Writes the main screen's colours before brightness. They are those of the pixels in front if the screen is black
-/// nowhere and arithmetic is done nowhere.
-#[tactic(auto, unfolding(crate::specs::Screens::main_colour), using(crate::proofs::Mixes::unnamed))]
-fn main_colours(p: &Ppu, main: &RankedRow, sub: &RankedRow, out: &mut [u16; 256])
-    ensures { (x : ℕ) → x < 256 → slice_index out.new x ≡
-        main_colour p.now x (ranked_pixel_at main.now x) (ranked_pixel_at sub.now x) }
-{
-    let colour = &p.registers().colour;
-    if !is_never(colour.black) {
-        mixed_colours(p, main, sub, out);
-    } else if !is_never(colour.none) {
-        windowed_colours(p, main, sub, out);
-    } else if any_named(&main.ranks) {
-        mixed_colours(p, main, sub, out);
-    } else {
-        front_colours(p, main, out);
-    }
-}
-
 /// Writes the dots of a row whose even dots are the sub screen's.
 #[tactic(auto, unfolding(crate::specs::Screens::even_dot, crate::specs::Screens::odd_dot), using(crate::proofs::Small::both_small))]
 fn finish_halved(p: &Ppu, main: &RankedRow, sub: &RankedRow, out: &mut [u16])
@@ -208,7 +193,8 @@ fn finish_halved(p: &Ppu, main: &RankedRow, sub: &RankedRow, out: &mut [u16])
     p.in_range();
     let brightness = p.registers().display.brightness;
     let mut odd = [0u16; 256];
-    main_colours(p, main, sub, &mut odd);
+    front_colours(p, main, &mut odd);
+    mix(p, main, sub, &mut odd);
     dim_small_row(brightness, &mut odd);
     let mut subs = [0u16; 256];
     front_colours(p, sub, &mut subs);
@@ -255,7 +241,8 @@ pub fn finish(p: &Ppu, main: &RankedRow, sub: &RankedRow, out: &mut [u16])
         finish_halved(p, main, sub, out);
     } else {
         let mut row = [0u16; 256];
-        main_colours(p, main, sub, &mut row);
+        front_colours(p, main, &mut row);
+        mix(p, main, sub, &mut row);
         dim_small_row(r.display.brightness, &mut row);
         write_twice(&row, out);
     }

@@ -110,8 +110,8 @@ fn colour_at(cgram: &[u16], is_direct: bool, low: u8, high: u8, key: u8, number:
     }
 }
 
-/// Looks up the colours of a row of ranked pixels, some of which may be direct.
-fn look_up_direct(
+/// Looks up the colours of a row of ranked pixels in CGRAM. Those of the ranks `low` and `high` are direct colours.
+pub fn look_up_direct(
     cgram: &[u16],
     low: u8,
     high: u8,
@@ -125,42 +125,6 @@ fn look_up_direct(
 {
     for x in 0..256usize {
         out[x] = colour_at(cgram, true, low, high, keys[x], numbers[x]);
-    }
-}
-
-/// Looks up the colours of a row of numbers, sixteen at a time, so that little is spent on counting them.
-fn look_up_numbers(cgram: &[u16], numbers: &[u8; 256], out: &mut [u16; 256])
-    requires { length cgram.now ≡ 256 }
-    ensures { (x : ℕ) → x < 256 → slice_index out.new x ≡ slice_index cgram.now (slice_index numbers.now x) }
-{
-    for group in 0..16usize {
-        for place in 0..16usize {
-            let x = 16 * group + place;
-            out[x] = cgram[numbers[x] as usize];
-        }
-    }
-}
-
-/// Looks up the colours of a row of ranked pixels in CGRAM. If `is_direct`, those of the ranks `low` and `high`
-/// are direct colours.
-#[tactic(auto, unfolding(crate::specs::Colours::pixel_colour))]
-pub fn look_up(
-    cgram: &[u16],
-    is_direct: bool,
-    low: u8,
-    high: u8,
-    keys: &[u8; 256],
-    numbers: &[u8; 256],
-    out: &mut [u16; 256],
-)
-    requires { length cgram.now ≡ 256 }
-    ensures { (x : ℕ) → x < 256 → slice_index out.new x ≡
-        pixel_colour cgram.now is_direct low high (slice_index keys.now x) (slice_index numbers.now x) }
-{
-    if is_direct {
-        look_up_direct(cgram, low, high, keys, numbers, out);
-    } else {
-        look_up_numbers(cgram, numbers, out);
     }
 }
 

@@ -15,6 +15,6 @@ mod ranked_pixels;
 
 pub use blocks::spread_blocks;
 pub use colours::{
-    dim_colour, dim_small_row, fill_dots, join_colours, look_up, write_dots, write_twice,
+    dim_colour, dim_small_row, fill_dots, join_colours, look_up_direct, write_dots, write_twice,
 };
 pub use ranked_pixels::{any_named, choose, fill_row, is_found_key, lay, lay_unmasked};
