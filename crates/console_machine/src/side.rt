@@ -145,6 +145,16 @@ impl Machine for ConsoleSide {
         self.parts.waiting.len()
     }
 
+    #[inline(always)]
+    fn pieces(&self) -> (&[u8], &[u8]) {
+        self.parts.waiting.as_slices()
+    }
+
+    #[inline(always)]
+    fn forget(&mut self) {
+        self.parts.waiting.clear();
+    }
+
     fn drain(&mut self, into: &mut [u8]) -> usize {
         self.parts.waiting.read_into(into)
     }

@@ -7,7 +7,8 @@ use shelf::Failed;
 use side_law::Machine;
 use snes_defs::Side;
 
-/// Moves all pending bytes of a machine to the sink, in one call. If none is pending nothing is taken.
+/// Moves all pending bytes of a machine to the sink, in one call. If none is pending nothing is taken. Bytes that lie
+/// round the end of the machine's buffer are put together in `buffer` first.
 #[inline(always)]
 pub fn pour<M: Machine, K: Sink>(
     machine: &mut M,
@@ -29,6 +30,12 @@ pub fn pour<M: Machine, K: Sink>(
 {
     if machine.pending() == 0 {
         return Ok(());
+    }
+    let (front, back) = machine.pieces();
+    if back.is_empty() {
+        let taken = sink.take(side, front);
+        machine.forget();
+        return taken;
     }
     let count = machine.drain(buffer);
     sink.take(side, &buffer[..count])

@@ -1,6 +1,6 @@
 // The trait of both halves of the console: a machine that runs by steps, with its laws as members.
 ghost use Rattle.std.specs.Prelude.{◌≡◌, ◌+◌, ◌*◌, ◌^◌, ◌<◌, ◌≤◌, ◌↔◌, ℕ, IsTrue};
-ghost use Rattle.std.specs.Prelude.{List, ◌++◌, length, min, take, drop};
+ghost use Rattle.std.specs.Prelude.{List, [], ◌++◌, length, min, take, drop};
 ghost use Rattle.snes_defs.specs.declared.region.Region.{Region};
 ghost use Rattle.clock_ratio.specs.Stamp.{least_of, most_of};
 ghost use Rattle.side_law.specs.Moves.{Moves, IsLawful, IsAtPorts, taken};
@@ -99,6 +99,18 @@ pub trait Machine: Send {
         let waiting = self.pending();
         waiting <= Self::CAP && Self::MOST <= Self::CAP - waiting
     }
+
+    /// Lends the buffered bytes, the first one first, in two pieces. The second piece has those that lie round the end of
+    /// the buffer; mostly it is empty.
+    fn pieces(&self) -> (&[u8], &[u8])
+        ensures { result.0.now ++ result.1.now ≡ waiting self.now };
+
+    /// Forgets the buffered bytes.
+    fn forget(&mut self)
+        ensures none { waiting self.new ≡ [] }
+        ensures same_state { (m : State) → stands self.old m → stands self.new m }
+        ensures same_stamp { stamp_of self.new ≡ stamp_of self.old }
+        ensures same_region { region_of self.new ≡ region_of self.old };
 
     /// Moves out the first of the buffered bytes, all or as many as fit, and returns how many.
     fn drain(&mut self, into: &mut [u8]) -> usize

@@ -140,6 +140,14 @@ impl Machine for Tape {
         self.waiting.len()
     }
 
+    fn pieces(&self) -> (&[u8], &[u8]) {
+        self.waiting.as_slices()
+    }
+
+    fn forget(&mut self) {
+        self.waiting.clear();
+    }
+
     fn drain(&mut self, into: &mut [u8]) -> usize {
         self.waiting.read_into(into)
     }

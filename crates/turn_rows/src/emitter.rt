@@ -138,6 +138,14 @@ impl<const ROOM: usize, const SIZE: usize> Machine for Emitter<ROOM, SIZE> {
         self.waiting.len()
     }
 
+    fn pieces(&self) -> (&[u8], &[u8]) {
+        self.waiting.as_slices()
+    }
+
+    fn forget(&mut self) {
+        self.waiting.clear();
+    }
+
     fn drain(&mut self, into: &mut [u8]) -> usize {
         self.waiting.read_into(into)
     }
