@@ -23,6 +23,7 @@ use crate::plays::{
 };
 use crate::port_log::PortLog;
 use crate::seats::{Clocks, Seats};
+use crate::seen::across;
 use crate::views::{ListView, LockView};
 use atomic_table::Table;
 use port_wire::PassLate;
@@ -38,17 +39,6 @@ fn number(side: Side) -> u64
     match side {
         Side::Console => 1,
         Side::Sound => 2,
-    }
-}
-
-/// The side across the ports.
-#[inline(always)]
-fn across(side: Side) -> Side
-    ensures { result ≡ other_side side }
-{
-    match side {
-        Side::Console => Side::Sound,
-        Side::Sound => Side::Console,
     }
 }
 
