@@ -11,8 +11,8 @@ use Rattle.console_machine.specs.Side.{ConsoleValue}
 use Rattle.console_machine.specs.Side as console_side
 use Rattle.audio_side.specs.Sound.{AudioValue, SoundState, IsSound, sound_moves}
 use Rattle.audio_side.specs.Sound as sound_side
-use Rattle.port_lock.specs.PortsKnown.{PortsKnown}
-use Rattle.port_lock.specs.Wholes.{WholeValue}
+use Rattle.port_log.specs.PortsKnown.{PortsKnown}
+use Rattle.port_log.specs.Wholes.{WholeValue}
 use Rattle.word_log.specs.WordsKnown.{WordsKnown}
 use Rattle.word_log.specs.Wholes as words
 use Rattle.run_laws.specs.TurnBound.{most_turns}

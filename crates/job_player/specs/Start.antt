@@ -4,8 +4,8 @@ use Rattle.snes_defs.specs.declared.cart.Job.{Job}
 use Rattle.clock_ratio.specs.Stamp.{end_stamp_of}
 use Rattle.side_law.specs.Serial.{serial_of}
 use Rattle.side_law.specs.SerialRun.{IsOutput}
-use Rattle.port_lock.specs.PortsKnown.{PortsKnown}
-use Rattle.port_lock.specs.Wholes.{WholeValue, new_whole}
+use Rattle.port_log.specs.PortsKnown.{PortsKnown}
+use Rattle.port_log.specs.Wholes.{WholeValue, new_whole}
 use Rattle.word_log.specs.WordsKnown.{WordsKnown}
 use Rattle.word_log.specs.Wholes as words
 use Rattle.console_steps.specs.ConsoleState.{ConsoleState, console_start, console_moves}

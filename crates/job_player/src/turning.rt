@@ -6,7 +6,7 @@ ghost use Rattle.run_laws.specs.TurnBound.{most_turns};
 ghost use Rattle.job_player.specs.Start.{Emits, CanTurn};
 
 use crate::console::Console;
-use port_lock::{Ports, Whole};
+use port_log::{Ports, Whole};
 use port_wire::Gate;
 use run_drive::{Player, Sink, TurnPlayer};
 use snes_defs::{Job, NoMemory, Side};

@@ -5,3 +5,10 @@ pub mod Holding
 pub mod Reading
 pub mod ReadsAfter
 pub mod Stands
+pub mod Totals
+pub mod Locking
+pub mod Listing
+pub mod Leaving
+pub mod Calling
+pub mod Passing
+pub mod Wholing

@@ -3,3 +3,16 @@ pub mod Held
 pub mod Entries
 pub mod Refused
 pub mod StandsOnce
+pub mod Known
+pub mod PortsKnown
+pub mod Sums
+pub mod LockRule
+pub mod ListRule
+pub mod KeptBook
+pub mod Events
+pub mod Seating
+pub mod PassCalls
+pub mod Lateness
+pub mod Passes
+pub mod Wholes
+pub mod WholeCalls

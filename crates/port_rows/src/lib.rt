@@ -1,6 +1,6 @@
 // Tests of stamps, of the port log and of the passes over it, by hand-computed cases.
 //
-// The contracts of `clock_ratio`, `port_log`, `port_lock` and `word_log` are proved for every call. The cases here have
+// The contracts of `clock_ratio`, `port_log` and `word_log` are proved for every call. The cases here have
 // numbers from outside the code. They are the numbers of both regions, calls over passes and over a whole, and both
 // wires through their trait. A thousand writes in one thread run against reads in another. The crate has no code of
 // its own.

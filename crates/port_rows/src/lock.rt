@@ -2,8 +2,7 @@
 // the ports themselves.
 use crate::cases::{a_byte_for_sound, calls_over_a_whole, refused_calls};
 use crate::passes::{Call, first_wrong};
-use port_lock::Ports;
-use port_log::Late;
+use port_log::{Late, Ports};
 use snes_defs::{Region, Side};
 use std::test::Fail;
 

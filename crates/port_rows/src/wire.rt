@@ -1,7 +1,7 @@
 ghost use Rattle.std.specs.Prelude.{◌≡◌, ◌≤◌};
 ghost use Rattle.snes_defs.specs.declared.region.Region.TheVariants.{Ntsc};
 
-use port_lock::Ports;
+use port_log::Ports;
 use port_wire::Wire;
 use snes_defs::{Region, Side};
 use std::test::Fail;

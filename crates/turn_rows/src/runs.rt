@@ -4,7 +4,7 @@ ghost use Rattle.port_wire.specs.Reach.{IsInReach};
 
 use crate::sums::Sums;
 use pair_run::{Turned, turn};
-use port_lock::Ports;
+use port_log::Ports;
 use port_wire::{Gate, Wire};
 use run_drive::{pour, run_serial};
 use side_law::{Machine, Tape};

@@ -1,5 +1,0 @@
-use Rattle.port_lock.specs.Events.{entries_of}
-use Rattle.port_lock.proofs.ports.Ports.leave.Given as goal
-
-abbrev pub ghosts-tell : goal.ghosts-tell
-ghosts-tell a = record { entries = entries_of a.event; clock = a.clock }

@@ -1,0 +1,11 @@
+use Rattle.std.proofs.Common.{◌∙◌, ap}
+use Rattle.port_log.specs.Kept.{clock_of}
+use Rattle.port_log.proofs.Calling.{clock-by, stands-still}
+use Rattle.port_log.proofs.ports.Ports.read_by.Goals as goal
+
+pub leave-requires-clause-stands : goal.leave-requires-clause-stands
+leave-requires-clause-stands c =
+    let en = c.in-Some.ensures.entered in
+    stands-still c.args.side c.in-Some.log.value _ _ _ en.stands
+    (c.read-answer.ensures.unchanged ∙ c.deref_mut.ensures.value)
+    (c.clock-clock.ensures ∙ ap (clock_of c.args.side) c.deref.ensures ∙ clock-by c.args.side _ _ en.stands)
