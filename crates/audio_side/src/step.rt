@@ -191,6 +191,7 @@ fn restart(spc: &mut Spc, hardware: &mut Hardware)
 }
 
 /// Takes the next step except its end: makes a reset or an access.
+#[tactic(auto, unfolding(crate::specs::Sound::processor_after, crate::specs::Sound::hardware_before_end))]
 #[inline(always)]
 pub fn begin(spc: &mut Spc, hardware: &mut Hardware, clock: &CycleClock, got: u8)
     ensures processor { (s : SpcState) → Stands spc.old s
@@ -198,18 +199,6 @@ pub fn begin(spc: &mut Spc, hardware: &mut Hardware, clock: &CycleClock, got: u8
     ensures hardware { (s : SpcState) → Stands spc.old s
         → hardware.new ≡ hardware_before_end (record { processor = s; hardware = hardware.old; clock = clock.now }) }
     ensures runs { IsRunning spc.old → IsRunning spc.new }
-{
-    make(spc, hardware, clock, got);
-}
-
-/// Makes the reset or the access of the next step, without the claim that the processor keeps running.
-#[tactic(auto, unfolding(crate::specs::Sound::processor_after, crate::specs::Sound::hardware_before_end))]
-#[inline(always)]
-fn make(spc: &mut Spc, hardware: &mut Hardware, clock: &CycleClock, got: u8)
-    ensures processor { (s : SpcState) → Stands spc.old s
-        → Stands spc.new (processor_after (record { processor = s; hardware = hardware.old; clock = clock.now }) got) }
-    ensures hardware { (s : SpcState) → Stands spc.old s
-        → hardware.new ≡ hardware_before_end (record { processor = s; hardware = hardware.old; clock = clock.now }) }
 {
     if clock.is_due() {
         restart(spc, hardware);
