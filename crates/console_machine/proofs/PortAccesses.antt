@@ -51,8 +51,8 @@ read_dues r n =
     (record { channels = refl; refresh = refl; reset = refl }))
 
 -- nothing is due after one that was not before
-pub calm_read : (bus bus' : BusState) (n byte : ℕ) → bus' ≡ on_bus (register_read bus n) byte → IsCalm bus → IsCalm bus'
-calm_read bus bus' n byte is calm =
+pub calm_read : (bus bus' : BusState) (n : ℕ) → bus' ≡ register_read bus n → IsCalm bus → IsCalm bus'
+calm_read bus bus' n is calm =
     let same = read_dues bus n in
     let P : BusState → Type 0 = λ r. IsCalm r in
     subst P (sym is) (record {
