@@ -1,11 +1,11 @@
-ghost use Rattle.std.specs.Prelude.{ℕ, ◌≡◌, ◌≢◌, ◌/◌, false, IsTrue, MatchBool, ◌≤◌, ◌+◌, ◌%◌, ◌^◌, ◌++◌, length};
+ghost use Rattle.std.specs.Prelude.{◌≡◌, ◌≢◌, ◌/◌, false, IsTrue, MatchBool, ◌≤◌, ◌+◌, ◌%◌, ◌^◌, ◌++◌, length};
 ghost use Rattle.side_law.specs.Moves.{IsAtPorts};
 ghost use Rattle.snes_defs.specs.declared.ports.Act.TheVariants.{Quiet};
 ghost use Rattle.spc700.specs.Instruction.{SpcState, at_reset, moved_on, next_of};
 ghost use Rattle.spc700.specs.Stands.{Stands};
 ghost use Rattle.audio_side.specs.HardwareState.{vector};
 ghost use Rattle.audio_side.specs.Effect.{act_of, act_of_load, after_load, act_of_store, effect, emitted, given, passed, reset_hardware, stored};
-ghost use Rattle.audio_side.specs.Sound.{IsRunning, SoundState, hardware_before_end, processor_after, sound_act};
+ghost use Rattle.audio_side.specs.Sound.{IsRunning, hardware_before_end, processor_after, sound_act};
 
 use crate::clock::CycleClock;
 use crate::hardware::{Hardware, cleared};
