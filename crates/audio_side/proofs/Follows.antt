@@ -1,5 +1,5 @@
 -- Accesses that follow one another: none, one, and some after others.
-use Rattle.std.proofs.Common.{◌≡◌, ◌∙◌, ℕ, ◌+◌, ◌-◌, suc, refl, sym, ap, subst, arith}
+use Rattle.std.proofs.Common.{◌≡◌, ◌∙◌, ℕ, ◌+◌, ◌-◌, suc, Option, None, Some, OnSome, refl, sym, ap, subst, arith}
 use mathlib.Core.Logic.{∥∥₁_map}
 use Rattle.snes_defs.specs.declared.ports.Act.TheVariants.{Quiet}
 use Rattle.spc_tables.specs.declared.access.SpcAccess.{SpcAccess}
@@ -80,18 +80,24 @@ follows_write old new b b' left left' at byte at' byte' known at_is byte_is time
     let same : access_of old ≡ Access.Write at' byte' = known ∙ ap (λ (n : ℕ). Access.Write n byte) (sym at_is) ∙ ap (λ (n : ℕ). Access.Write at' n) (sym byte_is) in
     follows_access old new b b' left left' 0 (Access.Write at' byte') same timer made quiet refl is advances
 
-pub follows_then : (x y z : Spc) (b c d : HardwareState) (k l m : ℕ) → Follows x y b c k l → Follows y z c d l m → Follows x z b d k m
-follows_then x y z b c d k l m f g = record {
-  fewer = (let first = f.fewer in let then = g.fewer in omega (arith, first, then));
-  come = λ s stands. (
-      let first = f.fewer in
-      let then = g.fewer in
-      let sum : k - m ≡ (k - l) + (l - m) = omega (arith, first, then) in
-      let p = f.come s stands in
-      let q = g.come p.to p.stands in
-      let P : ℕ → Type 0 = λ n. HasRun z d s b n in
-      subst P (sym sum) (record { to = q.to; run = plain_then (k - l) (l - m) s b p.to c q.to d p.run q.run; stands = q.stands }));
-}
+module _ {x y z : Spc} {b c d : HardwareState} {k l m : ℕ} where
+  pub follows_then : Follows x y b c k l → Follows y z c d l m → Follows x z b d k m
+  follows_then f g = record {
+    fewer = (let first = f.fewer in let then = g.fewer in omega (arith, first, then));
+    come = λ s stands. (
+        let first = f.fewer in
+        let then = g.fewer in
+        let sum : k - m ≡ (k - l) + (l - m) = omega (arith, first, then) in
+        let p = f.come s stands in
+        let q = g.come p.to p.stands in
+        let P : ℕ → Type 0 = λ n. HasRun z d s b n in
+        subst P (sym sum) (record { to = q.to; run = plain_then (k - l) (l - m) s b p.to c q.to d p.run q.run; stands = q.stands }));
+  }
+
+-- what holds whatever the last call says
+pub if_some : {X : Type 0} (r : Option X) {P : Type 0} → P → OnSome r P
+if_some None p = tt
+if_some (Some x) p = p
 
 -- the processor stands for some instruction still
 pub follows_runs : (old new : Spc) (b b' : HardwareState) (left left' : ℕ) → Follows old new b b' left left' → IsRunning old → IsRunning new

@@ -1,13 +1,12 @@
 // A sound side that begins with registers, RAM and the bytes of the S-DSP.
-ghost use Rattle.std.specs.Prelude.{◌≡◌, ◌<◌, ◌%◌, [], IfOk, drop, length, slice_index};
-ghost use Rattle.sdsp_voice.specs.Registers.{bit};
+ghost use Rattle.std.specs.Prelude.{◌≡◌, [], IfOk, drop, length};
 ghost use Rattle.spc700.specs.Instruction.{between};
 ghost use Rattle.spc700.specs.Stands.{Stands};
-ghost use Rattle.audio_side.specs.FromParts.{hardware_from, sound_from, timer_from, unbroken_clock, voices_from};
+ghost use Rattle.audio_side.specs.FromParts.{hardware_from, sound_from, timer_from, voices_from};
 ghost use Rattle.audio_side.specs.Sound.{IsRunning, StandsAt};
 
 use crate::clock::CycleClock;
-use crate::hardware::Hardware;
+use crate::hardware::{Hardware, is_on};
 use crate::parts::Parts;
 use crate::side::{AudioSide, copied};
 use crate::timer::Timer;
@@ -35,14 +34,6 @@ fn written(dsp: &[u8]) -> Voices
     }
     voices.write(KON, dsp[KON as usize]);
     voices
-}
-
-/// Bit `k` of a byte.
-fn is_on(byte: u8, k: u32) -> bool
-    requires { k < 8 }
-    ensures { result ≡ bit byte k }
-{
-    (byte >> k) % 2 == 1
 }
 
 /// A timer that has had no tick since its counter last advanced.
@@ -106,9 +97,8 @@ impl AudioSide {
     /// Returns a sound side that begins with registers, 65,536 bytes of RAM and the 128 bytes of the S-DSP.
     ///
     /// It is an NTSC machine of the first profile before cycle 0 that is never reset, with its processor before an
-    /// opcode fetch. The bytes
-    /// of RAM under F1 (without bits 4 and 5), F2 and FA to FF are what those registers hold. The boot ROM is what
-    /// RAM has at FFC0 to FFFF.
+    /// opcode fetch. The bytes of RAM under F1 (without bits 4 and 5), F2 and FA to FF are what those registers hold.
+    /// The boot ROM is what RAM has at FFC0 to FFFF.
     ///
     /// Allocates RAM and the buffer of emitted bytes, and fails only if allocation fails.
     pub fn of_parts(
@@ -124,9 +114,8 @@ impl AudioSide {
         ensures empty { IfOk result (λ s. s.waiting ≡ []) }
     {
         let hardware = hardware_of(alloc, ram, dsp, table)?;
-        let waiting = match HeapCircularBuffer::with_capacity(alloc, 4096) {
-            Ok(waiting) => waiting,
-            Err(_) => return Err(NoMemory),
+        let Ok(waiting) = HeapCircularBuffer::with_capacity(alloc, 4096) else {
+            return Err(NoMemory);
         };
         let clock = CycleClock::new(Region::Ntsc, Vec::new(alloc));
         Ok(AudioSide {

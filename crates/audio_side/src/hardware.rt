@@ -48,7 +48,7 @@ impl Model for Hardware {
 
 /// Bit `k` of a byte.
 #[inline(always)]
-fn is_on(byte: u8, k: u32) -> bool
+pub fn is_on(byte: u8, k: u32) -> bool
     requires { k < 8 }
     ensures { result ≡ bit byte k }
 {

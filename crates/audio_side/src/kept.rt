@@ -77,19 +77,6 @@ fn keep_timers(hardware: &Hardware, into: &mut [u8])
     into[0xFF] = hardware.timer2.counter;
 }
 
-/// The RAM of a file.
-#[tactic(auto, unfolding(crate::specs::Kept::kept_ram))]
-fn keep_ram(hardware: &Hardware, ports: [u8; 4], into: &mut [u8])
-    requires { length into.old ≡ 65536 }
-    ensures { into.new ≡ kept_ram hardware.now ports }
-{
-    copy_seen(hardware, into);
-    into[0xF1] = control(hardware);
-    into[0xF2] = hardware.address;
-    keep_ports(ports, into);
-    keep_timers(hardware, into);
-}
-
 impl AudioSide {
     /// The registers with which the next instruction begins, if the last one has ended.
     pub fn begins(&self) -> Option<SpcRegs>
@@ -101,11 +88,17 @@ impl AudioSide {
 
     /// Copies the RAM of a sound file into `into`. It is the bytes of RAM, with the boot ROM in its place if it is
     /// seen. Under F1, F2, F4 to F7 and FA to FF it has what those registers hold. `ports` are the incoming bytes.
+    #[tactic(auto, unfolding(crate::specs::Kept::kept_ram))]
     pub fn keep_ram(&self, ports: [u8; 4], into: &mut [u8])
         requires { length into.old ≡ 65536 }
         ensures { into.new ≡ kept_ram self.now.hardware ports }
     {
-        keep_ram(&self.parts.hardware, ports, into);
+        let hardware = &self.parts.hardware;
+        copy_seen(hardware, into);
+        into[0xF1] = control(hardware);
+        into[0xF2] = hardware.address;
+        keep_ports(ports, into);
+        keep_timers(hardware, into);
     }
 
     /// The 65,536 bytes of RAM, those under the boot ROM and under the registers F0 to FF too.

@@ -4,7 +4,6 @@ ghost use Rattle.snes_defs.specs.declared.ports.Side.TheVariants.{Sound};
 ghost use Rattle.clock_ratio.specs.Stamp.{least_of, rate_of};
 ghost use Rattle.side_law.specs.Gone.{Leads, IsRefused};
 ghost use Rattle.spc_tables.specs.declared.access.SpcAccess.TheVariants as Access;
-ghost use Rattle.spc_modes.specs.declared.place.Place.TheVariants.{Load, WriteLast};
 ghost use Rattle.spc700.specs.Instruction.{SpcState};
 ghost use Rattle.spc700.specs.Stands.{Stands};
 ghost use Rattle.audio_side.specs.Clock.{stamp_now};
@@ -167,57 +166,6 @@ fn store_at<P: Ports>(
     }
 }
 
-/// Reads a byte of data.
-#[inline(always)]
-fn load_over<P: Ports>(spc: &mut Spc, hardware: &mut Hardware, at: u64, ports: &mut P) -> Found
-    requires known { spc.old.micro.place ≡ Load }
-    requires in_order { P.clock ports.old ≤ at }
-    requires in_time { at < (P.times ports.old).before }
-    ensures made { result ≡ Found.Made → MakesNext P.calls at spc.old spc.new
-        hardware.old hardware.new (P.stands ports.old) (P.stands ports.new) }
-    ensures refused { result ≡ Found.Refused → RefusesNext P.calls at spc.old
-        (P.stands ports.old) (P.stands ports.new) }
-    ensures left { result ≡ Found.Left → (spc.new ≡ spc.old) × (hardware.new ≡ hardware.old) × (ports.new ≡ ports.old) }
-    ensures stays { result ≡ Found.Refused → (spc.new ≡ spc.old) × (hardware.new ≡ hardware.old) }
-    ensures runs { IsRunning spc.old → IsRunning spc.new }
-    ensures in_order { P.clock ports.new ≤ at + (P.times ports.old).rise }
-    ensures waits { result ≢ Found.Made → P.clock ports.new ≤ at }
-    ensures times { P.times ports.new ≡ P.times ports.old }
-{
-    let Some(byte) = byte_at(hardware, spc.base(), at, ports) else {
-        return Found::Refused;
-    };
-    spc.took_data(byte);
-    Found::Made
-}
-
-/// Makes the last write.
-#[inline(always)]
-fn write_over<P: Ports>(spc: &mut Spc, hardware: &mut Hardware, at: u64, ports: &mut P) -> Found
-    requires known { spc.old.micro.place ≡ WriteLast }
-    requires in_order { P.clock ports.old ≤ at }
-    requires in_time { at < (P.times ports.old).before }
-    ensures made { result ≡ Found.Made → MakesNext P.calls at spc.old spc.new
-        hardware.old hardware.new (P.stands ports.old) (P.stands ports.new) }
-    ensures refused { result ≡ Found.Refused → RefusesNext P.calls at spc.old
-        (P.stands ports.old) (P.stands ports.new) }
-    ensures left { result ≡ Found.Left → (spc.new ≡ spc.old) × (hardware.new ≡ hardware.old) × (ports.new ≡ ports.old) }
-    ensures stays { result ≡ Found.Refused → (spc.new ≡ spc.old) × (hardware.new ≡ hardware.old) }
-    ensures runs { IsRunning spc.old → IsRunning spc.new }
-    ensures in_order { P.clock ports.new ≤ at + (P.times ports.old).rise }
-    ensures waits { result ≢ Found.Made → P.clock ports.new ≤ at }
-    ensures times { P.times ports.new ≡ P.times ports.old }
-{
-    match store_at(hardware, spc.base(), spc.last_byte(), at, ports) {
-        Found::Made => {
-            spc.wrote_last();
-            Found::Made
-        }
-        Found::Left => Found::Left,
-        Found::Refused => Found::Refused,
-    }
-}
-
 /// Makes an access of any kind.
 #[inline(always)]
 fn other_over<P: Ports>(spc: &mut Spc, hardware: &mut Hardware, at: u64, ports: &mut P) -> Found
@@ -242,14 +190,13 @@ fn other_over<P: Ports>(spc: &mut Spc, hardware: &mut Hardware, at: u64, ports: 
             spc.took(byte);
             Found::Made
         }
-        SpcAccess::Write(address, byte) => match store_at(hardware, address, byte, at, ports) {
-            Found::Made => {
+        SpcAccess::Write(address, byte) => {
+            let found = store_at(hardware, address, byte, at, ports);
+            if let Found::Made = found {
                 spc.wrote();
-                Found::Made
             }
-            Found::Left => Found::Left,
-            Found::Refused => Found::Refused,
-        },
+            found
+        }
         SpcAccess::Inner => {
             spc.idle();
             Found::Made
@@ -275,8 +222,20 @@ fn make_any<P: Ports>(spc: &mut Spc, hardware: &mut Hardware, at: u64, ports: &m
     ensures times { P.times ports.new ≡ P.times ports.old }
 {
     match spc.place() {
-        Place::Load => load_over(spc, hardware, at, ports),
-        Place::WriteLast => write_over(spc, hardware, at, ports),
+        Place::Load => {
+            let Some(byte) = byte_at(hardware, spc.base(), at, ports) else {
+                return Found::Refused;
+            };
+            spc.took_data(byte);
+            Found::Made
+        }
+        Place::WriteLast => {
+            let found = store_at(hardware, spc.base(), spc.last_byte(), at, ports);
+            if let Found::Made = found {
+                spc.wrote_last();
+            }
+            found
+        }
         _ => other_over(spc, hardware, at, ports),
     }
 }

@@ -109,9 +109,8 @@ impl AudioSide {
     {
         let resets = frames_with_reset(alloc, &job.script)?;
         let ram = empty_ram(alloc)?;
-        let waiting = match HeapCircularBuffer::with_capacity(alloc, 4096) {
-            Ok(waiting) => waiting,
-            Err(_) => return Err(NoMemory),
+        let Ok(waiting) = HeapCircularBuffer::with_capacity(alloc, 4096) else {
+            return Err(NoMemory);
         };
         let hardware = Hardware {
             boot: job.boot,

@@ -1,12 +1,11 @@
-ghost use Rattle.std.specs.Prelude.{ℕ, ◌≡◌, ◌≢◌, ◌/◌, false, IsTrue, MatchBool, ◌≤◌, ◌+◌, ◌%◌, ◌^◌, ◌++◌, length};
+ghost use Rattle.std.specs.Prelude.{◌≡◌, ◌≢◌, ◌/◌, false, IsTrue, MatchBool, ◌≤◌, ◌+◌, ◌%◌, ◌^◌, ◌++◌, length};
 ghost use Rattle.side_law.specs.Moves.{IsAtPorts};
 ghost use Rattle.snes_defs.specs.declared.ports.Act.TheVariants.{Quiet};
 ghost use Rattle.spc700.specs.Instruction.{SpcState, at_reset, moved_on, next_of};
-ghost use Rattle.spc_modes.specs.declared.place.Place.TheVariants.{Load, WriteLast};
 ghost use Rattle.spc700.specs.Stands.{Stands};
 ghost use Rattle.audio_side.specs.HardwareState.{vector};
 ghost use Rattle.audio_side.specs.Effect.{act_of, act_of_load, after_load, act_of_store, effect, emitted, given, passed, reset_hardware, stored};
-ghost use Rattle.audio_side.specs.Sound.{IsRunning, SoundState, hardware_before_end, processor_after, sound_act};
+ghost use Rattle.audio_side.specs.Sound.{IsRunning, hardware_before_end, processor_after, sound_act};
 
 use crate::clock::CycleClock;
 use crate::hardware::{Hardware, cleared};
@@ -74,28 +73,6 @@ pub fn next_act(spc: &Spc, hardware: &Hardware, clock: &CycleClock) -> Act
     }
 }
 
-/// Reads a byte of data.
-#[inline(always)]
-fn read_data(spc: &mut Spc, hardware: &mut Hardware, got: u8)
-    requires known { spc.old.micro.place ≡ Load }
-    ensures processor { (s : SpcState) → Stands spc.old s → Stands spc.new (moved_on s (given hardware.old (next_of s) got)) }
-    ensures hardware { (s : SpcState) → Stands spc.old s → hardware.new ≡ effect hardware.old (next_of s) }
-{
-    let byte = hardware.take(spc.base(), got);
-    spc.took_data(byte);
-}
-
-/// Makes the last write.
-#[inline(always)]
-fn write_last(spc: &mut Spc, hardware: &mut Hardware)
-    requires known { spc.old.micro.place ≡ WriteLast }
-    ensures processor { (s : SpcState) (got : ℕ) → Stands spc.old s → Stands spc.new (moved_on s (given hardware.old (next_of s) got)) }
-    ensures hardware { (s : SpcState) → Stands spc.old s → hardware.new ≡ effect hardware.old (next_of s) }
-{
-    hardware.put(spc.base(), spc.last_byte());
-    spc.wrote_last();
-}
-
 /// Makes an access of any kind.
 #[inline(always)]
 fn other_access(spc: &mut Spc, hardware: &mut Hardware, got: u8)
@@ -122,8 +99,14 @@ fn access(spc: &mut Spc, hardware: &mut Hardware, got: u8)
     ensures hardware { (s : SpcState) → Stands spc.old s → hardware.new ≡ effect hardware.old (next_of s) }
 {
     match spc.place() {
-        Place::Load => read_data(spc, hardware, got),
-        Place::WriteLast => write_last(spc, hardware),
+        Place::Load => {
+            let byte = hardware.take(spc.base(), got);
+            spc.took_data(byte);
+        }
+        Place::WriteLast => {
+            hardware.put(spc.base(), spc.last_byte());
+            spc.wrote_last();
+        }
         _ => other_access(spc, hardware, got),
     }
 }
@@ -191,6 +174,7 @@ fn restart(spc: &mut Spc, hardware: &mut Hardware)
 }
 
 /// Takes the next step except its end: makes a reset or an access.
+#[tactic(auto, unfolding(crate::specs::Sound::processor_after, crate::specs::Sound::hardware_before_end))]
 #[inline(always)]
 pub fn begin(spc: &mut Spc, hardware: &mut Hardware, clock: &CycleClock, got: u8)
     ensures processor { (s : SpcState) → Stands spc.old s
@@ -198,18 +182,6 @@ pub fn begin(spc: &mut Spc, hardware: &mut Hardware, clock: &CycleClock, got: u8
     ensures hardware { (s : SpcState) → Stands spc.old s
         → hardware.new ≡ hardware_before_end (record { processor = s; hardware = hardware.old; clock = clock.now }) }
     ensures runs { IsRunning spc.old → IsRunning spc.new }
-{
-    make(spc, hardware, clock, got);
-}
-
-/// Makes the reset or the access of the next step, without the claim that the processor keeps running.
-#[tactic(auto, unfolding(crate::specs::Sound::processor_after, crate::specs::Sound::hardware_before_end))]
-#[inline(always)]
-fn make(spc: &mut Spc, hardware: &mut Hardware, clock: &CycleClock, got: u8)
-    ensures processor { (s : SpcState) → Stands spc.old s
-        → Stands spc.new (processor_after (record { processor = s; hardware = hardware.old; clock = clock.now }) got) }
-    ensures hardware { (s : SpcState) → Stands spc.old s
-        → hardware.new ≡ hardware_before_end (record { processor = s; hardware = hardware.old; clock = clock.now }) }
 {
     if clock.is_due() {
         restart(spc, hardware);

@@ -17,7 +17,7 @@ use Rattle.cpu65816.specs.Stands.{access_of}
 use Rattle.dma_hdma.specs.Channels.{due_of as transfer_of}
 use Rattle.beam.specs.Places.{clocks_left}
 use Rattle.console_bus.specs.BusState.{BusState}
-use Rattle.console_bus.specs.Places.{is_port, register_read, on_bus}
+use Rattle.console_bus.specs.Places.{is_port, register_read}
 use Rattle.console_steps.specs.ConsoleState.{ConsoleState, read_at, write_at, access_act, act_of, due_of, console_after, console_moves}
 use Rattle.console_steps.specs.AtOnce.{IsMadeAtOnce}
 use Rattle.console_steps.specs.Plain.{IsWired, IsCalm}
@@ -51,8 +51,8 @@ read_dues r n =
     (record { channels = refl; refresh = refl; reset = refl }))
 
 -- nothing is due after one that was not before
-pub calm_read : (bus bus' : BusState) (n byte : ℕ) → bus' ≡ on_bus (register_read bus n) byte → IsCalm bus → IsCalm bus'
-calm_read bus bus' n byte is calm =
+pub calm_read : (bus bus' : BusState) (n : ℕ) → bus' ≡ register_read bus n → IsCalm bus → IsCalm bus'
+calm_read bus bus' n is calm =
     let same = read_dues bus n in
     let P : BusState → Type 0 = λ r. IsCalm r in
     subst P (sym is) (record {

@@ -1,5 +1,5 @@
 -- Whole instructions among the accesses of a run.
-use Rattle.std.proofs.Common.{◌≡◌, ℕ, zero, suc, ◌<◌, refl, sym, ap, subst, ◌∙◌}
+use Rattle.std.proofs.Common.{◌≡◌, ℕ, zero, suc, ◌<◌, refl, subst, ◌∙◌}
 use Rattle.cpu65816.specs.declared.processor.Cpu.{Cpu}
 use Rattle.console_bus.specs.BusState.{BusState}
 use Rattle.console_steps.specs.ConsoleState.{ConsoleState, due_of, console_after, region_of}

@@ -1,12 +1,11 @@
 -- Many steps of the console in one call: quiet ones that emit nothing, told by the clocks that they last together; and
 -- those among them that only look, of which a round can be gone again.
 use Rattle.std.specs.Prelude.{◌≡◌, ℕ, zero, suc, ◌+◌, []}
-use Rattle.snes_defs.specs.declared.ports.Act.TheVariants.{Quiet}
 use Rattle.cpu65816.specs.declared.processor.Cpu.{Cpu}
 use Rattle.cpu65816.specs.Instruction.{next_of}
 use Rattle.beam.specs.Events.{passed}
 use Rattle.console_bus.specs.BusState.{BusState}
-use Rattle.console_steps.specs.ConsoleState.{ConsoleState, access_clocks, act_of, due_of, console_after, bytes_after}
+use Rattle.console_steps.specs.ConsoleState.{ConsoleState, access_clocks, due_of, console_after}
 use Rattle.console_steps.specs.ConsoleState.{overscan_of}
 use Rattle.console_steps.specs.Stands.{IsAt}
 use Rattle.console_steps.specs.Plain.{IsCalm, IsLook}

@@ -24,10 +24,7 @@ fn read_act(bus: &Bus, target: Target) -> Act
 {
     match target {
         Target::Port(port) => Act::Read(port),
-        Target::Memory(_) => Act::Quiet,
-        Target::Register(_) => Act::Quiet,
-        Target::Chip(_) => Act::Quiet,
-        Target::Nothing => Act::Quiet,
+        _ => Act::Quiet,
     }
 }
 
@@ -40,10 +37,7 @@ fn write_act(bus: &Bus, target: Target, v: u8) -> Act
 {
     match target {
         Target::Port(port) => Act::Write(port, v),
-        Target::Memory(_) => Act::Quiet,
-        Target::Register(_) => Act::Quiet,
-        Target::Chip(_) => Act::Quiet,
-        Target::Nothing => Act::Quiet,
+        _ => Act::Quiet,
     }
 }
 

@@ -19,7 +19,7 @@ use side_law::{Ports, Stop};
 use snes_defs::Act;
 
 /// How many emitted bytes the buffer holds.
-const CAPACITY: usize = 65_536;
+pub(crate) const CAPACITY: usize = 65_536;
 
 /// How many bytes a row has.
 const ROW: usize = 1024;
@@ -153,37 +153,8 @@ impl Parts {
         None
     }
 
-    /// Runs steps that emit nothing, and then one step of any kind. Each begins before a stamp, and `ports` makes its
-    /// call at the ports. Returns why it stopped, or None if it ran the last step and that emitted nothing, or if the
-    /// next step does not begin before the stamp.
-    #[inline(always)]
-    fn advance_some<P: Ports>(&mut self, until: u64, ports: &mut P) -> Option<Stop>
-        requires early { until ≤ 2 ^ 62 }
-        requires before { self.old.stamp < until }
-        requires capacity { self.old.waiting.capacity ≡ 65536 }
-        requires fits { length self.old.waiting.items ≤ 65536 }
-        requires ready { AreReady (P.clock ports.old) (P.times ports.old) self.old.stamp until self.old.region }
-        ensures gone { result ≡ None → LeadsOver P.calls until (value_of self.old) (value_of self.new)
-            (P.stands ports.old) (P.stands ports.new) }
-        ensures stopped { IfSome result (λ stop. StopsOver P.calls until stop (value_of self.old) (value_of self.new)
-            (P.stands ports.old) (P.stands ports.new)) }
-        ensures keeps { Keeps self.old self.new }
-        ensures forward { self.old.stamp ≤ self.new.stamp }
-        ensures rises { result ≡ None → self.old.stamp < self.new.stamp }
-        ensures emitted { IfSome result (λ stop. (at : ℕ) → stop ≡ Stop.Emitted at
-            → (self.old.stamp ≤ at) × (at < until) × (at < self.new.stamp)) }
-        ensures fits { length self.new.waiting.items ≤ 65536 }
-        ensures in_order { P.clock ports.new ≤ self.new.stamp }
-        ensures times { P.times ports.new ≡ P.times ports.old }
-    {
-        if self.go_on(until, ports) {
-            return Some(Stop::Refused);
-        }
-        self.step_next(until, ports)
-    }
-
-    /// Runs steps up to one that emits, and returns why it stopped. Each begins before a stamp, and `ports` makes its
-    /// call at the ports.
+    /// Runs steps up to one that emits, and returns why it stopped: some that emit nothing, one of any kind, and so on.
+    /// Each begins before a stamp, and `ports` makes its call at the ports.
     pub fn advance<P: Ports>(&mut self, until: u64, ports: &mut P) -> Stop
         requires early { until ≤ 2 ^ 62 }
         requires capacity { self.old.waiting.capacity ≡ 65536 }
@@ -200,7 +171,10 @@ impl Parts {
         ensures times { P.times ports.new ≡ P.times ports.old }
     {
         'steps: while self.stamp < until {
-            if let Some(stop) = self.advance_some(until, ports) {
+            if self.go_on(until, ports) {
+                return Stop::Refused;
+            }
+            if let Some(stop) = self.step_next(until, ports) {
                 return stop;
             }
         }

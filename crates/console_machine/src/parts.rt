@@ -53,7 +53,7 @@ fn stamps(region: Region, clocks: u8) -> u64
 
 /// Returns the stamps of at most a line's master clocks.
 #[inline(always)]
-fn line_stamps(region: Region, clocks: u16) -> u64
+pub(crate) fn line_stamps(region: Region, clocks: u16) -> u64
     requires { clocks ≤ 1364 }
     ensures value { result ≡ rate_of region Console * clocks }
     ensures most { result ≤ rate_of region Console * 1364 }
@@ -83,10 +83,7 @@ impl Parts {
         requires { self.now.stamp ≤ 2 ^ 62 }
         ensures { result ≡ self.now.stamp + rate_of self.now.region Console * clocks_left self.now.bus.beam }
     {
-        match self.region {
-            Region::Ntsc => self.stamp + CONSOLE_RATE * self.bus.clocks_left() as u64,
-            Region::Pal => self.stamp + PAL_CONSOLE_RATE * self.bus.clocks_left() as u64,
-        }
+        self.stamp + line_stamps(self.region, self.bus.clocks_left())
     }
 
     /// Runs the next step. `got` is the incoming byte of the port if the step reads one.

@@ -17,7 +17,7 @@ ghost use Rattle.console_machine.specs.PortAccesses.{HasMade, IsMade, HasPassed,
 ghost use Rattle.console_machine.specs.PortAccesses.{stamp_before};
 
 use crate::many_steps::make_all;
-use clock_ratio::{CONSOLE_RATE, PAL_CONSOLE_RATE};
+use crate::parts::line_stamps;
 use console_bus::Bus;
 use console_steps::{REGISTER_CLOCKS, bus_register, give_interrupt_levels, is_port};
 use cpu_tables::Access;
@@ -39,17 +39,22 @@ pub(crate) enum Found {
     Refused,
 }
 
-/// Reads a register of the B bus other than a port, and puts the byte on the data bus.
+/// Puts a byte of the B bus on the data bus, lets the processor take it, and advances the beam.
 #[inline(always)]
-fn load_register(bus: &mut Bus, register: u8) -> u8
-    ensures byte { result ≡ register_byte bus.old register 0 }
-    ensures after { bus.new ≡ on_bus (register_read bus.old register) (register_byte bus.old register 0) }
-    ensures beam { bus.new.beam ≡ bus.old.beam }
+fn take_byte(cpu: &mut Cpu, bus: &mut Bus, got: u8)
+    requires gets { IsTrue (gets_byte (access_of cpu.old)) }
+    requires few { 6 < clocks_left bus.old.beam }
+    ensures rest { bus.new ≡ gone_on (on_bus bus.old got) 6 }
+    ensures nothing { passed_in (on_bus bus.old got) 6 ≡ [] }
+    ensures processor { (s : CpuState) → Stands cpu.old s
+        → Stands cpu.new (with_interrupt_levels (moved_on s got) (on_bus bus.old got)) }
+    ensures left { clocks_left bus.new.beam ≡ clocks_left bus.old.beam - 6 }
     ensures calm { IsCalm bus.old → IsCalm bus.new }
 {
-    let byte = bus.read_register(register, 0);
-    bus.put(byte);
-    byte
+    bus.put(got);
+    cpu.took(got);
+    give_interrupt_levels(cpu, bus);
+    bus.go_on(REGISTER_CLOCKS as u16);
 }
 
 /// Lets the processor take the byte of a register of the B bus other than a port, and advances the beam.
@@ -65,28 +70,8 @@ fn take_register(cpu: &mut Cpu, bus: &mut Bus, register: u8)
     ensures left { clocks_left bus.new.beam ≡ clocks_left bus.old.beam - 6 }
     ensures calm { IsCalm bus.old → IsCalm bus.new }
 {
-    let byte = load_register(bus, register);
-    cpu.took(byte);
-    give_interrupt_levels(cpu, bus);
-    bus.go_on(REGISTER_CLOCKS as u16);
-}
-
-/// Lets the processor take the byte that came in at a port, and advances the beam.
-#[inline(always)]
-fn take_port(cpu: &mut Cpu, bus: &mut Bus, got: u8)
-    requires gets { IsTrue (gets_byte (access_of cpu.old)) }
-    requires few { 6 < clocks_left bus.old.beam }
-    ensures rest { bus.new ≡ gone_on (on_bus bus.old got) 6 }
-    ensures nothing { passed_in (on_bus bus.old got) 6 ≡ [] }
-    ensures processor { (s : CpuState) → Stands cpu.old s
-        → Stands cpu.new (with_interrupt_levels (moved_on s got) (on_bus bus.old got)) }
-    ensures left { clocks_left bus.new.beam ≡ clocks_left bus.old.beam - 6 }
-    ensures calm { IsCalm bus.old → IsCalm bus.new }
-{
-    bus.put(got);
-    cpu.took(got);
-    give_interrupt_levels(cpu, bus);
-    bus.go_on(REGISTER_CLOCKS as u16);
+    let byte = bus.read_register(register, 0);
+    take_byte(cpu, bus, byte);
 }
 
 /// Lets the processor write a port, and advances the beam.
@@ -136,7 +121,7 @@ fn read_over<P: Ports>(cpu: &mut Cpu, bus: &mut Bus, addr: u32, at: u64, ports: 
     let Some(got) = ports.call(at, Act::Read(register % 4)) else {
         return Found::Refused;
     };
-    take_port(cpu, bus, got);
+    take_byte(cpu, bus, got);
     Found::Made
 }
 
@@ -213,10 +198,7 @@ pub(crate) fn stamp_before(region: Region, goal: u64, bus: &Bus) -> u64
     requires { rate_of region Console * clocks_left bus.now.beam ≤ goal }
     ensures { result ≡ stamp_before region goal bus.now }
 {
-    match region {
-        Region::Ntsc => goal - CONSOLE_RATE * bus.clocks_left() as u64,
-        Region::Pal => goal - PAL_CONSOLE_RATE * bus.clocks_left() as u64,
-    }
+    goal - line_stamps(region, bus.clocks_left())
 }
 
 /// Makes the processor's accesses of memory and of the B bus one after another, up to the beam's next place, to which

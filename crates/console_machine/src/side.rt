@@ -3,6 +3,7 @@ ghost use Rattle.std.specs.Prelude.{◌≡◌, ◌≤◌, [], IfOk};
 ghost use Rattle.console_steps.specs.ConsoleState.{console_start};
 ghost use Rattle.console_machine.specs.Side.{IsSome, StandsAt};
 
+use crate::advance::CAPACITY;
 use crate::parts::Parts;
 use crate::patience::Patience;
 use circular_buffer::HeapCircularBuffer;
@@ -14,9 +15,6 @@ use std::alloc::Global;
 use std::marker::Model;
 
 mod copy;
-
-/// How many emitted bytes the buffer holds.
-const ROOM: usize = 65_536;
 
 /// The console side: the 65C816, the PPU, the cartridge and the transfers, as one machine of the two.
 #[derive(Drop)]
@@ -45,7 +43,7 @@ impl ConsoleSide {
         ensures empty { IfOk result (λ c. c.waiting ≡ []) }
     {
         let bus = Bus::new(alloc, &job.cart, &job.script, job.region)?;
-        let Ok(waiting) = HeapCircularBuffer::with_capacity(alloc, ROOM) else {
+        let Ok(waiting) = HeapCircularBuffer::with_capacity(alloc, CAPACITY) else {
             return Err(NoMemory);
         };
         Ok(ConsoleSide {

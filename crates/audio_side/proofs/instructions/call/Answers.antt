@@ -1,5 +1,11 @@
 use Rattle.audio_side.proofs.Follows.{follows_then}
 use Rattle.audio_side.proofs.instructions.call.Goals as goal
 
+pub returns-in_err-push_high : goal.returns-in_err-push_high
+returns-in_err-push_high c = follows_then c.call_cycle.ensures c.push_high.ensures
+
+pub returns-in_err-push_low : goal.returns-in_err-push_low
+returns-in_err-push_low c = follows_then (follows_then c.call_cycle.ensures c.push_high.ensures) c.push_low.ensures
+
 pub returns : goal.returns
-returns c = follows_then c.args.spc.now c.call_cycle.new.spc c.pushed_call.new.spc c.args.hardware.now c.args.hardware.now c.pushed_call.new.hardware c.args.left.now c.call_cycle.new.left c.pushed_call.new.left c.call_cycle.ensures c.pushed_call.ensures
+returns c = follows_then (follows_then (follows_then c.call_cycle.ensures c.push_high.ensures) c.push_low.ensures) c.two_cycles.ensures

@@ -1,4 +1,3 @@
-use Rattle.std.proofs.Common.{refl}
 use Rattle.spc_modes.specs.declared.place.Place.{Place}
 use Rattle.audio_side.proofs.Follows.{access_at, follows_idle}
 use Rattle.audio_side.proofs.instructions.call_cycle.Goals as goal
@@ -6,4 +5,4 @@ use Rattle.audio_side.proofs.instructions.call_cycle.Goals as goal
 pub returns : goal.returns
 returns c =
     follows_idle c.args.spc.now c.passed_call_cycle.new.self c.args.hardware.now c.args.left.now c.one_fewer.new.left (access_at c.args.spc.now Place.CallCycle c.requires.known)
-    (c.if-not-one_fewer.ensures.made refl) c.passed_call_cycle.ensures
+    c.in_ok-one_fewer.ensures.made c.passed_call_cycle.ensures

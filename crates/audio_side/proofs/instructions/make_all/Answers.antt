@@ -5,12 +5,7 @@ pub accesses-init : goal.accesses-init
 accesses-init c = record { follows = follows_none c.args.spc.now c.args.hardware.now c.args.left.now }
 
 pub accesses-preserved : goal.accesses-preserved
-accesses-preserved c = record {
-  follows = follows_then c.args.spc.now c.accesses.spc c.make_some.new.spc c.args.hardware.now c.accesses.hardware c.make_some.new.hardware
-      c.args.left.now c.accesses.left c.make_some.new.left c.accesses.invariant.follows c.make_some.ensures.follows;
-}
+accesses-preserved c = record { follows = follows_then c.accesses.invariant.follows c.make_some.ensures.follows }
 
-pub returns-then-not-make_some : goal.returns-then-not-make_some
-returns-then-not-make_some c =
-    follows_then c.args.spc.now c.accesses.spc c.make_some.new.spc c.args.hardware.now c.accesses.hardware c.make_some.new.hardware
-    c.args.left.now c.accesses.left c.make_some.new.left c.accesses.invariant.follows c.make_some.ensures.follows
+pub returns-in_default : goal.returns-in_default
+returns-in_default c = follows_then c.accesses.invariant.follows c.make_some.ensures.follows

@@ -1,5 +1,11 @@
 use Rattle.audio_side.proofs.Follows.{follows_then}
 use Rattle.audio_side.proofs.instructions.pull.Goals as goal
 
+pub returns-in_err-pull_cycle : goal.returns-in_err-pull_cycle
+returns-in_err-pull_cycle c = follows_then c.pull_first_cycle.ensures c.pull_cycle.ensures
+
+pub returns-in_err-return_low : goal.returns-in_err-return_low
+returns-in_err-return_low c = follows_then (follows_then c.pull_first_cycle.ensures c.pull_cycle.ensures) c.return_low.ensures
+
 pub returns : goal.returns
-returns c = follows_then c.args.spc.now c.pull_cycles.new.spc c.return_address.new.spc c.args.hardware.now c.args.hardware.now c.args.hardware.now c.args.left.now c.pull_cycles.new.left c.return_address.new.left c.pull_cycles.ensures c.return_address.ensures
+returns c = follows_then (follows_then (follows_then c.pull_first_cycle.ensures c.pull_cycle.ensures) c.return_low.ensures) c.return_high.ensures

@@ -1,7 +1,8 @@
 use mathlib.Core.Logic.{∥∥₁_map}
-use Rattle.audio_side.specs.Sound.{processor_after}
 use Rattle.audio_side.proofs.step.begin.Goals as goal
 
-pub returns-clause-runs : goal.returns-clause-runs
-returns-clause-runs c =
-    λ runs. ∥∥₁_map runs (λ p. (processor_after (record { processor = p.0; hardware = c.args.hardware.now; clock = c.args.clock.now }) c.args.got, c.make.ensures.processor p.0 p.1))
+pub returns-then-is_due-clause-runs : goal.returns-then-is_due-clause-runs
+returns-then-is_due-clause-runs c = λ runs. ∥∥₁_map runs (λ p. (_, c.restart.ensures.processor))
+
+pub returns-else-is_due-clause-runs : goal.returns-else-is_due-clause-runs
+returns-else-is_due-clause-runs c = λ runs. ∥∥₁_map runs (λ p. (_, c.access.ensures.processor p.0 p.1))

@@ -39,14 +39,14 @@ returns-clause-made g c = λ is p now.
       ports = led.to;
       ports_stand = led.now_stands;
       answered = subst (λ (a : Act). IsAnswered P.calls c.args.at a got p led.to) (port_read_act c.args.bus.now c.args.addr n (PortRead (n % 4)) place (port_is_read n port)) led.led;
-      made = port_read_made c.args.cpu.now c.take_port.new.cpu c.args.bus.now c.take_port.new.bus c.args.addr n got place (c.in-Some.ensures.lasts c.args.bus.now.io.fast) port
-          c.take_port.ensures.nothing c.take_port.ensures.rest c.take_port.ensures.processor;
+      made = port_read_made c.args.cpu.now c.take_byte.new.cpu c.args.bus.now c.take_byte.new.bus c.args.addr n got place (c.in-Some.ensures.lasts c.args.bus.now.io.fast) port
+          c.take_byte.ensures.nothing c.take_byte.ensures.rest c.take_byte.ensures.processor;
     }
 
 pub returns-clause-step : goal.returns-clause-step
 returns-clause-step g c = λ is. (
   c.in-Some-call.got,
-  port_read_made c.args.cpu.now c.take_port.new.cpu c.args.bus.now c.take_port.new.bus c.args.addr c.in-Some.register c.in-Some-call.got
+  port_read_made c.args.cpu.now c.take_byte.new.cpu c.args.bus.now c.take_byte.new.bus c.args.addr c.in-Some.register c.in-Some-call.got
       (c.in-Some.ensures.place c.args.bus.now.board) (c.in-Some.ensures.lasts c.args.bus.now.io.fast) (sym c.if-not-is_port.ensures)
-      c.take_port.ensures.nothing c.take_port.ensures.rest c.take_port.ensures.processor,
+      c.take_byte.ensures.nothing c.take_byte.ensures.rest c.take_byte.ensures.processor,
 )
