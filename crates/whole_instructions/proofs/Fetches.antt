@@ -9,7 +9,7 @@ use Rattle.cpu_modes.specs.Plan.{Plan, ends}
 use Rattle.console_bus.specs.BusState.{BusState}
 use Rattle.console_bus.specs.Memory.{IsMemoryAt, IsStretch}
 use Rattle.whole_instructions.specs.Looks.{Looks}
-use Rattle.whole_instructions.specs.Fetching.{HasCode, IsOpcodeOf, IsRowAt, past}
+use Rattle.whole_instructions.specs.Fetching.{HasCode, IsOpcodeOf, past}
 use Rattle.whole_instructions.proofs.Looks.{looks_none, looks_fetch, looks_idle, looks_begin}
 
 -- one more byte of the program
@@ -95,6 +95,3 @@ first_byte bus to at clocks stretch =
     let At : ℕ → Type 0 = λ n. IsMemoryAt bus.board bus.io.fast n (at + 0) clocks in
     let Of : ℕ → Type 0 = λ n. IsMemoryAt bus.board bus.io.fast to n clocks in
     subst Of b (subst At a (stretch.bytes 0 (omega arith)))
-
-pub is_row_at : (bus : BusState) (at : ℕ) (row : Row) → IsOpcodeOf bus at row → IsRowAt bus at row.op row.mode
-is_row_at bus at row h = record { row = h }

@@ -14,10 +14,7 @@ use crate::code::{
     Code, high_access, high_byte, joined, low_access, low_byte, pass, passed, write,
 };
 use crate::operations::Change;
-use crate::ways::{
-    Absolute, AbsoluteX, AbsoluteY, Direct, DirectX, DirectY, Long, LongX, Reached, StackRelative,
-    Way,
-};
+use crate::ways::{Reached, Way};
 use console_bus::{Bus, MemoryAccess};
 use cpu_alu::{finish_change, operand_written};
 use cpu_modes::{Direction, Reach, Traffic, Width, is_wide};
@@ -102,7 +99,7 @@ fn change_word(
 /// Makes an instruction that changes A. Returns false if it doesn't fit; then nothing has changed.
 #[tactic(auto, using(crate::proofs::Cycles::change_a_made))]
 #[inline(never)]
-fn change_a<L: Change>(regs: &mut Regs, bus: &mut Bus, at: usize, clocks: u16) -> bool
+pub(crate) fn change_a<L: Change>(regs: &mut Regs, bus: &mut Bus, at: usize, clocks: u16) -> bool
     requires code { HasCode bus.old regs.old at clocks }
     requires row { IsRowAt bus.old at L.OP Mode.Accumulator }
     ensures made { IsTrue result → IsMade regs.old regs.new bus.old bus.new }
@@ -127,7 +124,12 @@ fn change_a<L: Change>(regs: &mut Regs, bus: &mut Bus, at: usize, clocks: u16) -
 
 /// Makes an instruction that changes data of a mode. Returns false if it can't be made whole; then nothing has changed.
 #[inline(never)]
-fn change<W: Way, L: Change>(regs: &mut Regs, bus: &mut Bus, at: usize, clocks: u16) -> bool
+pub(crate) fn change<W: Way, L: Change>(
+    regs: &mut Regs,
+    bus: &mut Bus,
+    at: usize,
+    clocks: u16,
+) -> bool
     requires code { HasCode bus.old regs.old at clocks }
     requires row { IsRowAt bus.old at L.OP W.MODE }
     ensures made { IsTrue result → IsMade regs.old regs.new bus.old bus.new }
@@ -154,34 +156,4 @@ fn change<W: Way, L: Change>(regs: &mut Regs, bus: &mut Bus, at: usize, clocks: 
         return false;
     };
     change_word(regs, bus, code, row, W::SECOND, reached, low, high)
-}
-
-/// Makes an instruction that changes data, by its mode. Returns false if it can't be made whole; then nothing has
-/// changed.
-#[inline(never)]
-pub(crate) fn change_by<L: Change>(
-    regs: &mut Regs,
-    bus: &mut Bus,
-    at: usize,
-    clocks: u16,
-    mode: Mode,
-) -> bool
-    requires code { HasCode bus.old regs.old at clocks }
-    requires row { IsRowAt bus.old at L.OP mode }
-    ensures made { IsTrue result → IsMade regs.old regs.new bus.old bus.new }
-    ensures stays { result ≡ false → (regs.new ≡ regs.old) × (bus.new ≡ bus.old) }
-{
-    match mode {
-        Mode::Accumulator => change_a::<L>(regs, bus, at, clocks),
-        Mode::Direct => change::<Direct, L>(regs, bus, at, clocks),
-        Mode::DirectX => change::<DirectX, L>(regs, bus, at, clocks),
-        Mode::DirectY => change::<DirectY, L>(regs, bus, at, clocks),
-        Mode::Absolute => change::<Absolute, L>(regs, bus, at, clocks),
-        Mode::AbsoluteX => change::<AbsoluteX, L>(regs, bus, at, clocks),
-        Mode::AbsoluteY => change::<AbsoluteY, L>(regs, bus, at, clocks),
-        Mode::Long => change::<Long, L>(regs, bus, at, clocks),
-        Mode::LongX => change::<LongX, L>(regs, bus, at, clocks),
-        Mode::StackRelative => change::<StackRelative, L>(regs, bus, at, clocks),
-        _ => false,
-    }
 }

@@ -14,13 +14,14 @@ use console_bus::Bus;
 use cpu_alu::{finish, finish_internal, is_taken, relative};
 use cpu_tables::{Mode, Op, Regs, Row};
 
-/// Makes an instruction of one internal cycle. Returns false if it doesn't fit; then nothing has changed.
+/// Makes an instruction of one internal cycle. Returns false if it doesn't fit; then nothing has changed. It is built
+/// into its caller, so that the operation is a constant in each copy.
 #[tactic(auto, using(crate::proofs::Cycles::internal_made))]
-#[inline(never)]
-pub(crate) fn internal(regs: &mut Regs, bus: &mut Bus, at: usize, clocks: u16, row: Row) -> bool
+#[inline(always)]
+pub(crate) fn internal(regs: &mut Regs, bus: &mut Bus, at: usize, clocks: u16, op: Op) -> bool
     requires code { HasCode bus.old regs.old at clocks }
-    requires row { IsRowAt bus.old at row.op row.mode }
-    requires uses { use_of row.op ≡ Use.Internal }
+    requires row { IsRowAt bus.old at op Mode.Implied }
+    requires uses { use_of op ≡ Use.Internal }
     ensures made { IsTrue result → IsMade regs.old regs.new bus.old bus.new }
     ensures stays { result ≡ false → (regs.new ≡ regs.old) × (bus.new ≡ bus.old) }
 {
@@ -30,17 +31,24 @@ pub(crate) fn internal(regs: &mut Regs, bus: &mut Bus, at: usize, clocks: u16, r
     }
     let opcode = code.opcode(regs, bus);
     pass(regs, bus, 1, opcode, clocks + 6);
-    finish_internal(regs, row, 0);
+    finish_internal(
+        regs,
+        Row {
+            op,
+            mode: Mode::Implied,
+        },
+        0,
+    );
     true
 }
 
 /// Makes REP or SEP. Returns false if it doesn't fit; then nothing has changed.
 #[tactic(auto, using(crate::proofs::Cycles::status_made))]
 #[inline(never)]
-pub(crate) fn status(regs: &mut Regs, bus: &mut Bus, at: usize, clocks: u16, row: Row) -> bool
+pub(crate) fn status(regs: &mut Regs, bus: &mut Bus, at: usize, clocks: u16, op: Op) -> bool
     requires code { HasCode bus.old regs.old at clocks }
-    requires row { IsRowAt bus.old at row.op row.mode }
-    requires uses { use_of row.op ≡ Use.Status }
+    requires row { IsRowAt bus.old at op Mode.Immediate }
+    requires uses { use_of op ≡ Use.Status }
     ensures made { IsTrue result → IsMade regs.old regs.new bus.old bus.new }
     ensures stays { result ≡ false → (regs.new ≡ regs.old) × (bus.new ≡ bus.old) }
 {
@@ -50,7 +58,14 @@ pub(crate) fn status(regs: &mut Regs, bus: &mut Bus, at: usize, clocks: u16, row
     }
     let mask = code.first(regs, bus);
     pass(regs, bus, 2, mask, 2 * clocks + 6);
-    finish(regs, row, mask as u16);
+    finish(
+        regs,
+        Row {
+            op,
+            mode: Mode::Immediate,
+        },
+        mask as u16,
+    );
     true
 }
 
@@ -83,19 +98,12 @@ fn go(op: Op, regs: &mut Regs, offset: u8)
 /// Makes a branch. Returns false if it doesn't fit; then nothing has changed.
 #[tactic(auto, using(crate::proofs::Cycles::branch_made))]
 #[inline(never)]
-pub(crate) fn branch<B: Branch>(
-    regs: &mut Regs,
-    bus: &mut Bus,
-    at: usize,
-    clocks: u16,
-    mode: Mode,
-) -> bool
+pub(crate) fn branch<B: Branch>(regs: &mut Regs, bus: &mut Bus, at: usize, clocks: u16) -> bool
     requires code { HasCode bus.old regs.old at clocks }
-    requires row { IsRowAt bus.old at B.OP mode }
+    requires row { IsRowAt bus.old at B.OP Mode.Relative }
     ensures made { IsTrue result → IsMade regs.old regs.new bus.old bus.new }
     ensures stays { result ≡ false → (regs.new ≡ regs.old) × (bus.new ≡ bus.old) }
 {
-    let _mode = mode;
     let code = Code { at, clocks };
     let offset = code.first(regs, bus);
     let all = 2 * clocks + branch_clocks(B::OP, &passed(regs, 2), offset);
@@ -107,19 +115,16 @@ pub(crate) fn branch<B: Branch>(
     true
 }
 
-/// Makes JMP to an address. Returns false if it is another JMP or doesn't fit; then nothing has changed.
+/// Makes JMP to an address. Returns false if it doesn't fit; then nothing has changed.
 #[tactic(auto, using(crate::proofs::Cycles::jump_made))]
 #[inline(never)]
-pub(crate) fn jump(regs: &mut Regs, bus: &mut Bus, at: usize, clocks: u16, mode: Mode) -> bool
+pub(crate) fn jump(regs: &mut Regs, bus: &mut Bus, at: usize, clocks: u16) -> bool
     requires code { HasCode bus.old regs.old at clocks }
-    requires row { IsRowAt bus.old at Op.Jmp mode }
+    requires row { IsRowAt bus.old at Op.Jmp Mode.Absolute }
     ensures made { IsTrue result → IsMade regs.old regs.new bus.old bus.new }
     ensures stays { result ≡ false → (regs.new ≡ regs.old) × (bus.new ≡ bus.old) }
 {
     let code = Code { at, clocks };
-    let Mode::Absolute = mode else {
-        return false;
-    };
     if 3 * clocks >= bus.clocks_left() {
         return false;
     }

@@ -1,147 +1,228 @@
 // One instruction whole, found by its opcode.
-ghost use Rattle.std.specs.Prelude.{◌≡◌, IsTrue, false};
-ghost use Rattle.whole_instructions.specs.Fetching.{HasCode, IsRowAt, IsMade};
+ghost use Rattle.std.specs.Prelude.{◌≡◌, IsTrue, false, slice_index};
+ghost use Rattle.whole_instructions.specs.Fetching.{HasCode, IsMade};
 
-use crate::changes::change_by;
+use crate::changes::{change, change_a};
 use crate::code::Code;
 use crate::flow::{branch, internal, jump, status};
-use crate::loads::load_by;
+use crate::loads::{immediate, load};
 use crate::operations::{
     Adc, And, Asl, Bcc, Bcs, Beq, Bit, Bmi, Bne, Bpl, Bra, Bvc, Bvs, Cmp, Cpx, Cpy, Dec, Eor, Inc,
     Lda, Ldx, Ldy, Lsr, Ora, Rol, Ror, Sbc, Sta, Stx, Sty, Stz, Trb, Tsb,
 };
 use crate::stack::{call, pull, push, returned};
-use crate::stores::store_by;
+use crate::stores::store;
+use crate::ways::{
+    Absolute, AbsoluteX, AbsoluteY, Direct, DirectX, DirectY, Long, LongX, StackRelative,
+};
 use console_bus::Bus;
-use cpu_modes::{Use, use_of};
-use cpu_tables::{Op, Regs, Row, row};
+use cpu_modes::Width;
+use cpu_tables::{Op, Regs};
 
-/// Makes an instruction that reads data, by its operation.
-#[inline(always)]
-fn load(regs: &mut Regs, bus: &mut Bus, code: Code, row: Row) -> bool
-    requires code { HasCode bus.old regs.old code.at code.clocks }
-    requires row { IsRowAt bus.old code.at row.op row.mode }
+/// Makes the instruction of an opcode. Returns false if it can't be made whole; then nothing has changed. An opcode
+/// without an arm is made access by access.
+#[tactic(auto, unfolding(cpu_modes::specs::Uses::use_of, cpu_tables::specs::Opcodes::row_of, cpu_tables::specs::Opcodes::first_entry, cpu_tables::specs::Opcodes::matrix, cpu_tables::specs::Opcodes::others))]
+fn by_opcode(regs: &mut Regs, bus: &mut Bus, at: usize, clocks: u16, opcode: u8) -> bool
+    requires code { HasCode bus.old regs.old at clocks }
+    requires opcode { slice_index bus.old.memory at ≡ opcode }
     ensures made { IsTrue result → IsMade regs.old regs.new bus.old bus.new }
     ensures stays { result ≡ false → (regs.new ≡ regs.old) × (bus.new ≡ bus.old) }
 {
-    match row.op {
-        Op::Adc => load_by::<Adc>(regs, bus, code.at, code.clocks, row.mode),
-        Op::And => load_by::<And>(regs, bus, code.at, code.clocks, row.mode),
-        Op::Bit => load_by::<Bit>(regs, bus, code.at, code.clocks, row.mode),
-        Op::Cmp => load_by::<Cmp>(regs, bus, code.at, code.clocks, row.mode),
-        Op::Cpx => load_by::<Cpx>(regs, bus, code.at, code.clocks, row.mode),
-        Op::Cpy => load_by::<Cpy>(regs, bus, code.at, code.clocks, row.mode),
-        Op::Eor => load_by::<Eor>(regs, bus, code.at, code.clocks, row.mode),
-        Op::Lda => load_by::<Lda>(regs, bus, code.at, code.clocks, row.mode),
-        Op::Ldx => load_by::<Ldx>(regs, bus, code.at, code.clocks, row.mode),
-        Op::Ldy => load_by::<Ldy>(regs, bus, code.at, code.clocks, row.mode),
-        Op::Ora => load_by::<Ora>(regs, bus, code.at, code.clocks, row.mode),
-        Op::Sbc => load_by::<Sbc>(regs, bus, code.at, code.clocks, row.mode),
-        _ => false,
-    }
-}
-
-/// Makes an instruction that writes data, by its operation.
-#[inline(always)]
-fn store(regs: &mut Regs, bus: &mut Bus, code: Code, row: Row) -> bool
-    requires code { HasCode bus.old regs.old code.at code.clocks }
-    requires row { IsRowAt bus.old code.at row.op row.mode }
-    ensures made { IsTrue result → IsMade regs.old regs.new bus.old bus.new }
-    ensures stays { result ≡ false → (regs.new ≡ regs.old) × (bus.new ≡ bus.old) }
-{
-    match row.op {
-        Op::Sta => store_by::<Sta>(regs, bus, code.at, code.clocks, row.mode),
-        Op::Stx => store_by::<Stx>(regs, bus, code.at, code.clocks, row.mode),
-        Op::Sty => store_by::<Sty>(regs, bus, code.at, code.clocks, row.mode),
-        Op::Stz => store_by::<Stz>(regs, bus, code.at, code.clocks, row.mode),
-        _ => false,
-    }
-}
-
-/// Makes an instruction that changes A or data, by its operation.
-#[inline(always)]
-fn change(regs: &mut Regs, bus: &mut Bus, code: Code, row: Row) -> bool
-    requires code { HasCode bus.old regs.old code.at code.clocks }
-    requires row { IsRowAt bus.old code.at row.op row.mode }
-    ensures made { IsTrue result → IsMade regs.old regs.new bus.old bus.new }
-    ensures stays { result ≡ false → (regs.new ≡ regs.old) × (bus.new ≡ bus.old) }
-{
-    match row.op {
-        Op::Asl => change_by::<Asl>(regs, bus, code.at, code.clocks, row.mode),
-        Op::Dec => change_by::<Dec>(regs, bus, code.at, code.clocks, row.mode),
-        Op::Inc => change_by::<Inc>(regs, bus, code.at, code.clocks, row.mode),
-        Op::Lsr => change_by::<Lsr>(regs, bus, code.at, code.clocks, row.mode),
-        Op::Rol => change_by::<Rol>(regs, bus, code.at, code.clocks, row.mode),
-        Op::Ror => change_by::<Ror>(regs, bus, code.at, code.clocks, row.mode),
-        Op::Trb => change_by::<Trb>(regs, bus, code.at, code.clocks, row.mode),
-        Op::Tsb => change_by::<Tsb>(regs, bus, code.at, code.clocks, row.mode),
-        _ => false,
-    }
-}
-
-/// Makes a branch by its operation.
-#[inline(always)]
-fn go(regs: &mut Regs, bus: &mut Bus, code: Code, row: Row) -> bool
-    requires code { HasCode bus.old regs.old code.at code.clocks }
-    requires row { IsRowAt bus.old code.at row.op row.mode }
-    ensures made { IsTrue result → IsMade regs.old regs.new bus.old bus.new }
-    ensures stays { result ≡ false → (regs.new ≡ regs.old) × (bus.new ≡ bus.old) }
-{
-    match row.op {
-        Op::Bcc => branch::<Bcc>(regs, bus, code.at, code.clocks, row.mode),
-        Op::Bcs => branch::<Bcs>(regs, bus, code.at, code.clocks, row.mode),
-        Op::Beq => branch::<Beq>(regs, bus, code.at, code.clocks, row.mode),
-        Op::Bmi => branch::<Bmi>(regs, bus, code.at, code.clocks, row.mode),
-        Op::Bne => branch::<Bne>(regs, bus, code.at, code.clocks, row.mode),
-        Op::Bpl => branch::<Bpl>(regs, bus, code.at, code.clocks, row.mode),
-        Op::Bra => branch::<Bra>(regs, bus, code.at, code.clocks, row.mode),
-        Op::Bvc => branch::<Bvc>(regs, bus, code.at, code.clocks, row.mode),
-        Op::Bvs => branch::<Bvs>(regs, bus, code.at, code.clocks, row.mode),
-        _ => false,
-    }
-}
-
-/// Makes JMP, JSR or RTS.
-#[inline(always)]
-fn jump_by(regs: &mut Regs, bus: &mut Bus, code: Code, row: Row) -> bool
-    requires code { HasCode bus.old regs.old code.at code.clocks }
-    requires row { IsRowAt bus.old code.at row.op row.mode }
-    ensures made { IsTrue result → IsMade regs.old regs.new bus.old bus.new }
-    ensures stays { result ≡ false → (regs.new ≡ regs.old) × (bus.new ≡ bus.old) }
-{
-    match row.op {
-        Op::Jmp => jump(regs, bus, code.at, code.clocks, row.mode),
-        Op::Jsr => call(regs, bus, code.at, code.clocks, row.mode),
-        Op::Rts => returned(regs, bus, code.at, code.clocks, row.mode),
-        _ => false,
-    }
-}
-
-/// Makes an instruction by what its operation does on the bus.
-#[inline(always)]
-fn by_use(regs: &mut Regs, bus: &mut Bus, code: Code, row: Row) -> bool
-    requires code { HasCode bus.old regs.old code.at code.clocks }
-    requires row { IsRowAt bus.old code.at row.op row.mode }
-    ensures made { IsTrue result → IsMade regs.old regs.new bus.old bus.new }
-    ensures stays { result ≡ false → (regs.new ≡ regs.old) × (bus.new ≡ bus.old) }
-{
-    match use_of(row.op) {
-        Use::Load(_) => load(regs, bus, code, row),
-        Use::Store(_) => store(regs, bus, code, row),
-        Use::Change(_) => change(regs, bus, code, row),
-        Use::Internal => internal(regs, bus, code.at, code.clocks, row),
-        Use::Status => status(regs, bus, code.at, code.clocks, row),
-        Use::Branch => go(regs, bus, code, row),
-        Use::Jump | Use::Call | Use::Return => jump_by(regs, bus, code, row),
-        Use::Pull(width) => pull(regs, bus, code.at, code.clocks, row, width),
-        Use::Push(width) => push(regs, bus, code.at, code.clocks, row, width),
+    match opcode {
+        0x03 => load::<StackRelative, Ora>(regs, bus, at, clocks),
+        0x04 => change::<Direct, Tsb>(regs, bus, at, clocks),
+        0x05 => load::<Direct, Ora>(regs, bus, at, clocks),
+        0x06 => change::<Direct, Asl>(regs, bus, at, clocks),
+        0x08 => push(regs, bus, at, clocks, Op::Php, Width::Byte),
+        0x09 => immediate::<Ora>(regs, bus, at, clocks),
+        0x0A => change_a::<Asl>(regs, bus, at, clocks),
+        0x0B => push(regs, bus, at, clocks, Op::Phd, Width::Word),
+        0x0C => change::<Absolute, Tsb>(regs, bus, at, clocks),
+        0x0D => load::<Absolute, Ora>(regs, bus, at, clocks),
+        0x0E => change::<Absolute, Asl>(regs, bus, at, clocks),
+        0x0F => load::<Long, Ora>(regs, bus, at, clocks),
+        0x10 => branch::<Bpl>(regs, bus, at, clocks),
+        0x14 => change::<Direct, Trb>(regs, bus, at, clocks),
+        0x15 => load::<DirectX, Ora>(regs, bus, at, clocks),
+        0x16 => change::<DirectX, Asl>(regs, bus, at, clocks),
+        0x18 => internal(regs, bus, at, clocks, Op::Clc),
+        0x19 => load::<AbsoluteY, Ora>(regs, bus, at, clocks),
+        0x1A => change_a::<Inc>(regs, bus, at, clocks),
+        0x1B => internal(regs, bus, at, clocks, Op::Tcs),
+        0x1C => change::<Absolute, Trb>(regs, bus, at, clocks),
+        0x1D => load::<AbsoluteX, Ora>(regs, bus, at, clocks),
+        0x1E => change::<AbsoluteX, Asl>(regs, bus, at, clocks),
+        0x1F => load::<LongX, Ora>(regs, bus, at, clocks),
+        0x20 => call(regs, bus, at, clocks),
+        0x23 => load::<StackRelative, And>(regs, bus, at, clocks),
+        0x24 => load::<Direct, Bit>(regs, bus, at, clocks),
+        0x25 => load::<Direct, And>(regs, bus, at, clocks),
+        0x26 => change::<Direct, Rol>(regs, bus, at, clocks),
+        0x28 => pull(regs, bus, at, clocks, Op::Plp, Width::Byte),
+        0x29 => immediate::<And>(regs, bus, at, clocks),
+        0x2A => change_a::<Rol>(regs, bus, at, clocks),
+        0x2B => pull(regs, bus, at, clocks, Op::Pld, Width::Word),
+        0x2C => load::<Absolute, Bit>(regs, bus, at, clocks),
+        0x2D => load::<Absolute, And>(regs, bus, at, clocks),
+        0x2E => change::<Absolute, Rol>(regs, bus, at, clocks),
+        0x2F => load::<Long, And>(regs, bus, at, clocks),
+        0x30 => branch::<Bmi>(regs, bus, at, clocks),
+        0x34 => load::<DirectX, Bit>(regs, bus, at, clocks),
+        0x35 => load::<DirectX, And>(regs, bus, at, clocks),
+        0x36 => change::<DirectX, Rol>(regs, bus, at, clocks),
+        0x38 => internal(regs, bus, at, clocks, Op::Sec),
+        0x39 => load::<AbsoluteY, And>(regs, bus, at, clocks),
+        0x3A => change_a::<Dec>(regs, bus, at, clocks),
+        0x3B => internal(regs, bus, at, clocks, Op::Tsc),
+        0x3C => load::<AbsoluteX, Bit>(regs, bus, at, clocks),
+        0x3D => load::<AbsoluteX, And>(regs, bus, at, clocks),
+        0x3E => change::<AbsoluteX, Rol>(regs, bus, at, clocks),
+        0x3F => load::<LongX, And>(regs, bus, at, clocks),
+        0x43 => load::<StackRelative, Eor>(regs, bus, at, clocks),
+        0x45 => load::<Direct, Eor>(regs, bus, at, clocks),
+        0x46 => change::<Direct, Lsr>(regs, bus, at, clocks),
+        0x48 => push(regs, bus, at, clocks, Op::Pha, Width::Memory),
+        0x49 => immediate::<Eor>(regs, bus, at, clocks),
+        0x4A => change_a::<Lsr>(regs, bus, at, clocks),
+        0x4B => push(regs, bus, at, clocks, Op::Phk, Width::Byte),
+        0x4C => jump(regs, bus, at, clocks),
+        0x4D => load::<Absolute, Eor>(regs, bus, at, clocks),
+        0x4E => change::<Absolute, Lsr>(regs, bus, at, clocks),
+        0x4F => load::<Long, Eor>(regs, bus, at, clocks),
+        0x50 => branch::<Bvc>(regs, bus, at, clocks),
+        0x55 => load::<DirectX, Eor>(regs, bus, at, clocks),
+        0x56 => change::<DirectX, Lsr>(regs, bus, at, clocks),
+        0x58 => internal(regs, bus, at, clocks, Op::Cli),
+        0x59 => load::<AbsoluteY, Eor>(regs, bus, at, clocks),
+        0x5A => push(regs, bus, at, clocks, Op::Phy, Width::Index),
+        0x5B => internal(regs, bus, at, clocks, Op::Tcd),
+        0x5D => load::<AbsoluteX, Eor>(regs, bus, at, clocks),
+        0x5E => change::<AbsoluteX, Lsr>(regs, bus, at, clocks),
+        0x5F => load::<LongX, Eor>(regs, bus, at, clocks),
+        0x60 => returned(regs, bus, at, clocks),
+        0x63 => load::<StackRelative, Adc>(regs, bus, at, clocks),
+        0x64 => store::<Direct, Stz>(regs, bus, at, clocks),
+        0x65 => load::<Direct, Adc>(regs, bus, at, clocks),
+        0x66 => change::<Direct, Ror>(regs, bus, at, clocks),
+        0x68 => pull(regs, bus, at, clocks, Op::Pla, Width::Memory),
+        0x69 => immediate::<Adc>(regs, bus, at, clocks),
+        0x6A => change_a::<Ror>(regs, bus, at, clocks),
+        0x6D => load::<Absolute, Adc>(regs, bus, at, clocks),
+        0x6E => change::<Absolute, Ror>(regs, bus, at, clocks),
+        0x6F => load::<Long, Adc>(regs, bus, at, clocks),
+        0x70 => branch::<Bvs>(regs, bus, at, clocks),
+        0x74 => store::<DirectX, Stz>(regs, bus, at, clocks),
+        0x75 => load::<DirectX, Adc>(regs, bus, at, clocks),
+        0x76 => change::<DirectX, Ror>(regs, bus, at, clocks),
+        0x78 => internal(regs, bus, at, clocks, Op::Sei),
+        0x79 => load::<AbsoluteY, Adc>(regs, bus, at, clocks),
+        0x7A => pull(regs, bus, at, clocks, Op::Ply, Width::Index),
+        0x7B => internal(regs, bus, at, clocks, Op::Tdc),
+        0x7D => load::<AbsoluteX, Adc>(regs, bus, at, clocks),
+        0x7E => change::<AbsoluteX, Ror>(regs, bus, at, clocks),
+        0x7F => load::<LongX, Adc>(regs, bus, at, clocks),
+        0x80 => branch::<Bra>(regs, bus, at, clocks),
+        0x83 => store::<StackRelative, Sta>(regs, bus, at, clocks),
+        0x84 => store::<Direct, Sty>(regs, bus, at, clocks),
+        0x85 => store::<Direct, Sta>(regs, bus, at, clocks),
+        0x86 => store::<Direct, Stx>(regs, bus, at, clocks),
+        0x88 => internal(regs, bus, at, clocks, Op::Dey),
+        0x89 => immediate::<Bit>(regs, bus, at, clocks),
+        0x8A => internal(regs, bus, at, clocks, Op::Txa),
+        0x8B => push(regs, bus, at, clocks, Op::Phb, Width::Byte),
+        0x8C => store::<Absolute, Sty>(regs, bus, at, clocks),
+        0x8D => store::<Absolute, Sta>(regs, bus, at, clocks),
+        0x8E => store::<Absolute, Stx>(regs, bus, at, clocks),
+        0x8F => store::<Long, Sta>(regs, bus, at, clocks),
+        0x90 => branch::<Bcc>(regs, bus, at, clocks),
+        0x94 => store::<DirectX, Sty>(regs, bus, at, clocks),
+        0x95 => store::<DirectX, Sta>(regs, bus, at, clocks),
+        0x96 => store::<DirectY, Stx>(regs, bus, at, clocks),
+        0x98 => internal(regs, bus, at, clocks, Op::Tya),
+        0x99 => store::<AbsoluteY, Sta>(regs, bus, at, clocks),
+        0x9A => internal(regs, bus, at, clocks, Op::Txs),
+        0x9B => internal(regs, bus, at, clocks, Op::Txy),
+        0x9C => store::<Absolute, Stz>(regs, bus, at, clocks),
+        0x9D => store::<AbsoluteX, Sta>(regs, bus, at, clocks),
+        0x9E => store::<AbsoluteX, Stz>(regs, bus, at, clocks),
+        0x9F => store::<LongX, Sta>(regs, bus, at, clocks),
+        0xA0 => immediate::<Ldy>(regs, bus, at, clocks),
+        0xA2 => immediate::<Ldx>(regs, bus, at, clocks),
+        0xA3 => load::<StackRelative, Lda>(regs, bus, at, clocks),
+        0xA4 => load::<Direct, Ldy>(regs, bus, at, clocks),
+        0xA5 => load::<Direct, Lda>(regs, bus, at, clocks),
+        0xA6 => load::<Direct, Ldx>(regs, bus, at, clocks),
+        0xA8 => internal(regs, bus, at, clocks, Op::Tay),
+        0xA9 => immediate::<Lda>(regs, bus, at, clocks),
+        0xAA => internal(regs, bus, at, clocks, Op::Tax),
+        0xAB => pull(regs, bus, at, clocks, Op::Plb, Width::Byte),
+        0xAC => load::<Absolute, Ldy>(regs, bus, at, clocks),
+        0xAD => load::<Absolute, Lda>(regs, bus, at, clocks),
+        0xAE => load::<Absolute, Ldx>(regs, bus, at, clocks),
+        0xAF => load::<Long, Lda>(regs, bus, at, clocks),
+        0xB0 => branch::<Bcs>(regs, bus, at, clocks),
+        0xB4 => load::<DirectX, Ldy>(regs, bus, at, clocks),
+        0xB5 => load::<DirectX, Lda>(regs, bus, at, clocks),
+        0xB6 => load::<DirectY, Ldx>(regs, bus, at, clocks),
+        0xB8 => internal(regs, bus, at, clocks, Op::Clv),
+        0xB9 => load::<AbsoluteY, Lda>(regs, bus, at, clocks),
+        0xBA => internal(regs, bus, at, clocks, Op::Tsx),
+        0xBB => internal(regs, bus, at, clocks, Op::Tyx),
+        0xBC => load::<AbsoluteX, Ldy>(regs, bus, at, clocks),
+        0xBD => load::<AbsoluteX, Lda>(regs, bus, at, clocks),
+        0xBE => load::<AbsoluteY, Ldx>(regs, bus, at, clocks),
+        0xBF => load::<LongX, Lda>(regs, bus, at, clocks),
+        0xC0 => immediate::<Cpy>(regs, bus, at, clocks),
+        0xC2 => status(regs, bus, at, clocks, Op::Rep),
+        0xC3 => load::<StackRelative, Cmp>(regs, bus, at, clocks),
+        0xC4 => load::<Direct, Cpy>(regs, bus, at, clocks),
+        0xC5 => load::<Direct, Cmp>(regs, bus, at, clocks),
+        0xC6 => change::<Direct, Dec>(regs, bus, at, clocks),
+        0xC8 => internal(regs, bus, at, clocks, Op::Iny),
+        0xC9 => immediate::<Cmp>(regs, bus, at, clocks),
+        0xCA => internal(regs, bus, at, clocks, Op::Dex),
+        0xCC => load::<Absolute, Cpy>(regs, bus, at, clocks),
+        0xCD => load::<Absolute, Cmp>(regs, bus, at, clocks),
+        0xCE => change::<Absolute, Dec>(regs, bus, at, clocks),
+        0xCF => load::<Long, Cmp>(regs, bus, at, clocks),
+        0xD0 => branch::<Bne>(regs, bus, at, clocks),
+        0xD5 => load::<DirectX, Cmp>(regs, bus, at, clocks),
+        0xD6 => change::<DirectX, Dec>(regs, bus, at, clocks),
+        0xD8 => internal(regs, bus, at, clocks, Op::Cld),
+        0xD9 => load::<AbsoluteY, Cmp>(regs, bus, at, clocks),
+        0xDA => push(regs, bus, at, clocks, Op::Phx, Width::Index),
+        0xDD => load::<AbsoluteX, Cmp>(regs, bus, at, clocks),
+        0xDE => change::<AbsoluteX, Dec>(regs, bus, at, clocks),
+        0xDF => load::<LongX, Cmp>(regs, bus, at, clocks),
+        0xE0 => immediate::<Cpx>(regs, bus, at, clocks),
+        0xE2 => status(regs, bus, at, clocks, Op::Sep),
+        0xE3 => load::<StackRelative, Sbc>(regs, bus, at, clocks),
+        0xE4 => load::<Direct, Cpx>(regs, bus, at, clocks),
+        0xE5 => load::<Direct, Sbc>(regs, bus, at, clocks),
+        0xE6 => change::<Direct, Inc>(regs, bus, at, clocks),
+        0xE8 => internal(regs, bus, at, clocks, Op::Inx),
+        0xE9 => immediate::<Sbc>(regs, bus, at, clocks),
+        0xEA => internal(regs, bus, at, clocks, Op::Nop),
+        0xEC => load::<Absolute, Cpx>(regs, bus, at, clocks),
+        0xED => load::<Absolute, Sbc>(regs, bus, at, clocks),
+        0xEE => change::<Absolute, Inc>(regs, bus, at, clocks),
+        0xEF => load::<Long, Sbc>(regs, bus, at, clocks),
+        0xF0 => branch::<Beq>(regs, bus, at, clocks),
+        0xF5 => load::<DirectX, Sbc>(regs, bus, at, clocks),
+        0xF6 => change::<DirectX, Inc>(regs, bus, at, clocks),
+        0xF8 => internal(regs, bus, at, clocks, Op::Sed),
+        0xF9 => load::<AbsoluteY, Sbc>(regs, bus, at, clocks),
+        0xFA => pull(regs, bus, at, clocks, Op::Plx, Width::Index),
+        0xFB => internal(regs, bus, at, clocks, Op::Xce),
+        0xFD => load::<AbsoluteX, Sbc>(regs, bus, at, clocks),
+        0xFE => change::<AbsoluteX, Inc>(regs, bus, at, clocks),
+        0xFF => load::<LongX, Sbc>(regs, bus, at, clocks),
         _ => false,
     }
 }
 
 /// Makes the instruction that begins with these registers. Returns false if it can't be made whole; then nothing has
 /// changed.
-#[tactic(auto, using(crate::proofs::Fetches::is_row_at))]
 #[inline(always)]
 pub(crate) fn instruction(regs: &mut Regs, bus: &mut Bus) -> bool
     ensures made { IsTrue result → IsMade regs.old regs.new bus.old bus.new }
@@ -150,6 +231,6 @@ pub(crate) fn instruction(regs: &mut Regs, bus: &mut Bus) -> bool
     let Some(code) = Code::of(regs, bus) else {
         return false;
     };
-    let row = row(code.opcode(regs, bus));
-    by_use(regs, bus, code, row)
+    let opcode = code.opcode(regs, bus);
+    by_opcode(regs, bus, code.at, code.clocks, opcode)
 }

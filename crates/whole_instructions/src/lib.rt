@@ -8,7 +8,8 @@
 //! to fit has changed nothing.
 //!
 //! An addressing mode is a `Way`; an operation with data is a `Load`, a `Store` or a `Change`. Each shape of an
-//! instruction is one function, generic over both, and `instruction` finds the shape by the opcode.
+//! instruction is one function, generic over both. `by_opcode` finds shape, mode and operation by one match of the
+//! opcode.
 #![tactic(auto)]
 
 mod changes;

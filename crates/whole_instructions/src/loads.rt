@@ -11,10 +11,7 @@ ghost use Rattle.whole_instructions.specs.Fetching.{HasCode, IsRowAt, IsMade, Re
 
 use crate::code::{Code, high_access, joined, low_access, pass};
 use crate::operations::Load;
-use crate::ways::{
-    Absolute, AbsoluteX, AbsoluteY, Direct, DirectX, DirectY, Long, LongX, Reached, StackRelative,
-    Way,
-};
+use crate::ways::{Reached, Way};
 use console_bus::{Bus, MemoryAccess};
 use cpu_alu::finish_load;
 use cpu_modes::{Direction, Reach, Traffic, Width, is_wide};
@@ -97,7 +94,7 @@ fn read_word(
 
 /// Makes an instruction that reads data of a mode. Returns false if it can't be made whole; then nothing has changed.
 #[inline(never)]
-fn load<W: Way, L: Load>(regs: &mut Regs, bus: &mut Bus, at: usize, clocks: u16) -> bool
+pub(crate) fn load<W: Way, L: Load>(regs: &mut Regs, bus: &mut Bus, at: usize, clocks: u16) -> bool
     requires code { HasCode bus.old regs.old at clocks }
     requires row { IsRowAt bus.old at L.OP W.MODE }
     ensures made { IsTrue result → IsMade regs.old regs.new bus.old bus.new }
@@ -139,7 +136,7 @@ fn load<W: Way, L: Load>(regs: &mut Regs, bus: &mut Bus, at: usize, clocks: u16)
 /// Makes an instruction whose data follows its opcode. Returns false if it doesn't fit; then nothing has changed.
 #[tactic(auto, using(crate::proofs::DataReads::narrow_immediate, crate::proofs::DataReads::wide_immediate))]
 #[inline(never)]
-fn immediate<L: Load>(regs: &mut Regs, bus: &mut Bus, at: usize, clocks: u16) -> bool
+pub(crate) fn immediate<L: Load>(regs: &mut Regs, bus: &mut Bus, at: usize, clocks: u16) -> bool
     requires code { HasCode bus.old regs.old at clocks }
     requires row { IsRowAt bus.old at L.OP Mode.Immediate }
     ensures made { IsTrue result → IsMade regs.old regs.new bus.old bus.new }
@@ -167,34 +164,4 @@ fn immediate<L: Load>(regs: &mut Regs, bus: &mut Bus, at: usize, clocks: u16) ->
     pass(regs, bus, 3, last, 3 * clocks);
     finish_load(regs, row, word);
     true
-}
-
-/// Makes an instruction that reads data, by its mode. Returns false if it can't be made whole; then nothing has
-/// changed.
-#[inline(never)]
-pub(crate) fn load_by<L: Load>(
-    regs: &mut Regs,
-    bus: &mut Bus,
-    at: usize,
-    clocks: u16,
-    mode: Mode,
-) -> bool
-    requires code { HasCode bus.old regs.old at clocks }
-    requires row { IsRowAt bus.old at L.OP mode }
-    ensures made { IsTrue result → IsMade regs.old regs.new bus.old bus.new }
-    ensures stays { result ≡ false → (regs.new ≡ regs.old) × (bus.new ≡ bus.old) }
-{
-    match mode {
-        Mode::Immediate => immediate::<L>(regs, bus, at, clocks),
-        Mode::Direct => load::<Direct, L>(regs, bus, at, clocks),
-        Mode::DirectX => load::<DirectX, L>(regs, bus, at, clocks),
-        Mode::DirectY => load::<DirectY, L>(regs, bus, at, clocks),
-        Mode::Absolute => load::<Absolute, L>(regs, bus, at, clocks),
-        Mode::AbsoluteX => load::<AbsoluteX, L>(regs, bus, at, clocks),
-        Mode::AbsoluteY => load::<AbsoluteY, L>(regs, bus, at, clocks),
-        Mode::Long => load::<Long, L>(regs, bus, at, clocks),
-        Mode::LongX => load::<LongX, L>(regs, bus, at, clocks),
-        Mode::StackRelative => load::<StackRelative, L>(regs, bus, at, clocks),
-        _ => false,
-    }
 }

@@ -125,16 +125,20 @@ pub(crate) fn pull(
     bus: &mut Bus,
     at: usize,
     clocks: u16,
-    row: Row,
+    op: Op,
     width: Width,
 ) -> bool
     requires code { HasCode bus.old regs.old at clocks }
-    requires row { IsRowAt bus.old at row.op row.mode }
-    requires pulls { use_of row.op ≡ Use.Pull width }
+    requires row { IsRowAt bus.old at op Mode.Stack }
+    requires pulls { use_of op ≡ Use.Pull width }
     ensures made { IsTrue result → IsMade regs.old regs.new bus.old bus.new }
     ensures stays { result ≡ false → (regs.new ≡ regs.old) × (bus.new ≡ bus.old) }
 {
     let code = Code { at, clocks };
+    let row = Row {
+        op,
+        mode: Mode::Stack,
+    };
     let Some(first) = low_access(bus, pull_address(regs)) else {
         return false;
     };
@@ -150,9 +154,9 @@ pub(crate) fn pull(
 /// Makes RTS. Returns false if it can't be made whole; then nothing has changed.
 #[tactic(auto, using(crate::proofs::Pushes::return_made))]
 #[inline(never)]
-pub(crate) fn returned(regs: &mut Regs, bus: &mut Bus, at: usize, clocks: u16, mode: Mode) -> bool
+pub(crate) fn returned(regs: &mut Regs, bus: &mut Bus, at: usize, clocks: u16) -> bool
     requires code { HasCode bus.old regs.old at clocks }
-    requires row { IsRowAt bus.old at Op.Rts mode }
+    requires row { IsRowAt bus.old at Op.Rts Mode.Stack }
     ensures made { IsTrue result → IsMade regs.old regs.new bus.old bus.new }
     ensures stays { result ≡ false → (regs.new ≡ regs.old) × (bus.new ≡ bus.old) }
 {
@@ -172,7 +176,14 @@ pub(crate) fn returned(regs: &mut Regs, bus: &mut Bus, at: usize, clocks: u16, m
     pass(regs, bus, 1, high, all);
     pull_on(regs);
     pull_on(regs);
-    finish(regs, Row { op: Op::Rts, mode }, joined(low, high));
+    finish(
+        regs,
+        Row {
+            op: Op::Rts,
+            mode: Mode::Stack,
+        },
+        joined(low, high),
+    );
     true
 }
 
@@ -254,16 +265,20 @@ pub(crate) fn push(
     bus: &mut Bus,
     at: usize,
     clocks: u16,
-    row: Row,
+    op: Op,
     width: Width,
 ) -> bool
     requires code { HasCode bus.old regs.old at clocks }
-    requires row { IsRowAt bus.old at row.op row.mode }
-    requires pushes { use_of row.op ≡ Use.Push width }
+    requires row { IsRowAt bus.old at op Mode.Stack }
+    requires pushes { use_of op ≡ Use.Push width }
     ensures made { IsTrue result → IsMade regs.old regs.new bus.old bus.new }
     ensures stays { result ≡ false → (regs.new ≡ regs.old) × (bus.new ≡ bus.old) }
 {
     let code = Code { at, clocks };
+    let row = Row {
+        op,
+        mode: Mode::Stack,
+    };
     let Some(first) = low_access(bus, stack_address(regs)) else {
         return false;
     };
@@ -276,19 +291,16 @@ pub(crate) fn push(
     push_word(regs, bus, code, row, width, first, next)
 }
 
-/// Makes JSR to an address. Returns false if it is another JSR or can't be made whole; then nothing has changed.
+/// Makes JSR to an address. Returns false if it can't be made whole; then nothing has changed.
 #[tactic(auto, using(crate::proofs::Pushes::call_made))]
 #[inline(never)]
-pub(crate) fn call(regs: &mut Regs, bus: &mut Bus, at: usize, clocks: u16, mode: Mode) -> bool
+pub(crate) fn call(regs: &mut Regs, bus: &mut Bus, at: usize, clocks: u16) -> bool
     requires code { HasCode bus.old regs.old at clocks }
-    requires row { IsRowAt bus.old at Op.Jsr mode }
+    requires row { IsRowAt bus.old at Op.Jsr Mode.Absolute }
     ensures made { IsTrue result → IsMade regs.old regs.new bus.old bus.new }
     ensures stays { result ≡ false → (regs.new ≡ regs.old) × (bus.new ≡ bus.old) }
 {
     let code = Code { at, clocks };
-    let Mode::Absolute = mode else {
-        return false;
-    };
     let Some(first) = low_access(bus, stack_address(regs)) else {
         return false;
     };

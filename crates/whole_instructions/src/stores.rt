@@ -1,6 +1,5 @@
 // Instructions that write data.
 ghost use Rattle.std.specs.Prelude.{◌≡◌, ◌<◌, ◌≤◌, IsTrue, true, false};
-ghost use Rattle.cpu_tables.specs.declared.mode.Mode.{Mode};
 ghost use Rattle.cpu_modes.specs.Addresses.{is_wide, second};
 ghost use Rattle.cpu_modes.specs.Uses.{use_of};
 ghost use Rattle.cpu_modes.specs.declared.place.Direction.{Direction};
@@ -15,15 +14,12 @@ ghost use Rattle.whole_instructions.specs.Fetching.{HasCode, IsRowAt, IsMade, Re
 
 use crate::code::{Code, high_access, high_byte, low_access, low_byte, pass, passed, write};
 use crate::operations::Store;
-use crate::ways::{
-    Absolute, AbsoluteX, AbsoluteY, Direct, DirectX, DirectY, Long, LongX, Reached, StackRelative,
-    Way,
-};
+use crate::ways::{Reached, Way};
 use console_bus::{Bus, MemoryAccess};
 use console_steps::{REGISTER_CLOCKS, bus_register, is_port};
 use cpu_alu::operand_written;
 use cpu_modes::{Direction, Reach, Traffic, Width, is_wide};
-use cpu_tables::{Mode, Regs, Row};
+use cpu_tables::{Regs, Row};
 
 /// Writes data of 8 bits. Returns false if it doesn't fit; then nothing has changed.
 #[tactic(auto, using(crate::proofs::Writes::narrow_store))]
@@ -155,7 +151,12 @@ fn write_register(
 
 /// Makes an instruction that writes data of a mode. Returns false if it can't be made whole; then nothing has changed.
 #[inline(never)]
-fn store<W: Way, L: Store>(regs: &mut Regs, bus: &mut Bus, at: usize, clocks: u16) -> bool
+pub(crate) fn store<W: Way, L: Store>(
+    regs: &mut Regs,
+    bus: &mut Bus,
+    at: usize,
+    clocks: u16,
+) -> bool
     requires code { HasCode bus.old regs.old at clocks }
     requires row { IsRowAt bus.old at L.OP W.MODE }
     ensures made { IsTrue result → IsMade regs.old regs.new bus.old bus.new }
@@ -192,33 +193,4 @@ fn store<W: Way, L: Store>(regs: &mut Regs, bus: &mut Bus, at: usize, clocks: u1
         low,
         high,
     )
-}
-
-/// Makes an instruction that writes data, by its mode. Returns false if it can't be made whole; then nothing has
-/// changed.
-#[inline(never)]
-pub(crate) fn store_by<L: Store>(
-    regs: &mut Regs,
-    bus: &mut Bus,
-    at: usize,
-    clocks: u16,
-    mode: Mode,
-) -> bool
-    requires code { HasCode bus.old regs.old at clocks }
-    requires row { IsRowAt bus.old at L.OP mode }
-    ensures made { IsTrue result → IsMade regs.old regs.new bus.old bus.new }
-    ensures stays { result ≡ false → (regs.new ≡ regs.old) × (bus.new ≡ bus.old) }
-{
-    match mode {
-        Mode::Direct => store::<Direct, L>(regs, bus, at, clocks),
-        Mode::DirectX => store::<DirectX, L>(regs, bus, at, clocks),
-        Mode::DirectY => store::<DirectY, L>(regs, bus, at, clocks),
-        Mode::Absolute => store::<Absolute, L>(regs, bus, at, clocks),
-        Mode::AbsoluteX => store::<AbsoluteX, L>(regs, bus, at, clocks),
-        Mode::AbsoluteY => store::<AbsoluteY, L>(regs, bus, at, clocks),
-        Mode::Long => store::<Long, L>(regs, bus, at, clocks),
-        Mode::LongX => store::<LongX, L>(regs, bus, at, clocks),
-        Mode::StackRelative => store::<StackRelative, L>(regs, bus, at, clocks),
-        _ => false,
-    }
 }

@@ -1,8 +1,4 @@
 use Rattle.std.proofs.Common.{refl, arith}
-use Rattle.std.proofs.Common.{subst}
-use Rattle.cpu_tables.specs.declared.mode.Mode.{Mode}
-use Rattle.cpu_tables.specs.declared.operation.Op.TheVariants.{Jmp}
-use Rattle.whole_instructions.specs.Fetching.{IsRowAt}
 use Rattle.whole_instructions.proofs.Cycles.{jump_made}
 use Rattle.whole_instructions.proofs.flow.jump.Goals as goal
 
@@ -10,6 +6,5 @@ pub returns-clause-made : goal.returns-clause-made
 returns-clause-made c = λ _.
     let left = c.clocks_left.ensures.clocks in
     let fits = c.if-clocks-clocks_left.false in
-    let row = subst (λ (m : Mode). IsRowAt c.args.bus.now c.args.at Jmp m) c.in-Absolute.is c.requires.row in
     rw (c.finish.ensures, c.pass.ensures.registers, c.pass.ensures.told, c.word-target.ensures, c.second-last.ensures)
-    (jump_made c.args.bus.now c.args.regs.now c.args.at c.args.clocks _ c.requires.code row refl (omega (arith, left, fits)))
+    (jump_made c.args.bus.now c.args.regs.now c.args.at c.args.clocks _ c.requires.code c.requires.row refl (omega (arith, left, fits)))

@@ -1,4 +1,5 @@
 use Rattle.std.proofs.Common.{ℕ, refl, ap, subst, ◌∙◌, arith}
+use Rattle.cpu_tables.specs.declared.mode.Mode.TheVariants.{Stack}
 use Rattle.cpu_tables.specs.declared.regs.Regs.{Regs}
 use Rattle.cpu_modes.specs.Addresses.{stack, pulled}
 use Rattle.console_bus.specs.Memory.{IsMemoryAt}
@@ -16,5 +17,5 @@ returns-clause-made c = λ _.
     let first = subst First c.pull_address.ensures.exact c.in-Some.ensures.memory in
     let next = subst Next (c.pull_address-2.ensures.exact ∙ ap (λ (r : Regs). stack (pulled r)) c.after_pull.ensures) c.in-Some-low_access.ensures.memory in
     rw (c.finish.ensures, c.pull_on-2.ensures, c.pull_on.ensures, c.pass.ensures.registers, c.pass.ensures.told, c.joined.ensures, c.load-low.ensures, c.load-high.ensures)
-    (return_made bus regs c.args.at c.args.clocks c.in-Some.first.at c.in-Some.first.clocks c.in-Some-low_access.next.at c.in-Some-low_access.next.clocks _ c.args.mode
+    (return_made bus regs c.args.at c.args.clocks c.in-Some.first.at c.in-Some.first.clocks c.in-Some-low_access.next.at c.in-Some-low_access.next.clocks _ Stack
     c.requires.code c.requires.row first next refl (omega (arith, left, fits)))
