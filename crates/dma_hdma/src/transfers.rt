@@ -115,15 +115,28 @@ impl Dma {
         self.due
     }
 
-    /// Records that the byte that was due has been moved.
+    /// Records that the byte that was due has been moved. A channel with bytes left keeps the turn.
+    #[tactic(auto, using(crate::proofs::TurnLemmas::hdma_stays, crate::proofs::TurnLemmas::dma_stays))]
     pub fn done(&mut self, byte: u8)
         requires { IsSome (due_of self.old) }
         ensures { self.new ≡ after_byte self.old byte }
     {
         match self.turn {
             Turn::Nobody => unreachable!(),
-            Turn::Hdma(x) => self.channels[x].work_on(byte),
-            Turn::Dma(x) => self.channels[x].run(),
+            Turn::Hdma(x) => {
+                self.channels[x].work_on(byte);
+                if self.channels[x].is_working() {
+                    self.due = self.channels[x].hdma_move();
+                    return;
+                }
+            }
+            Turn::Dma(x) => {
+                self.channels[x].run();
+                if self.channels[x].running {
+                    self.due = Some(self.channels[x].dma_move());
+                    return;
+                }
+            }
         }
         let (turn, due) = decided(&self.channels);
         self.turn = turn;
