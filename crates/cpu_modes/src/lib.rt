@@ -27,8 +27,8 @@ mod uses;
 mod writes;
 
 pub use address::{
-    code_address, direct_address, has_index_cycle, is_wide, pull_address, pulled_stack,
-    pushed_stack, second_address, stack_address,
+    code_address, direct_address, direct_always, has_index_cycle, is_wide, pointer_next,
+    pull_address, pulled_stack, pushed_stack, second_address, stack_address,
 };
 pub use micro::Micro;
 pub use place::{

@@ -18,18 +18,17 @@ use Rattle.whole_instructions.specs.Fetching.{HasCode, IsOpcodeOf, Reaches, past
 use Rattle.whole_instructions.specs.Runs.{StandsBefore}
 use Rattle.whole_instructions.proofs.DataReads.{begins}
 
-pub stands_before : (bus bus' : BusState) (r : Regs) (at clocks before operands to all : ℕ) (row : Row) (mode : Mode) (reach : Reach) (d : Traffic) (micro : Micro)
+pub stands_before : (bus bus' : BusState) (r : Regs) (at clocks before operands to seen all : ℕ) (row : Row) (mode : Mode) (reach : Reach) (d : Traffic) (micro : Micro)
     → HasCode bus r at clocks → IsOpcodeOf bus at row → order row (past r 1) ≡ by_mode mode d row (past r 1)
-    → Reaches mode reach bus r at d operands before to → all ≡ clocks + before → all < clocks_left bus.beam
-    → bus' ≡ gone_on (on_bus bus (slice_index bus.memory (at + operands))) all
+    → Reaches mode reach bus r d operands before to seen → all ≡ clocks + before → all < clocks_left bus.beam
+    → bus' ≡ gone_on (on_bus bus seen) all
     → remaining micro ≡ data_at d reach row (past r (operands + 1)) to → micro.start ≡ r → Keeps false micro
     → StandsBefore r micro bus bus'
-stands_before bus bus' r at clocks before operands to all row mode reach d micro h is same reaches sum few there left start keeps = record {
+stands_before bus bus' r at clocks before operands to seen all row mode reach d micro h is same reaches sum few there left start keeps = record {
   passes = λ begun. (
       let q = data_at d reach row (past r (operands + 1)) to in
-      let last = slice_index bus.memory (at + operands) in
-      let P : Plan → Type 0 = λ p. (l : ℕ) → Looks bus r p l r q last before in
-      rw (there, left) (begins bus bus r q at clocks before all last row h is refl refl (subst P (sym same) (λ l. reaches row r l)) sum few begun));
+      let P : Plan → Type 0 = λ p. (l : ℕ) → Looks bus r p l r q seen before in
+      rw (there, left) (begins bus bus r q at clocks before all seen row h is refl refl (subst P (sym same) (λ l. reaches row r l)) sum few begun));
   start = start;
   keeps = keeps;
 }

@@ -65,31 +65,31 @@ load_order : (op : Op) (mode : Mode) (width : Width) (wide : Bool) (r : Regs) �
 load_order op mode width wide r uses e = rw (uses, wide_past width r 1, e) refl
 
 -- data of 8 bits
-pub narrow_load : (bus : BusState) (r : Regs) (at clocks before operands to place lasts all : ℕ) (op : Op) (mode : Mode) (reach : Reach) (width : Width)
+pub narrow_load : (bus : BusState) (r : Regs) (at clocks before operands to seen place lasts all : ℕ) (op : Op) (mode : Mode) (reach : Reach) (width : Width)
     → HasCode bus r at clocks → IsRowAt bus at op mode → use_of op ≡ Use.Load width → is_wide width r ≡ false
-    → Reaches mode reach bus r at (record { direction = Direction.Load; wide = false }) operands before to
+    → Reaches mode reach bus r (record { direction = Direction.Load; wide = false }) operands before to seen
     → IsMemoryAt bus.board bus.io.fast to place lasts → all ≡ clocks + before + lasts → all < clocks_left bus.beam
     → IsMade r (registers_after op mode (past r (operands + 1)) (slice_index bus.memory place)) bus (gone_on (on_bus bus (slice_index bus.memory place)) all)
-narrow_load bus r at clocks before operands to place lasts all op mode reach width h is uses narrow reaches m sum few =
+narrow_load bus r at clocks before operands to seen place lasts all op mode reach width h is uses narrow reaches m sum few =
     let row : Row = record { op = op; mode = mode } in
     let rn = past r (operands + 1) in
     let got = slice_index bus.memory place in
     let P : Plan → Type 0 = λ p. (l : ℕ) → Looks bus r p l r (done row rn got) got (before + lasts) in
     looks_made bus r (registers_after op mode rn got) at clocks (before + lasts) all got row h is.row
     (subst P (sym (load_order op mode width false r uses narrow)) (λ l.
-    looks_then bus r r r _ _ _ l (byte bus at operands) got before lasts _ (reaches row r l)
-    (looks_read bus r to place lasts (byte bus at operands) (λ low. done row rn low) m) refl))
+    looks_then bus r r r _ _ _ l seen got before lasts _ (reaches row r l)
+    (looks_read bus r to place lasts seen (λ low. done row rn low) m) refl))
     (omega (arith, sum)) few
 
 -- data of 16 bits
-pub wide_load : (bus : BusState) (r : Regs) (at clocks before operands to place place' lasts all : ℕ) (op : Op) (mode : Mode) (reach : Reach) (width : Width)
+pub wide_load : (bus : BusState) (r : Regs) (at clocks before operands to seen place place' lasts all : ℕ) (op : Op) (mode : Mode) (reach : Reach) (width : Width)
     → HasCode bus r at clocks → IsRowAt bus at op mode → use_of op ≡ Use.Load width → is_wide width r ≡ true
-    → Reaches mode reach bus r at (record { direction = Direction.Load; wide = true }) operands before to
+    → Reaches mode reach bus r (record { direction = Direction.Load; wide = true }) operands before to seen
     → IsMemoryAt bus.board bus.io.fast to place lasts → IsMemoryAt bus.board bus.io.fast (second reach to) place' lasts
     → all ≡ clocks + before + 2 * lasts → all < clocks_left bus.beam
     → IsMade r (registers_after op mode (past r (operands + 1)) (join (slice_index bus.memory place) (slice_index bus.memory place')))
     bus (gone_on (on_bus bus (slice_index bus.memory place')) all)
-wide_load bus r at clocks before operands to place place' lasts all op mode reach width h is uses wide reaches m m' sum few =
+wide_load bus r at clocks before operands to seen place place' lasts all op mode reach width h is uses wide reaches m m' sum few =
     let row : Row = record { op = op; mode = mode } in
     let rn = past r (operands + 1) in
     let low = slice_index bus.memory place in
@@ -97,9 +97,9 @@ wide_load bus r at clocks before operands to place place' lasts all op mode reac
     let P : Plan → Type 0 = λ p. (l : ℕ) → Looks bus r p l r (done row rn (join low high)) high (before + (lasts + lasts)) in
     looks_made bus r (registers_after op mode rn (join low high)) at clocks (before + (lasts + lasts)) all high row h is.row
     (subst P (sym (load_order op mode width true r uses wide)) (λ l.
-    looks_then bus r r r _ _ _ l (byte bus at operands) high before (lasts + lasts) _ (reaches row r l)
-    (looks_then bus r r r _ _ _ (byte bus at operands) low high lasts lasts _
-    (looks_read bus r to place lasts (byte bus at operands) (λ b. load_high row rn (second reach to) b) m)
+    looks_then bus r r r _ _ _ l seen high before (lasts + lasts) _ (reaches row r l)
+    (looks_then bus r r r _ _ _ seen low high lasts lasts _
+    (looks_read bus r to place lasts seen (λ b. load_high row rn (second reach to) b) m)
     (looks_read bus r (second reach to) place' lasts low (λ b. done row rn (join low b)) m') refl) refl))
     (omega (arith, sum)) few
 

@@ -3,6 +3,7 @@ pub mod Passes
 pub mod Looks
 pub mod Fetches
 pub mod Reaching
+pub mod Pointers
 pub mod DataReads
 pub mod Writes
 pub mod Cycles

@@ -28,7 +28,7 @@ abbrev pub low_clocks : Regs → ℕ
 low_clocks r = if not (r.d % 256 == 0) then 6 else 0
 
 -- an offset from the direct register, and the cycle that may follow it
-offset : (bus : BusState) (r : Regs) (at clocks : ℕ) (start : Regs) (last : ℕ) (more : ℕ → Regs → Plan) → HasCode bus r at clocks
+pub offset : (bus : BusState) (r : Regs) (at clocks : ℕ) (start : Regs) (last : ℕ) (more : ℕ → Regs → Plan) → HasCode bus r at clocks
     → Looks bus start (fetch (past r 1) (λ o q. idles_if (not (q.d % 256 == 0)) (more o q))) last
     start (more (byte bus at 1) (past r 2)) (byte bus at 1) (clocks + low_clocks r)
 offset bus r at clocks start last more h =
@@ -47,12 +47,12 @@ operand_at bus r at clocks start last kind d row h =
     (omega arith)
 
 pub reaches_direct : (bus : BusState) (r : Regs) (at clocks : ℕ) (d : Traffic) → HasCode bus r at clocks
-    → Reaches Direct NextInBankZero bus r at d 1 (clocks + low_clocks r) (direct r (byte bus at 1) 0)
+    → Reaches Direct NextInBankZero bus r d 1 (clocks + low_clocks r) (direct r (byte bus at 1) 0) (byte bus at 1)
 reaches_direct bus r at clocks d h = λ row start last.
     offset bus r at clocks start last (λ o q. after_offset DirectKind.Plain d row q o) h
 
 -- .. with an index, and a cycle for it
-offset_indexed : (bus : BusState) (r : Regs) (at clocks : ℕ) (start : Regs) (last : ℕ) (more : ℕ → Regs → Plan) → HasCode bus r at clocks
+pub offset_indexed : (bus : BusState) (r : Regs) (at clocks : ℕ) (start : Regs) (last : ℕ) (more : ℕ → Regs → Plan) → HasCode bus r at clocks
     → Looks bus start (fetch (past r 1) (λ o q. idles_if (not (q.d % 256 == 0)) (idles (more o q)))) last
     start (more (byte bus at 1) (past r 2)) (byte bus at 1) (clocks + low_clocks r + 6)
 offset_indexed bus r at clocks start last more h =
@@ -61,25 +61,25 @@ offset_indexed bus r at clocks start last more h =
     (looks_idle bus start (byte bus at 1) (more (byte bus at 1) (past r 2))) refl
 
 pub reaches_direct_x : (bus : BusState) (r : Regs) (at clocks : ℕ) (d : Traffic) → HasCode bus r at clocks
-    → Reaches DirectX NextInBankZero bus r at d 1 (clocks + low_clocks r + 6) (direct r (byte bus at 1) r.x)
+    → Reaches DirectX NextInBankZero bus r d 1 (clocks + low_clocks r + 6) (direct r (byte bus at 1) r.x) (byte bus at 1)
 reaches_direct_x bus r at clocks d h = λ row start last.
     offset_indexed bus r at clocks start last (λ o q. data_at d NextInBankZero row q (direct q o q.x)) h
 
 pub reaches_direct_y : (bus : BusState) (r : Regs) (at clocks : ℕ) (d : Traffic) → HasCode bus r at clocks
-    → Reaches DirectY NextInBankZero bus r at d 1 (clocks + low_clocks r + 6) (direct r (byte bus at 1) r.y)
+    → Reaches DirectY NextInBankZero bus r d 1 (clocks + low_clocks r + 6) (direct r (byte bus at 1) r.y) (byte bus at 1)
 reaches_direct_y bus r at clocks d h = λ row start last.
     offset_indexed bus r at clocks start last (λ o q. data_at d NextInBankZero row q (direct q o q.y)) h
 
 pub reaches_absolute : (bus : BusState) (r : Regs) (at clocks : ℕ) (d : Traffic) → HasCode bus r at clocks
-    → Reaches Absolute NextAddress bus r at d 2 (2 * clocks) (in_bank r.dbr (word bus at))
+    → Reaches Absolute NextAddress bus r d 2 (2 * clocks) (in_bank r.dbr (word bus at)) (byte bus at 2)
 reaches_absolute bus r at clocks d h = λ row start last. operand_at bus r at clocks start last OperandKind.Plain d row h
 
 abbrev pub index_clocks : Traffic → Regs → ℕ → ℕ → ℕ
 index_clocks d r at index = if has_index_cycle d r at index then 6 else 0
 
 pub reaches_absolute_x : (bus : BusState) (r : Regs) (at clocks : ℕ) (d : Traffic) → HasCode bus r at clocks
-    → Reaches AbsoluteX NextAddress bus r at d 2 (2 * clocks + index_clocks d r (in_bank r.dbr (word bus at)) r.x)
-    (indexed (in_bank r.dbr (word bus at)) r.x)
+    → Reaches AbsoluteX NextAddress bus r d 2 (2 * clocks + index_clocks d r (in_bank r.dbr (word bus at)) r.x)
+    (indexed (in_bank r.dbr (word bus at)) r.x) (byte bus at 2)
 reaches_absolute_x bus r at clocks d h = λ row start last.
     let base = in_bank r.dbr (word bus at) in
     looks_then bus start start start _ _ _ last (byte bus at 2) (byte bus at 2) (2 * clocks) (index_clocks d r base r.x) _
@@ -87,8 +87,8 @@ reaches_absolute_x bus r at clocks d h = λ row start last.
     (looks_idle_if bus start (byte bus at 2) (has_index_cycle d r base r.x) (data_at d NextAddress row (past r 3) (indexed base r.x))) refl
 
 pub reaches_absolute_y : (bus : BusState) (r : Regs) (at clocks : ℕ) (d : Traffic) → HasCode bus r at clocks
-    → Reaches AbsoluteY NextAddress bus r at d 2 (2 * clocks + index_clocks d r (in_bank r.dbr (word bus at)) r.y)
-    (indexed (in_bank r.dbr (word bus at)) r.y)
+    → Reaches AbsoluteY NextAddress bus r d 2 (2 * clocks + index_clocks d r (in_bank r.dbr (word bus at)) r.y)
+    (indexed (in_bank r.dbr (word bus at)) r.y) (byte bus at 2)
 reaches_absolute_y bus r at clocks d h = λ row start last.
     let base = in_bank r.dbr (word bus at) in
     looks_then bus start start start _ _ _ last (byte bus at 2) (byte bus at 2) (2 * clocks) (index_clocks d r base r.y) _
@@ -108,15 +108,15 @@ bank_at bus r at clocks start last kind bank d row h is =
     (omega arith)
 
 pub reaches_long : (bus : BusState) (r : Regs) (at clocks : ℕ) (d : Traffic) → HasCode bus r at clocks
-    → Reaches Long NextAddress bus r at d 3 (3 * clocks) (in_bank (byte bus at 3) (word bus at))
+    → Reaches Long NextAddress bus r d 3 (3 * clocks) (in_bank (byte bus at 3) (word bus at)) (byte bus at 3)
 reaches_long bus r at clocks d h = λ row start last. bank_at bus r at clocks start last OperandKind.Long BankKind.Plain d row h refl
 
 pub reaches_long_x : (bus : BusState) (r : Regs) (at clocks : ℕ) (d : Traffic) → HasCode bus r at clocks
-    → Reaches LongX NextAddress bus r at d 3 (3 * clocks) (indexed (in_bank (byte bus at 3) (word bus at)) r.x)
+    → Reaches LongX NextAddress bus r d 3 (3 * clocks) (indexed (in_bank (byte bus at 3) (word bus at)) r.x) (byte bus at 3)
 reaches_long_x bus r at clocks d h = λ row start last. bank_at bus r at clocks start last OperandKind.LongX BankKind.X d row h refl
 
 pub reaches_stack : (bus : BusState) (r : Regs) (at clocks : ℕ) (d : Traffic) → HasCode bus r at clocks
-    → Reaches StackRelative NextInBankZero bus r at d 1 (clocks + 6) ((r.s + byte bus at 1) % 65536)
+    → Reaches StackRelative NextInBankZero bus r d 1 (clocks + 6) ((r.s + byte bus at 1) % 65536) (byte bus at 1)
 reaches_stack bus r at clocks d h = λ row start last.
     looks_then bus start start start _ _ _ last (byte bus at 1) (byte bus at 1) clocks 6 _
     (looks_code bus r at clocks 1 start last (λ o q. idles (data_at d NextInBankZero row q ((q.s + o) % 65536))) h (omega arith))

@@ -72,26 +72,25 @@ passes_register bus start to v n more place lasts port few =
     (λ h. record { reset = k.reset ∙ h.reset; refresh = k.refresh ∙ h.refresh; transfer = ap transfer_of k.channels ∙ h.transfer })
 
 -- an instruction that writes such a byte
-pub register_store : (bus mid bus' : BusState) (r : Regs) (at clocks before operands to n all v : ℕ) (op : Op) (mode : Mode) (reach : Reach) (width : Width)
+pub register_store : (bus mid bus' : BusState) (r : Regs) (at clocks before operands to seen n all v : ℕ) (op : Op) (mode : Mode) (reach : Reach) (width : Width)
     → HasCode bus r at clocks → IsRowAt bus at op mode → use_of op ≡ Use.Store width → is_wide width r ≡ false
-    → Reaches mode reach bus r at (record { direction = Direction.Store; wide = false }) operands before to
+    → Reaches mode reach bus r (record { direction = Direction.Store; wide = false }) operands before to seen
     → all ≡ clocks + before → all + 6 < clocks_left bus.beam
-    → mid ≡ gone_on (on_bus bus (slice_index bus.memory (at + operands))) all
+    → mid ≡ gone_on (on_bus bus seen) all
     → place_at bus.board to ≡ BBus n → ((fast : Bool) → clocks_of to fast ≡ 6) → is_port n ≡ false
     → v ≡ operand_written op mode (past r (operands + 1)) 0 % 256
     → bus' ≡ gone_on (on_bus (register_written mid n v) v) 6
     → IsMade r (past r (operands + 1)) bus bus'
-register_store bus mid bus' r at clocks before operands to n all v op mode reach width h is uses narrow reaches sum few there place lasts port value end = λ start.
+register_store bus mid bus' r at clocks before operands to seen n all v op mode reach width h is uses narrow reaches sum few there place lasts port value end = λ start.
     let row : Row = record { op = op; mode = mode } in
     let rn = past r (operands + 1) in
-    let last = slice_index bus.memory (at + operands) in
-    let looked = gone_on (on_bus bus last) all in
+    let looked = gone_on (on_bus bus seen) all in
     let word = operand_written op mode rn 0 in
     let first : all < clocks_left bus.beam = omega (arith, few) in
     let near = nearer_by bus.picture.registers.settings.overscan bus.beam all first in
     let left = near.left in
-    let P : Plan → Type 0 = λ p. (l : ℕ) → Looks bus r p l r (writes to (word % 256) (ends rn)) last before in
-    let one = begins bus bus r (writes to (word % 256) (ends rn)) at clocks before all last row h is.row refl refl
+    let P : Plan → Type 0 = λ p. (l : ℕ) → Looks bus r p l r (writes to (word % 256) (ends rn)) seen before in
+    let one = begins bus bus r (writes to (word % 256) (ends rn)) at clocks before all seen row h is.row refl refl
     (subst P (sym (store_order row width false r uses (sym narrow))) (λ l. reaches row r l)) sum first start in
     let Q : ℕ → Type 0 = λ x. Passes r r (writes to x (ends rn)) (ends rn) looked (gone_on (on_bus (register_written looked n v) v) 6) in
     let two = subst Q value (passes_register looked r to v n (ends rn) place lasts port (omega (arith, few, left))) in

@@ -36,9 +36,9 @@ fn change_byte(
     requires row { IsRowAt bus.old code.at row.op row.mode }
     requires changes { use_of row.op ≡ Use.Change Width.Memory }
     requires narrow { is_wide Width.Memory regs.old ≡ false }
-    requires reaches { Reaches row.mode reach bus.old regs.old code.at
-        (record { direction = Direction.Change; wide = false }) reached.operands reached.clocks reached.at }
-    requires few { (reached.clocks ≤ 1000) × (reached.operands ≤ 3) × (low.clocks < 256) }
+    requires reaches { Reaches row.mode reach bus.old regs.old
+        (record { direction = Direction.Change; wide = false }) reached.operands reached.clocks reached.at reached.last }
+    requires few { (reached.clocks ≤ 2000) × (reached.operands ≤ 3) × (low.clocks < 256) }
     requires low { IsMemoryAt bus.old.board bus.old.io.fast reached.at low.at low.clocks }
     ensures made { IsTrue result → IsMade regs.old regs.new bus.old bus.new }
     ensures stays { result ≡ false → (regs.new ≡ regs.old) × (bus.new ≡ bus.old) }
@@ -73,9 +73,9 @@ fn change_word(
     requires row { IsRowAt bus.old code.at row.op row.mode }
     requires changes { use_of row.op ≡ Use.Change Width.Memory }
     requires wide { is_wide Width.Memory regs.old ≡ true }
-    requires reaches { Reaches row.mode reach bus.old regs.old code.at
-        (record { direction = Direction.Change; wide = true }) reached.operands reached.clocks reached.at }
-    requires few { (reached.clocks ≤ 1000) × (reached.operands ≤ 3) × (low.clocks < 256) }
+    requires reaches { Reaches row.mode reach bus.old regs.old
+        (record { direction = Direction.Change; wide = true }) reached.operands reached.clocks reached.at reached.last }
+    requires few { (reached.clocks ≤ 2000) × (reached.operands ≤ 3) × (low.clocks < 256) }
     requires low { IsMemoryAt bus.old.board bus.old.io.fast reached.at low.at low.clocks }
     requires high { IsMemoryAt bus.old.board bus.old.io.fast (second reach reached.at) high.at low.clocks }
     ensures made { IsTrue result → IsMade regs.old regs.new bus.old bus.new }
@@ -145,7 +145,9 @@ pub(crate) fn change<W: Way, L: Change>(
         direction: Direction::Change,
         wide,
     };
-    let reached = W::reach(regs, bus, code, data);
+    let Some(reached) = W::reach(regs, bus, code, data) else {
+        return false;
+    };
     let Some(low) = low_access(bus, reached.at) else {
         return false;
     };

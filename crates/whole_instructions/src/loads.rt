@@ -34,9 +34,9 @@ fn read_byte(
     requires row { IsRowAt bus.old code.at row.op row.mode }
     requires reads { use_of row.op ≡ Use.Load width }
     requires narrow { is_wide width regs.old ≡ false }
-    requires reaches { Reaches row.mode reach bus.old regs.old code.at
-        (record { direction = Direction.Load; wide = false }) reached.operands reached.clocks reached.at }
-    requires few { (reached.clocks ≤ 1000) × (reached.operands ≤ 3) × (low.clocks < 256) }
+    requires reaches { Reaches row.mode reach bus.old regs.old
+        (record { direction = Direction.Load; wide = false }) reached.operands reached.clocks reached.at reached.last }
+    requires few { (reached.clocks ≤ 2000) × (reached.operands ≤ 3) × (low.clocks < 256) }
     requires low { IsMemoryAt bus.old.board bus.old.io.fast reached.at low.at low.clocks }
     ensures made { IsTrue result → IsMade regs.old regs.new bus.old bus.new }
     ensures stays { result ≡ false → (regs.new ≡ regs.old) × (bus.new ≡ bus.old) }
@@ -71,9 +71,9 @@ fn read_word(
     requires row { IsRowAt bus.old code.at row.op row.mode }
     requires reads { use_of row.op ≡ Use.Load width }
     requires wide { is_wide width regs.old ≡ true }
-    requires reaches { Reaches row.mode reach bus.old regs.old code.at
-        (record { direction = Direction.Load; wide = true }) reached.operands reached.clocks reached.at }
-    requires few { (reached.clocks ≤ 1000) × (reached.operands ≤ 3) × (low.clocks < 256) }
+    requires reaches { Reaches row.mode reach bus.old regs.old
+        (record { direction = Direction.Load; wide = true }) reached.operands reached.clocks reached.at reached.last }
+    requires few { (reached.clocks ≤ 2000) × (reached.operands ≤ 3) × (low.clocks < 256) }
     requires low { IsMemoryAt bus.old.board bus.old.io.fast reached.at low.at low.clocks }
     requires high { IsMemoryAt bus.old.board bus.old.io.fast (second reach reached.at) high.at low.clocks }
     ensures made { IsTrue result → IsMade regs.old regs.new bus.old bus.new }
@@ -110,7 +110,9 @@ pub(crate) fn load<W: Way, L: Load>(regs: &mut Regs, bus: &mut Bus, at: usize, c
         direction: Direction::Load,
         wide,
     };
-    let reached = W::reach(regs, bus, code, data);
+    let Some(reached) = W::reach(regs, bus, code, data) else {
+        return false;
+    };
     let Some(low) = low_access(bus, reached.at) else {
         return false;
     };

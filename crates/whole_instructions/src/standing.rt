@@ -6,7 +6,9 @@ ghost use Rattle.whole_instructions.specs.Runs.{StandsBefore};
 
 use crate::code::{Code, low_access, pass};
 use crate::ways::{
-    Absolute, AbsoluteX, AbsoluteY, Direct, DirectX, DirectY, Long, LongX, StackRelative, Way,
+    Absolute, AbsoluteX, AbsoluteY, Direct, DirectLongPointer, DirectLongPointerY, DirectPointer,
+    DirectPointerY, DirectX, DirectXPointer, DirectY, Long, LongX, StackPointerY, StackRelative,
+    Way,
 };
 use console_bus::Bus;
 use cpu_modes::{Direction, Micro, Traffic, Use, is_wide, use_of};
@@ -26,7 +28,9 @@ fn before<W: Way>(micro: &mut Micro, bus: &mut Bus, code: Code, row: Row, traffi
     ensures before { IsTrue result → StandsBefore micro.old.here micro.new bus.old bus.new }
     ensures stays { result ≡ false → (micro.new.here ≡ micro.old.here) × (bus.new ≡ bus.old) }
 {
-    let reached = W::reach(&micro.here, bus, code, traffic);
+    let Some(reached) = W::reach(&micro.here, bus, code, traffic) else {
+        return false;
+    };
     if low_access(bus, reached.at).is_some() {
         return false;
     }
@@ -34,9 +38,14 @@ fn before<W: Way>(micro: &mut Micro, bus: &mut Bus, code: Code, row: Row, traffi
     if all >= bus.clocks_left() {
         return false;
     }
-    let last = code.operand(&micro.here, bus, reached.operands);
     micro.start = micro.here;
-    pass(&mut micro.here, bus, reached.operands + 1, last, all);
+    pass(
+        &mut micro.here,
+        bus,
+        reached.operands + 1,
+        reached.last,
+        all,
+    );
     micro.row = row;
     micro.traffic = traffic;
     micro.reach_data(W::SECOND, reached.at);
@@ -62,6 +71,12 @@ fn before_by(micro: &mut Micro, bus: &mut Bus, code: Code, row: Row, traffic: Tr
         Mode::Long => before::<Long>(micro, bus, code, row, traffic),
         Mode::LongX => before::<LongX>(micro, bus, code, row, traffic),
         Mode::StackRelative => before::<StackRelative>(micro, bus, code, row, traffic),
+        Mode::DirectPointer => before::<DirectPointer>(micro, bus, code, row, traffic),
+        Mode::DirectXPointer => before::<DirectXPointer>(micro, bus, code, row, traffic),
+        Mode::DirectPointerY => before::<DirectPointerY>(micro, bus, code, row, traffic),
+        Mode::DirectLongPointer => before::<DirectLongPointer>(micro, bus, code, row, traffic),
+        Mode::DirectLongPointerY => before::<DirectLongPointerY>(micro, bus, code, row, traffic),
+        Mode::StackPointerY => before::<StackPointerY>(micro, bus, code, row, traffic),
         _ => false,
     }
 }

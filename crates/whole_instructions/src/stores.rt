@@ -38,9 +38,9 @@ fn write_byte(
     requires row { IsRowAt bus.old code.at row.op row.mode }
     requires writes { use_of row.op ≡ Use.Store width }
     requires narrow { is_wide width regs.old ≡ false }
-    requires reaches { Reaches row.mode reach bus.old regs.old code.at
-        (record { direction = Direction.Store; wide = false }) reached.operands reached.clocks reached.at }
-    requires few { (reached.clocks ≤ 1000) × (reached.operands ≤ 3) × (low.clocks < 256) }
+    requires reaches { Reaches row.mode reach bus.old regs.old
+        (record { direction = Direction.Store; wide = false }) reached.operands reached.clocks reached.at reached.last }
+    requires few { (reached.clocks ≤ 2000) × (reached.operands ≤ 3) × (low.clocks < 256) }
     requires low { IsMemoryAt bus.old.board bus.old.io.fast reached.at low.at low.clocks }
     ensures made { IsTrue result → IsMade regs.old regs.new bus.old bus.new }
     ensures stays { result ≡ false → (regs.new ≡ regs.old) × (bus.new ≡ bus.old) }
@@ -75,9 +75,9 @@ fn write_word(
     requires row { IsRowAt bus.old code.at row.op row.mode }
     requires writes { use_of row.op ≡ Use.Store width }
     requires wide { is_wide width regs.old ≡ true }
-    requires reaches { Reaches row.mode reach bus.old regs.old code.at
-        (record { direction = Direction.Store; wide = true }) reached.operands reached.clocks reached.at }
-    requires few { (reached.clocks ≤ 1000) × (reached.operands ≤ 3) × (low.clocks < 256) }
+    requires reaches { Reaches row.mode reach bus.old regs.old
+        (record { direction = Direction.Store; wide = true }) reached.operands reached.clocks reached.at reached.last }
+    requires few { (reached.clocks ≤ 2000) × (reached.operands ≤ 3) × (low.clocks < 256) }
     requires low { IsMemoryAt bus.old.board bus.old.io.fast reached.at low.at low.clocks }
     requires high { IsMemoryAt bus.old.board bus.old.io.fast (second reach reached.at) high.at low.clocks }
     ensures made { IsTrue result → IsMade regs.old regs.new bus.old bus.new }
@@ -124,9 +124,9 @@ fn write_register(
     requires row { IsRowAt bus.old code.at row.op row.mode }
     requires writes { use_of row.op ≡ Use.Store width }
     requires narrow { is_wide width regs.old ≡ false }
-    requires reaches { Reaches row.mode reach bus.old regs.old code.at
-        (record { direction = Direction.Store; wide = false }) reached.operands reached.clocks reached.at }
-    requires few { (reached.clocks ≤ 1000) × (reached.operands ≤ 3) }
+    requires reaches { Reaches row.mode reach bus.old regs.old
+        (record { direction = Direction.Store; wide = false }) reached.operands reached.clocks reached.at reached.last }
+    requires few { (reached.clocks ≤ 2000) × (reached.operands ≤ 3) }
     ensures made { IsTrue result → IsMade regs.old regs.new bus.old bus.new }
     ensures stays { result ≡ false → (regs.new ≡ regs.old) × (bus.new ≡ bus.old) }
 {
@@ -142,8 +142,7 @@ fn write_register(
     if all + REGISTER_CLOCKS as u16 >= bus.clocks_left() {
         return false;
     }
-    let last = code.operand(regs, bus, reached.operands);
-    pass(regs, bus, reached.operands + 1, last, all);
+    pass(regs, bus, reached.operands + 1, reached.last, all);
     let v = low_byte(operand_written(row, *regs, 0));
     put_register(bus, register, v);
     true
@@ -172,7 +171,9 @@ pub(crate) fn store<W: Way, L: Store>(
         direction: Direction::Store,
         wide,
     };
-    let reached = W::reach(regs, bus, code, data);
+    let Some(reached) = W::reach(regs, bus, code, data) else {
+        return false;
+    };
     let Some(low) = low_access(bus, reached.at) else {
         return !wide && write_register(regs, bus, code, row, W::SECOND, L::WIDTH, reached);
     };

@@ -7,5 +7,5 @@ returns-clause-made c = λ _.
     let left = c.clocks_left.ensures.clocks in
     let fits = c.if-all-clocks_left.false in
     rw (c.finish_load.ensures, c.pass.ensures.registers, c.pass.ensures.told, c.joined.ensures, c.load-first.ensures, c.load-next.ensures)
-    (wide_load c.args.bus.now c.args.regs.now c.args.code.at c.args.code.clocks c.args.reached.clocks c.args.reached.operands c.args.reached.at c.args.low.at c.args.high.at c.args.low.clocks _
+    (wide_load c.args.bus.now c.args.regs.now c.args.code.at c.args.code.clocks c.args.reached.clocks c.args.reached.operands c.args.reached.at c.args.reached.last c.args.low.at c.args.high.at c.args.low.clocks _
     c.args.row.op c.args.row.mode c.args.reach c.args.width c.requires.code c.requires.row c.requires.reads c.requires.wide c.requires.reaches c.requires.low c.requires.high refl (omega (arith, left, fits)))

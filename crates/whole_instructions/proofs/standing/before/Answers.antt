@@ -14,10 +14,10 @@ returns-clause-before g c = λ _.
     let fits = c.if-all-clocks_left.false in
     let bus = c.args.bus.now in
     let r = c.args.micro.now.here in
-    let reached = c.reach-reached.result in
+    let reached = c.in-Some.reached in
     let row = c.args.row in
-    let there = c.pass.ensures.told ∙ ap (λ (v : ℕ). gone_on (on_bus bus v) (c.args.code.clocks + reached.clocks)) c.operand-last.ensures in
+    let there = c.pass.ensures.told in
     let remains = c.reach_data.ensures.left ∙ (ap (λ (q : Regs). data_at c.args.traffic c.SECOND.result row q reached.at) c.pass.ensures.registers
     ∙ ap (λ (s : Reach). data_at c.args.traffic s row (past r (reached.operands + 1)) reached.at) c.SECOND.ensures) in
-    stands_before bus c.pass.new.bus r c.args.code.at c.args.code.clocks reached.clocks reached.operands reached.at _ row g.W.Way.MODE g.W.Way.SECOND c.args.traffic c.reach_data.new.self
-    c.requires.code c.requires.row c.requires.order c.reach-reached.ensures.reaches refl (omega (arith, left, fits)) there remains c.reach_data.ensures.start c.reach_data.ensures.keeps
+    stands_before bus c.pass.new.bus r c.args.code.at c.args.code.clocks reached.clocks reached.operands reached.at reached.last _ row g.W.Way.MODE g.W.Way.SECOND c.args.traffic c.reach_data.new.self
+    c.requires.code c.requires.row c.requires.order c.in-Some.ensures.reaches refl (omega (arith, left, fits)) there remains c.reach_data.ensures.start c.reach_data.ensures.keeps

@@ -7,6 +7,6 @@ returns-clause-made c = λ _.
     let left = c.clocks_left.ensures.clocks in
     let fits = c.if-all-clocks_left.false in
     rw (c.pass.ensures.registers, c.pass.ensures.told, c.write.ensures.written)
-    (narrow_store c.args.bus.now c.args.regs.now c.args.code.at c.args.code.clocks c.args.reached.clocks c.args.reached.operands c.args.reached.at c.args.low.at c.args.low.clocks _ c.low_byte-v.result
+    (narrow_store c.args.bus.now c.args.regs.now c.args.code.at c.args.code.clocks c.args.reached.clocks c.args.reached.operands c.args.reached.at c.args.reached.last c.args.low.at c.args.low.clocks _ c.low_byte-v.result
     c.args.row.op c.args.row.mode c.args.reach c.args.width c.requires.code c.requires.row c.requires.writes c.requires.narrow c.requires.reaches c.requires.low refl (omega (arith, left, fits))
     (rw (c.low_byte-v.ensures, c.operand_written.ensures, c.passed.ensures) refl))

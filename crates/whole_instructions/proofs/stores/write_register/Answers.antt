@@ -20,9 +20,9 @@ returns-clause-made c = λ _.
     let fits = c.if-all-clocks_left.false in
     let bus = c.args.bus.now in
     let all = c.args.code.clocks + c.args.reached.clocks in
-    let there = c.pass.ensures.told ∙ ap (λ (v : ℕ). gone_on (on_bus bus v) all) c.operand-last.ensures in
+    let there = c.pass.ensures.told in
     rw c.pass.ensures.registers
-    (register_store bus c.pass.new.bus c.put_register.new.bus c.args.regs.now c.args.code.at c.args.code.clocks c.args.reached.clocks c.args.reached.operands c.args.reached.at
+    (register_store bus c.pass.new.bus c.put_register.new.bus c.args.regs.now c.args.code.at c.args.code.clocks c.args.reached.clocks c.args.reached.operands c.args.reached.at c.args.reached.last
     c.in-Some.register all c.low_byte-v.result c.args.row.op c.args.row.mode c.args.reach c.args.width c.requires.code c.requires.row c.requires.writes c.requires.narrow c.requires.reaches
     refl (omega (arith, left, fits)) there (c.in-Some.ensures.place bus.board) c.in-Some.ensures.lasts (sym c.is_port.ensures ∙ c.if-is_port.false)
     (rw (c.low_byte-v.ensures, c.operand_written.ensures, c.pass.ensures.registers) refl) c.put_register.ensures)

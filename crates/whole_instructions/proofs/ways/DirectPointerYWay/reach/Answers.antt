@@ -1,0 +1,15 @@
+use Rattle.std.proofs.Common.{◌≡◌, ℕ, ◌+◌, ◌%◌, ap, subst, ◌∙◌}
+use Rattle.cpu_modes.specs.Addresses.{direct}
+use Rattle.cpu_modes.specs.declared.place.PointerKind.{PointerKind}
+use Rattle.whole_instructions.specs.Fetching.{IsPointer}
+use Rattle.whole_instructions.proofs.Pointers.{reaches_pointer_y}
+use Rattle.whole_instructions.proofs.ways.DirectPointerYWay.reach.Goals as goal
+
+pub returns-clause-reaches : goal.returns-clause-reaches
+returns-clause-reaches c =
+    let bus = c.args.bus.now in
+    let r = c.args.regs.now in
+    let p = c.in_ok-p.p in
+    let At : ℕ → Type 0 = λ x. IsPointer PointerKind.Y bus r x p.word p.last p.clocks in
+    let place = c.direct_address-place.ensures.exact ∙ ap (λ (o : ℕ). direct r o 0) c.first.ensures in
+    rw (c.low_clocks.ensures.clocks, c.index_clocks.ensures.clocks) (reaches_pointer_y bus r c.args.code.at c.args.code.clocks p.word p.last p.clocks c.args.traffic c.requires (subst At place c.in_ok-p.ensures.there))
