@@ -7,3 +7,4 @@ pub mod Zeros
 pub mod Starts
 mod Copies
 mod Stretches
+mod Arithmetic

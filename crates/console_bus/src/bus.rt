@@ -294,4 +294,19 @@ impl Bus {
             _ => self.write_io(register, v),
         }
     }
+
+    /// Writes a register of multiplication or division of the CPU's chip, 4202 to 4206. Nothing else changes, so the
+    /// beam's next event stays where it is.
+    #[tactic(auto, using(crate::proofs::Arithmetic::arithmetic_written, crate::proofs::Arithmetic::timer_written, crate::proofs::Arithmetic::fast_written))]
+    pub fn write_arithmetic(&mut self, register: u16, v: u8)
+        requires first { 0x4202 ≤ register }
+        requires last { register ≤ 0x4206 }
+        ensures written { self.new ≡ chip_written self.old register v }
+        ensures beam { self.new.beam ≡ self.old.beam }
+        ensures channels { self.new.channels ≡ self.old.channels }
+        ensures refresh { self.new.refresh ≡ self.old.refresh }
+        ensures reset { self.new.reset ≡ self.old.reset }
+    {
+        self.io.write(register, v);
+    }
 }

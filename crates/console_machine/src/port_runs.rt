@@ -1,5 +1,5 @@
-// Accesses of memory and of the B bus one after another, the ports to the sound side among them, up to the beam's next
-// place.
+// Accesses of memory, of the B bus and of the registers of the CPU's chip one after another, the ports to the sound side
+// among them, up to the beam's next place.
 ghost use Rattle.std.specs.Prelude.{◌≡◌, ◌≢◌, ◌+◌, ◌-◌, ◌*◌, ◌<◌, ◌≤◌, [], false, IsTrue};
 ghost use Rattle.snes_defs.specs.declared.ports.Side.TheVariants.{Console};
 ghost use Rattle.clock_ratio.specs.Stamp.{rate_of, least_of};
@@ -16,6 +16,7 @@ ghost use Rattle.console_steps.specs.Plain.{IsCalm};
 ghost use Rattle.console_machine.specs.PortAccesses.{HasMade, IsMade, HasPassed, IsBefore, RunsBefore, HeldBefore};
 ghost use Rattle.console_machine.specs.PortAccesses.{stamp_before};
 
+use crate::chip_runs::{try_read_chip, try_write_chip};
 use crate::many_steps::make_all;
 use crate::parts::line_stamps;
 use console_bus::Bus;
@@ -28,20 +29,29 @@ use snes_defs::{Act, Region};
 /// More accesses of the B bus than a line has room for.
 const MOST_RUNS: u16 = 256;
 
-/// What came of an access of the B bus.
+/// What came of an access of a register.
 #[derive(Clone, Copy)]
 pub(crate) enum Found {
     /// It was made.
     Made,
-    /// It was left alone, since it is neither an access of a port nor a read of a register.
+    /// It was left alone, since it is no access that is made here.
     Left,
     /// Its call was refused.
     Refused,
 }
 
-/// Puts a byte of the B bus on the data bus, lets the processor take it, and advances the beam.
+/// Returns what came of an access that was made or left alone.
 #[inline(always)]
-fn take_byte(cpu: &mut Cpu, bus: &mut Bus, got: u8)
+fn made_or_left(made: bool) -> Found
+    ensures made { IsTrue made → result ≡ Found.Made }
+    ensures left { made ≡ false → result ≡ Found.Left }
+{
+    if made { Found::Made } else { Found::Left }
+}
+
+/// Puts a byte of a register on the data bus, lets the processor take it, and advances the beam by six clocks.
+#[inline(always)]
+pub(crate) fn take_byte(cpu: &mut Cpu, bus: &mut Bus, got: u8)
     requires gets { IsTrue (gets_byte (access_of cpu.old)) }
     requires few { 6 < clocks_left bus.old.beam }
     ensures rest { bus.new ≡ gone_on (on_bus bus.old got) 6 }
@@ -74,9 +84,9 @@ fn take_register(cpu: &mut Cpu, bus: &mut Bus, register: u8)
     take_byte(cpu, bus, byte);
 }
 
-/// Lets the processor write a port, and advances the beam.
+/// Puts the byte that the processor writes on the data bus, and advances the beam by six clocks.
 #[inline(always)]
-fn give_port(cpu: &mut Cpu, bus: &mut Bus, v: u8)
+pub(crate) fn give_byte(cpu: &mut Cpu, bus: &mut Bus, v: u8)
     requires writes { IsTrue (is_write (access_of cpu.old)) }
     requires few { 6 < clocks_left bus.old.beam }
     ensures rest { bus.new ≡ gone_on (on_bus bus.old v) 6 }
@@ -92,7 +102,7 @@ fn give_port(cpu: &mut Cpu, bus: &mut Bus, v: u8)
     bus.go_on(REGISTER_CLOCKS as u16);
 }
 
-/// Lets the processor read a register of the B bus at a stamp, if one is at the address.
+/// Lets the processor read a register of the B bus or of the CPU's chip at a stamp, if one is at the address.
 #[inline(always)]
 fn read_over<P: Ports>(cpu: &mut Cpu, bus: &mut Bus, addr: u32, at: u64, ports: &mut P) -> Found
     requires gets { IsTrue (gets_byte (access_of cpu.old)) }
@@ -112,7 +122,7 @@ fn read_over<P: Ports>(cpu: &mut Cpu, bus: &mut Bus, addr: u32, at: u64, ports: 
     ensures times { P.times ports.new ≡ P.times ports.old }
 {
     let Some(register) = bus_register(addr) else {
-        return Found::Left;
+        return made_or_left(try_read_chip(cpu, bus, addr));
     };
     if !is_port(register) {
         take_register(cpu, bus, register);
@@ -125,7 +135,7 @@ fn read_over<P: Ports>(cpu: &mut Cpu, bus: &mut Bus, addr: u32, at: u64, ports: 
     Found::Made
 }
 
-/// Lets the processor write a port at a stamp, if one is at the address.
+/// Lets the processor write a port or a register of arithmetic at a stamp, if one is at the address.
 #[inline(always)]
 fn write_over<P: Ports>(
     cpu: &mut Cpu,
@@ -152,7 +162,7 @@ fn write_over<P: Ports>(
     ensures times { P.times ports.new ≡ P.times ports.old }
 {
     let Some(register) = bus_register(addr) else {
-        return Found::Left;
+        return made_or_left(try_write_chip(cpu, bus, addr, v));
     };
     if !is_port(register) {
         return Found::Left;
@@ -160,12 +170,12 @@ fn write_over<P: Ports>(
     let Some(_) = ports.call(at, Act::Write(register % 4, v)) else {
         return Found::Refused;
     };
-    give_port(cpu, bus, v);
+    give_byte(cpu, bus, v);
     Found::Made
 }
 
-/// Makes the processor's next access at a stamp if it is of a port, with the call made by `ports`, or if it reads
-/// another register of the B bus.
+/// Makes the processor's next access at a stamp if it is of a port, with the call made by `ports`, or of another
+/// register that is accessed here: a read of the B bus or of the CPU's chip, a write of a register of arithmetic.
 #[inline(always)]
 fn make_register<P: Ports>(cpu: &mut Cpu, bus: &mut Bus, at: u64, ports: &mut P) -> Found
     requires few { 6 < clocks_left bus.old.beam }
@@ -201,7 +211,7 @@ pub(crate) fn stamp_before(region: Region, goal: u64, bus: &Bus) -> u64
     goal - line_stamps(region, bus.clocks_left())
 }
 
-/// Makes the processor's accesses of memory and of the B bus one after another, up to the beam's next place, to which
+/// Makes the processor's accesses of memory and of registers one after another, up to the beam's next place, to which
 /// it comes at `goal`. Their calls are made by `ports`. Returns whether the next call was refused.
 #[inline(always)]
 pub(crate) fn make_over<P: Ports>(

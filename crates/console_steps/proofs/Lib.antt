@@ -11,3 +11,4 @@ pub mod RegisterSteps
 pub mod RegisterPlaces
 pub mod PlainPlaces
 pub mod Targets
+pub mod ChipRegisters

@@ -2,7 +2,7 @@
 // first, then the registers of the B bus, then the rest of the address map. An access that is made at once
 // (`try_plain`) asks the page table alone, or the registers.
 ghost use Rattle.std.specs.Prelude.{◌≡◌, ◌<◌, ◌^◌, Bool, IfSome};
-ghost use Rattle.cart_map.specs.declared.places.Place.TheVariants.{BBus};
+ghost use Rattle.cart_map.specs.declared.places.Place.TheVariants.{BBus, Cpu as Own};
 ghost use Rattle.cart_map.specs.Clocks.{clocks_of};
 ghost use Rattle.cart_map.specs.Place.{IsInside};
 ghost use Rattle.console_bus.specs.declared.cart_board.CartBoard.{CartBoard};
@@ -72,6 +72,19 @@ pub fn bus_register(addr: u32) -> Option<u8>
 {
     if addr / 65536 % 128 < 64 && addr / 256 % 256 == 0x21 {
         return Some((addr % 256) as u8);
+    }
+    None
+}
+
+/// Returns the register of the CPU's chip at a 24-bit address, if it is one of 4200 to 421F.
+#[inline(always)]
+#[tactic(auto, using(crate::proofs::ChipRegisters::chip_place, crate::proofs::ChipRegisters::chip_clocks))]
+pub fn chip_register(addr: u32) -> Option<u16>
+    ensures place { IfSome result (λ register. (board : CartBoard) → place_at board addr ≡ Own register) }
+    ensures lasts { IfSome result (λ register. (fast : Bool) → clocks_of addr fast ≡ 6) }
+{
+    if addr / 65536 % 128 < 64 && addr / 32 % 2048 == 0x210 {
+        return Some((addr % 65536) as u16);
     }
     None
 }

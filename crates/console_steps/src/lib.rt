@@ -17,7 +17,9 @@ mod plain_places;
 mod rows;
 mod transfers;
 
-pub use bus_access::{BusAccess, REGISTER_CLOCKS, Target, bus_register, is_port, look_up};
+pub use bus_access::{
+    BusAccess, REGISTER_CLOCKS, Target, bus_register, chip_register, is_port, look_up,
+};
 pub use effects::{
     give_interrupt_levels, make_inner, make_move, make_read, make_reset, make_write,
 };

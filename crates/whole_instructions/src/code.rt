@@ -11,6 +11,9 @@ use console_bus::{Bus, MemoryAccess};
 use cpu_modes::{Reach, code_address, second_address};
 use cpu_tables::Regs;
 
+/// The number of the last byte of a page of the memory, from 0.
+const LAST_OF_PAGE: u32 = 8191;
+
 /// The bytes of an instruction in the memory.
 #[derive(Clone, Copy)]
 pub(crate) struct Code {
@@ -158,7 +161,7 @@ pub(crate) fn high_access(
     ensures inside { IfSome result (λ access. access.at < 131072 + bus.now.board.ram + bus.now.board.rom) }
 {
     let _bus = bus;
-    if to % 8192 == 8191 || second_address(reach, to) != to + 1 {
+    if to % 8192 == LAST_OF_PAGE || second_address(reach, to) != to + 1 {
         return None;
     }
     Some(MemoryAccess {
