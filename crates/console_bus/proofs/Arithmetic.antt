@@ -67,9 +67,9 @@ plainly_written : (profile : Profile) (line : ℕ) (io : IoRegisters) (n v : ℕ
 unfolding io_written
 plainly_written profile line io n v first last =
     let late : (is_timed_for (written io n v) line && not (is_timed_for io line)) ≡ false
-        = never_late (timer_of (written io n v)) (timer_of io) line (timer_written io n v first last) in
+    = never_late (timer_of (written io n v)) (timer_of io) line (timer_written io n v first last) in
     let no : (is_second profile && (is_timed_for (written io n v) line && not (is_timed_for io line))) ≡ false
-        = ap (λ b. is_second profile && b) late ∙ and_false (is_second profile) in
+    = ap (λ b. is_second profile && b) late ∙ and_false (is_second profile) in
     ap (λ b. if b then timed (written io n v) else written io n v) no
 
 not_latched : (profile : Profile) (spot : Spot) (port : ℕ) (p : Picture) (n v : ℕ) → 0x4202 ≤ n → picture_latched profile spot port p n v ≡ p
@@ -93,8 +93,8 @@ arithmetic_written r n v first last timer =
     let beam = beam_stays r (timer_of io) (timer_written r.io n v first last ∙ sym timer) in
     let one : record r { io = io } ≡ with_io r io = ap (λ x. record r { io = io; beam = x }) (sym beam) in
     let two : with_io r io ≡ with_io (with_picture r r.picture) (io_written r.script.profile r.beam.v r.io n v)
-        = ap (λ x. with_io r x) (sym (plainly_written r.script.profile r.beam.v r.io n v first last)) in
+    = ap (λ x. with_io r x) (sym (plainly_written r.script.profile r.beam.v r.io n v first last)) in
     let three : with_io (with_picture r r.picture) (io_written r.script.profile r.beam.v r.io n v) ≡ io_register_written r n v
-        = ap (λ p. with_io (with_picture r p) (io_written r.script.profile r.beam.v r.io n v))
-        (sym (not_latched r.script.profile (spot_of r.beam) r.io.port r.picture n v first)) in
+    = ap (λ p. with_io (with_picture r p) (io_written r.script.profile r.beam.v r.io n v))
+    (sym (not_latched r.script.profile (spot_of r.beam) r.io.port r.picture n v first)) in
     rw (a, b, d) (one ∙ two ∙ three)

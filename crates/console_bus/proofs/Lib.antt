@@ -8,3 +8,4 @@ pub mod Starts
 mod Copies
 mod Stretches
 mod Arithmetic
+mod Stills

@@ -1,11 +1,12 @@
 -- Reads and writes of one byte: at the places of the address map, and at the registers of the B bus (2100
 -- to 21FF). After fullsnes ("SNES I/O Map", "SNES Memory Work RAM Access").
-use Rattle.std.specs.Prelude.{ℕ, ◌+◌, ◌*◌, ◌/◌, ◌%◌, ◌==◌, Bool, ◌&&◌, nat_le, nat_lt}
+use Rattle.std.specs.Prelude.{◌≡◌, ℕ, ◌+◌, ◌*◌, ◌/◌, ◌%◌, ◌==◌, Bool, ◌&&◌, nat_le, nat_lt}
 use Rattle.std.specs.Prelude.{slice_index, slice_set, if◌then◌else◌}
 use Rattle.cart_map.specs.declared.places.Place.{Place}
 use Rattle.cart_map.specs.declared.places.Place.TheVariants.{Wram, Rom, Ram, BBus, Cpu, Open}
 use Rattle.cart_map.specs.Place.{bank_place_of}
 use Rattle.io_math.specs.Registers as io
+use Rattle.beam.specs.Events.{BeamValue}
 use Rattle.dma_hdma.specs.Channel as channel
 use Rattle.dma_hdma.specs.Channels.{channel_at, channel_number, register_number, by_bits}
 use Rattle.console_bus.specs.declared.cart_board.CartBoard.{CartBoard}
@@ -100,6 +101,11 @@ chip_written r register v =
     else if register == 0x420b then (record r { channels = by_bits channel.started r.channels v })
     else if register == 0x420c then (record r { channels = by_bits channel.enabled_as r.channels v })
     else io_register_written r register v
+
+-- a read of the register changes nothing, and gives the same byte wherever the beam stands
+pub record IsStill (r : BusState) (register : ℕ) : Type 0 where
+  pub same : (b : BeamValue) → chip_read (record r { beam = b }) register ≡ record r { beam = b }
+  pub byte : (b : BeamValue) → chip_byte (record r { beam = b }) register ≡ chip_byte r register
 
 -- ---- a place of the address map
 

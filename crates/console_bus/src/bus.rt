@@ -1,12 +1,12 @@
 //! The bus as one value: reads and writes of memory, places and registers.
-ghost use Rattle.std.specs.Prelude.{◌≡◌, ◌<◌, ◌≤◌, ◌+◌, ◌^◌, ◌++◌, length, IfOk, IfSome, List, slice_index};
+ghost use Rattle.std.specs.Prelude.{◌≡◌, ◌<◌, ◌≤◌, ◌+◌, ◌^◌, ◌++◌, length, IfOk, IfSome, IsTrue, List, slice_index};
 ghost use Rattle.snes_defs.specs.declared.cart.Cart.{Cart};
 ghost use Rattle.beam.specs.Places.{clocks_left};
 ghost use Rattle.cart_map.specs.Place.{IsInside};
 ghost use Rattle.console_bus.specs.BusState.{BusState, bus_start, with_pads};
 ghost use Rattle.console_bus.specs.Memory.{IsMemoryAt, IsStretch, stored};
 ghost use Rattle.console_bus.specs.Places.{place_at, a_side, taken_from, register_byte, register_read};
-ghost use Rattle.console_bus.specs.Places.{register_written, chip_byte, chip_read, chip_written, place_byte};
+ghost use Rattle.console_bus.specs.Places.{register_written, chip_byte, chip_read, chip_written, IsStill, place_byte};
 ghost use Rattle.console_bus.specs.Places.{place_read, place_written, on_bus};
 
 use crate::address_map::{AddressMap, MemoryAccess};
@@ -275,6 +275,20 @@ impl Bus {
         }
         let spot = self.beam.spot();
         self.io.read(register, self.last, spot)
+    }
+
+    /// Whether a register of the CPU's chip is 4210 RDNMI or 4211 TIMEUP, with its flag clear. A read of it changes
+    /// nothing then, and gives the same byte wherever the beam stands.
+    #[tactic(auto, using(crate::proofs::Stills::still_nmi, crate::proofs::Stills::still_irq))]
+    pub fn is_still(&self, register: u16) -> bool
+        ensures { IsTrue result → IsStill self.now register }
+    {
+        let (nmi, irq) = self.io.flags();
+        match register {
+            0x4210 => !nmi,
+            0x4211 => !irq,
+            _ => false,
+        }
     }
 
     /// Writes a register of the CPU's chip, 4016 to 437F.

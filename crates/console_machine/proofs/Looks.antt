@@ -1,5 +1,5 @@
 -- Steps that only look: what one of them does, what many leave as it is, and what they are as a run; and the clocks of rounds.
-use Rattle.std.proofs.Common.{◌≡◌, ℕ, zero, suc, ◌+◌, ◌-◌, ◌*◌, ◌/◌, ◌<◌, Bool, List, [], ◌∷◌, ◌++◌, refl, sym, ap, subst, ◌∙◌, arith, add-zero, append_assoc, slice_index, Some}
+use Rattle.std.proofs.Common.{◌≡◌, ℕ, zero, suc, ◌+◌, ◌-◌, ◌*◌, ◌/◌, ◌<◌, Bool, List, [], ◌∷◌, ◌++◌, refl, sym, ap, subst, ◌∙◌, arith, add-zero, append_assoc, slice_index, Some, ◌⊎◌, inl, inr}
 use Rattle.snes_defs.specs.declared.ports.Act.TheVariants.{Quiet}
 use Rattle.cart_map.specs.declared.places.Place.{Place}
 use Rattle.cpu_tables.specs.declared.access.Access.{Access}
@@ -11,12 +11,12 @@ use Rattle.std.proofs.Math.Nat.{suc-mul, div-mul-le_self}
 use Rattle.beam.specs.declared.events.Event.{Event}
 use Rattle.beam.specs.Events.{BeamValue, events_of, happens_next, beam_next, beam_after, passed}
 use Rattle.console_bus.specs.BusState.{BusState}
-use Rattle.console_bus.specs.Places.{place_at, place_byte, place_read, on_bus}
+use Rattle.console_bus.specs.Places.{place_at, place_byte, place_read, chip_byte, chip_read, on_bus}
 use Rattle.console_bus.specs.Memory.{index_of}
-use Rattle.console_steps.specs.ConsoleState.{ConsoleState, Due, Accesses, access_act, access_clocks, act_of, due_of, due_clocks, after_access, effect, console_after, bytes_after, overscan_of}
+use Rattle.console_steps.specs.ConsoleState.{ConsoleState, Due, Accesses, access_act, access_clocks, act_of, due_of, due_clocks, after_access, after_read, read_at, effect, console_after, bytes_after, overscan_of}
 use Rattle.console_steps.specs.Stands.{IsAt}
 use Rattle.console_steps.specs.AtOnce.{gone_on, passed_in, IsMadeAtOnce}
-use Rattle.console_steps.specs.Plain.{IsCalm, IsLook}
+use Rattle.console_steps.specs.Plain.{IsCalm, IsOfMemory, IsOfStill, IsLook}
 use Rattle.console_steps.proofs.AtOnce.{reads}
 use Rattle.console_steps.proofs.Clocks.{drifted, quiet_clocks}
 use Rattle.console_machine.specs.SideLaws.{IsAfter, step_keeps}
@@ -92,11 +92,26 @@ read_facts r addr at h =
       after = is ∙ ap (λ (x : BusState). on_bus r x.last) (sym is);
     }
 
+still_facts : (r : BusState) (addr : ℕ) → IsOfStill r addr → LookFacts r (Read addr)
+still_facts r addr h =
+    let n = h.register in
+    let A : Place → Type 0 = λ p. read_at p ≡ Quiet in
+    let F : Place → Type 0 = λ p. after_read r p (place_byte r p 0) ≡ on_bus r (after_read r p (place_byte r p 0)).last in
+    let same : chip_read r n ≡ r = h.still.same r.beam in
+    record {
+      quiet = subst A (sym h.place) refl;
+      after = subst F (sym h.place) (ap {A = BusState} {B = BusState} (λ x. on_bus x (chip_byte r n)) same);
+    }
+
+look_read_facts : (r : BusState) (addr : ℕ) → IsOfMemory r addr ⊎ IsOfStill r addr → LookFacts r (Read addr)
+look_read_facts r addr (inl h) = read_facts r addr h.0 h.1
+look_read_facts r addr (inr h) = still_facts r addr h
+
 pub look_facts : (r : BusState) (a : Access) → IsLook r a → LookFacts r a
 look_facts r (Fetch addr) h =
     let f = read_facts r addr h.0 h.1 in
     record { quiet = f.quiet; after = f.after }
-look_facts r (Read addr) h = read_facts r addr h.0 h.1
+look_facts r (Read addr) h = look_read_facts r addr h
 look_facts r (Write addr v) h = absurd h
 look_facts r Inner h = record { quiet = refl; after = refl }
 

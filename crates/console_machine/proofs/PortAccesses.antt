@@ -17,7 +17,7 @@ use Rattle.cpu65816.specs.Stands.{access_of}
 use Rattle.dma_hdma.specs.Channels.{due_of as transfer_of}
 use Rattle.beam.specs.Places.{clocks_left}
 use Rattle.console_bus.specs.BusState.{BusState}
-use Rattle.console_bus.specs.Places.{is_port, is_channel, register_read, chip_read}
+use Rattle.console_bus.specs.Places.{is_port, register_read}
 use Rattle.console_steps.specs.ConsoleState.{ConsoleState, read_at, write_at, access_act, act_of, due_of, console_after, console_moves}
 use Rattle.console_steps.specs.AtOnce.{IsMadeAtOnce}
 use Rattle.console_steps.specs.Plain.{IsWired, IsCalm}
@@ -50,29 +50,16 @@ read_dues r n =
     (if_dues (n == 0x80) _ _ r (record { channels = refl; refresh = refl; reset = refl })
     (record { channels = refl; refresh = refl; reset = refl }))
 
-chip_dues : (r : BusState) (n : ℕ) → SameDues r (chip_read r n)
-unfolding chip_read
-chip_dues r n =
-    if_dues (is_channel n) _ _ r (record { channels = refl; refresh = refl; reset = refl })
-    (record { channels = refl; refresh = refl; reset = refl })
-
 -- nothing is due after one that was not before
-calm_kept : (r q : BusState) → SameDues r q → IsCalm r → IsCalm q
-calm_kept r q same calm = record {
-  reset = same.reset ∙ calm.reset;
-  refresh = same.refresh ∙ calm.refresh;
-  transfer = ap transfer_of same.channels ∙ calm.transfer;
-}
-
 pub calm_read : (bus bus' : BusState) (n : ℕ) → bus' ≡ register_read bus n → IsCalm bus → IsCalm bus'
 calm_read bus bus' n is calm =
+    let same = read_dues bus n in
     let P : BusState → Type 0 = λ r. IsCalm r in
-    subst P (sym is) (calm_kept bus (register_read bus n) (read_dues bus n) calm)
-
-pub calm_chip_read : (bus bus' : BusState) (n : ℕ) → bus' ≡ chip_read bus n → IsCalm bus → IsCalm bus'
-calm_chip_read bus bus' n is calm =
-    let P : BusState → Type 0 = λ r. IsCalm r in
-    subst P (sym is) (calm_kept bus (chip_read bus n) (chip_dues bus n) calm)
+    subst P (sym is) (record {
+      reset = same.reset ∙ calm.reset;
+      refresh = same.refresh ∙ calm.refresh;
+      transfer = ap transfer_of same.channels ∙ calm.transfer;
+    })
 
 -- an access made at once is one that got 0
 pub at_once_made : (cpu cpu' : Cpu) (bus bus' : BusState) (access : Access) → IsMadeAtOnce cpu cpu' bus bus' access 6 → IsPortMade cpu cpu' bus bus' access 0

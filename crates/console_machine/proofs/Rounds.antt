@@ -1,6 +1,6 @@
 -- Steps that only look do the same wherever the beam stands, as long as it passes nothing: so a round of them, which leads back to the
 -- processor and the byte on the data bus that it began with, can be gone again and again, after a refresh or the end of a line, too.
-use Rattle.std.proofs.Common.{◌≡◌, ℕ, zero, suc, ◌+◌, Bool, [], refl, sym, ap, subst, ◌∙◌, arith, add-zero}
+use Rattle.std.proofs.Common.{◌≡◌, ℕ, zero, suc, ◌+◌, Bool, [], refl, sym, ap, subst, ◌∙◌, arith, add-zero, ◌⊎◌, inl, inr}
 use Rattle.cpu_tables.specs.declared.access.Access.{Access}
 use Rattle.cpu_tables.specs.declared.access.Access.TheVariants.{Fetch, Read, Write, Inner}
 use Rattle.cpu65816.specs.declared.processor.Cpu.{Cpu}
@@ -8,11 +8,12 @@ use Rattle.cpu65816.specs.Instruction.{CpuState, next_of, moved_on}
 use Rattle.cpu65816.specs.Stands.{Stands, access_of}
 use Rattle.beam.specs.Events.{BeamValue, beam_after, passed}
 use Rattle.console_bus.specs.BusState.{BusState}
-use Rattle.console_bus.specs.Places.{place_at, on_bus}
-use Rattle.console_steps.specs.ConsoleState.{ConsoleState, after_access, byte_of, with_interrupt_levels, due_of, console_after, overscan_of}
+use Rattle.cart_map.specs.declared.places.Place.{Place}
+use Rattle.console_bus.specs.Places.{place_at, place_byte, chip_byte, chip_read, on_bus}
+use Rattle.console_steps.specs.ConsoleState.{ConsoleState, after_access, after_read, byte_of, with_interrupt_levels, due_of, console_after, overscan_of}
 use Rattle.console_steps.specs.Stands.{IsAt}
 use Rattle.console_steps.specs.AtOnce.{gone_on, passed_in, IsMadeAtOnce}
-use Rattle.console_steps.specs.Plain.{IsWired, IsCalm, IsLook}
+use Rattle.console_steps.specs.Plain.{IsWired, IsCalm, IsOfMemory, IsOfStill, IsLook}
 use Rattle.console_steps.proofs.AtOnce.{reads}
 use Rattle.console_steps.proofs.Clocks.{drifted}
 use Rattle.console_steps.proofs.Wires.{wired_then}
@@ -24,21 +25,58 @@ use Rattle.console_machine.proofs.Looks.{beam_joined, passed_parts, no_clocks, g
 
 -- ---- steps that only look, from another place of the beam
 
+-- ..a read of a register that shows nothing new
+still_byte_at : (r : BusState) (b : BeamValue) (addr : ℕ) → IsOfStill r addr → byte_of (record r { beam = b }) (Read addr) 0 ≡ byte_of r (Read addr) 0
+still_byte_at r b addr h =
+    let P : Place → Type 0 = λ p. place_byte (record r { beam = b }) p 0 ≡ place_byte r p 0 in
+    subst P (sym h.place) (h.still.byte b)
+
+still_after_at : (r : BusState) (b : BeamValue) (addr : ℕ) → IsOfStill r addr → after_access (record r { beam = b }) (Read addr) 0 ≡ record (after_access r (Read addr) 0) { beam = b }
+still_after_at r b addr h =
+    let n = h.register in
+    let q : BusState = record r { beam = b } in
+    let P : Place → Type 0 = λ p. after_read q p (place_byte q p 0) ≡ record (after_read r p (place_byte r p 0)) { beam = b } in
+    let here : chip_read r n ≡ r = h.still.same r.beam in
+    subst P (sym h.place)
+    (ap {A = BusState} {B = BusState} (λ x. on_bus x (chip_byte q n)) (h.still.same b)
+    ∙ ap {A = ℕ} {B = BusState} (λ v. on_bus q v) (h.still.byte b)
+    ∙ ap {A = BusState} {B = BusState} (λ x. record (on_bus x (chip_byte r n)) { beam = b }) (sym here))
+
+still_at : (r : BusState) (b : BeamValue) (addr : ℕ) → IsOfStill r addr → IsOfStill (record r { beam = b }) addr
+still_at r b addr h = record {
+  register = h.register;
+  place = h.place;
+  still = record { same = λ c. h.still.same c; byte = λ c. h.still.byte c ∙ sym (h.still.byte b) };
+}
+
+read_byte_at : (r : BusState) (b : BeamValue) (addr : ℕ) → IsOfMemory r addr ⊎ IsOfStill r addr → byte_of (record r { beam = b }) (Read addr) 0 ≡ byte_of r (Read addr) 0
+read_byte_at r b addr (inl h) = (reads (record r { beam = b }) (place_at r.board addr) h.0 h.1).byte ∙ sym (reads r (place_at r.board addr) h.0 h.1).byte
+read_byte_at r b addr (inr h) = still_byte_at r b addr h
+
+read_after_at : (r : BusState) (b : BeamValue) (addr : ℕ) → IsOfMemory r addr ⊎ IsOfStill r addr
+    → after_access (record r { beam = b }) (Read addr) 0 ≡ record (after_access r (Read addr) 0) { beam = b }
+read_after_at r b addr (inl h) = read_is (record r { beam = b }) (place_at r.board addr) h.0 h.1 ∙ ap {A = BusState} {B = BusState} (λ x. record x { beam = b }) (sym (read_is r (place_at r.board addr) h.0 h.1))
+read_after_at r b addr (inr h) = still_after_at r b addr h
+
+read_look_at : (r : BusState) (b : BeamValue) (addr : ℕ) → IsOfMemory r addr ⊎ IsOfStill r addr → IsOfMemory r addr ⊎ IsOfStill (record r { beam = b }) addr
+read_look_at r b addr (inl h) = inl h
+read_look_at r b addr (inr h) = inr (still_at r b addr h)
+
 look_byte_at : (r : BusState) (b : BeamValue) (a : Access) → IsLook r a → byte_of (record r { beam = b }) a 0 ≡ byte_of r a 0
 look_byte_at r b (Fetch addr) h = (reads (record r { beam = b }) (place_at r.board addr) h.0 h.1).byte ∙ sym (reads r (place_at r.board addr) h.0 h.1).byte
-look_byte_at r b (Read addr) h = (reads (record r { beam = b }) (place_at r.board addr) h.0 h.1).byte ∙ sym (reads r (place_at r.board addr) h.0 h.1).byte
+look_byte_at r b (Read addr) h = read_byte_at r b addr h
 look_byte_at r b (Write addr v) h = absurd h
 look_byte_at r b Inner h = refl
 
 look_after_at : (r : BusState) (b : BeamValue) (a : Access) → IsLook r a → after_access (record r { beam = b }) a 0 ≡ record (after_access r a 0) { beam = b }
 look_after_at r b (Fetch addr) h = read_is (record r { beam = b }) (place_at r.board addr) h.0 h.1 ∙ ap {A = BusState} {B = BusState} (λ x. record x { beam = b }) (sym (read_is r (place_at r.board addr) h.0 h.1))
-look_after_at r b (Read addr) h = read_is (record r { beam = b }) (place_at r.board addr) h.0 h.1 ∙ ap {A = BusState} {B = BusState} (λ x. record x { beam = b }) (sym (read_is r (place_at r.board addr) h.0 h.1))
+look_after_at r b (Read addr) h = read_after_at r b addr h
 look_after_at r b (Write addr v) h = absurd h
 look_after_at r b Inner h = refl
 
 pub look_at : (r : BusState) (b : BeamValue) (a : Access) → IsLook r a → IsLook (record r { beam = b }) a
 look_at r b (Fetch addr) h = h
-look_at r b (Read addr) h = h
+look_at r b (Read addr) h = read_look_at r b addr h
 look_at r b (Write addr v) h = absurd h
 look_at r b Inner h = tt
 

@@ -6,12 +6,11 @@
 //! `specs/SideLaws.antt` says that its moves are those of a machine of either region. A step lasts 6 to 40 clocks,
 //! emits at most one row, and acts at ports below 4 with bytes. `advance.rt` runs many steps in one call, with the
 //! ports behind the machine as a value of the trait `Ports`; `port_runs.rt` makes those between two places of the
-//! beam, and `chip_runs.rt` the accesses of the registers of the CPU's chip among them.
+//! beam.
 #![tactic(auto)]
 
 mod acts;
 mod advance;
-mod chip_runs;
 mod many_steps;
 mod parts;
 mod patience;

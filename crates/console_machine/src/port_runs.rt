@@ -16,11 +16,12 @@ ghost use Rattle.console_steps.specs.Plain.{IsCalm};
 ghost use Rattle.console_machine.specs.PortAccesses.{HasMade, IsMade, HasPassed, IsBefore, RunsBefore, HeldBefore};
 ghost use Rattle.console_machine.specs.PortAccesses.{stamp_before};
 
-use crate::chip_runs::{try_read_chip, try_write_chip};
 use crate::many_steps::make_all;
 use crate::parts::line_stamps;
 use console_bus::Bus;
-use console_steps::{REGISTER_CLOCKS, bus_register, give_interrupt_levels, is_port};
+use console_steps::{
+    REGISTER_CLOCKS, bus_register, give_byte, is_port, take_byte, try_read_chip, try_write_chip,
+};
 use cpu_tables::Access;
 use cpu65816::Cpu;
 use side_law::Ports;
@@ -49,24 +50,6 @@ fn made_or_left(made: bool) -> Found
     if made { Found::Made } else { Found::Left }
 }
 
-/// Puts a byte of a register on the data bus, lets the processor take it, and advances the beam by six clocks.
-#[inline(always)]
-pub(crate) fn take_byte(cpu: &mut Cpu, bus: &mut Bus, got: u8)
-    requires gets { IsTrue (gets_byte (access_of cpu.old)) }
-    requires few { 6 < clocks_left bus.old.beam }
-    ensures rest { bus.new ≡ gone_on (on_bus bus.old got) 6 }
-    ensures nothing { passed_in (on_bus bus.old got) 6 ≡ [] }
-    ensures processor { (s : CpuState) → Stands cpu.old s
-        → Stands cpu.new (with_interrupt_levels (moved_on s got) (on_bus bus.old got)) }
-    ensures left { clocks_left bus.new.beam ≡ clocks_left bus.old.beam - 6 }
-    ensures calm { IsCalm bus.old → IsCalm bus.new }
-{
-    bus.put(got);
-    cpu.took(got);
-    give_interrupt_levels(cpu, bus);
-    bus.go_on(REGISTER_CLOCKS as u16);
-}
-
 /// Lets the processor take the byte of a register of the B bus other than a port, and advances the beam.
 #[inline(always)]
 fn take_register(cpu: &mut Cpu, bus: &mut Bus, register: u8)
@@ -82,24 +65,6 @@ fn take_register(cpu: &mut Cpu, bus: &mut Bus, register: u8)
 {
     let byte = bus.read_register(register, 0);
     take_byte(cpu, bus, byte);
-}
-
-/// Puts the byte that the processor writes on the data bus, and advances the beam by six clocks.
-#[inline(always)]
-pub(crate) fn give_byte(cpu: &mut Cpu, bus: &mut Bus, v: u8)
-    requires writes { IsTrue (is_write (access_of cpu.old)) }
-    requires few { 6 < clocks_left bus.old.beam }
-    ensures rest { bus.new ≡ gone_on (on_bus bus.old v) 6 }
-    ensures nothing { passed_in (on_bus bus.old v) 6 ≡ [] }
-    ensures processor { (s : CpuState) → Stands cpu.old s
-        → Stands cpu.new (with_interrupt_levels (moved_on s 0) (on_bus bus.old v)) }
-    ensures left { clocks_left bus.new.beam ≡ clocks_left bus.old.beam - 6 }
-    ensures calm { IsCalm bus.old → IsCalm bus.new }
-{
-    bus.put(v);
-    cpu.wrote();
-    give_interrupt_levels(cpu, bus);
-    bus.go_on(REGISTER_CLOCKS as u16);
 }
 
 /// Lets the processor read a register of the B bus or of the CPU's chip at a stamp, if one is at the address.

@@ -1,5 +1,5 @@
 -- A register of the processor's chip, 4200 to 421F: the place of its address, and a read or a write of it.
-use Rattle.std.proofs.Common.{◌≡◌, ℕ, ◌/◌, ◌%◌, ◌<◌, Bool, true, false, nat_lt, if◌then◌else◌, [], refl, sym, subst, arith}
+use Rattle.std.proofs.Common.{◌≡◌, ℕ, ◌/◌, ◌%◌, ◌<◌, Bool, true, false, nat_lt, if◌then◌else◌, [], refl, sym, subst, ap, ◌∙◌, arith}
 use Rattle.std.proofs.lemmas.Bool.Decides.{nat_tests}
 use Rattle.snes_defs.specs.declared.ports.Act.TheVariants.{Quiet}
 use Rattle.cart_map.specs.declared.places.Place.{Place}
@@ -11,10 +11,12 @@ use Rattle.cpu65816.specs.declared.processor.Cpu.{Cpu}
 use Rattle.cpu65816.specs.Instruction.{CpuState, moved_on}
 use Rattle.cpu65816.specs.Stands.{Stands}
 use Rattle.beam.specs.Events.{BeamValue}
+use Rattle.dma_hdma.specs.Channels.{due_of as transfer_of}
 use Rattle.console_bus.specs.declared.cart_board.CartBoard.{CartBoard}
 use Rattle.console_bus.specs.BusState.{BusState}
 use Rattle.console_bus.specs.Places.{place_at, place_byte, is_channel, chip_byte, chip_read, chip_written, on_bus}
 use Rattle.console_steps.specs.ConsoleState.{read_at, write_at, after_read, after_write, with_interrupt_levels}
+use Rattle.console_steps.specs.Plain.{IsCalm}
 use Rattle.console_steps.specs.AtOnce.{gone_on, passed_in, IsMadeAtOnce}
 
 -- ---- where it lies
@@ -51,6 +53,32 @@ if_beam false x y beam h k = k
 pub read_beam : (r : BusState) (n : ℕ) → (chip_read r n).beam ≡ r.beam
 unfolding chip_read
 read_beam r n = if_beam (is_channel n) _ _ r.beam refl refl
+
+-- what is due then is what was due
+record SameDues (r q : BusState) : Type 0 where
+  channels : q.channels ≡ r.channels
+  refresh : q.refresh ≡ r.refresh
+  reset : q.reset ≡ r.reset
+
+if_dues : (b : Bool) (x y r : BusState) → SameDues r x → SameDues r y → SameDues r (if b then x else y)
+if_dues true x y r h k = h
+if_dues false x y r h k = k
+
+read_dues : (r : BusState) (n : ℕ) → SameDues r (chip_read r n)
+unfolding chip_read
+read_dues r n =
+    if_dues (is_channel n) _ _ r (record { channels = refl; refresh = refl; reset = refl })
+    (record { channels = refl; refresh = refl; reset = refl })
+
+pub calm_read : (bus bus' : BusState) (n : ℕ) → bus' ≡ chip_read bus n → IsCalm bus → IsCalm bus'
+calm_read bus bus' n is calm =
+    let same = read_dues bus n in
+    let P : BusState → Type 0 = λ r. IsCalm r in
+    subst P (sym is) (record {
+      reset = same.reset ∙ calm.reset;
+      refresh = same.refresh ∙ calm.refresh;
+      transfer = ap transfer_of same.channels ∙ calm.transfer;
+    })
 
 -- ---- an access of it, told of the address where it lies
 

@@ -79,7 +79,7 @@ pub fn bus_register(addr: u32) -> Option<u8>
 /// Returns the register of the CPU's chip at a 24-bit address, if it is one of 4200 to 421F.
 #[inline(always)]
 #[tactic(auto, using(crate::proofs::ChipRegisters::chip_place, crate::proofs::ChipRegisters::chip_clocks))]
-pub fn chip_register(addr: u32) -> Option<u16>
+pub(crate) fn chip_register(addr: u32) -> Option<u16>
     ensures place { IfSome result (λ register. (board : CartBoard) → place_at board addr ≡ Own register) }
     ensures lasts { IfSome result (λ register. (fast : Bool) → clocks_of addr fast ≡ 6) }
 {

@@ -8,22 +8,24 @@
 #![tactic(auto)]
 
 mod bus_access;
+mod chip_access;
 mod drawing;
 mod effects;
 mod happening;
+mod looks;
 mod passing;
 mod plain;
 mod plain_places;
 mod rows;
 mod transfers;
 
-pub use bus_access::{
-    BusAccess, REGISTER_CLOCKS, Target, bus_register, chip_register, is_port, look_up,
-};
+pub use bus_access::{BusAccess, REGISTER_CLOCKS, Target, bus_register, is_port, look_up};
+pub use chip_access::{give_byte, take_byte, try_read_chip, try_write_chip};
 pub use effects::{
     give_interrupt_levels, make_inner, make_move, make_read, make_reset, make_write,
 };
+pub use looks::try_look;
 pub use passing::pass;
-pub use plain::{is_calm, is_wired, try_look, try_plain};
+pub use plain::{is_calm, is_wired, try_plain};
 pub use plain_places::{is_plain_ahead, reach_plain_place};
 pub use transfers::{MOVE_CLOCKS, try_move};

@@ -11,7 +11,7 @@ ghost use Rattle.beam.specs.Places.{clocks_left};
 ghost use Rattle.console_bus.specs.Memory.{stored};
 ghost use Rattle.console_bus.specs.Places.{register_written, on_bus};
 ghost use Rattle.console_steps.specs.AtOnce.{gone_on, passed_in, IsMadeAtOnce};
-ghost use Rattle.console_steps.specs.Plain.{IsWired, IsCalm, IsLook};
+ghost use Rattle.console_steps.specs.Plain.{IsWired, IsCalm, IsOfMemory};
 
 use crate::bus_access::{REGISTER_CLOCKS, bus_register, is_port};
 use console_bus::Bus;
@@ -102,7 +102,7 @@ pub(crate) fn read_plainly(cpu: &mut Cpu, bus: &mut Bus, place: Place, addr: u32
     requires addr { addr < 2 ^ 24 }
     ensures made { IsWired cpu.old bus.old
         → IfSome result (λ clocks. IsMadeAtOnce cpu.old cpu.new bus.old bus.new (Read addr) clocks) }
-    ensures looks { IfSome result (λ clocks. IsLook bus.old (Read addr)) }
+    ensures looks { IfSome result (λ clocks. IsOfMemory bus.old addr) }
     ensures within { IfSome result (λ clocks. clocks < clocks_left bus.old.beam) }
     ensures left { IfSome result (λ clocks. clocks_left bus.new.beam ≡ clocks_left bus.old.beam - clocks) }
     ensures calm { IsCalm bus.old → IsCalm bus.new }
@@ -249,28 +249,6 @@ pub fn try_plain(cpu: &mut Cpu, bus: &mut Bus) -> Option<u8>
         Access::Fetch(addr) => read_plainly(cpu, bus, place, addr),
         Access::Read(addr) => read_plainly(cpu, bus, place, addr),
         Access::Write(addr, v) => write_plainly(cpu, bus, place, addr, v),
-        Access::Inner => idle_plainly(cpu, bus, place),
-    }
-}
-
-/// Makes the processor's next access, with its clocks, if it is a read of memory or an internal cycle and nothing else
-/// happens in these. Returns how many they are. Otherwise, and for every write, nothing has changed.
-#[inline(always)]
-pub fn try_look(cpu: &mut Cpu, bus: &mut Bus) -> Option<u8>
-    ensures made { IsWired cpu.old bus.old
-        → IfSome result (λ clocks. IsMadeAtOnce cpu.old cpu.new bus.old bus.new (access_of cpu.old) clocks) }
-    ensures looks { IfSome result (λ clocks. IsLook bus.old (access_of cpu.old)) }
-    ensures within { IfSome result (λ clocks. clocks < clocks_left bus.old.beam) }
-    ensures left { IfSome result (λ clocks. clocks_left bus.new.beam ≡ clocks_left bus.old.beam - clocks) }
-    ensures calm { IsCalm bus.old → IsCalm bus.new }
-    ensures bus_stays { result ≡ None → bus.new ≡ bus.old }
-    ensures cpu_stays { result ≡ None → cpu.new ≡ cpu.old }
-{
-    let place = cpu.place();
-    match cpu.next() {
-        Access::Fetch(addr) => read_plainly(cpu, bus, place, addr),
-        Access::Read(addr) => read_plainly(cpu, bus, place, addr),
-        Access::Write(_, _) => None,
         Access::Inner => idle_plainly(cpu, bus, place),
     }
 }

@@ -145,6 +145,16 @@ impl Io {
         (i.nmi_flag && i.nmi_on, i.irq_flag)
     }
 
+    /// Returns the flags that a read clears: bit 7 of 4210 RDNMI and bit 7 of 4211 TIMEUP.
+    #[inline(always)]
+    pub fn flags(&self) -> (bool, bool)
+        ensures nmi { result.0 ≡ self.now.interrupts.nmi_flag }
+        ensures irq { result.1 ≡ self.now.interrupts.irq_flag }
+    {
+        let i = &self.registers.interrupts;
+        (i.nmi_flag, i.irq_flag)
+    }
+
     /// Returns the setting of the timer: its kind, and the H and V at which it fires.
     #[inline(always)]
     pub fn irq_time(&self) -> IrqTime

@@ -1,6 +1,6 @@
 use Rattle.std.proofs.Common.{ap, ◌∙◌}
 use Rattle.dma_hdma.specs.Channels.{due_of as transfer_of}
-use Rattle.console_machine.proofs.chip_runs.give_arithmetic.Goals as goal
+use Rattle.console_steps.proofs.chip_access.give_arithmetic.Goals as goal
 
 pub returns-clause-calm : goal.returns-clause-calm
 returns-clause-calm c = λ calm.

@@ -1,8 +1,7 @@
 use Rattle.std.proofs.Common.{◌<◌, ◌-◌, ap, subst, sym, ◌∙◌}
 use Rattle.beam.specs.Places.{clocks_left}
-use Rattle.console_steps.proofs.ChipRegisters.{read_beam}
-use Rattle.console_machine.proofs.PortAccesses.{calm_chip_read}
-use Rattle.console_machine.proofs.chip_runs.take_chip.Goals as goal
+use Rattle.console_steps.proofs.ChipRegisters.{read_beam, calm_read}
+use Rattle.console_steps.proofs.chip_access.take_chip.Goals as goal
 
 pub take_byte-requires-clause-few : goal.take_byte-requires-clause-few
 take_byte-requires-clause-few c =
@@ -14,4 +13,4 @@ returns-clause-left c =
 
 pub returns-clause-calm : goal.returns-clause-calm
 returns-clause-calm c = λ calm.
-    c.take_byte.ensures.calm (calm_chip_read c.args.bus.now c.read_chip-byte.new.self c.args.register c.read_chip-byte.ensures.after calm)
+    c.take_byte.ensures.calm (calm_read c.args.bus.now c.read_chip-byte.new.self c.args.register c.read_chip-byte.ensures.after calm)
